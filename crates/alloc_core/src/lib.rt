@@ -10,8 +10,6 @@ mod alloc;
 pub mod event;
 pub mod laws;
 mod planned;
-#[cfg(test)]
-mod tests;
 
 pub use alloc::{Alloc, AllocStep, TooLarge};
 pub use planned::{Planned, plan};

@@ -13,11 +13,9 @@ pub mod reading;
 mod samples;
 mod single;
 mod spec;
-#[cfg(test)]
-mod tests;
 
 pub use custom::{CustomValues, distinct_values_stand_once};
 pub use ranges::{Ranges, buckets_split_values, one_bucket_has_a_value};
-pub use samples::{Plain, tally};
+pub use samples::{Plain, amount_of, empty_buckets, tally};
 pub use single::SingleWord;
 pub use spec::{Spec, SpecFault};

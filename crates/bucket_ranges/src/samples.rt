@@ -5,7 +5,7 @@ ghost use Rattle.std.specs.Ordering.{int_cmp, int_eq};
 ghost use Rattle.std.specs.Map.{count_at};
 ghost use Rattle.std.specs.BTreeMap.{get, IsOrdered};
 ghost use Rattle.std.specs.Int.RustNames.{unsigned_abs};
-ghost use Rattle.bucket_ranges.specs.Tally.{AreCounts, AreValueCounts, HaveUnits, bucket_counts as bucket_counts_of, units_of as units_of_samples, counted_value as counted_value_of, amount_of, sum_of as sum_of_amounts};
+ghost use Rattle.bucket_ranges.specs.Tally.{AreCounts, AreValueCounts, HaveUnits, bucket_counts as bucket_counts_of, units_of as units_of_samples, counted_value as counted_value_of, amount_of as amount_of_sample, sum_of as sum_of_amounts};
 
 use crate::ranges::{Ranges, clamp};
 use std::alloc::{AllocError, Global};
@@ -43,13 +43,13 @@ pub fn tally(alloc: Global, ranges: &Ranges, samples: &[(i32, u32)]) -> Result<P
     })
 }
 
-// All buckets in order, without units.
-fn empty_buckets(alloc: Global, ranges: &Ranges) -> Result<Vec<(i32, u64)>, AllocError>
+/// All buckets in order, each under its least value and without units. There is an error where there is no memory for them.
+pub fn empty_buckets(alloc: Global, ranges: &Ranges) -> Result<Vec<(i32, u64)>, AllocError>
     ensures { IfOk result (λ counts. counts.items ≡ bucket_counts_of ranges.now []) }
 {
-    let mut counts = Vec::new(alloc);
+    let mut counts = Vec::with_capacity(alloc, ranges.len())?;
     for i in 0..ranges.len() {
-        counts.push((ranges.low(i), 0))?;
+        counts.push_reserved((ranges.low(i), 0));
     }
     Ok(counts)
 }
@@ -121,9 +121,9 @@ fn counted_value(ranges: &Ranges, value: i32) -> i64
     }
 }
 
-// What a sample adds to the sum.
-fn amount(ranges: &Ranges, value: i32, units: u32) -> i64
-    ensures amount { result ≡ amount_of ranges.now (value, units) }
+/// What a sample adds to the sum: its value as often as it has units. The value is clamped first, unless the ranges are sparse.
+pub fn amount_of(ranges: &Ranges, value: i32, units: u32) -> i64
+    ensures amount { result ≡ amount_of_sample ranges.now (value, units) }
     ensures small { unsigned_abs result ≤ 2147483648 * units }
 {
     counted_value(ranges, value) * i64::from(units)
@@ -136,7 +136,7 @@ fn sum_of(ranges: &Ranges, samples: &[(i32, u32)]) -> i64
 {
     let mut sum = 0;
     for (value, units) in samples {
-        sum += amount(ranges, *value, *units);
+        sum += amount_of(ranges, *value, *units);
     }
     sum
 }

@@ -1,5 +1,4 @@
 -- Walks along the list, and shared cursors.
 pub mod Orders
 pub mod Passing
-pub mod SampleLists
 pub mod Walking

@@ -2,7 +2,6 @@
 pub mod ActorRuns
 pub mod Apart
 pub mod Beginnings
-pub mod Buckets
 pub mod Causes
 pub mod Faults
 pub mod Free

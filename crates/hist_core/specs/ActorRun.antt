@@ -52,8 +52,9 @@ use Rattle.hist_core.specs.declared.hist.HistStep.TheVariants as hist
 use Rattle.hist_core.specs.declared.hist.Known.{Known}
 use Rattle.hist_core.specs.declared.entry.Entry.{Entry}
 use Rattle.hist_core.specs.declared.entry.Taken.{Taken}
-use Rattle.hist_core.specs.DeltaCall.{AreUnits, HasBegun, insert_by_key, IsFirst, IsDeltaCall, IsStarted as IsDeltaCallStarted}
+use Rattle.hist_core.specs.DeltaCall.{HasBegun, insert_by_key, IsFirst, IsDeltaCall, IsStarted as IsDeltaCallStarted}
 use Rattle.segment_calls.specs.declared.answer.Delta.{Delta as DeltaAnswer}
+use Rattle.segment_promises.specs.Calls.{AreUnits}
 use Rattle.hist_core.specs.declared.delta_call.DeltaCall.{DeltaCall}
 use Rattle.hist_core.specs.declared.delta_call.DeltaCallStep.{DeltaCallStep}
 use Rattle.hist_core.specs.declared.delta_call.DeltaCallStep.TheVariants as take_step

@@ -16,7 +16,7 @@ use Rattle.alloc_core.specs.declared.alloc.AllocStep.TheVariants as said
 use Rattle.list_core.specs.Walk.{IsPrefix}
 use Rattle.segment_machine.specs.declared.actor.Actor.{Actor}
 use Rattle.segment_machine.specs.declared.actor.Known.{Known}
-use Rattle.segment_machine.specs.declared.entry.EntryProgress.{EntryProgress as MachineCounting}
+use Rattle.segment_machine.specs.declared.entry.EntryProgress.{EntryProgress}
 use Rattle.segment_machine.specs.declared.entry.Entry.{Entry}
 use Rattle.segment_machine.specs.declared.place.Look.{Look}
 use Rattle.segment_machine.specs.declared.actor.Own.{Own}
@@ -33,7 +33,7 @@ use Rattle.hist_core.specs.declared.add.Add.{Add}
 use Rattle.hist_core.specs.declared.add.AddStep.{AddStep}
 use Rattle.hist_core.specs.declared.add.AddStep.TheVariants.{More, Done, Refused}
 use Rattle.hist_core.specs.declared.add.Stage.{Stage}
-use Rattle.hist_core.specs.declared.add.Stage.TheVariants.{LoadingSingle, Packing, LoadingCounts, SeekingCounts, Allocating, Mounting, Purging, LoadingAgain, Disabling, Moving, Sampling, EntryProgress, Summing, Noting}
+use Rattle.hist_core.specs.declared.add.Stage.TheVariants.{LoadingSingle, Packing, LoadingCounts, SeekingCounts, Allocating, Mounting, Purging, LoadingAgain, Disabling, Moving, Sampling, Counting, Summing, Noting}
 use Rattle.segment_calls.specs.declared.refusal.Refusal.TheVariants as why
 use Rattle.hist_core.specs.Making.{IsCause}
 use Rattle.hist_core.specs.StepsBy.{StepsBy, IsFree}
@@ -55,7 +55,7 @@ counted_entry known add = record {
 -- What stands about its entry in the call that it is of: the entries before it, of which all has happened, those behind it, of which
 -- nothing has, and the units that the call holds.
 pub record Amid : Type 0 where
-  pub before : List MachineCounting
+  pub before : List EntryProgress
   pub behind : List Entry
   pub cost : ℕ
 
@@ -104,7 +104,7 @@ HasEntry known amid add a counted summed =
     a.entries.running ≡ amid.before ++ record { entry = counted_entry known add; counted = counted; summed = summed; noted = false } ∷ map fresh amid.behind
 
 -- its entry once all of it has happened: an amount of 0 is left out
-abbrev pub ended_entry : Known → Add → MachineCounting
+abbrev pub ended_entry : Known → Add → EntryProgress
 ended_entry known add = record { entry = counted_entry known add; counted = true; summed = not (int_eq add.amount (pos 0)); noted = true }
 
 -- that stands among those of the running call
@@ -161,7 +161,7 @@ StandsBefore shape known add a _ = ⊥
 
 -- Where its actor stands, and what has happened of its entry.
 abbrev pub StandsAtStage : Dimensions → Known → Amid → Add → Actor → Stage → Type 0
-StandsAtStage shape known amid add a (EntryProgress at) = HasEntry known amid add a false false × IsCountOf known add a at × (at < shape.size)
+StandsAtStage shape known amid add a (Counting at) = HasEntry known amid add a false false × IsCountOf known add a at × (at < shape.size)
 StandsAtStage shape known amid add a (Sampling sampling) =
     HasEntry known amid add a false false × (known.spec ≡ spec.Sparse) × (sampling.histogram ≡ known.reference) × (sampling.value ≡ add.value)
     × IsSampling shape sampling a
@@ -255,7 +255,7 @@ IsSearching _ = ⊥
 -- what becomes of it by what a step of its search said: it goes on, or counts in the sample, or is refused
 abbrev pub IsSampled : Add → SamplingStep → Add → AddStep → Type 0
 IsSampled old found.More new result = (new ≡ old) × (result ≡ More)
-IsSampled old (found.Found sample) new result = (new ≡ record old { stage = EntryProgress ((sample + SAMPLE_COUNT) % 2 ^ 64) }) × (result ≡ More)
+IsSampled old (found.Found sample) new result = (new ≡ record old { stage = Counting ((sample + SAMPLE_COUNT) % 2 ^ 64) }) × (result ≡ More)
 IsSampled old (found.Refused cause) new result = (new ≡ old) × (result ≡ Refused cause)
 
 -- where the count of its value stands among counts
@@ -265,4 +265,4 @@ count_in add counts = (counts + (BLOCK_HEADER + add.bucket)) % 2 ^ 64
 -- what it does behind the event that disables a word: in version 1 it moves the units that the word had
 abbrev pub behind_disabling : Add → ℕ → ℕ → Stage
 behind_disabling add counts old =
-    if (add.version == 1) && nat_lt 0 old then Moving counts (old / 2 ^ 32) (old % 2 ^ 32) else EntryProgress (count_in add counts)
+    if (add.version == 1) && nat_lt 0 old then Moving counts (old / 2 ^ 32) (old % 2 ^ 32) else Counting (count_in add counts)

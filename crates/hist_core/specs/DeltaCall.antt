@@ -1,9 +1,7 @@
 -- A delta that is going on.
-use Rattle.std.specs.Prelude.{◌≡◌, ◌==◌, true, false, nat_lt, nat_eq, int_lt, ℕ, suc, ◌+◌, ◌-◌, ◌/◌, ◌<◌, ◌≤◌, ◌⊎◌, ℤ, pos, List, [], ◌∷◌, ◌++◌, map, length, slice_index, vec_capacity, if◌then◌else◌, Some, None, ⊤}
-use Rattle.std.specs.List.{All, AllByRecursion, Contains, insert}
-use Rattle.std.specs.List.Sorted.{IsStrictlySortedBy}
+use Rattle.std.specs.Prelude.{◌≡◌, ◌==◌, true, false, nat_lt, nat_eq, int_lt, ℕ, suc, ◌+◌, ◌-◌, ◌/◌, ◌<◌, ◌≤◌, ◌⊎◌, ℤ, pos, List, [], ◌∷◌, ◌++◌, length, slice_index, vec_capacity, if◌then◌else◌, Some, None, ⊤}
+use Rattle.std.specs.List.{Contains, insert}
 use Rattle.std.specs.Option.{option_eq}
-use Rattle.std.specs.Ordering.{int_cmp}
 use Rattle.bucket_ranges.specs.Ranges.{boundaries_of}
 use Rattle.bucket_ranges.specs.Single.{packed_bucket, single_of}
 use Rattle.bucket_ranges.specs.Spec.{buckets_of, spec_fault}
@@ -17,11 +15,12 @@ use Rattle.segment_machine.specs.declared.actor.Known.{Known}
 use Rattle.segment_machine.specs.declared.actor.Taken.{Taken}
 use Rattle.segment_machine.specs.declared.place.Place.TheVariants.{SampleLoaded, SumLoaded}
 use Rattle.segment_machine.specs.declared.seen.Sighting.{Sighting}
-use Rattle.segment_machine.specs.Actor.{SawCount, bucket_key, has_buckets, is_opener, known_at, units_listed}
+use Rattle.segment_machine.specs.Actor.{SawCount, has_buckets, is_opener, known_at, units_listed}
 use Rattle.segment_machine.specs.Calls.{MayTurn}
 use Rattle.segment_machine.specs.Form.{is_off, SaysPacked}
 use Rattle.segment_machine.specs.Made.{SawSample}
 use Rattle.segment_machine.specs.Note.{TookAll, TookBucket, TookSample}
+use Rattle.segment_promises.specs.Calls.{AreUnits, AreBelow}
 use Rattle.segment_promises.specs.Values.{ListsValues}
 use Rattle.hist_core.specs.declared.mounted.Mounted.{Mounted}
 use Rattle.hist_core.specs.declared.delta_call.Stage.{Stage}
@@ -38,15 +37,6 @@ use Rattle.hist_core.specs.declared.walk.Walk.TheVariants.{LoadingFirst, Loading
 use Rattle.hist_core.specs.Walk.{HasPassedAll, HasSetOut, MetSample, WalksAt}
 
 -- ---- what is taken
-
--- keys with units, ascending, each once
-pub record AreUnits (counts : List (ℤ × ℕ)) : Type 0 where
-  pub ascending : IsStrictlySortedBy int_cmp (map (λ count. count.0) counts)
-  pub some : All (λ count. 1 ≤ count.1) counts
-
--- each is the key of a bucket below this one
-abbrev pub AreBelow : Known → ℕ → List (ℤ × ℕ) → Type 0
-AreBelow known bucket counts = AllByRecursion (λ count. (i : ℕ) × (i < bucket) × (count.0 ≡ bucket_key (Some known) i)) counts
 
 -- before how many of these keys one is to stand: the first that is not less
 abbrev pub place_of : ℤ → List (ℤ × ℕ) → ℕ

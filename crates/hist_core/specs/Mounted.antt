@@ -1,5 +1,5 @@
 -- What an actor has loaded of a histogram with buckets since it began to look at it: its single word, and its counts.
-use Rattle.std.specs.Prelude.{◌≡◌, ◌≢◌, ◌⊎◌, true, ℕ, ◌+◌, ◌*◌, ◌%◌, ◌^◌, ◌≤◌, if◌then◌else◌, nat_eq, length, Some, None}
+use Rattle.std.specs.Prelude.{◌≡◌, ◌≢◌, ◌⊎◌, true, ℕ, ◌+◌, ◌*◌, ◌%◌, ◌^◌, ◌≤◌, if◌then◌else◌, nat_eq, Some, None}
 use Rattle.std.specs.Option.{option_eq}
 use Rattle.bucket_ranges.specs.Single.{single_of, units_packed}
 use Rattle.bucket_ranges.specs.Spec.{buckets_of}
@@ -12,6 +12,7 @@ use Rattle.segment_machine.specs.Actor.{Buckets, SawSingle, word_seen}
 use Rattle.segment_machine.specs.Calls.{LooksOff}
 use Rattle.segment_machine.specs.Form.{is_off, SaysPacked}
 use Rattle.segment_machine.specs.Note.{SawBucket}
+use Rattle.segment_promises.specs.Calls.{BeganBefore}
 use Rattle.hist_core.specs.declared.mounted.Mounted.{Mounted}
 
 -- ---- what a count says
@@ -21,11 +22,6 @@ abbrev pub total_at : Mounted → ℕ → ℕ → ℕ
 total_at mounted bucket count = if option_eq nat_eq mounted.packed (Some bucket) then (count + mounted.kept) % 2 ^ 64 else count
 
 -- ---- what it has loaded
-
--- it began to look no later than now
-pub record BeganBefore (a : Actor) : Type 0 where
-  pub singles : a.since.singles ≤ length a.seen.singles
-  pub counts : a.since.counts ≤ length a.seen.counts
 
 -- It has loaded the single word of a histogram, and looks at it.
 pub record HasWord (known : Known) (word : ℕ) (a : Actor) : Type 0 where

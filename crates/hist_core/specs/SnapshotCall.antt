@@ -1,5 +1,5 @@
 -- A snapshot that is going on.
-use Rattle.std.specs.Prelude.{◌≡◌, ◌≢◌, ◌⊎◌, ◌==◌, true, false, nat_lt, ℕ, ◌+◌, ◌-◌, ◌/◌, ◌<◌, ◌≤◌, ℤ, pos, slice_index, List, [], ◌∷◌, ◌++◌, map, length, if◌then◌else◌, Some, None, vec_capacity}
+use Rattle.std.specs.Prelude.{◌≡◌, ◌≢◌, ◌⊎◌, ◌==◌, true, false, nat_lt, ℕ, ◌+◌, ◌-◌, ◌/◌, ◌<◌, ◌≤◌, ℤ, List, [], ◌∷◌, ◌++◌, map, length, if◌then◌else◌, Some, None, vec_capacity}
 use Rattle.std.specs.List.{All, Contains, range_with_len}
 use mathlib.Core.Option.{some}
 use lib.ListN.{get_elem?}
@@ -16,6 +16,8 @@ use Rattle.segment_machine.specs.declared.actor.Known.{Known}
 use Rattle.segment_machine.specs.declared.place.Place.TheVariants.{SumLoaded}
 use Rattle.segment_machine.specs.Actor.{SawCount, bucket_key, has_buckets, is_opener, known_at}
 use Rattle.segment_promises.specs.Values.{AreSorted, ListsValues, listed_of}
+use Rattle.segment_promises.specs.Calls.{BeganBefore}
+use Rattle.segment_promises.specs.Totals.{blank_totals}
 use Rattle.segment_machine.specs.Calls.{MayTurn}
 use Rattle.segment_machine.specs.Form.{is_off, SaysPacked}
 use Rattle.segment_machine.specs.Note.{SawAll, SawBucket}
@@ -29,7 +31,7 @@ use Rattle.hist_core.specs.StepsBy.{FrameOfStep, StepsBy, IsFree, WalksInOrder}
 use Rattle.hist_core.specs.declared.walk.Met.{Met}
 use Rattle.hist_core.specs.declared.walk.Met.TheVariants.{Nothing, Sample, End}
 use Rattle.hist_core.specs.declared.walk.Walk.TheVariants.{LoadingFirst}
-use Rattle.hist_core.specs.Mounted.{AreMounted, BeganBefore, HasWord}
+use Rattle.hist_core.specs.Mounted.{AreMounted, HasWord}
 use Rattle.hist_core.specs.Walk.{IsWalkProgress, MetSample, WalksAt}
 
 -- ---- what it sees
@@ -115,10 +117,6 @@ pub record IsSnapshotCall (shape : Dimensions) (known : Known) (snapshot_call : 
   pub stands : StandsAtStage shape known snapshot_call a snapshot_call.stage
 
 -- ---- how it begins
-
--- the key of each bucket of these ranges in order, each with no units yet
-abbrev pub blank_totals : List ℕ → List (ℤ × ℕ)
-blank_totals boundaries = map (λ i. (pos (slice_index boundaries i), 0)) (range_with_len 0 (length boundaries - 1))
 
 -- It begins: of a histogram with buckets it has seen no units; of a sparse one it lists nothing, with room for as many values as fit in the
 -- segment.

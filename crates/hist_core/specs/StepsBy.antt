@@ -1,5 +1,5 @@
 -- How an actor goes on by one event.
-use Rattle.std.specs.Prelude.{◌≡◌, ◌≢◌, Bool, false, ◌||◌, ℕ, ℤ, List, ◌∷◌, ◌++◌}
+use Rattle.std.specs.Prelude.{◌≡◌, ◌≢◌, Bool, false, ◌||◌, ℕ, List, ◌++◌}
 use Rattle.std.specs.List.{Contains}
 use Rattle.segment_image.specs.Words.{word_at}
 use Rattle.list_core.specs.Walk.{IsPrefix}
@@ -10,9 +10,9 @@ use Rattle.segment_machine.specs.declared.place.Place.TheVariants.{Spent}
 use Rattle.segment_machine.specs.Actor.{AreApart, is_bound}
 use Rattle.segment_machine.specs.declared.seen.Sighting.{Sighting}
 use Rattle.segment_machine.specs.Event.{Event, spot, after, next, Ready, Learned}
-use Rattle.segment_machine.specs.Made.{SawSample}
 use Rattle.segment_machine.specs.Note.{Note, Notes}
 use Rattle.segment_machine.specs.Taking.{is_looking}
+use Rattle.segment_promises.specs.Calls.{SamplesStandBehind}
 use Rattle.segment_promises.specs.Values.{NoRepeats}
 
 -- What an event leaves as it was: its role, its segment, its units and entries, its deltas, and the names that it was answered with.
@@ -50,11 +50,6 @@ IsFree a = is_tied a.hand.place ≡ false
 -- it has met the record of each histogram that it knows
 abbrev pub HasMet : Actor → Type 0
 HasMet a = (known : Known) → Contains a.answers.names known → Contains a.seen.chain known.reference
-
--- each sample that it met stands behind the record of its histogram
-abbrev pub SamplesStandBehind : Actor → Type 0
-SamplesStandBehind a = (histogram sample : ℕ) (value : ℤ) (front behind : List ℕ) → Contains a.seen.chain sample → SawSample a.seen histogram value sample
-    → a.seen.chain ≡ front ++ histogram ∷ behind → Contains behind sample
 
 -- On the list as far as it walked no block stands twice, and each sample stands behind the record of its histogram.
 pub record IsInOrder (a : Actor) : Type 0 where

@@ -11,11 +11,11 @@ use Rattle.segment_machine.specs.Actor.{word_seen}
 use Rattle.segment_machine.specs.Made.{SawSample}
 use Rattle.segment_machine.specs.Taking.{is_looking}
 use Rattle.segment_promises.specs.Values.{ComesTo}
+use Rattle.segment_promises.specs.Calls.{BeganBefore}
 use Rattle.hist_core.specs.declared.walk.Met.{Met}
 use Rattle.hist_core.specs.declared.walk.Met.TheVariants.{Nothing, Sample, End}
 use Rattle.hist_core.specs.declared.walk.Walk.{Walk}
 use Rattle.hist_core.specs.declared.walk.Walk.TheVariants.{LoadingFirst, LoadingType, LoadingHistogram, LoadingValue, LoadingNext}
-use Rattle.hist_core.specs.Mounted.{BeganBefore}
 
 -- ---- where it stands
 

@@ -8,9 +8,10 @@ use crate::drawing::{draw, draw_sum};
 use crate::entry::{Entry, Taken};
 use crate::ghost_notes::{batch_entries, entry_of, new_items};
 use crate::hist::{Hist, HistStep, Known};
-use crate::samples::{amount_of, key_of};
+use crate::samples::key_of;
 use crate::snapshot_call::{SnapshotCall, SnapshotCallStep};
 use alloc_core::event::set_bits;
+use bucket_ranges::amount_of;
 use segment_calls::{Asked, Delta, Refusal, Snapshot};
 use segment_image::Shape;
 use segment_image::layout::{FLAG_CORRUPT, FLAGS_WORD};
@@ -385,7 +386,7 @@ impl ActorRun {
         }))
     }
 
-    // StepsBy on by one event, which is the next of the running call.
+    // Goes on by one event, which is the next of the running call.
     pub(crate) fn advance(&mut self, words: &mut [u64]) -> Stepped
         requires runs { IsSome self.old.running }
         requires stands { ∥ IsSomeRun (length words.old) self.old ∥₁ }

@@ -448,7 +448,7 @@ impl Add {
         AddStep::Done
     }
 
-    // StepsBy on by one event.
+    // Goes on by one event.
     pub(crate) fn step(&mut self, words: &mut [u64]) -> AddStep
         requires stands { ∥ IsSomeAdd (length words.old) self.old ∥₁ }
         ensures steps { AddSteps self.old words.old self.new words.new result }

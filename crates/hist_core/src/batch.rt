@@ -89,7 +89,7 @@ impl Batch {
         BatchStep::Done
     }
 
-    // StepsBy on by one event.
+    // Goes on by one event.
     pub(crate) fn step(&mut self, words: &mut [u64]) -> BatchStep
         requires stands { ∥ IsSomeBatch (length words.old) self.old ∥₁ }
         ensures steps { BatchSteps self.old words.old self.new words.new result }

@@ -397,7 +397,7 @@ impl DeltaCall {
         DeltaCallStep::Done(sum.wrapping_sub(mark.cast_signed()))
     }
 
-    // StepsBy on by one event.
+    // Goes on by one event.
     pub(crate) fn step(&mut self, words: &mut [u64]) -> DeltaCallStep
         requires stands { ∥ IsSomeDeltaCall (length words.old) self.old ∥₁ }
         ensures steps { DeltaCallSteps self.old words.old self.new words.new result }

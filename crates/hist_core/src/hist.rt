@@ -218,7 +218,7 @@ impl Hist {
         }
     }
 
-    // StepsBy on by one event.
+    // Goes on by one event.
     pub(crate) fn step(&mut self, words: &mut [u64]) -> HistStep
         requires stands { ∥ IsSomeHist (length words.old) self.old ∥₁ }
         ensures steps { HistSteps self.old words.old self.new words.new result }

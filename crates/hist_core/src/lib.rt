@@ -17,8 +17,6 @@ mod mounted;
 mod samples;
 mod sampling;
 mod snapshot_call;
-#[cfg(test)]
-mod tests;
 mod walk;
 mod word_ops;
 mod world;

@@ -151,7 +151,7 @@ impl Making {
         }
     }
 
-    // StepsBy on by one event.
+    // Goes on by one event.
     pub(crate) fn step(&mut self, words: &mut [u64], payload: &[u64]) -> MakingStep
         requires stands { ∥ IsSomeMaking (length words.old) payload.now self.old ∥₁ }
         ensures { MakingSteps payload.now self.old words.old self.new words.new result }

@@ -181,7 +181,7 @@ impl Sampling {
         }
     }
 
-    // StepsBy on by one event.
+    // Goes on by one event.
     pub(crate) fn step(&mut self, words: &mut [u64]) -> SamplingStep
         requires stands { ∥ IsSomeSampling (length words.old) self.old ∥₁ }
         ensures steps { SamplingSteps self.old words.old self.new words.new result }

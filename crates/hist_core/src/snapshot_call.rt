@@ -1,14 +1,11 @@
 //! A snapshot that is going on: it looks at all that is counted of a histogram, and changes nothing.
 
-ghost use Rattle.std.specs.Prelude.{◌≡◌, IfOk};
-ghost use Rattle.hist_core.specs.SnapshotCall.{blank_totals};
-
 use crate::hist::Known;
 use crate::mounted::Mounted;
-use crate::samples::sort_by_key;
 use crate::walk::{Met, Walk};
-use bucket_ranges::Ranges;
+use bucket_ranges::empty_buckets;
 use segment_calls::packing::{DISABLED_BIT, packed_in};
+use segment_calls::sort_by_key;
 use segment_image::Shape;
 use segment_image::layout::{
     BLOCK_HEADER, BLOCK_LEAST, HEADER_WORDS, HISTOGRAM_COUNTS, HISTOGRAM_REDUNDANT,
@@ -56,19 +53,8 @@ pub(crate) struct SnapshotCall {
     pub(crate) stage: Stage,
 }
 
-// The key of each bucket in order, each with no units yet.
-fn blank_totals(alloc: Global, ranges: &Ranges) -> Result<Vec<(i32, u64)>, AllocError>
-    ensures { IfOk result (λ totals. totals.items ≡ blank_totals ranges.now) }
-{
-    let mut totals = Vec::with_capacity(alloc, ranges.len())?;
-    for bucket in 0..ranges.len() {
-        totals.push_reserved((ranges.low(bucket), 0));
-    }
-    Ok(totals)
-}
-
 impl SnapshotCall {
-    ghost use Rattle.std.specs.Prelude.{◌≤◌, ◌<◌, length, vec_len, vec_capacity, None};
+    ghost use Rattle.std.specs.Prelude.{◌≡◌, ◌≤◌, ◌<◌, length, vec_len, vec_capacity, None, IfOk};
     ghost use Rattle.bucket_ranges.specs.Ranges.{boundaries_of};
     ghost use Rattle.bucket_ranges.specs.Spec.{spec_fault};
     ghost use Rattle.hist_core.specs.ActorRun.{known_of};
@@ -100,7 +86,7 @@ impl SnapshotCall {
         Ok(SnapshotCall {
             version,
             histogram: known.reference,
-            totals: blank_totals(alloc, &known.ranges)?,
+            totals: empty_buckets(alloc, &known.ranges)?,
             stage: Stage::LoadingSingle,
         })
     }
@@ -260,7 +246,7 @@ impl SnapshotCall {
         SnapshotCallStep::Done { sum, redundant }
     }
 
-    // StepsBy on by one event.
+    // Goes on by one event.
     pub(crate) fn step(&mut self, words: &[u64]) -> SnapshotCallStep
         requires stands { ∥ IsSomeSnapshotCall (length words.now) self.old ∥₁ }
         ensures steps { SnapshotCallSteps self.old words.now self.new words.now result }

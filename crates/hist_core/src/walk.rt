@@ -99,7 +99,7 @@ impl Walk {
         }
     }
 
-    // StepsBy on by one event, behind the record of a histogram.
+    // Goes on by one event, behind the record of a histogram.
     pub(crate) fn step(self, histogram: u64, words: &[u64]) -> Met
         requires within { spot_of histogram self < length words.now }
         requires few { length words.now ≤ 1048576 }

@@ -24,11 +24,11 @@ ghost use Rattle.hist_core.specs.WorldState.{IsReached};
 impl World {
     ghost use Rattle.std.specs.Prelude.{◌≡◌, ◌≢◌, ◌≤◌, ◌<◌, ◌⊎◌, ℕ, true, Ok, Err, OnOk, OnErr, IfOk, IfErr, IsOk, MatchOption, MatchResult, vec_len};
     ghost use Rattle.std.specs.List.{All};
-    ghost use Rattle.hist_core.specs.DeltaCall.{AreUnits};
     ghost use Rattle.segment_image.specs.Checks.{first_fault};
     ghost use Rattle.segment_image.specs.Head.{head_of, header_of};
     ghost use Rattle.alloc_core.specs.Layout.{IsShape};
     ghost use Rattle.segment_machine.specs.State.{State};
+    ghost use Rattle.segment_promises.specs.Calls.{AreUnits};
     ghost use Rattle.hist_core.specs.WorldState.{IsReachedAs, IsNewWorldState, BeginsFrom, StepsTo, IsAsBefore, OthersStay, Says, IsConsistentAs, IsReadAs, AreKnownFirst};
     ghost use Rattle.hist_core.specs.Moves.{Makes, FaultsAt};
     ghost use Rattle.hist_core.specs.World.{world_checks, begin_checks, TakesMemory, BeginSays, step_checks, ChangesOneWord, ended_of, begun_of, taken_of};

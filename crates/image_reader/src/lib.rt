@@ -19,8 +19,6 @@ mod reading;
 mod record;
 mod sample;
 mod spec;
-#[cfg(test)]
-mod tests;
 mod walk;
 
 pub use bucket_ranges::reading::RecordFault;

@@ -9,8 +9,7 @@ use Rattle.segment_image.specs.Words.{word_at}
 use Rattle.segment_image.specs.Blocks.{is_block}
 use Rattle.segment_image.specs.declared.head.SegmentHead.{SegmentHead}
 use Rattle.bucket_ranges.specs.Reading.{IsWalk}
-use Rattle.list_core.specs.Chain.{stops, IsLinked, IsChain}
-use Rattle.list_core.specs.Laws.{IsStop, AreNeighbours}
+use Rattle.list_core.specs.Chain.{stops, IsStop, AreNeighbours, IsLinked, IsChain}
 use Rattle.bucket_ranges.proofs.Walks.{is_block-within}
 
 -- the stops of a chain are distinct, and no record is the queue block
@@ -97,10 +96,7 @@ neighbours_stay chain reference at next (k, lt, is, then) = (
   get_or_append_left chain (reference ∷ []) 0 k lt ∙ then,
 )
 
--- the new record is a stop, behind the one that was last
-pub new_stop : (chain : List ℕ) (reference : ℕ) → IsStop (chain ++ reference ∷ []) reference
-new_stop chain reference = (suc (length chain), omega (arith, length-longer chain reference), stops_last chain reference)
-
+-- the new record is behind the stop that was last
 pub new_neighbours : (chain : List ℕ) (reference at : ℕ) → slice_index (stops chain) (length chain) ≡ at
     → AreNeighbours (chain ++ reference ∷ []) at reference
 new_neighbours chain reference at is = (
@@ -124,12 +120,6 @@ linked_beside words chain at v linked beside = record {
   linked = λ i le. get_or-set_other words at (slice_index (stops chain) i + 3) v 0 (beside i le) ∙ linked.linked i le;
   distinct = linked.distinct;
 }
-
--- other words with the same nexts
-pub linked_same : (words words' chain : List ℕ) → IsLinked words chain
-    → ((i : ℕ) → i ≤ length chain → word_at words' (slice_index (stops chain) i + 3) ≡ word_at words (slice_index (stops chain) i + 3))
-    → IsLinked words' chain
-linked_same words words' chain linked same = record { linked = λ i le. same i le ∙ linked.linked i le; distinct = linked.distinct }
 
 -- the link of a record that is no stop, whose next is the end, behind the last stop
 module _ (words chain : List ℕ) (reference : ℕ) (linked : IsLinked words chain) (other : IsStop chain reference → ⊥)

@@ -9,10 +9,9 @@ use lib.Seq.{set-get_or}
 use Rattle.segment_image.specs.Words.{word_at}
 use Rattle.alloc_core.specs.Event.{after}
 use Rattle.list_core.specs.declared.walk.WalkStep.TheVariants.{Record, End, Stray}
-use Rattle.list_core.specs.Chain.{is_reference, stops, IsLinked}
-use Rattle.list_core.specs.Publish.{store_own_next, load_tail}
+use Rattle.list_core.specs.Chain.{is_reference, stops, IsStop, AreNeighbours, IsLinked}
+use Rattle.list_core.specs.Publish.{store_own_next, load_tail, Waits}
 use Rattle.list_core.specs.Walk.{said_of, GivesNext}
-use Rattle.list_core.specs.Laws.{IsStop, AreNeighbours, Waits}
 use Rattle.list_core.proofs.Chains.{no_queue, next_inside, next_last, last_stop, new_neighbours, linked_beside, links}
 
 -- the own next of a record that is off the chain is stored: the chain stays, and the record waits for its link

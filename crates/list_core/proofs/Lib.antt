@@ -1,10 +1,7 @@
-pub mod Prefixes
-pub mod Blocks
+pub mod References
 pub mod Chains
 pub mod EventKinds
-pub mod Standing
 pub mod Keeping
-pub mod Runs
+pub mod Prefixes
 pub mod Steps
 pub mod Walks
-pub mod Tails

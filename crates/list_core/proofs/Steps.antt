@@ -1,23 +1,17 @@
 -- What a step of a publish says.
 use Rattle.std.proofs.Common.{◌≡◌, ◌≢◌, ℕ, ◌+◌, ◌==◌, Bool, true, false, List, length, set, inl, inr, sym, refl, ap, ◌∙◌, subst}
 use Rattle.std.specs.Prelude.{Some, is_some, IfSome, if◌then◌else◌}
-use mathlib.Core.Option.{some}
-use lib.ListN.{get_elem?}
 use lib.Seq.{set-get_or}
-use Rattle.segment_image.specs.Shape.{Dimensions}
 use Rattle.segment_image.specs.Words.{word_at}
 use Rattle.alloc_core.specs.Event.{Event, spot, after}
 use Rattle.list_core.specs.declared.publish.PubStep.{PubStep}
 use Rattle.list_core.specs.declared.publish.PubStep.TheVariants as said
 use Rattle.list_core.specs.declared.publish.Stage.{Stage}
 use Rattle.list_core.specs.declared.publish.Stage.TheVariants.{StoreOwnNext, LoadTail, Link, MoveTail, Published, Strayed}
-use Rattle.list_core.specs.Chain.{is_reference}
-use Rattle.list_core.specs.Publish.{Publishing, load_tail, link, event_at, next_event, stage_after, stage_of_move, moved, answer, IsStep, IsStrayBy}
-use Rattle.list_core.specs.Laws.{IsStop, Stands, IsList, chain_after, ListState, ListKeeps, stepped}
-use Rattle.alloc_core.proofs.Owners.{set_at}
+use Rattle.list_core.specs.Chain.{is_reference, IsStop}
+use Rattle.list_core.specs.Publish.{Publishing, load_tail, link, event_at, next_event, stage_after, stage_of_move, moved, answer, IsStep, IsStrayBy, IsReach, chain_after, Stands, StandsOn}
 use Rattle.alloc_core.proofs.Steps.{happened}
-use Rattle.list_core.proofs.Keeping.{step_lists}
-use Rattle.list_core.proofs.Runs.{steps_keeps}
+use Rattle.list_core.proofs.Keeping.{Kept, event_keeps}
 
 -- a step, from what its two halves say
 pub is_step : (old new : Publishing) (words new_words : List ℕ) (step : PubStep) (found : ℕ) → is_some (next_event old) ≡ true
@@ -61,41 +55,40 @@ stray_stage Strayed e = refl
 pub goes_on : (p : Publishing) (step : PubStep) → step ≡ answer p.stage → step ≡ said.More → is_some (next_event p) ≡ true
 goes_on p step is more = more_goes p.reference p.stage (sym is ∙ more)
 
--- a step of a publish among others keeps what holds of a list
-pub step_keeps_list : (old new : Publishing) (words new_words chain : List ℕ) (publishings : List Publishing) (step : PubStep) (owner : ℕ)
-    → IsStep old words new new_words step → get_elem? publishings owner ≡ some old → IsList words chain publishings
-    → IsList new_words (chain_after words chain old) (set publishings owner new)
-step_keeps_list old new words new_words chain publishings step owner is mine list =
-    let kept = step_lists words chain publishings owner old list mine old.stage is.event refl is.next in
-    subst (λ (x : List ℕ × Publishing). IsList x.0 (chain_after words chain old) (set publishings owner x.1)) (λ i. (sym is.words_are i, sym is.new_is i)) kept
+-- a step keeps the list on which its publish stands
+pub step_keeps : (old new : Publishing) (words new_words chain : List ℕ) (step : PubStep) → IsStep old words new new_words step → (reach : IsReach (length words) old)
+    → (on : StandsOn words chain old) → Kept words chain old on reach.from reach.ends new_words (chain_after words chain old) new.stage
+step_keeps old new words new_words chain step is reach on =
+    let kept = event_keeps words chain old on reach.from reach.ends old.stage is.event refl is.next in
+    subst (λ (x : List ℕ × Stage). Kept words chain old on reach.from reach.ends x.0 (chain_after words chain old) x.1)
+    (λ i. (sym is.words_are i, sym (ap (λ (p : Publishing). p.stage) is.new_is) i)) kept
+
+-- so the publish stands on it, as its stage then says
+pub step_stands : (old new : Publishing) (words new_words chain : List ℕ) (step : PubStep) → IsStep old words new new_words step → IsReach (length words) old
+    → StandsOn words chain old → StandsOn new_words (chain_after words chain old) new
+step_stands old new words new_words chain step is reach on =
+    let kept = step_keeps old new words new_words chain step is reach on in
+    record {
+      list = kept.list;
+      stands = subst (λ (r : ℕ). Stands new_words (chain_after words chain old) r new.stage) (sym (ap (λ (p : Publishing). p.reference) is.new_is)) kept.stands;
+    }
+
+-- and so does any other
+pub other_stands : (old new other : Publishing) (words new_words chain : List ℕ) (step : PubStep) → IsStep old words new new_words step → IsReach (length words) old
+    → StandsOn words chain old → StandsOn words chain other → IsReach (length words) other → other.reference ≢ old.reference
+    → StandsOn new_words (chain_after words chain old) other
+other_stands old new other words new_words chain step is reach on also within ne =
+    let kept = step_keeps old new words new_words chain step is reach on in
+    record { list = kept.list; stands = kept.others other.reference other.stage within.from ne also.stands }
 
 -- what is published is on the chain
-pub done_stop : (old new : Publishing) (words new_words chain : List ℕ) (publishings : List Publishing) (step : PubStep) (owner : ℕ)
-    → IsStep old words new new_words step → get_elem? publishings owner ≡ some old → IsList words chain publishings → step ≡ said.Done
-    → IsStop (chain_after words chain old) new.reference
-done_stop old new words new_words chain publishings step owner is mine list done =
-    let kept = step_keeps_list old new words new_words chain publishings step owner is mine list in
-    subst (Stands new_words (chain_after words chain old) new.reference) (done_stage new.stage (sym is.answers ∙ done))
-    (kept.stands owner new (set_at publishings owner old new mine))
+pub done_stop : (p : Publishing) (words chain : List ℕ) (step : PubStep) → StandsOn words chain p → step ≡ answer p.stage → step ≡ said.Done
+    → IsStop chain p.reference
+done_stop p words chain step on is done = subst (Stands words chain p.reference) (done_stage p.stage (sym is ∙ done)) on.stands
 
--- a list never lets a publish stray
-pub no_stray : (old new : Publishing) (words new_words chain : List ℕ) (publishings : List Publishing) (step : PubStep) (owner : ℕ)
-    → IsStep old words new new_words step → get_elem? publishings owner ≡ some old → IsList words chain publishings → step ≢ said.Stray
-no_stray old new words new_words chain publishings step owner is mine list stray =
-    let kept = step_keeps_list old new words new_words chain publishings step owner is mine list in
-    subst (Stands new_words (chain_after words chain old) new.reference) (stray_stage new.stage (sym is.answers ∙ stray))
-    (kept.stands owner new (set_at publishings owner old new mine))
-
--- and beside allocations the list invariant
-pub step_keeps : (old new : Publishing) (words new_words : List ℕ) (step : PubStep) (shape : Dimensions) (state : ListState) (owner : ℕ)
-    → IsStep old words new new_words step → words ≡ state.segment.words → get_elem? state.publishes owner ≡ some old → ListKeeps shape state
-    → ListKeeps shape (stepped state owner old new_words new)
-step_keeps old new words new_words step shape state owner is same mine keeps =
-    let kept = steps_keeps shape state owner old keeps mine is.event is.next in
-    let words_now : new_words ≡ after is.event state.segment.words = is.words_are ∙ ap (after is.event) same in
-    let new_now : new ≡ moved (length state.segment.words) old (word_at state.segment.words (spot is.event)) =
-    is.new_is ∙ ap (λ (ws : List ℕ). moved (length ws) old (word_at ws (spot is.event))) same in
-    subst (λ (x : List ℕ × Publishing). ListKeeps shape (stepped state owner old x.0 x.1)) (λ i. (sym words_now i, sym new_now i)) kept
+-- and none that stands on a list has strayed
+pub no_stray : (p : Publishing) (words chain : List ℕ) (step : PubStep) → StandsOn words chain p → step ≡ answer p.stage → step ≢ said.Stray
+no_stray p words chain step on is stray = subst (Stands words chain p.reference) (stray_stage p.stage (sym is ∙ stray)) on.stands
 
 tail_stray : (good : Bool) (found : ℕ) → (if good then Link found else Strayed) ≡ Strayed → good ≡ false
 tail_stray true found e = absurd (cc e)

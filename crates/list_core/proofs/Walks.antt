@@ -1,18 +1,15 @@
 -- What a walk gives.
-use Rattle.std.proofs.Common.{◌≡◌, ℕ, ◌+◌, ◌-◌, ◌<◌, ◌≤◌, ◌==◌, Bool, true, false, List, [], ◌∷◌, ◌++◌, length, get_or, inl, inr, sym, refl, ap, ◌∙◌, subst, arith, length-append, append_assoc}
+use Rattle.std.proofs.Common.{◌≡◌, ℕ, suc, ◌+◌, ◌-◌, ◌<◌, ◌≤◌, ◌==◌, Bool, true, false, List, [], ◌∷◌, ◌++◌, length, get_or, inl, inr, sym, refl, ap, ◌∙◌, subst, arith, length-append, append_assoc}
 use Rattle.std.specs.Prelude.{slice_index, if◌then◌else◌}
 use Rattle.std.proofs.lemmas.List.{append-nil, get_or_append_left, get_or-append_right}
-use Rattle.segment_image.specs.Shape.{Dimensions}
 use Rattle.segment_image.specs.Words.{word_at}
 use Rattle.list_core.specs.declared.walk.WalkStep.{WalkStep}
 use Rattle.list_core.specs.declared.walk.WalkStep.TheVariants.{Record, End, Stray}
-use Rattle.segment_image.specs.Head.{head_of}
 use Rattle.segment_image.specs.declared.head.SegmentHead.{SegmentHead}
-use Rattle.list_core.specs.Chain.{is_reference, stops, IsChain}
-use Rattle.list_core.specs.Walk.{said_of, stands_after, GivesNext, IsPrefix, IsGiven, stands_behind, given_after}
-use Rattle.list_core.specs.Laws.{ListState, ListKeeps, next_said}
+use Rattle.list_core.specs.Chain.{is_reference, stops, IsChain, IsList}
+use Rattle.list_core.specs.Walk.{said_of, stands_after, GivesNext, IsPrefix, IsGiven, stands_behind}
 use Rattle.list_core.proofs.EventKinds.{next_loaded}
-use Rattle.list_core.proofs.Blocks.{block_reference}
+use Rattle.list_core.proofs.References.{block_reference}
 use Rattle.list_core.proofs.Chains.{linked_of}
 
 -- a walk at a place of the chain
@@ -57,21 +54,10 @@ place_of [] rest chain is = refl
 place_of (x ∷ xs) rest chain is = ap (λ (l : List ℕ). get_or l (length xs) 0) is ∙ get_or_append_left (x ∷ xs) rest 0 (length xs) (omega arith)
 
 -- what a walk from the start gives is a prefix of the chain, and all of it at the end
-pub walk_goes : (shape : Dimensions) (state : ListState) (given : List ℕ) → ListKeeps shape state → IsPrefix given state.chain
-    → IsGiven given state.chain (said_of (length state.segment.words) (word_at state.segment.words (stands_behind given + 3)))
-walk_goes shape state given keeps (rest, is) =
-    let within : length given ≤ length state.chain = omega (arith, ap length is, length-append given rest) in
-    prefix_goes state.chain given _ (rest, is)
-    (gives_next state.segment.words state.chain (head_of state.segment.words) (length given) (stands_behind given) keeps.list.free keeps.list.chained within
-    (place_of given rest state.chain is))
-
-given_by : (given chain : List ℕ) (said : WalkStep) → IsPrefix given chain → IsGiven given chain said → IsPrefix (given_after given said) chain
-given_by given chain (Record reference) front longer = longer
-given_by given chain End front same = front
-given_by given chain Stray front none = absurd none
-
--- so what it has given stays a prefix
-pub walk_prefix : (shape : Dimensions) (state : ListState) (given : List ℕ) → ListKeeps shape state → IsPrefix given state.chain
-    → IsPrefix (given_after given (next_said state.segment.words given)) state.chain
-walk_prefix shape state given keeps front =
-    given_by given state.chain (next_said state.segment.words given) front (walk_goes shape state given keeps front)
+pub walk_goes : (words chain given : List ℕ) → IsList words chain → IsPrefix given chain
+    → IsGiven given chain (said_of (length words) (word_at words (stands_behind given + 3)))
+walk_goes words chain given is (rest, whole) =
+    let within : length given ≤ length chain = omega (arith, ap length whole, length-append given rest) in
+    prefix_goes chain given _ (rest, whole)
+    (next_loaded words chain (length given) (stands_behind given) is.linked within (place_of given rest chain whole)
+    (λ inside. is.references (slice_index chain (length given)) (suc (length given), omega (arith, inside), refl)))

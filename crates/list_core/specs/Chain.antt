@@ -1,7 +1,7 @@
 -- The chain of a segment: the references that the nexts give from the queue block. It knows nothing of the tail.
-use Rattle.std.specs.Prelude.{◌≡◌, ◌≢◌, ℕ, ◌+◌, ◌<◌, ◌≤◌, Bool, ◌&&◌, ◌||◌, ◌==◌, nat_le, List, [], ◌∷◌, ◌++◌, length, slice_index}
+use Rattle.std.specs.Prelude.{◌≡◌, ◌≢◌, ℕ, ◌+◌, ◌<◌, ◌≤◌, Bool, true, ◌&&◌, ◌||◌, ◌==◌, nat_le, List, [], ◌∷◌, ◌++◌, length, slice_index}
 use Rattle.segment_image.specs.Words.{word_at}
-use Rattle.segment_image.specs.declared.layout.TheConstants.{HEADER_WORDS, QUEUE, BLOCK_NEXT, BLOCK_LEAST}
+use Rattle.segment_image.specs.declared.layout.TheConstants.{HEADER_WORDS, TAIL_WORD, QUEUE, BLOCK_NEXT, BLOCK_LEAST}
 use Rattle.segment_image.specs.declared.head.SegmentHead.{SegmentHead}
 use Rattle.bucket_ranges.specs.Reading.{before, next_of, IsWalk}
 
@@ -13,6 +13,14 @@ is_reference n reference = (reference == QUEUE) || (nat_le HEADER_WORDS referenc
 abbrev pub stops : List ℕ → List ℕ
 stops chain = QUEUE ∷ chain
 
+-- the queue block, or a record of the chain
+abbrev pub IsStop : List ℕ → ℕ → Type 0
+IsStop chain at = (k : ℕ) × (k ≤ length chain) × (slice_index (stops chain) k ≡ at)
+
+-- one stop and the next one
+abbrev pub AreNeighbours : List ℕ → ℕ → ℕ → Type 0
+AreNeighbours chain at next = (k : ℕ) × (k < length chain) × (slice_index (stops chain) k ≡ at) × (slice_index chain k ≡ next)
+
 -- the nexts lead from the queue block along the chain, whose last next is the queue block again; no record stands twice
 pub record IsLinked (words : List ℕ) (chain : List ℕ) : Type 0 where
   pub linked : (i : ℕ) → i ≤ length chain → word_at words (slice_index (stops chain) i + BLOCK_NEXT) ≡ slice_index (chain ++ QUEUE ∷ []) i
@@ -23,3 +31,10 @@ pub record IsLinked (words : List ℕ) (chain : List ℕ) : Type 0 where
 pub record IsChain (words : List ℕ) (head : SegmentHead) (chain : List ℕ) : Type 0 where
   pub walk : IsWalk words head chain
   pub ended : next_of words (before chain (length chain)) ≡ QUEUE
+
+-- the words have a list: the nexts lead along the chain, each of its stops is a reference that a list can have, and the tail
+-- is one of them
+pub record IsList (words : List ℕ) (chain : List ℕ) : Type 0 where
+  pub linked : IsLinked words chain
+  pub references : (at : ℕ) → IsStop chain at → is_reference (length words) at ≡ true
+  pub tail : IsStop chain (word_at words TAIL_WORD)

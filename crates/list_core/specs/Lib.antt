@@ -6,4 +6,3 @@ pub use Rattle.alloc_core.specs.Alloc
 pub mod Chain
 pub mod Publish
 pub mod Walk
-pub mod Laws

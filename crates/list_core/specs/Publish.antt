@@ -1,5 +1,5 @@
--- A publish: what it does next, and what becomes of it.
-use Rattle.std.specs.Prelude.{◌≡◌, ℕ, ◌+◌, ◌≤◌, ◌==◌, ◌⊎◌, Bool, true, false, List, length, Option, Some, None, if◌then◌else◌, ⊤}
+-- A publish: what it does next, what becomes of it, and what it does to a list.
+use Rattle.std.specs.Prelude.{◌≡◌, ℕ, ◌+◌, ◌≤◌, ◌==◌, ◌⊎◌, Bool, true, false, List, [], ◌∷◌, ◌++◌, length, Option, Some, None, if◌then◌else◌, ⊤}
 use Rattle.segment_image.specs.Words.{word_at}
 use Rattle.segment_image.specs.declared.layout.TheConstants.{HEADER_WORDS, TAIL_WORD, QUEUE, BLOCK_NEXT, BLOCK_LEAST}
 use Rattle.alloc_core.specs.Event.{Event, load, store, exchange, spot, after}
@@ -7,7 +7,7 @@ use Rattle.list_core.specs.declared.publish.Stage.{Stage}
 use Rattle.list_core.specs.declared.publish.Stage.TheVariants.{StoreOwnNext, LoadTail, Link, MoveTail, Published, Strayed}
 use Rattle.list_core.specs.declared.publish.PubStep.{PubStep}
 use Rattle.list_core.specs.declared.publish.PubStep.TheVariants as said
-use Rattle.list_core.specs.Chain.{is_reference}
+use Rattle.list_core.specs.Chain.{is_reference, IsStop, AreNeighbours, IsList}
 
 -- a plain record of a publish: the record that it publishes, and what it does next
 pub record Publishing : Type 0 where
@@ -95,3 +95,35 @@ pub record IsReach (n : ℕ) (publish : Publishing) : Type 0 where
 -- a publish before its first event
 abbrev pub started : ℕ → Publishing
 started reference = record { reference = reference; stage = StoreOwnNext }
+
+-- the chain after the next event of a publish: longer by its record, at its end, where the link succeeds
+abbrev pub chain_at : List ℕ → List ℕ → ℕ → Stage → List ℕ
+chain_at words chain reference (Link tail) = if word_at words (tail + BLOCK_NEXT) == QUEUE then chain ++ reference ∷ [] else chain
+chain_at words chain reference _ = chain
+
+abbrev pub chain_after : List ℕ → List ℕ → Publishing → List ℕ
+chain_after words chain publish = chain_at words chain publish.reference publish.stage
+
+-- a record that is not on the chain yet, and whose next is stored
+abbrev pub Waits : List ℕ → List ℕ → ℕ → Type 0
+Waits words chain reference = (¬ (IsStop chain reference)) × (word_at words (reference + BLOCK_NEXT) ≡ QUEUE)
+
+-- where a publish stands, by its stage: its record is off the chain until it is linked
+abbrev pub Stands : List ℕ → List ℕ → ℕ → Stage → Type 0
+Stands words chain reference StoreOwnNext = ¬ (IsStop chain reference)
+Stands words chain reference LoadTail = Waits words chain reference
+Stands words chain reference (Link tail) = Waits words chain reference × IsStop chain tail
+Stands words chain reference (MoveTail old new true) = AreNeighbours chain old new × (new ≡ reference)
+Stands words chain reference (MoveTail old new false) = AreNeighbours chain old new × Waits words chain reference
+Stands words chain reference Published = IsStop chain reference
+Stands words chain reference Strayed = ⊥
+
+-- words with a list, and a publish that stands where its stage says
+pub record StandsOn (words chain : List ℕ) (publish : Publishing) : Type 0 where
+  pub list : IsList words chain
+  pub stands : Stands words chain publish.reference publish.stage
+
+-- the tail of a list is where it was in earlier words, or at the next stop of their chain
+abbrev pub TailGoesOn : List ℕ → List ℕ → List ℕ → Type 0
+TailGoesOn chain words new_words =
+    (word_at new_words TAIL_WORD ≡ word_at words TAIL_WORD) ⊎ AreNeighbours chain (word_at words TAIL_WORD) (word_at new_words TAIL_WORD)

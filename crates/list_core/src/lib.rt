@@ -2,16 +2,15 @@
 //!
 //! A record is published by one exchange of the last next of the list, so it is on the list whole or not at all; the
 //! tail of the list is a help to find its end, which any publisher may move on. A walk gives the records in the order in
-//! which they were published. The chain is defined in `specs/Chain.antt`, without the tail; what a publish and a walk do
-//! is in `specs/Publish.antt` and `specs/Walk.antt`, and what holds between any two events of any number of publishes,
-//! with allocations beside them, in `specs/Laws.antt`. No call takes memory.
+//! which they were published. The chain and the list are defined in `specs/Chain.antt`; what a publish and a walk do, and
+//! where a publish stands beside a list, is in `specs/Publish.antt` and `specs/Walk.antt`. All this is over words and a
+//! chain alone: what holds of a segment, with its blocks and its actors, is in the crates of the machine. No call takes
+//! memory.
 #![tactic(auto)]
 
 pub mod laws;
 mod publish;
 mod reference;
-#[cfg(test)]
-mod tests;
 mod walk;
 
 pub use publish::{PubStep, Publish};

@@ -66,14 +66,11 @@ impl Stage {
 }
 
 impl Publish {
-    ghost use Rattle.std.specs.Prelude.{◌≡◌, ◌≢◌, ℕ, List, length, is_some, true, slice_set, IfSome};
-    ghost use mathlib.Core.Option.{some};
-    ghost use lib.ListN.{get_elem?};
-    ghost use Rattle.segment_image.specs.Shape.{Dimensions};
+    ghost use Rattle.std.specs.Prelude.{◌≡◌, ◌≢◌, ℕ, List, length, is_some, true, IfSome};
     ghost use Rattle.segment_image.specs.Words.{word_at};
     ghost use Rattle.alloc_core.specs.Event.{spot, after};
-    ghost use Rattle.list_core.specs.Publish.{Publishing, next_event, stage_after, started, moved, IsStep, IsStrayBy, IsReach};
-    ghost use Rattle.list_core.specs.Laws.{IsStop, IsList, chain_after, ListState, ListKeeps, stepped};
+    ghost use Rattle.list_core.specs.Chain.{IsStop};
+    ghost use Rattle.list_core.specs.Publish.{Publishing, next_event, stage_after, started, moved, IsStep, IsStrayBy, IsReach, chain_after, StandsOn, TailGoesOn};
 
     /// A publish of the record at a reference, from 16 to five below the number of words.
     pub fn start(reference: u64) -> Publish
@@ -92,10 +89,10 @@ impl Publish {
     /// loaded, or a next was found, that is neither 12 nor from 16 to five below the number of words; this step has then
     /// changed nothing. Both end the publish; `More` says that it goes on.
     ///
-    /// In words with a list (`IsList` in `specs/Laws.antt`: a chain, the tail on it, and records that are lawful blocks, no two
-    /// of which overlap) the step keeps that, with the record at the end of the chain where it is linked; `Done` comes only
-    /// where the record is on the chain, and `Stray` never. Nothing is asked of allocations for this; where the records were
-    /// claimed by some, it keeps the invariant of these too.
+    /// In words with a list (`IsList` in `specs/Chain.antt`: nexts along a chain, and the tail on it), on which the publish stands
+    /// where its stage says, the step keeps both, with the record at the end of the chain where it is linked. Other publishes,
+    /// of other records, stand where they stood, and the tail does not go back. `Done` comes only where the record is on the
+    /// chain, and `Stray` never.
     pub fn step(&mut self, words: &mut [u64]) -> PubStep
         requires reach { IsReach (length words.old) self.old }
         requires running { is_some (next_event self.old) ≡ true }
@@ -103,10 +100,11 @@ impl Publish {
         ensures reach { IsReach (length words.new) self.new }
         ensures more { result ≡ PubStep.More → is_some (next_event self.new) ≡ true }
         ensures stray { result ≡ PubStep.Stray → IsStrayBy self.old words.old × (words.new ≡ words.old) }
-        ensures list { (chain : List ℕ) (publishings : List Publishing) (owner : ℕ) → get_elem? publishings owner ≡ some self.old → IsList words.old chain publishings → IsList words.new (chain_after words.old chain self.old) (slice_set publishings owner self.new) }
-        ensures done { (chain : List ℕ) (publishings : List Publishing) (owner : ℕ) → get_elem? publishings owner ≡ some self.old → IsList words.old chain publishings → result ≡ PubStep.Done → IsStop (chain_after words.old chain self.old) self.new.reference }
-        ensures lawful { (chain : List ℕ) (publishings : List Publishing) (owner : ℕ) → get_elem? publishings owner ≡ some self.old → IsList words.old chain publishings → result ≢ PubStep.Stray }
-        ensures keeps { (shape : Dimensions) (state : ListState) (owner : ℕ) → words.old ≡ state.segment.words → get_elem? state.publishes owner ≡ some self.old → ListKeeps shape state → ListKeeps shape (stepped state owner self.old words.new self.new) }
+        ensures list { (chain : List ℕ) → StandsOn words.old chain self.old → StandsOn words.new (chain_after words.old chain self.old) self.new }
+        ensures others { (chain : List ℕ) (other : Publishing) → StandsOn words.old chain self.old → StandsOn words.old chain other → IsReach (length words.old) other → other.reference ≢ self.old.reference → StandsOn words.new (chain_after words.old chain self.old) other }
+        ensures tail { (chain : List ℕ) → StandsOn words.old chain self.old → TailGoesOn chain words.old words.new }
+        ensures done { (chain : List ℕ) → StandsOn words.old chain self.old → result ≡ PubStep.Done → IsStop (chain_after words.old chain self.old) self.new.reference }
+        ensures lawful { (chain : List ℕ) → StandsOn words.old chain self.old → result ≢ PubStep.Stray }
     {
         let count = words.len();
         let found = self.act(words);

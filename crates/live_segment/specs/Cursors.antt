@@ -4,7 +4,7 @@ use Rattle.std.specs.List.{All, Contains}
 use Rattle.segment_image.specs.declared.layout.TheConstants.{BLOCK_LEAST, HEADER_WORDS, QUEUE}
 use lib.ListN.{get_elem?}
 use mathlib.Core.Option.{some}
-use Rattle.list_core.specs.Laws.{AreNeighbours}
+use Rattle.list_core.specs.Chain.{AreNeighbours}
 use Rattle.list_core.specs.Walk.{IsPrefix, stands_behind}
 use Rattle.segment_machine.specs.declared.actor.Actor.{Actor}
 use Rattle.segment_machine.specs.declared.actor.Given.{Given}

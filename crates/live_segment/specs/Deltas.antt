@@ -1,8 +1,6 @@
 -- What a delta makes of its recorder: what it takes on its way, and what it has taken when it ends.
-use Rattle.std.specs.Prelude.{◌≡◌, ◌≢◌, true, false, ℕ, ◌+◌, ◌<◌, ◌≤◌, ℤ, ◌+ℤ◌, List, [], ◌∷◌, ◌++◌, length, map, nat_lt, if◌then◌else◌, Some, None}
-use Rattle.std.specs.List.{All, Contains}
-use Rattle.std.specs.List.Sorted.{IsStrictlySortedBy}
-use Rattle.std.specs.Ordering.{int_cmp}
+use Rattle.std.specs.Prelude.{◌≡◌, ◌≢◌, true, false, ℕ, ◌+◌, ◌<◌, ◌≤◌, ℤ, ◌+ℤ◌, List, [], ◌∷◌, ◌++◌, length, nat_lt, if◌then◌else◌, Some, None}
+use Rattle.std.specs.List.{Contains}
 use Rattle.segment_image.specs.declared.layout.TheConstants.{HISTOGRAM_COUNTS, HISTOGRAM_SINGLE, SAMPLE_COUNT}
 use Rattle.bucket_ranges.specs.declared.spec.Spec.TheVariants as spec
 use Rattle.bucket_ranges.specs.Single.{packed_bucket, single_of}
@@ -17,6 +15,7 @@ use Rattle.segment_machine.specs.Form.{is_off, units_in}
 use Rattle.segment_machine.specs.Made.{SawSample}
 use Rattle.segment_machine.specs.Note.{TookAll, TookBucket, TookSample, moment_of}
 use Rattle.segment_machine.specs.Taking.{Takes, is_looking}
+pub use Rattle.segment_promises.specs.Calls.{AreUnits}
 use Rattle.live_segment.specs.declared.deltas.Mounted.{Mounted}
 use Rattle.live_segment.specs.declared.segment.Segment.{Segment}
 use Rattle.live_segment.specs.Holders.{table_of}
@@ -45,11 +44,6 @@ pub record TakesOn (more : List (ℤ × ℕ)) (old new : Actor) : Type 0 where
     seen = new.seen;
   }
   pub seen : SeesOn old.seen new.seen
-
--- keys with units, ascending, each once
-pub record AreUnits (counts : List (ℤ × ℕ)) : Type 0 where
-  pub ascending : IsStrictlySortedBy int_cmp (map (λ count. count.0) counts)
-  pub some : All (λ count. 1 ≤ count.1) counts
 
 -- ---- of a histogram with buckets
 

@@ -1,5 +1,5 @@
 -- What a recorder sees of the samples of a sparse histogram, which it meets along the list.
-use Rattle.std.specs.Prelude.{◌≡◌, ◌≢◌, ◌⊎◌, true, false, ℕ, ◌+◌, ◌*◌, ◌≤◌, ℤ, List, ◌∷◌, ◌++◌, length, Option, Some, None}
+use Rattle.std.specs.Prelude.{◌≡◌, ◌≢◌, ◌⊎◌, true, false, ℕ, ◌+◌, ◌*◌, ◌≤◌, ℤ, List, length, Option, Some, None}
 use Rattle.std.specs.List.{All, AllPairs, Contains}
 use Rattle.segment_image.specs.declared.layout.TheConstants.{HEADER_WORDS, SAMPLE_COUNT, SAMPLE_LEAST}
 use Rattle.bucket_ranges.specs.Reading.{is_i32}
@@ -9,6 +9,7 @@ use Rattle.segment_machine.specs.Event.{taking_event}
 use Rattle.segment_machine.specs.Made.{SawSample, SawOther}
 use Rattle.segment_machine.specs.Actor.{SawCount, is_bound}
 use Rattle.segment_machine.specs.Taking.{IsLaterSample, is_looking, load_count, load_sum}
+pub use Rattle.segment_promises.specs.Calls.{SamplesStandBehind}
 use Rattle.segment_promises.specs.Onward.{Grows}
 use Rattle.segment_promises.specs.Values.{NoRepeats}
 use Rattle.live_segment.specs.Steps.{DoesAt, Sat}
@@ -17,11 +18,6 @@ use Rattle.live_segment.specs.Steps.{DoesAt, Sat}
 abbrev pub ShowsSample : ℕ → ℕ → Option ℤ → Actor → Type 0
 ShowsSample histogram at (Some value) a = SawSample a.seen histogram value at × (at + SAMPLE_LEAST ≤ a.segment.shape.size)
 ShowsSample histogram at None a = (value : ℤ) → is_i32 value ≡ true → SawOther a.seen histogram value at
-
--- each sample that it met stands behind the record of its histogram
-abbrev pub SamplesStandBehind : Actor → Type 0
-SamplesStandBehind a = (histogram sample : ℕ) (value : ℤ) (front behind : List ℕ) → Contains a.seen.chain sample → SawSample a.seen histogram value sample
-    → a.seen.chain ≡ front ++ histogram ∷ behind → Contains behind sample
 
 -- it met a record that it saw to be a sample
 abbrev pub MeetsSample : Actor → ℕ → Type 0

@@ -1,6 +1,5 @@
 -- What a snapshot makes of the recorder that answers it: it has looked at a histogram anew, and notes what it saw.
-use Rattle.std.specs.Prelude.{◌≡◌, false, ℕ, ◌+◌, ◌-◌, ℤ, pos, List, [], ◌∷◌, ◌++◌, length, map, slice_index}
-use Rattle.std.specs.List.{range_with_len}
+use Rattle.std.specs.Prelude.{◌≡◌, false, ℕ, ◌+◌, ℤ, List, [], ◌∷◌, ◌++◌, length, map}
 use mathlib.Core.Option.{some}
 use lib.ListN.{get_elem?}
 use Rattle.segment_image.specs.declared.layout.TheConstants.{HISTOGRAM_REDUNDANT}
@@ -16,10 +15,6 @@ use Rattle.segment_promises.specs.Onward.{SeesOn}
 use Rattle.live_segment.specs.Taking.{answered_as}
 
 -- ---- what it begins with
-
--- the keys of all buckets of these ranges in order, each with no units yet
-abbrev pub blank_totals : List ℕ → List (ℤ × ℕ)
-blank_totals boundaries = map (λ i. (pos (slice_index boundaries i), 0)) (range_with_len 0 (length boundaries - 1))
 
 -- these totals with the units that a single word holds, which are added to those of their bucket
 pub record HavePacked (version word : ℕ) (old new : List (ℤ × ℕ)) : Type 0 where

@@ -17,7 +17,7 @@ use Rattle.live_segment.specs.Holders.{table_of}
 use Rattle.segment_promises.specs.Onward.{SeesOn}
 use Rattle.segment_promises.specs.Values.{ComesTo, Passes, ListsValues, ListsOf, listed_of}
 use Rattle.live_segment.specs.Rule.{IsOf}
-use Rattle.live_segment.specs.Snapshots.{blank_totals}
+use Rattle.segment_promises.specs.Totals.{blank_totals}
 use Rattle.live_segment.specs.Steps.{IsSame, Pass}
 use Rattle.live_segment.specs.GhostNotes.{KnowsAlone}
 

@@ -16,9 +16,9 @@ ghost use Rattle.segment_image.specs.declared.layout.TheConstants.{QUEUE};
 
 use crate::recorder::KnownHistogram;
 use crate::rule::Pass;
-use crate::samples::sort_by_key;
 use crate::segment::Segment;
 use segment_calls::packing::{DISABLED_BIT, packed_in};
+use segment_calls::sort_by_key;
 use segment_image::layout::{BLOCK_HEADER, BLOCK_LEAST, HEADER_WORDS, QUEUE, SAMPLE_MARK};
 
 // The counts of a histogram, as a delta found them in use.

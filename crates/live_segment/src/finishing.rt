@@ -1,17 +1,12 @@
 //! How a sample that is counted is finished: its amount is added to the sum, and its units to the redundant count.
 
-ghost use Rattle.std.specs.Prelude.{◌≡◌, ◌*◌, ◌≤◌};
-ghost use Rattle.std.specs.Int.RustNames.{unsigned_abs};
-ghost use Rattle.bucket_ranges.specs.Tally.{amount_of as amount_of_sample, counted_value as counted_value_of};
-
 use crate::recorder::KnownHistogram;
 use crate::rule::Pass;
 use crate::segment::Segment;
-use bucket_ranges::Ranges;
-use bucket_ranges::limits::MAX_VALUE;
+use bucket_ranges::amount_of;
 
 impl Segment {
-    ghost use Rattle.std.specs.Prelude.{◌+◌, [], ◌∷◌};
+    ghost use Rattle.std.specs.Prelude.{◌≡◌, ◌≤◌, ◌+◌, [], ◌∷◌};
     ghost use Rattle.bucket_ranges.specs.Ranges.{boundaries_of};
     ghost use Rattle.live_segment.specs.Known.{known_view};
     ghost use Rattle.live_segment.specs.Holders.{table_of};
@@ -52,23 +47,4 @@ impl Segment {
         }
         self.add_amount(seat, histogram.reference, amount);
     }
-}
-
-// A value as it counts for the sum: clamped where there are buckets.
-fn counted_value(ranges: &Ranges, value: i32) -> i32
-    ensures value { result ≡ counted_value_of ranges.now value }
-{
-    if ranges.len() > 0 {
-        value.clamp(0, MAX_VALUE as i32)
-    } else {
-        value
-    }
-}
-
-// What a sample adds to the sum: its value as often as it has units.
-fn amount_of(ranges: &Ranges, value: i32, units: u32) -> i64
-    ensures amount { result ≡ amount_of_sample ranges.now (value, units) }
-    ensures small { unsigned_abs result ≤ 2147483648 * units }
-{
-    i64::from(counted_value(ranges, value)) * i64::from(units)
 }

@@ -7,7 +7,6 @@ ghost use Rattle.live_segment.specs.Finding.{Meets, SeesWords};
 ghost use Rattle.live_segment.specs.Known.{known_view};
 ghost use Rattle.live_segment.specs.Samples.{CountsSample, SamplesAreFew, SeesSample, ShowsSample};
 ghost use Rattle.live_segment.specs.GhostNotes.{KnowsAlone};
-ghost use Rattle.segment_promises.specs.Values.{AreSorted};
 
 use crate::recorder::KnownHistogram;
 use crate::rule::Pass;
@@ -15,13 +14,6 @@ use crate::segment::Segment;
 use segment_image::layout::{
     BLOCK_TYPE, SAMPLE_COUNT, SAMPLE_HISTOGRAM, SAMPLE_VALUE, TYPE_SAMPLE,
 };
-
-// Sorts keys with units by their keys.
-pub(crate) fn sort_by_key(counts: &mut Vec<(i32, u64)>)
-    ensures { AreSorted counts.old.items counts.new.items }
-{
-    counts.sort_unstable_by_key(|count| count.0);
-}
 
 impl Segment {
     ghost use Rattle.live_segment.specs.Seated.{IsSeated};

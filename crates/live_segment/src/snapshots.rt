@@ -5,28 +5,17 @@ ghost use Rattle.segment_calls.specs.declared.answer.Snapshot.{Snapshot};
 ghost use Rattle.live_segment.specs.declared.rule.Announcement.TheVariants.{Answer};
 ghost use Rattle.std.specs.List.{All};
 ghost use Rattle.segment_machine.specs.Calls.{IsUnits};
-ghost use Rattle.live_segment.specs.Snapshots.{blank_totals, HavePacked};
+ghost use Rattle.segment_promises.specs.Totals.{blank_totals};
+ghost use Rattle.live_segment.specs.Snapshots.{HavePacked};
 
 use crate::recorder::KnownHistogram;
 use crate::rule::{Announcement, Pass};
-use crate::samples::sort_by_key;
 use crate::segment::Segment;
-use bucket_ranges::{Ranges, SingleWord};
-use segment_calls::Snapshot;
+use bucket_ranges::{SingleWord, empty_buckets};
 use segment_calls::packing::DISABLED_BIT;
+use segment_calls::{Snapshot, sort_by_key};
 use segment_image::layout::QUEUE;
 use std::alloc::{AllocError, Global};
-
-// The keys of all buckets in order, each with no units yet.
-pub(crate) fn blank_totals(alloc: Global, ranges: &Ranges) -> Result<Vec<(i32, u64)>, AllocError>
-    ensures { IfOk result (λ totals. totals.items ≡ blank_totals ranges.now) }
-{
-    let mut totals = Vec::with_capacity(alloc, ranges.len())?;
-    for bucket in 0..ranges.len() {
-        totals.push_reserved((ranges.low(bucket), 0));
-    }
-    Ok(totals)
-}
 
 // The units that a single word holds are added to those of their bucket.
 fn add_packed(version: u64, word: u64, totals: &mut [(i32, u64)])
@@ -228,7 +217,7 @@ impl Segment {
         if histogram.ranges.len() == 0 {
             return Vec::with_capacity(alloc, self.most_keys(histogram));
         }
-        blank_totals(alloc, &histogram.ranges)
+        empty_buckets(alloc, &histogram.ranges)
     }
 
     // A snapshot of a histogram, with the totals with which it begins.

@@ -19,6 +19,3 @@ mod worker;
 pub use gate::{Gate, OpenGate};
 pub use merging::merge_files;
 pub use run::run_script;
-
-#[cfg(test)]
-mod tests;

@@ -25,6 +25,3 @@ pub use reporting::report;
 pub use rows::read_rows;
 pub use script::{CallKind, Script, ScriptCall, ScriptFault, ScriptHist, read_script};
 pub use text::text_of;
-
-#[cfg(test)]
-mod tests;

@@ -54,6 +54,3 @@ pub enum CallKind {
     /// A delta is to be taken.
     Delta,
 }
-
-#[cfg(test)]
-mod tests;

@@ -12,6 +12,3 @@ mod reading;
 pub use fault::ScheduleFault;
 pub use order::{Opening, Order, OrderKind};
 pub use reading::{Schedule, read_schedule};
-
-#[cfg(test)]
-mod tests;

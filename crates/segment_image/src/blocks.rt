@@ -13,9 +13,9 @@ pub struct BlockHead {
     pub next: u64,
 }
 
-ghost use Rattle.std.specs.Prelude.{◌≡◌, Ok};
+ghost use Rattle.std.specs.Prelude.{◌≡◌, Ok, true};
 ghost use Rattle.segment_image.specs.Head.{header_of};
-ghost use Rattle.segment_image.specs.Blocks.{block_of};
+ghost use Rattle.segment_image.specs.Blocks.{block_of, is_placed, is_claimed};
 
 use crate::head::SegmentHead;
 use crate::layout::{
@@ -33,21 +33,38 @@ pub fn block(words: &[u64], head: &SegmentHead, reference: u64) -> Result<BlockH
     requires { header_of words.now ≡ Ok head.now }
     ensures { result ≡ block_of words.now head.now reference }
 {
-    if reference < HEADER_WORDS as u64 || head.free < LEAST || reference > head.free - LEAST {
+    if !lies_within(head, reference) {
         return Err(ImageFault::BadRef);
     }
+    if !was_claimed(words, head, reference) {
+        return Err(ImageFault::BadBlock);
+    }
     let at = reference as usize;
-    let size = words[at + BLOCK_SIZE];
-    if words[at + BLOCK_COOKIE] != CLAIMED_COOKIE || size < LEAST || size > head.free - reference {
-        return Err(ImageFault::BadBlock);
-    }
-    let page = head.shape.page();
-    if reference / page != (reference + size - 1) / page {
-        return Err(ImageFault::BadBlock);
-    }
     Ok(BlockHead {
-        size,
+        size: words[at + BLOCK_SIZE],
         tag: words[at + BLOCK_TYPE],
         next: words[at + BLOCK_NEXT],
     })
+}
+
+// Whether the smallest block lies at a reference, behind the header and below the free pointer.
+fn lies_within(head: &SegmentHead, reference: u64) -> bool
+    ensures { result ≡ is_placed head.now reference }
+{
+    reference >= HEADER_WORDS as u64 && head.free >= LEAST && reference <= head.free - LEAST
+}
+
+// Whether the words there are a block that was claimed, whole in one page.
+fn was_claimed(words: &[u64], head: &SegmentHead, reference: u64) -> bool
+    requires header { header_of words.now ≡ Ok head.now }
+    requires placed { is_placed head.now reference ≡ true }
+    ensures { result ≡ is_claimed words.now head.now reference }
+{
+    let at = reference as usize;
+    let size = words[at + BLOCK_SIZE];
+    if words[at + BLOCK_COOKIE] != CLAIMED_COOKIE || size < LEAST || size > head.free - reference {
+        return false;
+    }
+    let page = head.shape.page();
+    reference / page == (reference + size - 1) / page
 }

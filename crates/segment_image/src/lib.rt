@@ -29,6 +29,3 @@ pub use image::{Image, blank_is_ready};
 pub use shape::Shape;
 pub use transfer::{read_bytes, read_words, write_words};
 pub use watched::Watched;
-
-#[cfg(test)]
-mod tests;

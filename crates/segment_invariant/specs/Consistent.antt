@@ -10,8 +10,7 @@ use Rattle.segment_image.specs.Head.{head_of}
 use Rattle.segment_image.specs.Blocks.{field_at}
 use Rattle.alloc_core.specs.Planned.{is_pointer}
 use Rattle.alloc_core.specs.Laws.{Behind, Apart}
-use Rattle.list_core.specs.Chain.{stops, IsChain}
-use Rattle.list_core.specs.Laws.{IsStop}
+use Rattle.list_core.specs.Chain.{stops, IsStop, IsChain}
 use Rattle.list_core.specs.Walk.{IsPrefix}
 use Rattle.bucket_ranges.specs.Spec.{SameSpec}
 use Rattle.bucket_ranges.specs.Ranges.{boundaries_of}

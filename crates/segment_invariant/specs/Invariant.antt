@@ -14,8 +14,7 @@ use Rattle.bucket_ranges.specs.declared.spec.Spec.TheVariants as spec
 use Rattle.bucket_ranges.specs.Spec.{buckets_of, spec_fault, spec_fields, spec_ranges}
 use Rattle.bucket_ranges.specs.Reading.{is_name, is_i32, is_bad_sum}
 use Rattle.bucket_ranges.specs.Single.{single_of, packed_bucket, is_packed_bucket, units_packed}
-use Rattle.list_core.specs.Chain.{stops, IsLinked}
-use Rattle.list_core.specs.Laws.{IsStop, AreNeighbours}
+use Rattle.list_core.specs.Chain.{stops, IsStop, AreNeighbours, IsLinked}
 use Rattle.segment_machine.specs.declared.entry.Entry.{Entry}
 use Rattle.segment_machine.specs.declared.entry.EntryProgress.{EntryProgress}
 use Rattle.segment_machine.specs.declared.place.Look.{Look}

@@ -6,8 +6,6 @@
 
 mod merging;
 mod remainder;
-#[cfg(test)]
-mod tests;
 
 pub use merging::{MergeReport, MergeStop, merge};
 pub use remainder::{Remainder, remainder_of};

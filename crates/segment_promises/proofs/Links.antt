@@ -13,8 +13,7 @@ use Rattle.alloc_core.proofs.Owners.{set_at}
 use Rattle.segment_image.specs.Shape.{Dimensions}
 use Rattle.segment_image.specs.Words.{word_at}
 use Rattle.segment_image.specs.Head.{head_of}
-use Rattle.list_core.specs.Chain.{stops, IsChain}
-use Rattle.list_core.specs.Laws.{IsStop, AreNeighbours}
+use Rattle.list_core.specs.Chain.{stops, IsStop, AreNeighbours, IsChain}
 use Rattle.list_core.specs.Walk.{IsPrefix}
 use Rattle.list_core.proofs.Chains.{one_place, last_stop}
 use Rattle.segment_machine.specs.declared.actor.Actor.{Actor}

@@ -15,7 +15,7 @@ use Rattle.bucket_ranges.specs.Reading.{Histogram, Reading, IsListed, reading_al
 use Rattle.alloc_core.specs.Planned.{is_pointer}
 use Rattle.alloc_core.specs.Laws.{Apart}
 use Rattle.alloc_core.specs.Layout.{IsShown}
-use Rattle.list_core.specs.Laws.{IsStop}
+use Rattle.list_core.specs.Chain.{IsStop}
 use Rattle.segment_machine.specs.declared.entry.Entry.{Entry}
 use Rattle.segment_machine.specs.declared.actor.Actor.{Actor}
 use Rattle.segment_machine.specs.declared.actor.Portion.{Portion}

@@ -10,3 +10,5 @@ pub mod Examples
 pub mod WorkedReadings
 pub mod Onward
 pub mod Values
+pub mod Calls
+pub mod Totals

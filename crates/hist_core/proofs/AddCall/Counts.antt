@@ -9,7 +9,7 @@ use Rattle.segment_image.specs.Shape.{Dimensions}
 use Rattle.segment_image.specs.Words.{word_at}
 use Rattle.segment_machine.specs.declared.actor.Actor.{Actor}
 use Rattle.segment_machine.specs.declared.actor.Known.{Known}
-use Rattle.segment_machine.specs.declared.entry.EntryProgress.{EntryProgress as MachineCounting}
+use Rattle.segment_machine.specs.declared.entry.EntryProgress.{EntryProgress}
 use Rattle.segment_machine.specs.Calls.{IsNext, change_next, MayTurn}
 use Rattle.segment_machine.specs.Counting.{add_count}
 use Rattle.bucket_ranges.specs.Ranges.{boundaries_of}
@@ -20,7 +20,7 @@ use Rattle.segment_machine.specs.Event.{Event, next, counting_event}
 use Rattle.hist_core.specs.declared.add.Add.{Add}
 use Rattle.hist_core.specs.declared.add.AddStep.TheVariants.{More}
 use Rattle.hist_core.specs.declared.add.Stage.{Stage}
-use Rattle.hist_core.specs.declared.add.Stage.TheVariants.{EntryProgress, Summing, Noting}
+use Rattle.hist_core.specs.declared.add.Stage.TheVariants.{Counting, Summing, Noting}
 use Rattle.hist_core.specs.StepsBy.{StepsBy}
 use Rattle.hist_core.specs.Add.{Amid, IsCounting, HasEntry, IsSomeAdd, StandsAtStage, IsAdd, AddGives, behind_count}
 use Rattle.hist_core.proofs.AddCall.Entries.{still_open, only_open, only_changed, counting_of}
@@ -60,19 +60,19 @@ module _ (shape : Dimensions) (known : Known) (amid : Amid) (add : Add) (a : Act
     ap (filter (λ c. not (has_ended c))) has ∙ only_open (counting_of known add counted summed) (map fresh amid.behind) goes_on amid.before is.over,
   )
 
-  pub changed_is : (f : MachineCounting → MachineCounting) → change_next f a.entries.running ≡ amid.before ++ f (counting_of known add counted summed) ∷ map fresh amid.behind
+  pub changed_is : (f : EntryProgress → EntryProgress) → change_next f a.entries.running ≡ amid.before ++ f (counting_of known add counted summed) ∷ map fresh amid.behind
   changed_is f = ap (change_next f) has ∙ only_changed (counting_of known add counted summed) (map fresh amid.behind) goes_on f amid.before is.over
 
 -- it may make room: nothing is counted of its entry, and it takes nothing
 pub counts_in : (shape : Dimensions) (known : Known) (amid : Amid) (add : Add) (a : Actor) → IsAdd shape known amid add a → HasEntry known amid add a false false → CountsIn a known
 counts_in shape known amid add a is has = (is.rests, λ c first. by c (first_is c first))
   where
-    first_is : (c : MachineCounting) → IsNext a c → counting_of known add false false ≡ c
+    first_is : (c : EntryProgress) → IsNext a c → counting_of known add false false ≡ c
     first_is c first = let mine = next_is shape known amid add a is false false has in
         let same : counting_of known add false false ∷ mine.0 ≡ c ∷ first.0 = sym mine.1 ∙ first.1 in cc same
 
-    by : (c : MachineCounting) → counting_of known add false false ≡ c → (is_counted c ≡ false) × (c.entry.name ≡ known.name)
-    by c same = subst (λ (d : MachineCounting). (is_counted d ≡ false) × (d.entry.name ≡ known.name)) same (is.counting.some, refl)
+    by : (c : EntryProgress) → counting_of known add false false ≡ c → (is_counted c ≡ false) × (c.entry.name ≡ known.name)
+    by c same = subst (λ (d : EntryProgress). (is_counted d ≡ false) × (d.entry.name ≡ known.name)) same (is.counting.some, refl)
 
 module _ (shape : Dimensions) (known : Known) (amid : Amid) (add : Add) (a : Actor) (words : List ℕ) (is : IsAdd shape known amid add a) where
   -- its record lies in the words
@@ -81,8 +81,8 @@ module _ (shape : Dimensions) (known : Known) (amid : Amid) (add : Add) (a : Act
       let within = is.counting.within in let many = is.lawful_shape.many in (omega (arith, long, within), omega (arith, long, many))
 
   -- ---- a count
-  module _ (at : ℕ) (counts : add.stage ≡ EntryProgress at) where
-    stands : StandsAtStage shape known amid add a (EntryProgress at)
+  module _ (at : ℕ) (counts : add.stage ≡ Counting at) where
+    stands : StandsAtStage shape known amid add a (Counting at)
     stands = subst (StandsAtStage shape known amid add a) counts is.stands
 
     pub count_inside : length words ≡ shape.size → at < length words

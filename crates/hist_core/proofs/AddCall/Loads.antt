@@ -1,7 +1,6 @@
 -- An `add` loads the counts reference.
 use Rattle.std.proofs.Common.{◌≡◌, ◌<◌, ◌≤◌, ℕ, ◌+◌, ◌*◌, ◌%◌, ◌^◌, Bool, List, [], refl, sym, ap, subst, ◌∙◌, arith, inl}
 use Rattle.std.specs.Prelude.{◌≢◌, Some, if◌then◌else◌}
-use Rattle.std.proofs.lemmas.List.{append-nil}
 use Rattle.std.proofs.lemmas.Bool.{eq-eqb}
 use lib.Seq.{set-get_or}
 use Rattle.bucket_ranges.specs.Spec.{buckets_of}
@@ -13,9 +12,10 @@ use Rattle.segment_machine.specs.declared.place.Look.{Look}
 use Rattle.segment_machine.specs.declared.place.Place.{Place}
 use Rattle.segment_machine.specs.declared.place.Place.TheVariants.{Looking}
 use Rattle.segment_machine.specs.Actor.{is_bound, Buckets}
-use Rattle.segment_machine.specs.Calls.{MayTurn, look_of, nothing_of, sight_counts, AreCountsOf, CountsStay}
+use Rattle.segment_machine.specs.Calls.{MayTurn, look_of, nothing_of, AreCountsOf, CountsStay}
 use Rattle.segment_machine.specs.Counting.{load_counts}
 use Rattle.segment_machine.specs.Event.{Event, next, counting_event}
+use Rattle.hist_core.proofs.AddCall.Going.{aside_counts}
 use Rattle.hist_core.specs.declared.add.Add.{Add}
 use Rattle.hist_core.specs.declared.add.AddStep.TheVariants.{More}
 use Rattle.hist_core.specs.declared.add.Stage.TheVariants.{LoadingCounts, Counting}
@@ -90,14 +90,7 @@ module _ (shape : Dimensions) (known : Known) (amid : Amid) (add : Add) (a : Act
       acted,
       refl,
       (
-        record {
-          role = refl;
-          segment = refl;
-          deltas = refl;
-          names = refl;
-          chain = ([], sym (append-nil a.seen.chain));
-          words = (sight_counts known.reference found, refl);
-        },
+        aside_counts a acted known.reference found refl refl refl refl refl refl,
         (refl, refl),
         record {
           counting = counts_on shape known add (Counting at) is.counting;

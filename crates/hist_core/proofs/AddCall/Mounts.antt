@@ -24,6 +24,7 @@ use Rattle.segment_machine.specs.Event.{Event, next, counting_event, packing_eve
 use Rattle.segment_machine.specs.Note.{Note, Notes}
 use Rattle.segment_machine.specs.Packing.{mount_counts, purge_block, after_mount, PackingEvent}
 use Rattle.segment_machine.specs.Stages.{Allocates, StandsAt}
+use Rattle.segment_promises.proofs.Calls.Places.{looks_there}
 use Rattle.hist_core.specs.declared.add.Add.{Add}
 use Rattle.hist_core.specs.declared.add.AddStep.{AddStep}
 use Rattle.hist_core.specs.declared.add.AddStep.TheVariants.{More, Done, Refused}
@@ -37,7 +38,6 @@ use Rattle.hist_core.proofs.AddCall.Entries.{counting_of}
 use Rattle.hist_core.proofs.AddCall.Going.{acts_on, packs_on, goes_still, aside_counts}
 use Rattle.hist_core.proofs.AddCall.Packs.{has_them}
 use Rattle.hist_core.proofs.AddCall.Refusals.{refuses, beside_aside}
-use Rattle.hist_core.proofs.SnapshotCall.Looks.{looks_there}
 use Rattle.hist_core.proofs.Parts.Allocations.{allocates_on, goes_with}
 use Rattle.hist_core.proofs.Parts.Alone.{makes_so}
 use Rattle.hist_core.proofs.Parts.Claims.{claimed_suits, claimed_of, goes_noting, rests_at, ended_so}

@@ -19,6 +19,7 @@ use Rattle.segment_machine.specs.Calls.{look_of, back, form_seen}
 use Rattle.segment_machine.specs.Event.{next, packing_event}
 use Rattle.segment_machine.specs.Form.{is_off, off_word, units_in}
 use Rattle.segment_machine.specs.Packing.{PackingEvent, load_single, disable, add_moved, after_disable, after_disabling, IsSingleOf}
+use Rattle.segment_promises.proofs.Calls.Places.{looks_again}
 use Rattle.hist_core.specs.declared.add.Add.{Add}
 use Rattle.hist_core.specs.declared.add.AddStep.TheVariants.{More}
 use Rattle.hist_core.specs.declared.add.Stage.{Stage}
@@ -28,7 +29,7 @@ use Rattle.hist_core.specs.Add.{Amid, HasEntry, AreCounts, StandsAtStage, IsAdd,
 use Rattle.hist_core.proofs.AddCall.Counts.{counts_in}
 use Rattle.hist_core.proofs.AddCall.Going.{packs_on}
 use Rattle.hist_core.proofs.AddCall.Packs.{has_them, formed}
-use Rattle.hist_core.proofs.SnapshotCall.Looks.{HasUnits, looks_again, on_units}
+use Rattle.hist_core.proofs.SnapshotCall.Looks.{HasUnits, on_units}
 use Rattle.std.specs.List.{Contains}
 
 module _ (shape : Dimensions) (known : Known) (amid : Amid) (add : Add) (a : Actor) (words : List ℕ) (is : IsAdd shape known amid add a) where

@@ -17,6 +17,7 @@ use Rattle.segment_machine.specs.Calls.{look_of}
 use Rattle.segment_machine.specs.Event.{next, packing_event}
 use Rattle.segment_machine.specs.Form.{is_off, IsPacking}
 use Rattle.segment_machine.specs.Packing.{load_single, IsSingleOf, PackingEvent, after_pack, pack}
+use Rattle.segment_promises.proofs.Calls.Places.{looks_there}
 use Rattle.hist_core.specs.declared.add.Add.{Add}
 use Rattle.hist_core.specs.declared.add.AddStep.TheVariants.{More}
 use Rattle.hist_core.specs.declared.add.Stage.{Stage}
@@ -24,7 +25,7 @@ use Rattle.hist_core.specs.declared.add.Stage.TheVariants.{LoadingSingle, Packin
 use Rattle.hist_core.specs.StepsBy.{StepsBy}
 use Rattle.hist_core.specs.Add.{Amid, IsCounting, Looks, HasSeenSingle, HasEntry, IsBehindSingle, StandsAtStage, IsAdd, AddGives, IsSomeAdd, behind_count}
 use Rattle.hist_core.proofs.AddCall.Going.{packs_on}
-use Rattle.hist_core.proofs.SnapshotCall.Looks.{looks_there, on_units, HasUnits}
+use Rattle.hist_core.proofs.SnapshotCall.Looks.{on_units, HasUnits}
 use Rattle.std.proofs.Props.{props}
 use Rattle.std.proofs.Math.Logic.{∥∥₁_elim}
 use Rattle.hist_core.proofs.AddCall.Counts.{behind_stands, changed_is, next_is}

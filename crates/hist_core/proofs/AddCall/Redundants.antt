@@ -1,14 +1,14 @@
 -- An `add` adds its units to the redundant count, and all of its entry has happened.
-use Rattle.std.proofs.Common.{◌≡◌, ℕ, ◌+◌, ◌%◌, ◌^◌, pos, Bool, true, false, not, List, [], refl, sym, subst}
+use Rattle.std.proofs.Common.{◌≡◌, ℕ, ◌+◌, ◌%◌, ◌^◌, pos, Bool, true, false, not, List, [], refl, subst}
 use Rattle.std.specs.Prelude.{◌||◌, slice_set}
 use Rattle.std.specs.Ordering.{int_eq}
-use Rattle.std.proofs.lemmas.List.{append-nil}
 use Rattle.segment_image.specs.Shape.{Dimensions}
 use Rattle.segment_image.specs.Words.{word_at}
 use Rattle.segment_machine.specs.declared.actor.Actor.{Actor}
 use Rattle.segment_machine.specs.declared.actor.Known.{Known}
 use Rattle.segment_machine.specs.Counting.{add_redundant}
 use Rattle.segment_machine.specs.Event.{Event, next, counting_event}
+use Rattle.hist_core.proofs.AddCall.Going.{aside_still}
 use Rattle.hist_core.specs.declared.add.Add.{Add}
 use Rattle.hist_core.specs.declared.add.AddStep.TheVariants.{Done}
 use Rattle.hist_core.specs.declared.add.Stage.TheVariants.{Noting}
@@ -61,14 +61,7 @@ module _ (shape : Dimensions) (known : Known) (amid : Amid) (add : Add) (a : Act
       acted,
       refl,
       (
-        record {
-          role = refl;
-          segment = refl;
-          deltas = refl;
-          names = refl;
-          chain = ([], sym (append-nil a.seen.chain));
-          words = ([], sym (append-nil a.seen.words));
-        },
+        aside_still a acted refl refl refl refl refl refl,
         (refl, refl),
         refl,
         changed_is shape known amid add a is true summed stands.1 (λ c. record c { noted = true }),

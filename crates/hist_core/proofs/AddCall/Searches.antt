@@ -23,6 +23,7 @@ use Rattle.segment_machine.specs.Event.{Learned, next, walking_event}
 use Rattle.segment_machine.specs.Made.{SawOther}
 use Rattle.segment_machine.specs.Walking.{IsFixed, WalkingEvent, load_published}
 use Rattle.segment_promises.proofs.Growing.{others_still, reference_within, still}
+use Rattle.segment_promises.proofs.Calls.SeenWords.{seen_now}
 use Rattle.hist_core.specs.declared.making.Making.{Making as MakingOf}
 use Rattle.hist_core.specs.declared.making.MakingStep.{MakingStep}
 use Rattle.hist_core.specs.declared.making.MakingStep.TheVariants as made
@@ -38,7 +39,6 @@ use Rattle.hist_core.specs.Sampling.{HaveOthers, IsIts, IsMade, IsSampling, IsSo
 use Rattle.hist_core.proofs.Worlds.Free.{free_turns}
 use Rattle.hist_core.proofs.Makes.Drafts.{begins}
 use Rattle.hist_core.proofs.Parts.Allocations.{goes_with, walks_saying}
-use Rattle.hist_core.proofs.Parts.Compares.{seen_now}
 use Rattle.hist_core.proofs.Walks.Walking.{walk_beside}
 
 -- ---- it begins

@@ -2,7 +2,6 @@
 use Rattle.std.proofs.Common.{◌≡◌, ℕ, ◌+◌, ◌%◌, ◌^◌, Bool, true, false, not, List, [], ◌∷◌, ◌++◌, map, refl, sym, ap, subst, ◌∙◌}
 use Rattle.std.specs.Prelude.{slice_set}
 use Rattle.std.specs.Int.{cast_unsigned, w64}
-use Rattle.std.proofs.lemmas.List.{append-nil}
 use Rattle.segment_image.specs.Shape.{Dimensions}
 use Rattle.segment_image.specs.Words.{word_at}
 use Rattle.segment_machine.specs.declared.actor.Actor.{Actor}
@@ -10,6 +9,7 @@ use Rattle.segment_machine.specs.declared.actor.Known.{Known}
 use Rattle.segment_machine.specs.Counting.{add_sum}
 use Rattle.segment_machine.specs.Entry.{fresh}
 use Rattle.segment_machine.specs.Event.{Event, next, counting_event}
+use Rattle.hist_core.proofs.AddCall.Going.{aside_still}
 use Rattle.hist_core.specs.declared.add.Add.{Add}
 use Rattle.hist_core.specs.declared.add.AddStep.TheVariants.{More}
 use Rattle.hist_core.specs.declared.add.Stage.TheVariants.{Summing, Noting}
@@ -52,14 +52,7 @@ module _ (shape : Dimensions) (known : Known) (amid : Amid) (add : Add) (a : Act
       acted,
       refl,
       (
-        record {
-          role = refl;
-          segment = refl;
-          deltas = refl;
-          names = refl;
-          chain = ([], sym (append-nil a.seen.chain));
-          words = ([], sym (append-nil a.seen.words));
-        },
+        aside_still a acted refl refl refl refl refl refl,
         (refl, refl),
         record {
           counting = counts_on shape known add Noting is.counting;

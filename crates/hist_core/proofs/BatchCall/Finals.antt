@@ -2,7 +2,7 @@
 use Rattle.std.proofs.Common.{◌≡◌, ℕ, ◌+◌, ◌%◌, ◌^◌, Bool, true, false, not, List, [], ◌∷◌, ◌++◌, map, filter, All, refl, sym, ap, subst, ◌∙◌}
 use Rattle.std.specs.Prelude.{◌&&◌, slice_set}
 use Rattle.std.specs.Int.{cast_unsigned, w64}
-use Rattle.std.proofs.lemmas.List.{append-nil, map-append}
+use Rattle.std.proofs.lemmas.List.{map-append}
 use Rattle.std.proofs.lemmas.List.Elements.{All-nil, All-cons, All-append}
 use Rattle.segment_image.specs.Shape.{Dimensions}
 use Rattle.segment_image.specs.Words.{word_at}
@@ -14,6 +14,7 @@ use Rattle.segment_machine.specs.Calls.{IsNext}
 use Rattle.segment_machine.specs.Counting.{add_sum, sum_next}
 use Rattle.segment_machine.specs.Entry.{fresh, has_ended, sum_entry}
 use Rattle.segment_machine.specs.Event.{Event, next, counting_event}
+use Rattle.hist_core.proofs.AddCall.Going.{aside_still}
 use Rattle.hist_core.specs.declared.batch.Batch.{Batch}
 use Rattle.hist_core.specs.declared.batch.BatchStep.TheVariants.{Done}
 use Rattle.hist_core.specs.Add.{counted_entry, ended_entry}
@@ -63,14 +64,7 @@ module _ (shape : Dimensions) (known : Known) (batch : Batch) (a : Actor) (words
       acted,
       refl,
       (
-        record {
-          role = refl;
-          segment = refl;
-          deltas = refl;
-          names = refl;
-          chain = ([], sym (append-nil a.seen.chain));
-          words = ([], sym (append-nil a.seen.words));
-        },
+        aside_still a acted refl refl refl refl refl refl,
         (refl, refl),
         refl,
         (

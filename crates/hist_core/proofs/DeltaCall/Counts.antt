@@ -13,7 +13,6 @@ use mathlib.Core.Logic.{dite}
 use native.Mathlib.Decide.{ℕ_discrete}
 use Rattle.bucket_ranges.specs.Ranges.{boundaries_of}
 use Rattle.bucket_ranges.specs.Spec.{buckets_of}
-use Rattle.hist_core.proofs.DeltaCall.Lists.{still_below}
 use Rattle.bucket_ranges.specs.Single.{single_of, units_packed}
 use Rattle.bucket_ranges.specs.declared.single.SingleWord.{SingleWord}
 use Rattle.segment_image.specs.Shape.{Dimensions}
@@ -33,16 +32,19 @@ use Rattle.segment_machine.specs.Event.{Event, next, counting_event, taking_even
 use Rattle.segment_machine.specs.Form.{is_off, SaysPacked}
 use Rattle.segment_machine.specs.Note.{SawBucket, TookBucket}
 use Rattle.segment_machine.specs.Taking.{at_count, load_count, MayLoadCount}
+use Rattle.segment_promises.proofs.Calls.BucketLists.{still_below}
+use Rattle.segment_promises.specs.Calls.{AreBelow}
+use Rattle.segment_promises.proofs.Calls.Sights.{seen_here, took_bucket}
+use Rattle.segment_promises.proofs.Calls.Places.{looks_again}
 use Rattle.hist_core.specs.declared.mounted.Mounted.{Mounted}
 use Rattle.hist_core.specs.declared.delta_call.Stage.TheVariants.{LoadingCounts, LoadingCount, Raising, LoadingSum}
 use Rattle.hist_core.specs.declared.delta_call.DeltaCall.{DeltaCall}
 use Rattle.hist_core.specs.declared.delta_call.DeltaCallStep.TheVariants.{More}
 use Rattle.hist_core.specs.StepsBy.{StepsBy}
 use Rattle.hist_core.specs.Mounted.{AreMounted, HasLoaded, HasWord, look_at, total_at}
-use Rattle.hist_core.specs.DeltaCall.{AreBelow, HasBuckets, IsSomeDeltaCall, IsDeltaCall, IsUnderWay, StandsAtStage, DeltaCallGives, FrameOfDelta, behind_bucket}
-use Rattle.hist_core.proofs.SnapshotCall.Looks.{looks_again}
+use Rattle.hist_core.specs.DeltaCall.{HasBuckets, IsSomeDeltaCall, IsDeltaCall, IsUnderWay, StandsAtStage, DeltaCallGives, FrameOfDelta, behind_bucket}
 use Rattle.hist_core.proofs.DeltaCall.Going.{acts_on, buckets_are, goes_still, knows_it, same_way, split, taking_sees}
-use Rattle.hist_core.proofs.DeltaCall.Sights.{mounted_still, seen_here, took_bucket}
+use Rattle.hist_core.proofs.DeltaCall.Sights.{mounted_still}
 use Rattle.hist_core.proofs.DeltaCall.Singles.{none_packed}
 
 -- whether a bucket is the packed one

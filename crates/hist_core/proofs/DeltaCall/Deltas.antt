@@ -23,6 +23,7 @@ use Rattle.segment_machine.specs.Actor.{is_opener, known_at, units_listed}
 use Rattle.segment_machine.specs.Note.{TookSample}
 use Rattle.segment_promises.specs.Values.{ListsValues}
 use Rattle.segment_promises.proofs.ListedValues.{lists_nothing}
+use Rattle.segment_promises.specs.Calls.{AreUnits}
 use Rattle.segment_machine.specs.State.{State}
 use Rattle.hist_core.specs.declared.world_state.WorldState.{WorldState}
 use Rattle.hist_core.specs.declared.call.Answer.TheVariants as answer
@@ -44,7 +45,7 @@ use Rattle.hist_core.specs.declared.walk.Walk.{Walk}
 use Rattle.hist_core.specs.declared.walk.Walk.TheVariants.{LoadingFirst, LoadingType, LoadingHistogram, LoadingValue, LoadingNext}
 use Rattle.hist_core.specs.Walk.{HasSetOut}
 use Rattle.hist_core.specs.ActorRun.{Advances, Answers, AreShown, BeginsDelta, Becomes, Fits, HasDraft, HasPlace, HasRoom, IsDeltaAnnounced, IsDraft, IsDrawing, IsKnown, IsLast, IsQuiet, IsRun, IsShown, IsSomeRun, IsTimely, IsTook, StandsIn, TakenGoes, apart_from_delta, begun_by, ended_by, ended_deltas, known_of, looked_by, pending_by}
-use Rattle.hist_core.specs.DeltaCall.{AreUnits, HasBegun, HasEnded, IsFirst, IsSomeDeltaCall, IsDeltaCall, IsUnderWay, Lists, OpensWith, StandsAtStage, DeltaCallGives, DeltaCallSteps, TakesAlong, FrameOfDelta, insert_by_key, place_of}
+use Rattle.hist_core.specs.DeltaCall.{HasBegun, HasEnded, IsFirst, IsSomeDeltaCall, IsDeltaCall, IsUnderWay, Lists, OpensWith, StandsAtStage, DeltaCallGives, DeltaCallSteps, TakesAlong, FrameOfDelta, insert_by_key, place_of}
 use Rattle.hist_core.proofs.Parts.Allocations.{goes_with}
 use Rattle.hist_core.proofs.Worlds.Apart.{asks_not, adds_not, looks_not, batches_not}
 use Rattle.hist_core.proofs.Worlds.WorldStates.{each_runs, is_there}

@@ -4,7 +4,6 @@ use Rattle.std.specs.Prelude.{None, vec_capacity}
 use Rattle.std.proofs.Props.{props}
 use Rattle.std.proofs.Math.Logic.{∥∥₁_elim}
 use Rattle.std.specs.List.{Contains}
-use Rattle.std.proofs.lemmas.List.{append-nil}
 use Rattle.bucket_ranges.specs.Ranges.{IsSplit, boundaries_of}
 use Rattle.bucket_ranges.specs.Spec.{buckets_of, spec_fault}
 use Rattle.bucket_ranges.specs.declared.spec.Spec.{Spec}
@@ -20,16 +19,14 @@ use Rattle.segment_machine.specs.Actor.{Buckets, has_buckets, is_opener, known_a
 use Rattle.segment_machine.specs.Calls.{MayTurn, sight}
 use Rattle.segment_machine.specs.Event.{Event, spot, after, next, Ready, Learned, taking_event}
 use Rattle.segment_machine.specs.Taking.{TakingEvent, Takes, load_count, raise_mark, raise_single_mark, load_sum, swap_sum_mark, load_redundant}
+use Rattle.segment_promises.proofs.Growing.{grows_not}
+use Rattle.segment_promises.specs.Calls.{AreUnits, SeesMore}
 use Rattle.hist_core.specs.declared.delta_call.Stage.{Stage}
 use Rattle.hist_core.specs.declared.delta_call.DeltaCall.{DeltaCall}
 use Rattle.hist_core.specs.StepsBy.{StepsBy}
-use Rattle.hist_core.specs.DeltaCall.{AreUnits, IsSomeDeltaCall, IsDeltaCall, IsUnderWay, StandsAtStage, FrameOfDelta}
-use Rattle.hist_core.proofs.DeltaCall.Sights.{Grows, SeesMore}
+use Rattle.hist_core.specs.DeltaCall.{IsSomeDeltaCall, IsDeltaCall, IsUnderWay, StandsAtStage, FrameOfDelta}
 
 -- ---- what stays as it was
-
-grows_not : {X : Type 0} (list : List X) → Grows list list
-grows_not list = ([], sym (append-nil list))
 
 pub taking_aside : (a : Actor) (e : TakingEvent) (found : ℕ) → FrameOfDelta a (next a (taking_event e) found)
 taking_aside a e found = by e

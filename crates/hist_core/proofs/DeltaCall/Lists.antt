@@ -1,18 +1,15 @@
 -- What a delta lists: the units that it took of each bucket, in the order of the buckets.
 use Rattle.std.proofs.Common.{◌≡◌, ℕ, suc, true, false, ◌+◌, ◌-◌, ◌<◌, ◌≤◌, ℤ, pos, map, nat_lt, if◌then◌else◌, Bool, List, [], ◌∷◌, ◌++◌, length, slice_index, Some, Less, Equal, Greater, refl, sym, ap, subst, ◌∙◌, arith}
 use Rattle.std.specs.List.{AllByRecursion}
-use Rattle.std.specs.List.Sorted.{IsStrictlySortedBy}
 use Rattle.std.specs.Prelude.{int_lt}
 use Rattle.std.specs.List.{insert}
 use Rattle.std.specs.Ordering.{int_cmp, int_eq}
 use Rattle.std.proofs.lemmas.List.Sorted.{IsPermutation-insert, sum_by-IsPermutation}
 use Rattle.std.proofs.lemmas.List.Sums.{sum_by-append}
 use Rattle.std.proofs.lemmas.Bool.{lt-ltb, le-ltb}
-use Rattle.std.proofs.lemmas.List.{append-nil, length_push, map_push}
-use Rattle.std.proofs.lemmas.List.Elements.{All-push}
+use Rattle.std.proofs.lemmas.List.{append-nil, length_push}
 use Rattle.bucket_ranges.specs.Ranges.{IsSplit, boundaries_of}
 use Rattle.bucket_ranges.specs.Spec.{buckets_of}
-use Rattle.bucket_ranges.proofs.Buckets.{ascends}
 use Rattle.segment_invariant.proofs.Notes.Amounts.{last_changed}
 use Rattle.segment_machine.specs.declared.actor.Actor.{Actor}
 use Rattle.segment_machine.specs.declared.actor.Known.{Known}
@@ -20,25 +17,14 @@ use Rattle.segment_machine.specs.declared.actor.Taken.{Taken}
 use Rattle.segment_machine.specs.Actor.{bucket_key, units_listed}
 use Rattle.segment_machine.specs.Calls.{change_last}
 use Rattle.segment_machine.specs.Taking.{take_units}
+use Rattle.segment_promises.proofs.Calls.BucketLists.{keys_below, last_below, still_below, units_push}
+use Rattle.segment_promises.specs.Calls.{AreBelow, AreUnits}
 use Rattle.hist_core.specs.declared.delta_call.DeltaCall.{DeltaCall}
 use Rattle.hist_core.specs.declared.delta_call.DeltaCallStep.{DeltaCallStep}
 use Rattle.hist_core.specs.declared.delta_call.DeltaCallStep.TheVariants.{More, Took, Done}
-use Rattle.hist_core.specs.DeltaCall.{AreBelow, AreUnits, IsTaken, IsUnderWay, TakesUnits, insert_by_key, place_of}
+use Rattle.hist_core.specs.DeltaCall.{IsTaken, IsUnderWay, TakesUnits, insert_by_key, place_of}
 
 -- ---- keys that ascend
-
-all_push : (P : ℤ → Type 0) (keys : List ℤ) (key : ℤ) → AllByRecursion P keys → P key → AllByRecursion P (keys ++ key ∷ [])
-all_push P [] key all last = (last, all)
-all_push P (k ∷ keys) key (first, rest) last = (first, all_push P keys key rest last)
-
-sorted_push : (keys : List ℤ) (key : ℤ) → IsStrictlySortedBy int_cmp keys → AllByRecursion (λ k. int_cmp k key ≡ Less) keys
-    → IsStrictlySortedBy int_cmp (keys ++ key ∷ [])
-unfolding IsStrictlySortedBy
-sorted_push [] key sorted below = (tt, tt)
-sorted_push (k ∷ keys) key (first, rest) (less, below) = (all_push (λ x. int_cmp k x ≡ Less) keys key first less, sorted_push keys key rest below)
-
-pos_less : (a b : ℕ) → a < b → int_cmp (pos a) (pos b) ≡ Less
-pos_less a b below = ap (λ (t : Bool). if t then Less else (if nat_lt b a then Greater else Equal)) (lt-ltb a b below)
 
 not_less : (x y : ℤ) → int_lt x y ≡ false → int_cmp x y ≡ Less → ⊥
 not_less x y e less = by (int_lt y x) (ap (λ (t : Bool). if t then Less else (if int_lt y x then Greater else Equal)) (sym e) ∙ less)
@@ -47,16 +33,6 @@ not_less x y e less = by (int_lt y x) (ap (λ (t : Bool). if t then Less else (i
     by true is = cc is
     by false is = cc is
 
-pub still_below : (known : Known) (bucket : ℕ) (counts : List (ℤ × ℕ)) → AreBelow known bucket counts → AreBelow known (bucket + 1) counts
-still_below known bucket [] all = all
-still_below known bucket (c ∷ counts) ((i, lt, is), rest) = ((i, omega (arith, lt), is), still_below known bucket counts rest)
-
-last_below : (known : Known) (bucket units : ℕ) (counts : List (ℤ × ℕ)) → AreBelow known bucket counts
-    → AreBelow known (bucket + 1) (counts ++ (bucket_key (Some known) bucket, units) ∷ [])
-last_below known bucket units [] all = ((bucket, omega arith, refl), tt)
-last_below known bucket units (c ∷ counts) ((i, lt, is), rest) = ((i, omega (arith, lt), is), last_below known bucket units counts rest)
-
--- behind keys that are less it stands last
 pub last_by_key : (one : ℤ × ℕ) (counts : List (ℤ × ℕ)) → AllByRecursion (λ k. int_cmp k one.0 ≡ Less) (map (λ (c : ℤ × ℕ). c.0) counts)
     → insert_by_key one counts ≡ counts ++ one ∷ []
 last_by_key one [] below = refl
@@ -68,27 +44,6 @@ last_by_key one (c ∷ rest) (less, below) = by (int_lt c.0 one.0) refl (last_by
     by false e behind = absurd (not_less c.0 one.0 e less)
 
 module _ (known : Known) (split : IsSplit (buckets_of known.spec) (boundaries_of known.spec)) where
-  keys_below : (bucket : ℕ) → bucket < buckets_of known.spec → (counts : List (ℤ × ℕ)) → AreBelow known bucket counts
-      → AllByRecursion (λ k. int_cmp k (bucket_key (Some known) bucket) ≡ Less) (map (λ (c : ℤ × ℕ). c.0) counts)
-  keys_below bucket under [] all = tt
-  keys_below bucket under (c ∷ counts) ((i, lt, is), rest) =
-      let long = split.count in
-      let next = split.ascending i (omega (arith, lt, under, long)) in
-      let up = ascends (boundaries_of known.spec) (i + 1) bucket split.ascending (omega (arith, lt)) (omega (arith, under, long)) in (
-        subst (λ (k : ℤ). int_cmp k (bucket_key (Some known) bucket) ≡ Less) (sym is)
-            (pos_less (slice_index (boundaries_of known.spec) i) (slice_index (boundaries_of known.spec) bucket) (omega (arith, next, up))),
-        keys_below bucket under counts rest,
-      )
-
-  units_push : (bucket units : ℕ) → bucket < buckets_of known.spec → 1 ≤ units → (counts : List (ℤ × ℕ)) → AreBelow known bucket counts → AreUnits counts
-      → AreUnits (counts ++ (bucket_key (Some known) bucket, units) ∷ [])
-  units_push bucket units under least counts below are =
-      let last : ℤ × ℕ = (bucket_key (Some known) bucket, units) in record {
-        ascending = subst (IsStrictlySortedBy int_cmp) (sym (map_push (λ (c : ℤ × ℕ). c.0) counts last))
-            (sorted_push (map (λ (c : ℤ × ℕ). c.0) counts) last.0 are.ascending (keys_below bucket under counts below));
-        some = All-push (λ (c : ℤ × ℕ). 1 ≤ c.1) counts last are.some least;
-      }
-
   -- what it lists once it has taken units of a bucket
   pub record AreListed (bucket : ℕ) (counts : List (ℤ × ℕ)) : Type 0 where
     pub units : AreUnits counts
@@ -107,8 +62,8 @@ module _ (known : Known) (split : IsSplit (buckets_of known.spec) (boundaries_of
       let mine : key ≡ bucket_key (Some known) bucket = is_key ∙ ap (λ (l : List ℕ). pos (slice_index l bucket)) ranges in
       let list_is : new.counts.items ≡ old.counts.items ++ (bucket_key (Some known) bucket, taken) ∷ [] =
       listed ∙ (ap (λ (k : ℤ). insert_by_key (k, taken) old.counts.items) mine
-      ∙ last_by_key (bucket_key (Some known) bucket, taken) old.counts.items (keys_below bucket under old.counts.items below)) in record {
-        units = subst AreUnits (sym list_is) (units_push bucket taken under (omega (arith, some, is_units)) old.counts.items below units);
+      ∙ last_by_key (bucket_key (Some known) bucket, taken) old.counts.items (keys_below known split bucket under old.counts.items below)) in record {
+        units = subst AreUnits (sym list_is) (units_push known split bucket taken under (omega (arith, some, is_units)) old.counts.items below units);
         below = subst (AreBelow known (bucket + 1)) (sym list_is) (last_below known bucket taken old.counts.items below);
         few = subst (λ (l : List (ℤ × ℕ)). length l ≤ bucket + 1) (sym list_is) (let one = length_push old.counts.items (bucket_key (Some known) bucket, taken) in omega (arith, one, few));
       }

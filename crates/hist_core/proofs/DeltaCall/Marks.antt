@@ -24,6 +24,8 @@ use Rattle.segment_machine.specs.Event.{next, taking_event}
 use Rattle.segment_machine.specs.Form.{units_in}
 use Rattle.segment_machine.specs.Note.{IsMarkOf, TookBucket}
 use Rattle.segment_machine.specs.Taking.{TakingEvent, raise_mark, raise_single_mark, single_key, take_units, taken_key}
+use Rattle.segment_promises.specs.Calls.{AreUnits}
+use Rattle.segment_promises.proofs.Calls.Sights.{saw_bucket, seen_here, took_bucket}
 use Rattle.hist_core.specs.declared.mounted.Mounted.{Mounted}
 use Rattle.hist_core.specs.declared.delta_call.Stage.{Stage}
 use Rattle.hist_core.specs.declared.delta_call.Stage.TheVariants.{Raising}
@@ -32,11 +34,11 @@ use Rattle.hist_core.specs.declared.delta_call.DeltaCallStep.{DeltaCallStep}
 use Rattle.hist_core.specs.declared.delta_call.DeltaCallStep.TheVariants.{More, Took, Done}
 use Rattle.hist_core.specs.StepsBy.{StepsBy}
 use Rattle.hist_core.specs.Mounted.{AreMounted, HasLoaded, look_at}
-use Rattle.hist_core.specs.DeltaCall.{AreUnits, HasDrawn, IsSomeDeltaCall, IsTaken, IsDeltaCall, StandsAtStage, DeltaCallGives, FrameOfDelta, behind_bucket, mark_of}
+use Rattle.hist_core.specs.DeltaCall.{HasDrawn, IsSomeDeltaCall, IsTaken, IsDeltaCall, StandsAtStage, DeltaCallGives, FrameOfDelta, behind_bucket, mark_of}
 use Rattle.hist_core.proofs.DeltaCall.Counts.{is_other, is_packed, stands_behind}
 use Rattle.hist_core.proofs.DeltaCall.Going.{IsSame, acts_on, buckets_are, knows_it, long_ranges, same_still, same_taken, same_way, split, takes_it, taking_sees}
 use Rattle.hist_core.proofs.DeltaCall.Lists.{AreListed, lists_on, way_on}
-use Rattle.hist_core.proofs.DeltaCall.Sights.{mounted_still, saw_bucket, seen_here, took_bucket}
+use Rattle.hist_core.proofs.DeltaCall.Sights.{mounted_still}
 use Rattle.hist_core.proofs.DeltaCall.Singles.{none_packed}
 
 module _ (shape : Dimensions) (known : Known) (earlier : List Taken) (delta_call : DeltaCall) (a : Actor) (words : List ℕ) (is : IsDeltaCall shape known earlier delta_call a)

@@ -25,6 +25,9 @@ use Rattle.segment_machine.proofs.Values.{value_word}
 use Rattle.segment_promises.specs.Values.{ListsValues}
 use Rattle.segment_promises.proofs.ListedValues.{lists_on, lists_one}
 use Rattle.segment_promises.proofs.ValueWalks.{behind_it, split_at_it}
+use Rattle.segment_promises.specs.Calls.{AreUnits, SeesMore}
+use Rattle.segment_promises.proofs.Calls.SampleLists.{not_before}
+use Rattle.segment_promises.proofs.Calls.Sights.{saw_count, seen_here}
 use Rattle.hist_core.specs.declared.delta_call.Stage.{Stage}
 use Rattle.hist_core.specs.declared.delta_call.Stage.TheVariants.{Walking, LoadingSample, RaisingSample}
 use Rattle.hist_core.specs.declared.delta_call.DeltaCall.{DeltaCall}
@@ -35,15 +38,13 @@ use Rattle.hist_core.specs.declared.walk.Met.TheVariants.{Nothing, Sample, End}
 use Rattle.hist_core.specs.declared.walk.Walk.{Walk}
 use Rattle.hist_core.specs.declared.walk.Walk.TheVariants.{LoadingFirst, LoadingType, LoadingHistogram, LoadingValue, LoadingNext}
 use Rattle.hist_core.specs.StepsBy.{FrameOfStep, StepsBy, IsInOrder, WalksInOrder}
-use Rattle.hist_core.specs.DeltaCall.{AreUnits, HasBegun, HasCounted, HoldsValues, IsSomeDeltaCall, IsDeltaCall, IsUnderWay, ListsTaken, StandsAtStage, DeltaCallGives, TakesAlong, FrameOfDelta, TakesUnits, behind_sample, behind_walk, insert_by_key}
+use Rattle.hist_core.specs.DeltaCall.{HasBegun, HasCounted, HoldsValues, IsSomeDeltaCall, IsDeltaCall, IsUnderWay, ListsTaken, StandsAtStage, DeltaCallGives, TakesAlong, FrameOfDelta, TakesUnits, behind_sample, behind_walk, insert_by_key}
 use Rattle.hist_core.specs.Walk.{HasComeTo, HasSetOut, IsWalkProgress, Meets, MetRecord, MetSample, WalksAt, spot_of}
 use Rattle.hist_core.proofs.Parts.Allocations.{goes_with}
 use Rattle.hist_core.proofs.Walks.Passing.{way_still}
 use Rattle.hist_core.proofs.Worlds.Quiet.{not_spent}
-use Rattle.hist_core.proofs.Walks.SampleLists.{not_before}
 use Rattle.hist_core.proofs.DeltaCall.Going.{IsSame, acts_on, goes_still, is_inside, same_still, same_taken, same_way, takes_it, taking_sees}
 use Rattle.hist_core.proofs.DeltaCall.Lists.{way_taken}
-use Rattle.hist_core.proofs.DeltaCall.Sights.{SeesMore, saw_count, seen_here}
 use Rattle.hist_core.proofs.DeltaCall.Values.{lists_moved, moved_in, taken_along, units_insert}
 use Rattle.hist_core.proofs.AddCall.GhostNotes.{goes_after}
 use Rattle.hist_core.proofs.Walks.Walking.{began_before, few_passed, spot_inside, there, walks_so}

@@ -29,6 +29,9 @@ use Rattle.segment_machine.specs.Form.{is_off, units_in, SaysPacked}
 use Rattle.segment_machine.specs.Note.{TookBucket, noted, nothing_taken, takes}
 use Rattle.segment_machine.specs.Packing.{IsSingleOf, load_single}
 use Rattle.segment_machine.specs.Taking.{raise_single_mark, single_key}
+use Rattle.segment_promises.specs.Calls.{AreBelow, AreUnits}
+use Rattle.segment_promises.proofs.Calls.Sights.{seen_here}
+use Rattle.segment_promises.proofs.Calls.Places.{looks_there}
 use Rattle.hist_core.specs.declared.delta_call.Stage.{Stage}
 use Rattle.hist_core.specs.declared.delta_call.Stage.TheVariants.{LoadingSingle, TakingPacked, LoadingCounts, LoadingCount, Raising, Walking, LoadingSample, RaisingSample, LoadingSum, Swapping}
 use Rattle.hist_core.specs.declared.delta_call.DeltaCall.{DeltaCall}
@@ -36,11 +39,10 @@ use Rattle.hist_core.specs.declared.delta_call.DeltaCallStep.{DeltaCallStep}
 use Rattle.hist_core.specs.declared.delta_call.DeltaCallStep.TheVariants.{More, Took, Done}
 use Rattle.hist_core.specs.StepsBy.{StepsBy}
 use Rattle.hist_core.specs.Mounted.{HasWord}
-use Rattle.hist_core.specs.DeltaCall.{AreBelow, AreUnits, IsBehindSingle, IsSomeDeltaCall, IsTaken, IsDeltaCall, IsUnderWay, StandsAtStage, DeltaCallGives, FrameOfDelta, TookBuckets}
-use Rattle.hist_core.proofs.SnapshotCall.Looks.{looks_there, on_units}
+use Rattle.hist_core.specs.DeltaCall.{IsBehindSingle, IsSomeDeltaCall, IsTaken, IsDeltaCall, IsUnderWay, StandsAtStage, DeltaCallGives, FrameOfDelta, TookBuckets}
+use Rattle.hist_core.proofs.SnapshotCall.Looks.{on_units}
 use Rattle.hist_core.proofs.DeltaCall.Going.{IsSame, same_still, same_taken, same_way, acts_on, buckets_are, goes_still, knows_it, long_ranges, split, takes_it}
 use Rattle.hist_core.proofs.DeltaCall.Lists.{lists_on, way_on}
-use Rattle.hist_core.proofs.DeltaCall.Sights.{seen_here}
 
 -- a bucket that is not the packed one has no packed units
 pub none_packed : (form : Option SingleWord) (bucket : ℕ) → packed_bucket form ≢ Some bucket → units_packed form bucket ≡ 0

@@ -1,5 +1,5 @@
 -- What a delta lists of the samples of a sparse histogram: values in ascending order, each once.
-use Rattle.std.proofs.Common.{◌≡◌, ◌≢◌, ℕ, suc, ◌+◌, ◌≤◌, ℤ, Bool, true, false, if◌then◌else◌, map, sum_by, List, [], ◌∷◌, ◌++◌, Less, Equal, Greater, inl, inr, ⊎_elim, refl, ap, ◌∙◌, arith}
+use Rattle.std.proofs.Common.{◌≡◌, ◌≢◌, ℕ, suc, ◌+◌, ◌≤◌, ℤ, Bool, true, false, if◌then◌else◌, map, sum_by, List, [], ◌∷◌, ◌++◌, Less, Equal, Greater, inr, refl, ap, ◌∙◌, arith}
 use Rattle.std.specs.Prelude.{int_lt}
 use Rattle.std.specs.List.{AllByRecursion, Contains, insert}
 use Rattle.std.specs.List.Sorted.{IsPermutation, IsStrictlySortedBy}
@@ -19,13 +19,13 @@ use Rattle.segment_machine.specs.Note.{TookSample}
 use Rattle.segment_promises.specs.Values.{NoKeyRepeats, ListsValues}
 use Rattle.segment_promises.proofs.ListedValues.{lists_on, lists_still}
 use Rattle.segment_promises.proofs.SortedKeys.{once_still}
+use Rattle.segment_promises.specs.Calls.{AreUnits}
+use Rattle.segment_promises.proofs.Calls.SampleLists.{all_passed, did_with}
+use Rattle.segment_promises.proofs.Calls.Sights.{took_sample}
 use Rattle.hist_core.specs.declared.delta_call.DeltaCall.{DeltaCall}
 use Rattle.hist_core.specs.StepsBy.{IsInOrder}
-use Rattle.hist_core.specs.Mounted.{BeganBefore}
-use Rattle.hist_core.specs.DeltaCall.{AreUnits, ListsTaken, insert_by_key, place_of}
+use Rattle.hist_core.specs.DeltaCall.{ListsTaken, insert_by_key, place_of}
 use Rattle.hist_core.specs.Walk.{HasPassedAll}
-use Rattle.hist_core.proofs.Walks.SampleLists.{all_passed, did_with}
-use Rattle.hist_core.proofs.DeltaCall.Sights.{SeesMore, saw_count}
 use Rattle.hist_core.proofs.Walks.Walking.{GoesAlong}
 
 -- ---- one key more
@@ -134,20 +134,12 @@ lists_moved Does Has histogram passed xs ys seen moved lists = record {
   few = let same = length_permutation xs ys moved in let few = lists.few in omega (arith, same, few);
 }
 
--- what it took of a sample it has taken still
-took_still : (a b : Actor) → SeesMore a b → BeganBefore a → (sample : ℕ) → TookSample a sample → TookSample b sample
-took_still a b sees began sample (count, saw, either) = (
-  count,
-  saw_count a b sees began (sample + 6) count saw,
-  ⊎_elim inl (λ (mark, there, most). inr (mark, saw_count a b sees began (sample + 7) mark there, most)) either,
-)
-
 -- what it lists goes along with a walk
 pub taken_along : (known : Known) (delta_call : DeltaCall) → GoesAlong known (ListsTaken known delta_call)
 taken_along known delta_call = record {
   still = λ a b sees began passed lists.
       lists_still a.seen b.seen sees.words known.reference (λ value sample. TookSample a sample) (λ value sample. TookSample b sample)
-      (λ value sample took. took_still a b sees began sample took) (λ sample units. 1 ≤ units) (λ sample units. 1 ≤ units) (λ sample units some. some) passed
+      (λ value sample took. took_sample a b sees began sample took) (λ sample units. 1 ≤ units) (λ sample units. 1 ≤ units) (λ sample units some. some) passed
       delta_call.counts.items lists;
   others = λ a passed at none lists.
       lists_on (λ value sample. TookSample a sample) (λ sample units. 1 ≤ units) known.reference a.seen passed delta_call.counts.items lists at (inr none);

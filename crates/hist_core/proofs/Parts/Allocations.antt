@@ -8,7 +8,7 @@ use Rattle.list_core.specs.declared.walk.WalkStep.{WalkStep}
 use Rattle.segment_image.specs.Shape.{Dimensions}
 use Rattle.list_core.specs.Walk.{IsPrefix, said_of, given_after, stands_behind}
 use Rattle.segment_image.specs.Words.{word_at}
-use Rattle.alloc_core.specs.Alloc.{Allocation, IsLawful, IsAimed}
+use Rattle.alloc_core.specs.Alloc.{Allocation}
 use Rattle.alloc_core.specs.Alloc as alloc
 use Rattle.alloc_core.specs.declared.alloc.AllocStep.{AllocStep}
 use Rattle.list_core.specs.Publish.{Publishing}
@@ -26,8 +26,9 @@ use Rattle.segment_machine.proofs.Stages.Publishes.{publishes_agree}
 use Rattle.segment_machine.proofs.Stages.Walks.{walks_agree}
 use Rattle.hist_core.proofs.Parts.Alone.{acts_there, makes_so, allocating_beside, publishing_beside}
 use Rattle.segment_promises.specs.Onward.{StaysApart}
+use Rattle.segment_promises.proofs.Calls.Places.{behind_apart}
 use Rattle.hist_core.specs.StepsBy.{FrameOfStep, StepsBy, IsFree}
-use Rattle.hist_core.proofs.Worlds.Free.{free_apart, free_of_both, free_turns, still_apart}
+use Rattle.hist_core.proofs.Worlds.Free.{free_apart, free_of_both, free_turns}
 use Rattle.segment_machine.specs.Actor.{AreApart}
 
 -- what holds then may be more than is asked
@@ -166,7 +167,7 @@ walks_on version a given words walks long =
             chain = extended_behind a.seen.chain (stands_behind given) found;
             words = ([], sym (append-nil a.seen.words));
           },
-          still_apart a.hand.place (stands_behind given) found,
+          behind_apart a.hand.place (stands_behind given) found,
           subst (λ (n : ℕ). Walks (next a event found) (given_after given (said_of n found))) (sym long) (agrees.2 found learned),
         ),
       );

@@ -1,11 +1,12 @@
 -- An event of a part of a call: what it is in the words, and what of its actor it leaves as it was.
-use Rattle.std.proofs.Common.{◌≡◌, ◌==◌, ℕ, Bool, true, false, List, [], refl, sym, ap, ◌∙◌}
+use Rattle.std.proofs.Common.{◌≡◌, ◌==◌, ℕ, Bool, true, false, List, [], ◌++◌, refl, sym, ap, ◌∙◌}
 use Rattle.std.specs.Prelude.{if◌then◌else◌, slice_set}
 use Rattle.std.proofs.lemmas.List.{append-nil}
 use Rattle.segment_image.specs.Words.{word_at}
 use Rattle.alloc_core.specs.Event as atomic
 use Rattle.segment_machine.specs.declared.actor.Actor.{Actor}
 use Rattle.segment_machine.specs.declared.place.Place.TheVariants.{Idle}
+use Rattle.segment_machine.specs.declared.seen.Sighting.{Sighting}
 use Rattle.segment_machine.specs.Operation.{single, spot_of, change_of}
 use Rattle.hist_core.specs.StepsBy.{FrameOfStep}
 use Rattle.segment_machine.specs.Event.{Event, operation, spot, after, next, allocating_event, publishing_event}
@@ -24,10 +25,10 @@ module _ (size version : ℕ) (event : Event) (does : atomic.Event) (acts : oper
 
 -- ---- of its actor
 
--- it has seen the same of both
-seen_alike : (a b : Actor) → b.role ≡ a.role → b.segment ≡ a.segment → b.units ≡ a.units → b.entries ≡ a.entries → b.deltas ≡ a.deltas
-    → b.answers.names ≡ a.answers.names → b.seen.chain ≡ a.seen.chain → b.seen.words ≡ a.seen.words → FrameOfStep a b
-seen_alike a b role segment units entries deltas names chain words = record {
+-- it has seen more words of records
+pub seen_words : (a b : Actor) (more : List Sighting) → b.role ≡ a.role → b.segment ≡ a.segment → b.units ≡ a.units → b.entries ≡ a.entries
+    → b.deltas ≡ a.deltas → b.answers.names ≡ a.answers.names → b.seen.chain ≡ a.seen.chain → b.seen.words ≡ a.seen.words ++ more → FrameOfStep a b
+seen_words a b more role segment units entries deltas names chain words = record {
   role = role;
   segment = segment;
   units = units;
@@ -35,8 +36,14 @@ seen_alike a b role segment units entries deltas names chain words = record {
   deltas = deltas;
   names = names;
   chain = ([], chain ∙ sym (append-nil a.seen.chain));
-  words = ([], words ∙ sym (append-nil a.seen.words));
+  words = (more, words);
 }
+
+-- it has seen the same of both
+pub seen_alike : (a b : Actor) → b.role ≡ a.role → b.segment ≡ a.segment → b.units ≡ a.units → b.entries ≡ a.entries → b.deltas ≡ a.deltas
+    → b.answers.names ≡ a.answers.names → b.seen.chain ≡ a.seen.chain → b.seen.words ≡ a.seen.words → FrameOfStep a b
+seen_alike a b role segment units entries deltas names chain words =
+    seen_words a b [] role segment units entries deltas names chain (words ∙ sym (append-nil a.seen.words))
 
 -- one of two actors, beside both of which the rest is as it was
 pub either_way : (b : Bool) (a x y : Actor) → FrameOfStep a x → FrameOfStep a y → FrameOfStep a (if b then x else y)

@@ -1,8 +1,7 @@
 -- A `hist` loads one more word of the record where its walk stands, and compares it with its own.
-use Rattle.std.proofs.Common.{◌≡◌, ◌≢◌, ◌⊎◌, ℕ, ◌+◌, ◌-◌, ◌<◌, ◌≤◌, ◌^◌, Bool, List, [], ◌∷◌, ◌++◌, length, inl, inr, refl, sym, ap, subst, ◌∙◌, arith, eq-eqb, ne_eqb}
-use Rattle.std.specs.Prelude.{Some, if◌then◌else◌, slice_index}
+use Rattle.std.proofs.Common.{◌≡◌, ◌≢◌, ◌⊎◌, ℕ, ◌+◌, ◌-◌, ◌<◌, ◌≤◌, ◌^◌, List, [], ◌∷◌, ◌++◌, length, inl, inr, refl, sym, ap, subst, ◌∙◌, arith}
+use Rattle.std.specs.Prelude.{Some, slice_index}
 use Rattle.std.specs.List.{Contains}
-use Rattle.std.proofs.lemmas.List.{append-nil}
 use Rattle.std.proofs.lemmas.List.Elements.{All-push, Contains-append_left, Contains-append_right}
 use mathlib.Core.Logic.{dite}
 use native.Mathlib.Decide.{ℕ_discrete}
@@ -12,13 +11,14 @@ use Rattle.segment_image.specs.Words.{word_at}
 use Rattle.bucket_ranges.specs.Reading.{name_words}
 use Rattle.bucket_ranges.specs.Spec.{spec_fields, spec_ranges}
 use Rattle.segment_machine.specs.declared.actor.Actor.{Actor}
-use Rattle.segment_machine.specs.declared.seen.Sighting.{Sighting}
 use Rattle.segment_machine.specs.Actor.{word_seen}
 use Rattle.segment_machine.specs.Calls.{sight}
 use Rattle.segment_machine.specs.Made.{SawOtherName}
 use Rattle.segment_machine.specs.Note.{MayNote, knows}
 use Rattle.segment_machine.specs.Event.{Event, next, walking_event}
 use Rattle.segment_machine.specs.Walking.{load_published, IsFixed, EndsWithin, IsSame}
+use Rattle.segment_promises.proofs.Calls.SeenWords.{seen_now}
+use Rattle.hist_core.proofs.Parts.Alone.{seen_words}
 use Rattle.hist_core.specs.declared.hist.Hist.{Hist}
 use Rattle.hist_core.specs.declared.hist.HistStep.{HistStep}
 use Rattle.hist_core.specs.declared.hist.HistStep.TheVariants.{More, Done, Refused}
@@ -32,18 +32,6 @@ use Rattle.hist_core.proofs.Parts.Comparisons.{Part, part_of, index_of_rest, the
 use Rattle.hist_core.proofs.Parts.Differences.{saw_word, saw_spec, first_named, saw_other_name, saw_other_spec}
 use Rattle.hist_core.proofs.Parts.Walks.{still, others_still, asks_on}
 use Rattle.hist_core.proofs.Parts.Records.{some_to_compare_is}
-
--- a word that is seen now is what was found, since it was so where it was seen before
-pub seen_now : (list : List Sighting) (at found : ℕ) → ((word : ℕ) → word_seen list at ≡ Some word → found ≡ word) → word_seen (list ++ sight at found) at ≡ Some found
-seen_now [] at found same = ap (λ (b : Bool). if b then Some found else word_seen [] at) (eq-eqb at at refl)
-seen_now (s ∷ rest) at found same = dite (ℕ_discrete s.at at)
-    (λ here.
-    let now = ap (λ (b : Bool). if b then Some s.word else word_seen rest at) (eq-eqb s.at at here) in
-    ap (λ (b : Bool). if b then Some s.word else word_seen (rest ++ sight at found) at) (eq-eqb s.at at here) ∙ ap Some (sym (same s.word now)))
-    (λ apart.
-    let now = ap (λ (b : Bool). if b then Some s.word else word_seen rest at) (ne_eqb s.at at apart) in
-    ap (λ (b : Bool). if b then Some s.word else word_seen (rest ++ sight at found) at) (ne_eqb s.at at apart)
-    ∙ seen_now rest at found (λ word is. same word (now ∙ is)))
 
 module _ (shape : Dimensions) (h : Hist) (a : Actor) (is : IsHist shape h a) (k : ℕ) (compares : h.stage ≡ Comparing k) where
   stands : StandsAtStage shape h a is.given (Comparing k)
@@ -238,16 +226,7 @@ module _ (shape : Dimensions) (h : Hist) (a : Actor) (is : IsHist shape h a) (k 
     acted = next a event found
 
     beside : FrameOfStep a acted
-    beside = record {
-      role = refl;
-      segment = refl;
-      units = refl;
-      entries = refl;
-      deltas = refl;
-      names = refl;
-      chain = ([], sym (append-nil a.seen.chain));
-      words = (sight (h.reference + compared_index h.letters k) found, refl);
-    }
+    beside = seen_words a acted (sight (h.reference + compared_index h.letters k) found) refl refl refl refl refl refl refl refl
 
     abbrev Learns : Type 0
     Learns = EndsWithin a h.reference (compared_index h.letters k) found × IsSame a (h.reference + compared_index h.letters k) found

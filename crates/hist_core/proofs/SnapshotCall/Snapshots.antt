@@ -31,6 +31,7 @@ use Rattle.segment_machine.specs.Event.{Event, next, counting_event, packing_eve
 use Rattle.segment_machine.specs.Note.{SawAll, SawBucket, answers, looks, moment_of, noted}
 use Rattle.segment_machine.specs.Packing.{IsSingleOf, load_single}
 use Rattle.segment_machine.specs.Taking.{load_count, load_redundant, load_sum}
+use Rattle.hist_core.proofs.Parts.Alone.{seen_alike, seen_words}
 use Rattle.hist_core.specs.declared.snapshot_call.SnapshotCall.{SnapshotCall}
 use Rattle.hist_core.specs.declared.snapshot_call.SnapshotCallStep.TheVariants.{More, Done}
 use Rattle.hist_core.specs.declared.snapshot_call.Stage.{Stage}
@@ -40,12 +41,13 @@ use Rattle.hist_core.specs.StepsBy.{FrameOfStep, StepsBy, IsInOrder, WalksInOrde
 use Rattle.hist_core.specs.SnapshotCall.{HasKeys, IsBehindSingle, IsSnapshotCall, IsPut, IsSomeSnapshotCall, SnapshotCallGives, SawBefore, SawTotalsOf, StandsAtStage, behind_bucket}
 use Rattle.hist_core.specs.Mounted.{AreMounted, HasWord, total_at}
 use Rattle.segment_machine.specs.Form.{SaysPacked}
-use Rattle.hist_core.proofs.SnapshotCall.Looks.{looks_there}
+use Rattle.segment_promises.specs.Calls.{SeesMore}
+use Rattle.segment_promises.proofs.Calls.Sights.{began_still, saw_bucket, saw_count, seen_here}
+use Rattle.segment_promises.proofs.Calls.Places.{looks_there}
 use Rattle.hist_core.proofs.Worlds.Quiet.{not_spent}
 use Rattle.hist_core.proofs.DeltaCall.Counts.{are_mounted, count_placed, may_load, saw_total, still_mounted, total_is}
 use Rattle.hist_core.proofs.DeltaCall.Going.{taking_sees}
 use Rattle.hist_core.proofs.Walks.Passing.{all_still, are_all, are_first, are_once}
-use Rattle.hist_core.proofs.DeltaCall.Sights.{SeesMore, began_still, saw_bucket, saw_count, seen_here}
 use Rattle.hist_core.proofs.DeltaCall.Singles.{none_packed}
 
 -- it looks at the same histogram, with a total beside each key
@@ -122,16 +124,7 @@ module _ (shape : Dimensions) (known : Known) (snapshot_call : SnapshotCall) (a 
     acted = next (noted a looks) event found
 
     beside : FrameOfStep a acted
-    beside = record {
-      role = refl;
-      segment = refl;
-      units = refl;
-      entries = refl;
-      deltas = refl;
-      names = refl;
-      chain = ([], sym (append-nil a.seen.chain));
-      words = ([], sym (append-nil a.seen.words));
-    }
+    beside = seen_alike a acted refl refl refl refl refl refl refl refl
 
     module _ (learned : IsSingleOf (noted a looks) known.reference found) (new : SnapshotCall) where
       has_word : HasWord known found acted
@@ -242,16 +235,7 @@ module _ (shape : Dimensions) (known : Known) (snapshot_call : SnapshotCall) (a 
         let event : Event = counting_event (load_counts known.reference) in
         let acted : Actor = next a event found in
         let new : SnapshotCall = record snapshot_call { stage = LoadingCount (record { counts = counts; packed = packed; kept = kept }) 0 } in
-        let beside : FrameOfStep a acted = record {
-          role = refl;
-          segment = refl;
-          units = refl;
-          entries = refl;
-          deltas = refl;
-          names = refl;
-          chain = ([], sym (append-nil a.seen.chain));
-          words = (sight_counts known.reference found, refl);
-        } in record {
+        let beside : FrameOfStep a acted = seen_words a acted (sight_counts known.reference found) refl refl refl refl refl refl refl refl in record {
           before = [];
           at = a;
           told = refl;
@@ -351,16 +335,7 @@ module _ (shape : Dimensions) (known : Known) (snapshot_call : SnapshotCall) (a 
 
       pub puts_count : StepsBy shape.size snapshot_call.version a words words (SnapshotCallGives shape known new More a)
       puts_count =
-          let beside : FrameOfStep a counted = record {
-            role = refl;
-            segment = refl;
-            units = refl;
-            entries = refl;
-            deltas = refl;
-            names = refl;
-            chain = ([], sym (append-nil a.seen.chain));
-            words = ([], sym (append-nil a.seen.words));
-          } in record {
+          let beside : FrameOfStep a counted = seen_alike a counted refl refl refl refl refl refl refl refl in record {
             before = [];
             at = a;
             told = refl;
@@ -390,16 +365,7 @@ module _ (shape : Dimensions) (known : Known) (snapshot_call : SnapshotCall) (a 
         let found : ℕ = word_at words (known.reference + 11) in
         let event : Event = taking_event (load_sum known.reference) in
         let acted : Actor = next a event found in
-        let beside : FrameOfStep a acted = record {
-          role = refl;
-          segment = refl;
-          units = refl;
-          entries = refl;
-          deltas = refl;
-          names = refl;
-          chain = ([], sym (append-nil a.seen.chain));
-          words = ([], sym (append-nil a.seen.words));
-        } in record {
+        let beside : FrameOfStep a acted = seen_alike a acted refl refl refl refl refl refl refl refl in record {
           before = [];
           at = a;
           told = refl;

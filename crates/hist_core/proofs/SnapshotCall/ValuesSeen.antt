@@ -22,6 +22,10 @@ use Rattle.segment_promises.specs.Values.{ListsValues, listed_of}
 use Rattle.segment_promises.proofs.Growing.{grows_not}
 use Rattle.segment_promises.proofs.ListedValues.{lists_on, lists_one, lists_still}
 use Rattle.segment_promises.proofs.ValueWalks.{behind_it, split_at_it}
+use Rattle.segment_promises.proofs.Calls.SampleLists.{not_before}
+use Rattle.segment_promises.specs.Calls.{SeesMore}
+use Rattle.segment_promises.proofs.Calls.Sights.{seen_here}
+use Rattle.hist_core.proofs.Parts.Alone.{seen_alike}
 use Rattle.hist_core.specs.declared.snapshot_call.SnapshotCall.{SnapshotCall}
 use Rattle.hist_core.specs.declared.snapshot_call.SnapshotCallStep.TheVariants.{More}
 use Rattle.hist_core.specs.declared.snapshot_call.Stage.TheVariants.{Walking, LoadingSample}
@@ -37,9 +41,7 @@ use Rattle.hist_core.proofs.AddCall.GhostNotes.{goes_after}
 use Rattle.hist_core.proofs.Walks.Walking.{GoesAlong, began_before, few_passed, spot_inside, there, walks_so}
 use Rattle.hist_core.proofs.Worlds.Quiet.{not_spent}
 use Rattle.hist_core.proofs.Walks.Passing.{listed_still, seen_still, total_still, values_still, way_still}
-use Rattle.hist_core.proofs.Walks.SampleLists.{not_before}
 use Rattle.hist_core.proofs.SnapshotCall.Snapshots.{goes_still, is_inside}
-use Rattle.hist_core.proofs.DeltaCall.Sights.{SeesMore, seen_here}
 
 -- where it stands that has loaded the count of a sample
 at_sample : (p : Place) (at found : ℕ) → is_looking p ≡ false → (is_looking (at_count p at found) ≡ false) × (is_bound (at_count p at found) ≡ false)
@@ -163,16 +165,7 @@ module _ (shape : Dimensions) (known : Known) (snapshot_call : SnapshotCall) (a 
     }
 
     counted_beside : FrameOfStep a counted
-    counted_beside = record {
-      role = refl;
-      segment = refl;
-      units = refl;
-      entries = refl;
-      deltas = refl;
-      names = refl;
-      chain = ([], sym (append-nil a.seen.chain));
-      words = ([], sym (append-nil a.seen.words));
-    }
+    counted_beside = seen_alike a counted refl refl refl refl refl refl refl refl
 
     saw_it : SawCount counted (at + 6) count
     saw_it = seen_here a.since.counts a.seen.counts (at + 6) count its_way.began.counts

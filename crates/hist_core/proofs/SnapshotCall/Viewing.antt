@@ -1,10 +1,11 @@
 -- A `snapshot` of an actor goes on, and what it is answered with.
-use Rattle.std.proofs.Common.{◌≡◌, ◌≤◌, ◌+◌, ◌-◌, ℕ, ℤ, pos, true, true≢false, arith, set, slice_index, List, [], length, map, take, All, refl, sym, ap, subst, ◌∙◌}
+use Rattle.std.proofs.Common.{◌≡◌, ◌≤◌, ◌+◌, ℕ, ℤ, set, List, [], length, map, take, All, refl, sym, ap, subst, ◌∙◌}
 use Rattle.std.specs.Prelude.{Option, Some, None}
 use Rattle.std.specs.List.{Contains}
 use Rattle.segment_image.specs.Shape.{Dimensions}
 use Rattle.segment_machine.specs.declared.actor.Actor.{Actor}
 use Rattle.segment_machine.specs.declared.actor.Known.{Known as MachineKnown}
+use Rattle.segment_promises.proofs.Calls.BlankTotals.{keys_of_buckets, no_units}
 use Rattle.hist_core.specs.declared.call.Stepped.{Stepped}
 use Rattle.hist_core.specs.declared.call.Answer.TheVariants as answer
 use Rattle.hist_core.specs.declared.call.Stepped.TheVariants as stepped
@@ -18,25 +19,22 @@ use Rattle.hist_core.specs.StepsBy.{StepsBy, IsFree, WalksInOrder}
 use Rattle.hist_core.specs.SnapshotCall.{HasLooked, IsSnapshotCall, IsSomeSnapshotCall, SnapshotCallGives, SnapshotCallSteps}
 use Rattle.hist_core.specs.ActorRun.{Advances, Answers, AreShown, BeginsSnapshot, IsKnown, known_of, IsAnswer, IsQuiet, IsRun, IsSnapshotAnnounced, IsSomeRun, StandsIn, begun_by, ended_by, looked_by, pending_by}
 use Rattle.std.specs.List.{range_with_len}
-use Rattle.std.proofs.lemmas.Simd.{map-map}
-use Rattle.std.proofs.lemmas.List.FromFn.{get_or-map-range_with_len, length-map-range_with_len}
 use mathlib.Core.Option.{some}
 use lib.ListN.{get_elem?}
 use Rattle.alloc_core.specs.Layout.{IsShape}
 use Rattle.atomic_table.proofs.Lists.{set_here}
 use Rattle.bucket_ranges.specs.Ranges.{boundaries_of}
-use Rattle.bucket_ranges.specs.Spec.{buckets_of, spec_fault}
-use Rattle.bucket_ranges.proofs.Ascent.{boundaries_of-split}
+use Rattle.bucket_ranges.specs.Spec.{buckets_of}
 use Rattle.segment_invariant.specs.Body.{blank}
 use Rattle.segment_invariant.proofs.Lists.Elements.{all_at, contains_at}
 use Rattle.segment_invariant.proofs.Lists.Maps.{contains_map}
 use Rattle.segment_promises.proofs.Reached.{states_are_kept}
 use Rattle.segment_machine.specs.State.{State}
-use Rattle.segment_machine.specs.Actor.{bucket_key, has_buckets, known_at}
+use Rattle.segment_machine.specs.Actor.{bucket_key, known_at}
 use Rattle.hist_core.specs.declared.world_state.WorldState.{WorldState}
 use Rattle.hist_core.specs.declared.hist.Known.{Known}
 use Rattle.hist_core.specs.WorldState.{IsReachedAs, LooksAt}
-use Rattle.hist_core.specs.SnapshotCall.{HasListed, HasSeenValues, HasTotal, IsStarted, OpensWith, StandsAtStage, blank_totals}
+use Rattle.hist_core.specs.SnapshotCall.{HasListed, HasSeenValues, HasTotal, IsStarted, OpensWith, StandsAtStage}
 use Rattle.hist_core.specs.declared.snapshot_call.Stage.{Stage}
 use Rattle.hist_core.specs.declared.snapshot_call.Stage.TheVariants.{LoadingSingle, LoadingCounts, LoadingCount, Walking, LoadingSample, LoadingSum, LoadingRedundant}
 use Rattle.hist_core.specs.declared.walk.Walk.TheVariants.{LoadingFirst, LoadingType, LoadingHistogram, LoadingValue, LoadingNext}
@@ -162,26 +160,6 @@ module _ (old : ActorRun) (snapshot_call now : SnapshotCall) (is : old.running �
 
 -- ---- it begins
 
--- the keys of the buckets of a histogram
-keys_of_buckets : (known : MachineKnown) → spec_fault known.spec ≡ None → has_buckets known.spec ≡ true
-    → (map (λ (total : ℤ × ℕ). total.0) (blank_totals (boundaries_of known.spec)) ≡ map (bucket_key (Some known)) (range_with_len 0 (buckets_of known.spec)))
-    × (length (blank_totals (boundaries_of known.spec)) ≡ buckets_of known.spec)
-keys_of_buckets known lawful has =
-    let split = boundaries_of-split known.spec lawful (λ sparse. true≢false (sym has ∙ ap has_buckets sparse)) in
-    let count = split.count in
-    let boundaries = boundaries_of known.spec in
-    let n : length (boundaries_of known.spec) - 1 ≡ buckets_of known.spec = omega (arith, count) in (
-      map-map (λ (total : ℤ × ℕ). total.0) (λ i. (pos (slice_index boundaries i), 0)) (range_with_len 0 (length boundaries - 1))
-          ∙ (λ j. map (λ i. pos (slice_index boundaries i)) (range_with_len 0 (n j))),
-      length-map-range_with_len (λ i. (pos (slice_index boundaries i), 0)) 0 (length boundaries - 1) ∙ n,
-    )
-
-no_units : (boundaries : List ℕ) → All (λ total. total.1 ≡ 0) (blank_totals boundaries)
-no_units boundaries k d below =
-    let blank_one : ℕ → ℤ × ℕ = λ i. (pos (slice_index boundaries i), 0) in
-    let long = length-map-range_with_len blank_one 0 (length boundaries - 1) in
-    ap (λ (total : ℤ × ℕ). total.1) (get_or-map-range_with_len blank_one 0 (length boundaries - 1) k k d (omega (arith, below, long)) (omega arith))
-
 -- who rests begins it, which is no event
 module _ (shape : Dimensions) (version : ℕ) (known : Known) (old new : ActorRun) (starts : BeginsSnapshot shape version known old new) (i : ℕ)
     (at : get_elem? old.known.items i ≡ some known) (rests : old.running ≡ None) where
@@ -208,7 +186,7 @@ module _ (shape : Dimensions) (version : ℕ) (known : Known) (old new : ActorRu
     -- of a histogram with buckets it stands before the single word, of a sparse one at the record
     stands_first : (stage : Stage) → OpensWith shape (known_of known) snapshot_call stage → StandsAtStage shape (known_of known) snapshot_call a stage
     stands_first LoadingSingle (has, blank) =
-        let keys : HasBlanks snapshot_call.totals.items = subst HasBlanks (sym blank) (keys_of_buckets (known_of known) its_known.lawful has) in (
+        let keys : HasBlanks snapshot_call.totals.items = subst HasBlanks (sym blank) (keys_of_buckets (known_of known) (boundaries_of known.spec) its_known.lawful has refl) in (
           record { bucketed = has; keys = keys.0; buckets = keys.1 },
           subst (All (λ total. total.1 ≡ 0)) (sym blank) (no_units (boundaries_of known.spec)),
         )

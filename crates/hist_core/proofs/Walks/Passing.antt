@@ -19,12 +19,12 @@ use Rattle.segment_machine.proofs.Values.{value_word}
 use Rattle.segment_promises.specs.Values.{ComesTo}
 use Rattle.segment_promises.proofs.ListedValues.{lists_still}
 use Rattle.segment_promises.proofs.SortedKeys.{one_place, once_still}
+use Rattle.segment_promises.specs.Calls.{BeganBefore, SeesMore}
+use Rattle.segment_promises.proofs.Calls.SampleLists.{all_passed, did_with}
+use Rattle.segment_promises.proofs.Calls.Sights.{began_still, saw_count}
 use Rattle.hist_core.specs.StepsBy.{IsInOrder}
 use Rattle.hist_core.specs.SnapshotCall.{HasListed, HasSeenAll, HasSeenValues, HasTotal}
-use Rattle.hist_core.specs.Mounted.{BeganBefore}
 use Rattle.hist_core.specs.Walk.{IsWalkProgress}
-use Rattle.hist_core.proofs.Walks.SampleLists.{all_passed, did_with}
-use Rattle.hist_core.proofs.DeltaCall.Sights.{SeesMore, began_still, saw_count}
 
 -- ---- it has seen more
 

@@ -17,17 +17,18 @@ use Rattle.segment_machine.specs.Made.{SawOther}
 use Rattle.segment_machine.specs.Walking.{IsFixed, WalkingEvent, load_next, load_published}
 use Rattle.segment_promises.proofs.Growing.{extended_grows, grows_not}
 use Rattle.segment_promises.proofs.ValueWalks.{behind_it, comes_first, comes_on, met, passed_few, split_at_it}
+use Rattle.segment_promises.specs.Calls.{BeganBefore, SeesMore}
+use Rattle.segment_promises.proofs.Calls.Sights.{began_still, saw_word}
+use Rattle.segment_promises.proofs.Calls.Places.{behind_apart, behind_free}
+use Rattle.segment_promises.proofs.Calls.SeenWords.{seen_now}
+use Rattle.hist_core.proofs.Parts.Alone.{seen_words}
 use Rattle.hist_core.specs.declared.walk.Met.{Met}
 use Rattle.hist_core.specs.declared.walk.Met.TheVariants.{Nothing, Sample, End}
 use Rattle.hist_core.specs.declared.walk.Walk.{Walk}
 use Rattle.hist_core.specs.declared.walk.Walk.TheVariants.{LoadingFirst, LoadingType, LoadingHistogram, LoadingValue, LoadingNext}
 use Rattle.hist_core.specs.StepsBy.{FrameOfStep, StepsBy}
-use Rattle.hist_core.specs.Mounted.{BeganBefore}
 use Rattle.hist_core.specs.Walk.{HasComeTo, HasSetOut, IsBehindValue, IsWalkProgress, MayWalk, Meets, MetRecord, OfPassed, PassedRecord, WalksAt, behind_next, behind_type, spot_of}
-use Rattle.hist_core.proofs.Worlds.Free.{still_apart, still_free}
-use Rattle.hist_core.proofs.Parts.Compares.{seen_now}
 use Rattle.hist_core.proofs.Walks.Passing.{way_still}
-use Rattle.hist_core.proofs.DeltaCall.Sights.{SeesMore, began_still, saw_word}
 
 pub walk_beside : (a : Actor) (e : WalkingEvent) (found : ℕ) → FrameOfStep a (next a (walking_event e) found)
 walk_beside a (load_next at) found = record {
@@ -40,16 +41,7 @@ walk_beside a (load_next at) found = record {
   chain = extended_grows a.seen.chain at found;
   words = ([], sym (append-nil a.seen.words));
 }
-walk_beside a (load_published at index) found = record {
-  role = refl;
-  segment = refl;
-  units = refl;
-  entries = refl;
-  deltas = refl;
-  names = refl;
-  chain = ([], sym (append-nil a.seen.chain));
-  words = (sight (at + index) found, refl);
-}
+walk_beside a (load_published at index) found = seen_words a (next a (walking_event (load_published at index)) found) (sight (at + index) found) refl refl refl refl refl refl refl refl
 
 walk_sees : (a : Actor) (e : WalkingEvent) (found : ℕ) → SeesMore a (next a (walking_event e) found)
 walk_sees a (load_next at) found = record {
@@ -118,10 +110,10 @@ module _ (shape : Dimensions) (version : ℕ) (known : Known) (holds : OfPassed)
           refl,
           (
             walk_beside a event found,
-            still_free a.hand.place known.reference found turns,
+            behind_free a.hand.place known.reference found turns,
             subst (λ (m : Met). HasComeTo shape known holds m acted) (sym is) (comes_to found [] acted (record {
               sparse = may.sparse;
-              apart = still_apart a.hand.place known.reference found may.apart;
+              apart = behind_apart a.hand.place known.reference found may.apart;
               began = began_still a acted (walk_sees a event found) began;
               comes = comes_first a acted known.reference found refl front later split learned refl;
             }) (none acted)),
@@ -151,10 +143,10 @@ module _ (shape : Dimensions) (version : ℕ) (known : Known) (holds : OfPassed)
           refl,
           (
             walk_beside a event found,
-            still_free a.hand.place at found turns,
+            behind_free a.hand.place at found turns,
             subst (λ (m : Met). HasComeTo shape known holds m acted) (sym is) (comes_to found (passed ++ at ∷ []) acted (record {
               sparse = way.sparse;
-              apart = still_apart a.hand.place at found way.apart;
+              apart = behind_apart a.hand.place at found way.apart;
               began = began_still a acted sees way.began;
               comes = comes_on a acted known.reference found refl way.comes.front passed at rest split learned refl;
             }) (along.still a acted sees way.began (passed ++ at ∷ []) it.lists)),

@@ -29,9 +29,10 @@ use Rattle.live_segment.specs.Steps.{Pass, IsSame, Stepped}
 use Rattle.segment_promises.specs.Onward.{SeesOn}
 use Rattle.live_segment.specs.GhostNotes.{MayPack, HasPacked, Noted, bucket_entry, bucket_notes}
 use Rattle.live_segment.specs.Working.{LooksOn, LooksFor, MayCount, Tries}
-use Rattle.live_segment.proofs.Seating.Proceeding.{looks_there, does_not, sees_not}
+use Rattle.live_segment.proofs.Seating.Proceeding.{does_not, sees_not}
 use Rattle.live_segment.proofs.AddCall.Beginning.{singled, sees_single, may_tell, is_next, only_begun, knows, looks_for, may_yet, looks_for_on, late, counted, counted_behind}
 use Rattle.segment_promises.proofs.Ranks.{rank, on_units, leads_higher, last_rank, last_most, last_is, last_leads}
+use Rattle.segment_promises.proofs.Calls.Places.{looks_there}
 
 -- whether a word is off
 pub is_on : (word : ℕ) → word < 2 ^ 63 → is_off word ≡ false

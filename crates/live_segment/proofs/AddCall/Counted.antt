@@ -19,6 +19,7 @@ use Rattle.segment_machine.specs.Counting.{add_count, load_counts}
 use Rattle.segment_machine.specs.Entry.{fresh, has_ended, is_counted}
 use Rattle.segment_machine.specs.Event.{counting_event, next}
 use Rattle.segment_promises.specs.Follows.{noted_by}
+use Rattle.segment_promises.proofs.Calls.Places.{looks_again}
 use Rattle.segment_calls.specs.declared.refusal.Refusal.{Refusal}
 use Rattle.live_segment.specs.declared.bucket_counting.PackAttempt.TheVariants.{Off, Passed}
 use Rattle.live_segment.specs.Mounting.{HasDisabled, HasMounted, HasNotMounted, MayMount, StandsOff}
@@ -33,7 +34,6 @@ use Rattle.live_segment.proofs.AddCall.Beginning.{counted_behind, knows, looks_f
 use Rattle.live_segment.proofs.AddCall.Ended.{next_behind, none_open}
 use Rattle.live_segment.proofs.AddCall.CountsAlone.{counted_at, counts_next, goes, may_give_up}
 use Rattle.live_segment.proofs.AddCall.Mounted.{with_words}
-use Rattle.live_segment.proofs.Seating.Proceeding.{looks_again}
 use Rattle.live_segment.proofs.AddCall.Refusing.{only_given_up}
 
 -- ---- what a call may do that may count units of a bucket

@@ -27,12 +27,13 @@ use Rattle.live_segment.specs.Seated.{IsSeated}
 use Rattle.live_segment.specs.Mounting.{MayMount, HasDisabled, LooksAtCounts}
 use Rattle.live_segment.specs.Steps.{Pass, IsSame, Stepped}
 use Rattle.live_segment.specs.Working.{CountsWithin, LooksAt, LooksOn}
-use Rattle.live_segment.proofs.Seating.Proceeding.{does_not, looks_again, looks_on, sees_not}
+use Rattle.live_segment.proofs.Seating.Proceeding.{does_not, looks_on, sees_not}
 use Rattle.segment_promises.proofs.Growing.{grows_by, grows_not}
 use Rattle.live_segment.proofs.AddCall.Beginning.{singled}
 use Rattle.live_segment.proofs.AddCall.Attempts.{is_on}
 use Rattle.live_segment.proofs.AddCall.Mounted.{mounts_on}
 use Rattle.segment_promises.proofs.Ranks.{rank, leads_higher, last_rank, last_most, last_is, last_leads}
+use Rattle.segment_promises.proofs.Calls.Places.{looks_again}
 
 -- a word with which one is disabled is off
 off_is : (version word : ℕ) → is_off (off_word version word) ≡ true

@@ -43,8 +43,9 @@ use Rattle.live_segment.specs.Steps.{Pass, Sat, Stepped}
 use Rattle.live_segment.specs.Working.{CountsWithin, LooksOn}
 use Rattle.live_segment.proofs.Seating.Allowed.{does_at}
 use Rattle.live_segment.proofs.NewRecords.Claimed.{looks_claimed, looks_refused}
-use Rattle.live_segment.proofs.Seating.Proceeding.{does_not, looks_on, looks_there}
+use Rattle.live_segment.proofs.Seating.Proceeding.{does_not, looks_on}
 use Rattle.segment_promises.proofs.Growing.{grows_by, grows_not}
+use Rattle.segment_promises.proofs.Calls.Places.{looks_there}
 use Rattle.live_segment.proofs.AddCall.Refusing.{only_given_up}
 
 -- ---- the counts reference

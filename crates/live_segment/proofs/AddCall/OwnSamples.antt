@@ -1,7 +1,6 @@
 -- A sample that a recorder published is never seen to be another record, and stands behind the record of its histogram.
-use Rattle.std.proofs.Common.{◌≡◌, ◌≢◌, ℕ, ◌+◌, ◌<◌, ℤ, List, ◌∷◌, ◌++◌, map, slice_index, Some, inl, inr, sym, ap, ◌∙◌, subst, arith}
+use Rattle.std.proofs.Common.{◌≡◌, ◌≢◌, ℕ, ◌+◌, ◌<◌, ℤ, List, slice_index, Some, inl, inr, sym, ap, ◌∙◌, subst, arith}
 use Rattle.std.specs.List.{Contains}
-use Rattle.std.proofs.lemmas.List.{map-append}
 use Rattle.std.proofs.lemmas.List.Elements.{All-contains, Contains-append_right}
 use Rattle.std.proofs.lemmas.List.Sorted.{IsPermutation-sym, Contains-permutation}
 use Rattle.std.specs.Int.{cast_unsigned, w64}
@@ -16,19 +15,16 @@ use Rattle.segment_machine.specs.declared.place.Place.TheVariants.{Spent}
 use Rattle.segment_machine.specs.Actor.{all_published, word_seen}
 use Rattle.segment_machine.specs.Made.{SawOther}
 use Rattle.segment_machine.specs.State.{State}
-use Rattle.segment_invariant.specs.Body.{Listed, listed, Sample, Anatomy, sample, sample_words, order_of}
+use Rattle.segment_invariant.specs.Body.{Listed, listed, Sample, Anatomy, sample, sample_words}
 use Rattle.segment_invariant.specs.Seen.{HasSample}
 use Rattle.segment_invariant.specs.Invariant.{Invariant, StandsAs}
-use Rattle.segment_invariant.proofs.Lists.Elements.{at_from, row_in, split_at}
+use Rattle.segment_invariant.proofs.Lists.Elements.{row_in}
 use Rattle.segment_invariant.proofs.Lists.Maps.{contains_map}
 use Rattle.segment_invariant.proofs.Walking.Words.{sighted}
+use Rattle.segment_promises.proofs.Calls.Orders.{listed_behind}
 use Rattle.live_segment.specs.Records.{KnowsOwnSamples}
-use Rattle.live_segment.proofs.DeltaCall.SamplesBehind.{behind_there}
 
 -- ---- what a recorder published
-
-abbrev references : List Listed → List ℕ
-references records = map (λ (l : Listed). l.reference) records
 
 module _ (shape : Dimensions) (opened : Anatomy) (state : State) (kept : Invariant shape opened state) (id : ℕ) (a : Actor)
     (mine : get_elem? state.actors id ≡ some a) (lives : a.hand.place ≢ Spent) where
@@ -53,26 +49,9 @@ module _ (shape : Dimensions) (opened : Anatomy) (state : State) (kept : Invaria
   other_seen histogram at value s has of_it valued (inr (inr (word, seen, ne))) =
       ne (sym (sample_seen at 5 word s has (omega arith) seen) ∙ ap (cast_unsigned w64) valued)
 
-  -- what is listed behind its histogram stands behind it, where it was met
-  listed_behind : (histogram at : ℕ) (value : ℤ) (front behind : List ℕ)
-      → Contains kept.anatomy.records (record { reference = at; made = Some (made.Sample histogram value) }) → Contains a.seen.chain at
-      → a.seen.chain ≡ front ++ histogram ∷ behind → Contains behind at
-  listed_behind histogram at value front behind has met is =
-      let (rest, walked) = (kept.each id a mine lives).sees.walked in
-      let l : Listed = record { reference = at; made = Some (made.Sample histogram value) } in
-      let (i, there) = at_from kept.anatomy.records l has in
-      let (f, b, parts, others) = split_at kept.anatomy.records i l there in
-      let (name, (fs, gs, has_first, none_before, kind), named) = kept.records.sampled f b at histogram value parts in
-      let fronts : references f ≡ references fs ++ histogram ∷ references gs =
-      ap references has_first ∙ map-append (λ (r : Listed). r.reference) fs (record { reference = histogram; made = Some (made.Histogram name spec.Sparse) } ∷ gs) in
-      let apart : order_of kept.anatomy ≡ (references fs ++ histogram ∷ references gs) ++ at ∷ references b =
-      ap references parts ∙ (map-append (λ (r : Listed). r.reference) f (l ∷ b) ∙ ap (λ (list : List ℕ). list ++ at ∷ references b) fronts) in
-      behind_there state.words (order_of kept.anatomy) kept.list.linked a.seen.chain rest front behind (references fs) (references gs) (references b) histogram at
-      walked is apart met
-
   pub knows_own_samples : KnowsOwnSamples a
   knows_own_samples histogram value at has =
       let there = published_listed (record { reference = at; made = made.Sample histogram value }) has in
       let (s, stands, of_it, valued) = All-contains (λ (l : Listed). StandsAs kept.anatomy.pieces l l.made) kept.anatomy.records
       (record { reference = at; made = Some (made.Sample histogram value) }) kept.list.standing there in
-      (other_seen histogram at value s stands of_it valued, λ front behind is met. listed_behind histogram at value front behind there met is)
+      (other_seen histogram at value s stands of_it valued, λ front behind is met. listed_behind shape opened state kept id a mine lives histogram at value front behind there met is)

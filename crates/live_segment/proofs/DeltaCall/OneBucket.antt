@@ -4,8 +4,7 @@ use Rattle.std.specs.Prelude.{nat_eq, unwrap_or}
 use Rattle.std.specs.List.{Contains}
 use Rattle.std.specs.Option.{option_eq}
 use Rattle.std.proofs.lemmas.Bool.{eq-eqb, eqb-true, ne_eqb, lt-ltb, le-ltb, ltb-true, ltb-false}
-use Rattle.std.proofs.lemmas.List.{append-nil, append_assoc, drop-append-le, length-append}
-use Rattle.std.proofs.lemmas.List.Elements.{Contains-append_right}
+use Rattle.std.proofs.lemmas.List.{append-nil, append_assoc}
 use Rattle.bucket_ranges.specs.Spec.{buckets_of}
 use Rattle.bucket_ranges.specs.Single.{single_of, packed_bucket, units_packed}
 use Rattle.bucket_ranges.specs.declared.single.SingleWord.{SingleWord}
@@ -13,7 +12,6 @@ use Rattle.bucket_ranges.specs.declared.single.SingleWord.TheVariants.{Empty, Pa
 use Rattle.segment_image.specs.Shape.{Dimensions}
 use Rattle.segment_machine.specs.declared.actor.Actor.{Actor}
 use Rattle.segment_machine.specs.declared.actor.Known.{Known}
-use Rattle.segment_machine.specs.declared.actor.Since.{Since}
 use Rattle.segment_machine.specs.declared.actor.Taken.{Taken}
 use Rattle.segment_machine.specs.declared.place.Look.{Look}
 use Rattle.segment_machine.specs.declared.place.Place.{Place}
@@ -37,7 +35,8 @@ use Rattle.segment_promises.specs.Onward.{SeesOn}
 use Rattle.live_segment.specs.Steps.{IsSame, Pass, Stepped}
 use Rattle.segment_promises.proofs.Growing.{grows_by, grows_not}
 use Rattle.live_segment.proofs.Seating.Proceeding.{sees_on, sees_not}
-use Rattle.live_segment.proofs.SnapshotCall.Seeing.{saw_bucket, saw_single, saw_word}
+use Rattle.segment_promises.proofs.Calls.Sights.{began_still, seen_here, saw_bucket, saw_single, saw_word}
+use Rattle.live_segment.proofs.SnapshotCall.Seeing.{began, takes_sees}
 
 -- ---- units that are taken one after the other
 
@@ -92,14 +91,7 @@ sees_count a more = record {
 
 pub saw_here : (a : Actor) (at word : ℕ) → a.since.counts ≤ length a.seen.counts
     → Contains (drop a.since.counts (a.seen.counts ++ sight at word)) (record { at = at; word = word })
-saw_here a at word low =
-    let it : Sighting = record { at = at; word = word } in
-    subst (λ (l : List Sighting). Contains l it) (sym (drop-append-le a.since.counts a.seen.counts (sight at word) low))
-    (Contains-append_right (drop a.since.counts a.seen.counts) (sight at word) it (0, omega arith, refl))
-
--- a list that grows stays long enough
-pub long_still : {X : Type 0} (n : ℕ) (old new : List X) → n ≤ length old → ((more : List X) × (new ≡ old ++ more)) → n ≤ length new
-long_still n old new low (more, is) = let long = ap length is ∙ length-append old more in omega (arith, low, long)
+saw_here a at word low = seen_here a.since.counts a.seen.counts at word low
 
 -- a delta that went on takes the same histogram
 pub takes_of : (a b : Actor) (more : List (ℤ × ℕ)) (histogram : ℕ) (known : Known) → TakesOn more a b → Takes a histogram known → Takes b histogram known
@@ -158,7 +150,9 @@ module _ {segment : Segment} {known : Known} {mounted : Mounted} {old : Pass} (t
   pub stays : (new : Pass) (more : List (ℤ × ℕ)) → IsSame old new → TakesOn more old.me.0 new.me.0 → StandsAt new.me.0 look known
       → TakesAt segment known mounted new
   stays new more same on stands =
-      let since : new.me.0.since ≡ old.me.0.since = ap (λ (a : Actor). a.since) on.view in
+      let sees = takes_sees old.me.0 new.me.0 more on in
+      let had = began old.me.0 takes.singles takes.counts in
+      let still = began_still old.me.0 new.me.0 sees had in
       let version : new.me.0.segment.version ≡ old.me.0.segment.version = ap (λ (a : Actor). a.segment.version) on.view in record {
         table = same.0 ∙ takes.table;
         recorder = ap (λ (a : Actor). is_opener a.role) on.view ∙ takes.recorder;
@@ -170,20 +164,18 @@ module _ {segment : Segment} {known : Known} {mounted : Mounted} {old : Pass} (t
         alone = ap (λ (a : Actor). known_at a.answers.names known.reference) on.view ∙ takes.alone;
         takes = takes_of old.me.0 new.me.0 more known.reference known on takes.takes;
         word = takes.word;
-        saw = saw_single old.me.0 new.me.0 since on.seen takes.singles takes.counts (known.reference + 9) takes.word takes.saw;
+        saw = saw_single old.me.0 new.me.0 sees had (known.reference + 9) takes.word takes.saw;
         off = takes.off;
         packed = takes.packed ∙ ap (λ (v : ℕ). packed_bucket (single_of v (buckets_of known.spec) takes.word)) (sym version);
         kept = takes.kept ∙ ap (λ (v : ℕ). units_in (single_of v (buckets_of known.spec) takes.word)) (sym version);
         stands = stands;
-        there = saw_word old.me.0 new.me.0 since on.seen takes.singles takes.counts (known.reference + 8) mounted.counts takes.there;
+        there = saw_word old.me.0 new.me.0 sees had (known.reference + 8) mounted.counts takes.there;
         within = (
           takes.within.0,
           subst (λ (s : Dimensions). mounted.counts + (4 + 2 * buckets_of known.spec) ≤ s.size) (sym (ap (λ (a : Actor). a.segment.shape) on.view)) takes.within.1,
         );
-        singles = subst (λ (s : Since). s.singles ≤ length new.me.0.seen.singles) (sym since)
-            (long_still old.me.0.since.singles old.me.0.seen.singles new.me.0.seen.singles takes.singles on.seen.singles);
-        counts = subst (λ (s : Since). s.counts ≤ length new.me.0.seen.counts) (sym since)
-            (long_still old.me.0.since.counts old.me.0.seen.counts new.me.0.seen.counts takes.counts on.seen.counts);
+        singles = still.singles;
+        counts = still.counts;
       }
 
   module _ (bucket : ℕ) (below : bucket < buckets_of known.spec) where
@@ -282,10 +274,9 @@ module _ {segment : Segment} {known : Known} {mounted : Mounted} {old : Pass} (t
 
         pub took : IsMarkOf new.me.0 known bucket mark → count + units_packed form bucket ≡ least → TookBucket new.me.0 known bucket
         took of is =
-            let since : new.me.0.since ≡ mid.me.0.since = ap (λ (a : Actor). a.since) raised.view in
-            let version : new.me.0.segment.version ≡ mid.me.0.segment.version = ap (λ (a : Actor). a.segment.version) raised.view in (
+            let sees = takes_sees mid.me.0 new.me.0 (units_of_key mine (least - found)) raised in (
               count + units_packed form bucket,
-              saw_bucket mid.me.0 new.me.0 since raised.seen stays_loaded.singles stays_loaded.counts version known bucket (count + units_packed form bucket) saw_total,
+              saw_bucket mid.me.0 new.me.0 sees (began mid.me.0 stays_loaded.singles stays_loaded.counts) known bucket (count + units_packed form bucket) saw_total,
               inr (mark, max found least, of, saw_mark, omega (arith, is)),
             )
 

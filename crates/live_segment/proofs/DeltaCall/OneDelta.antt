@@ -43,10 +43,11 @@ use Rattle.live_segment.specs.Taking.{MayBeginDelta, HasBegunDelta}
 use Rattle.live_segment.specs.GhostNotes.{KnowsAlone, Noted}
 use Rattle.live_segment.proofs.AddCall.Beginning.{known_there}
 use Rattle.live_segment.proofs.SnapshotCall.BucketsSeen.{counts_there}
-use Rattle.live_segment.proofs.DeltaCall.OneBucket.{long_still, marked, none_packed, nothing_more, saw_here, sees_count, takes_by, takes_not, takes_of}
+use Rattle.segment_promises.proofs.Calls.Sights.{long_still}
+use Rattle.live_segment.proofs.DeltaCall.OneBucket.{marked, none_packed, nothing_more, saw_here, sees_count, takes_by, takes_not, takes_of}
 use Rattle.segment_promises.proofs.Growing.{grows_by, grows_not}
-use Rattle.live_segment.proofs.Seating.Proceeding.{looks_again, looks_there}
 use Rattle.segment_promises.proofs.Ranks.{on_units}
+use Rattle.segment_promises.proofs.Calls.Places.{looks_again, looks_there}
 
 -- ---- it begins
 

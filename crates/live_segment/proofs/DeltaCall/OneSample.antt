@@ -1,10 +1,9 @@
 -- A delta takes what is counted in one sample of a sparse histogram: the sample's mark is raised to the count that was loaded.
-use Rattle.std.proofs.Common.{◌≡◌, ℕ, ◌+◌, ◌-◌, ◌≤◌, ℤ, max, false, List, ◌++◌, length, Option, inr, refl, sym, ap, subst, ◌∙◌, arith}
+use Rattle.std.proofs.Common.{◌≡◌, ℕ, ◌+◌, ◌-◌, ℤ, max, false, List, ◌++◌, Option, inr, refl, sym, ap, subst, ◌∙◌, arith}
 use Rattle.std.specs.Prelude.{unwrap_or}
 use Rattle.std.specs.Int.{cast_signed, w64}
 use Rattle.segment_machine.specs.declared.actor.Actor.{Actor}
 use Rattle.segment_machine.specs.declared.actor.Known.{Known}
-use Rattle.segment_machine.specs.declared.actor.Since.{Since}
 use Rattle.segment_machine.specs.declared.actor.Taken.{Taken}
 use Rattle.segment_machine.specs.declared.place.Place.TheVariants.{Idle}
 use Rattle.segment_machine.specs.declared.seen.Seen.{Seen}
@@ -17,8 +16,9 @@ use Rattle.live_segment.specs.declared.segment.Segment.{Segment}
 use Rattle.live_segment.specs.Deltas.{HasTakenSample, MayTakeSample, TakesOn, TakesValues, units_of_key}
 use Rattle.live_segment.specs.Holders.{MayStep}
 use Rattle.live_segment.specs.Steps.{IsSame, Pass, Stepped}
-use Rattle.live_segment.proofs.DeltaCall.OneBucket.{long_still, marked, saw_here, sees_count, takes_by, takes_of}
-use Rattle.live_segment.proofs.SnapshotCall.Seeing.{saw_count}
+use Rattle.live_segment.proofs.DeltaCall.OneBucket.{marked, saw_here, sees_count, takes_by, takes_of}
+use Rattle.segment_promises.proofs.Calls.Sights.{began_still, saw_count}
+use Rattle.live_segment.proofs.SnapshotCall.Seeing.{began, takes_sees}
 
 -- ---- values
 
@@ -39,10 +39,8 @@ module _ (segment : Segment) (known : Known) (old : Pass) (takes : TakesValues s
     takes = takes_of old.me.0 new.me.0 more known.reference known on takes.takes;
     free = free;
     apart = apart;
-    singles = subst (λ (s : Since). s.singles ≤ length new.me.0.seen.singles) (sym (ap (λ (a : Actor). a.since) on.view))
-        (long_still old.me.0.since.singles old.me.0.seen.singles new.me.0.seen.singles takes.singles on.seen.singles);
-    counts = subst (λ (s : Since). s.counts ≤ length new.me.0.seen.counts) (sym (ap (λ (a : Actor). a.since) on.view))
-        (long_still old.me.0.since.counts old.me.0.seen.counts new.me.0.seen.counts takes.counts on.seen.counts);
+    singles = (began_still old.me.0 new.me.0 (takes_sees old.me.0 new.me.0 more on) (began old.me.0 takes.singles takes.counts)).singles;
+    counts = (began_still old.me.0 new.me.0 (takes_sees old.me.0 new.me.0 more on) (began old.me.0 takes.singles takes.counts)).counts;
   }
 
 -- ---- one sample
@@ -82,7 +80,7 @@ module _ (segment : Segment) (known : Known) (value : ℤ) (sample count : ℕ) 
       seen = ap (λ (a : Actor). a.seen) raise.view ∙ (λ i. record old.me.0.seen { counts = sym (ap (λ (a : Actor). a.seen.counts) raise.view) i });
       took = (
         count,
-        saw_count old.me.0 new.me.0 (ap (λ (a : Actor). a.since) raised.view) raised.seen may.takes.singles may.takes.counts (sample + 6) count may.counted,
+        saw_count old.me.0 new.me.0 (takes_sees old.me.0 new.me.0 (units_of_key value (count - found)) raised) (began old.me.0 may.takes.singles may.takes.counts) (sample + 6) count may.counted,
         inr (
           max found count,
           subst (λ (a : Actor). SawCount a (sample + 7) (max found count)) (sym raise.view) (saw_here old.me.0 (sample + 7) (max found count) may.takes.counts),

@@ -1,100 +1,19 @@
 -- Each sample that a recorder met stands behind the record of its histogram, as on the list.
-use Rattle.std.proofs.Common.{◌≡◌, ◌≢◌, ℕ, zero, suc, ◌+◌, ℤ, List, ◌∷◌, ◌++◌, length, map, slice_index, Some, false, true≢false, ⊎_elim, sym, ap, ◌∙◌, subst, arith, append_assoc, length-append}
-use Rattle.std.specs.List.{Contains}
-use Rattle.std.proofs.lemmas.List.{map-append}
-use Rattle.std.proofs.lemmas.List.Elements.{Contains-append_cases}
-use lib.Seq.{get_or-append_seam}
-use mathlib.Core.Option.{some}
+use Rattle.std.proofs.Common.{◌≡◌, ◌≢◌, ℕ, ◌+◌, false, true≢false, sym, ap, ◌∙◌, arith}
 use lib.ListN.{get_elem?}
 use Rattle.atomic_table.specs.Table.{Allows}
-use Rattle.segment_image.specs.Shape.{Dimensions}
 use Rattle.bucket_ranges.specs.declared.spec.Spec.TheVariants as spec
-use Rattle.list_core.specs.Chain.{IsLinked}
-use Rattle.list_core.proofs.Chains.{one_place}
-use Rattle.segment_machine.specs.declared.actor.Actor.{Actor}
 use Rattle.segment_machine.specs.declared.actor.Made.TheVariants as made
 use Rattle.segment_machine.specs.declared.place.Place.TheVariants.{Spent}
 use Rattle.segment_machine.specs.Actor.{is_bound, is_opener}
 use Rattle.segment_machine.specs.Event.{change, Ready, taking_event}
-use Rattle.segment_machine.specs.State.{State}
 use Rattle.segment_machine.specs.Taking.{load_sum}
-use Rattle.segment_invariant.specs.Body.{Listed, Anatomy, sample, order_of}
-use Rattle.segment_invariant.specs.Invariant.{Invariant}
-use Rattle.segment_invariant.proofs.Counting.Samples.{sample_met}
-use Rattle.segment_invariant.proofs.Lists.Elements.{at_from, split_at}
+use Rattle.segment_promises.proofs.Calls.Orders.{no_repeats, stand_behind}
 use Rattle.live_segment.specs.declared.rule.Setting.{Setting}
 use Rattle.live_segment.specs.Rule.{Runs}
-use Rattle.live_segment.specs.Samples.{LoadsSum, SamplesStandBehind}
+use Rattle.live_segment.specs.Samples.{LoadsSum}
 use Rattle.live_segment.specs.Steps.{Sat}
 use Rattle.live_segment.proofs.Seating.Allowed.{does_at}
-use Rattle.live_segment.proofs.Walks.NoRepeats.{once_in}
-
--- ---- lists on which nothing stands twice
-
-module _ (words order : List ℕ) (linked : IsLinked words order) where
-  one_index : (p q r s : List ℕ) (x : ℕ) → order ≡ p ++ x ∷ q → order ≡ r ++ x ∷ s → length p ≡ length r
-  one_index p q r s x is same =
-      let here : slice_index order (length p) ≡ x = ap (λ (l : List ℕ). slice_index l (length p)) is ∙ get_or-append_seam p x q 0 in
-      let there : slice_index order (length r) ≡ x = ap (λ (l : List ℕ). slice_index l (length r)) same ∙ get_or-append_seam r x s 0 in
-      let first = ap length is ∙ length-append p (x ∷ q) in
-      let second = ap length same ∙ length-append r (x ∷ s) in
-      let place = one_place words order (suc (length p)) (suc (length r)) linked (omega (arith, first)) (omega (arith, second)) (here ∙ sym there) in
-      omega (arith, place)
-
-  -- what stands behind another on the list stands behind it on its front
-  pub behind_there : (chain rest front behind fs gs bs : List ℕ) (h s : ℕ) → order ≡ chain ++ rest → chain ≡ front ++ h ∷ behind
-      → order ≡ (fs ++ h ∷ gs) ++ s ∷ bs → Contains chain s → Contains behind s
-  behind_there chain rest front behind fs gs bs h s whole is apart met =
-      ⊎_elim before (λ later. not_itself later) (Contains-append_cases front (h ∷ behind) s (subst (λ (l : List ℕ). Contains l s) is met))
-    where
-      at_h : order ≡ fs ++ h ∷ (gs ++ s ∷ bs)
-      at_h = apart ∙ append_assoc fs (h ∷ gs) (s ∷ bs)
-
-      long : length (fs ++ h ∷ gs) ≡ length fs + length (h ∷ gs)
-      long = length-append fs (h ∷ gs)
-
-      before : Contains front s → Contains behind s
-      before has =
-          let (i, there) = at_from front s has in
-          let (p, q, parts, others) = split_at front i s there in
-          let first : order ≡ front ++ h ∷ (behind ++ rest) = whole ∙ (ap (λ (l : List ℕ). l ++ rest) is ∙ append_assoc front (h ∷ behind) rest) in
-          let split : order ≡ p ++ s ∷ (q ++ h ∷ (behind ++ rest)) =
-          first ∙ (ap (λ (l : List ℕ). l ++ h ∷ (behind ++ rest)) parts ∙ append_assoc p (s ∷ q) (h ∷ (behind ++ rest))) in
-          let of_h = one_index front (behind ++ rest) fs (gs ++ s ∷ bs) h first at_h in
-          let of_s = one_index p (q ++ h ∷ (behind ++ rest)) (fs ++ h ∷ gs) bs s split apart in
-          let all = ap length parts ∙ length-append p (s ∷ q) in
-          absurd (omega (arith, of_h, of_s, all, long))
-
-      not_itself : Contains (h ∷ behind) s → Contains behind s
-      not_itself (zero, below, same) =
-          let one = one_index fs (gs ++ s ∷ bs) (fs ++ h ∷ gs) bs h at_h (subst (λ (x : ℕ). order ≡ (fs ++ h ∷ gs) ++ x ∷ bs) (sym same) apart) in
-          absurd (omega (arith, one, long))
-      not_itself (suc k, below, same) = (k, omega (arith, below), same)
-
--- ---- what a recorder met
-
-abbrev references : List Listed → List ℕ
-references records = map (λ (l : Listed). l.reference) records
-
-pub stand_behind : (shape : Dimensions) (opened : Anatomy) (state : State) → Invariant shape opened state → (id : ℕ) (a : Actor)
-    → get_elem? state.actors id ≡ some a → a.hand.place ≢ Spent → SamplesStandBehind a
-stand_behind shape opened state kept id a mine lives histogram at value front behind met saw is =
-    let anatomy = kept.anatomy in
-    let (rest, walked) = (kept.each id a mine lives).sees.walked in
-    let (s, stands, of_it, valued) = sample_met shape opened state kept id a mine lives at histogram value met saw in
-    let l : Listed = record { reference = at; made = Some (made.Sample histogram value) } in
-    let listed : Contains anatomy.records l =
-    subst (λ (p : ℕ × ℤ). Contains anatomy.records (record { reference = at; made = Some (made.Sample p.0 p.1) })) (λ i. (of_it i, valued i))
-    (kept.list.alone at (sample s) stands) in
-    let (i, there) = at_from anatomy.records l listed in
-    let (f, b, parts, others) = split_at anatomy.records i l there in
-    let (name, (fs, gs, has_first, none_before, kind), named) = kept.records.sampled f b at histogram value parts in
-    let fronts : references f ≡ references fs ++ histogram ∷ references gs =
-    ap references has_first ∙ map-append (λ (r : Listed). r.reference) fs (record { reference = histogram; made = Some (made.Histogram name spec.Sparse) } ∷ gs) in
-    let apart : order_of anatomy ≡ (references fs ++ histogram ∷ references gs) ++ at ∷ references b =
-    ap references parts ∙ (map-append (λ (r : Listed). r.reference) f (l ∷ b) ∙ ap (λ (list : List ℕ). list ++ at ∷ references b) fronts) in
-    behind_there state.words (order_of anatomy) kept.list.linked a.seen.chain rest front behind (references fs) (references gs) (references b) histogram at
-    walked is apart met
 
 module _ (setting : Setting) (slots id : ℕ) (me : Sat) (word : ℕ) (records : is_opener me.0.role ≡ false) where
   pub loads_sum : (at : ℕ) → word ≡ at + 11 + 1 → Ready me.0 (taking_event (load_sum at))
@@ -103,8 +22,7 @@ module _ (setting : Setting) (slots id : ℕ) (me : Sat) (word : ℕ) (records :
       let (view, act, valid, holds, told) =
       does_at setting slots id me word records (λ (x : ℕ). taking_event (load_sum x)) at (omega (arith, is)) (λ y e. omega (arith, is, e)) ready s run wide mine small in
       let live : me.0.hand.place ≢ Spent = λ e. true≢false (sym (ap is_bound e) ∙ ready.0) in
-      let there = ap (λ list. get_elem? list id) (sym run.views) ∙ mine in
-      let walked = (run.kept.each id me.0 there live).sees.walked in (
+      let there = ap (λ list. get_elem? list id) (sym run.views) ∙ mine in (
         view,
         act,
         valid,
@@ -112,6 +30,6 @@ module _ (setting : Setting) (slots id : ℕ) (me : Sat) (word : ℕ) (records :
         (
           told,
           stand_behind setting.shape _ run.segment run.kept id me.0 there live,
-          once_in run.segment.words me.0.seen.chain _ walked run.kept.list.linked,
+          no_repeats setting.shape _ run.segment run.kept id me.0 there live,
         ),
       )

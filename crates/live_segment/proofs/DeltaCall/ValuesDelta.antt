@@ -1,18 +1,14 @@
 -- A delta of a sparse histogram: how it begins, what it has taken at the end of the list, and how it ends.
-use Rattle.std.proofs.Common.{append_assoc, length-append, zero, suc, ◌≡◌, ℕ, ◌+◌, ◌≤◌, ℤ, true≢false, if◌then◌else◌, List, [], ◌∷◌, ◌++◌, length, slice_index, inl, inr, refl, sym, ap, subst, ◌∙◌, arith}
-use Rattle.std.specs.List.{All, AllByRecursion, Contains}
+use Rattle.std.proofs.Common.{◌≡◌, ℕ, ◌+◌, ◌≤◌, ℤ, true≢false, if◌then◌else◌, List, [], ◌∷◌, ◌++◌, length, inl, inr, refl, sym, ap, subst, ◌∙◌, arith}
+use Rattle.std.specs.List.{All, Contains}
 use Rattle.std.specs.Ordering.{int_eq}
-use Rattle.std.proofs.lemmas.List.{append-nil}
 use Rattle.std.proofs.lemmas.List.Elements.{Contains-append_right}
 use Rattle.std.proofs.lemmas.List.Sorted.{All-permutation, sum_by-IsPermutation}
-use lib.Seq.{get_or-append_seam}
 use Rattle.bucket_ranges.specs.declared.spec.Spec.TheVariants as spec
 use Rattle.segment_machine.specs.declared.actor.Actor.{Actor}
 use Rattle.segment_machine.specs.declared.actor.Known.{Known}
-use Rattle.segment_machine.specs.declared.seen.Seen.{Seen}
 use Rattle.segment_machine.specs.Actor.{has_buckets, is_bound, is_opener}
 use Rattle.segment_machine.specs.Event.{Event, next, walking_event}
-use Rattle.segment_machine.specs.Made.{SawOther, SawSample}
 use Rattle.segment_machine.specs.Note.{TookSample, noted, takes}
 use Rattle.segment_machine.specs.Taking.{Takes, is_looking}
 use Rattle.segment_machine.specs.Walking.{load_next}
@@ -21,49 +17,19 @@ use Rattle.live_segment.specs.declared.segment.Segment.{Segment}
 use Rattle.live_segment.specs.Deltas.{HasTaken, HasTakenSum, MayTakeSum, TakesValues}
 use Rattle.live_segment.specs.Seated.{IsSeated}
 use Rattle.segment_promises.specs.Onward.{SeesOn}
-use Rattle.segment_promises.specs.Values.{NoRepeats, AreSorted, ComesTo, Passes, first_of}
+use Rattle.segment_promises.specs.Values.{NoRepeats, AreSorted, ComesTo}
 use Rattle.live_segment.specs.Rule.{IsOf}
 use Rattle.live_segment.specs.Samples.{SamplesStandBehind}
 use Rattle.live_segment.specs.Steps.{IsAtRest, IsSame, Pass}
 use Rattle.live_segment.specs.Taking.{HasBegunDelta, MayBeginDelta}
 use Rattle.live_segment.specs.GhostNotes.{KnowsAlone, Noted}
 use Rattle.live_segment.specs.Values.{HasTakenValues, TakesAlong}
-use Rattle.live_segment.proofs.Walks.Apart.{behind_apart, behind_free}
 use Rattle.live_segment.proofs.AddCall.Beginning.{known_there}
 use Rattle.live_segment.proofs.DeltaCall.DeltaEnds.{kept_all, sees_all}
-use Rattle.segment_promises.proofs.FirstValues.{not_both}
+use Rattle.segment_promises.proofs.Calls.SampleLists.{all_passed, did_with}
 use Rattle.segment_promises.proofs.Growing.{grows_not, extended_grows}
 use Rattle.segment_promises.proofs.ValueWalks.{comes_first}
-
--- ---- at the end of the list
-
--- a walk that has come to the end has passed all that it saw behind the histogram's record
-pub all_passed : (a : Actor) (histogram : ℕ) (passed : List ℕ) (comes : ComesTo histogram passed 12 a) → NoRepeats a.seen.chain
-    → a.seen.chain ≡ comes.front ++ histogram ∷ passed
-all_passed a histogram passed comes once = comes.chain ∙ by comes.behind comes.stands comes.chain
-  where
-    by : (behind : List ℕ) → 12 ≡ first_of behind → a.seen.chain ≡ comes.front ++ histogram ∷ (passed ++ behind)
-        → comes.front ++ histogram ∷ (passed ++ behind) ≡ comes.front ++ histogram ∷ passed
-    by [] stands is = ap (λ (l : List ℕ). comes.front ++ histogram ∷ l) (append-nil passed)
-    by (r ∷ rest) stands is =
-        let before = comes.front ++ histogram ∷ passed in
-        let split : a.seen.chain ≡ before ++ r ∷ rest = is ∙ sym (append_assoc comes.front (histogram ∷ passed) (r ∷ rest)) in
-        let here : slice_index a.seen.chain (length before) ≡ r =
-        ap (λ (l : List ℕ). slice_index l (length before)) split ∙ get_or-append_seam before r rest 0 in
-        let long : length a.seen.chain ≡ length before + suc (length rest) = ap length split ∙ length-append before (r ∷ rest) in
-        absurd (once 0 (suc (length before)) (omega arith) (omega (arith, long)) (stands ∙ sym here))
-
--- what it did with a sample that it passed
-pub did_with : (Does : ℤ → ℕ → Type 0) (seen : Seen) (histogram : ℕ) (passed : List ℕ) → AllByRecursion (Passes Does seen histogram) passed
-    → (value : ℤ) (sample : ℕ) → Contains passed sample → SawSample seen histogram value sample → (v : ℤ) × SawSample seen histogram v sample × Does v sample
-did_with Does seen histogram [] all value sample (k, low, is) saw = absurd (omega (arith, low))
-did_with Does seen histogram (r ∷ rest) (one, all) value sample (zero, low, is) saw = by one
-  where
-    by : Passes Does seen histogram r → (v : ℤ) × SawSample seen histogram v sample × Does v sample
-    by (inl (v, shown, does)) = (v, subst (SawSample seen histogram v) is shown, subst (Does v) is does)
-    by (inr none) = absurd (not_both seen histogram value sample saw (subst (SawOther seen histogram value) is (none value saw.3)))
-did_with Does seen histogram (r ∷ rest) (one, all) value sample (suc k, low, is) saw =
-    did_with Does seen histogram rest all value sample (k, omega (arith, low), is) saw
+use Rattle.segment_promises.proofs.Calls.Places.{behind_apart, behind_free}
 
 -- ---- it begins
 

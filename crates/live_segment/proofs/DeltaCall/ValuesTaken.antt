@@ -18,23 +18,17 @@ use Rattle.segment_promises.specs.Onward.{SeesOn}
 use Rattle.segment_promises.specs.Values.{NoRepeats, ComesTo, ListsValues, listed_of}
 use Rattle.live_segment.specs.Steps.{IsSame, Pass, Stepped}
 use Rattle.live_segment.specs.Values.{TakesAlong, TakesValue}
-use Rattle.live_segment.proofs.Walks.Apart.{behind_apart, behind_free}
 use Rattle.segment_promises.proofs.ListedValues.{lists_nothing, lists_still}
 use Rattle.live_segment.proofs.DeltaCall.OneBucket.{nothing_more, takes_by, takes_not, takes_then}
 use Rattle.live_segment.proofs.DeltaCall.OneSample.{values_on}
 use Rattle.segment_promises.proofs.Growing.{grows_not, extended_grows}
-use Rattle.live_segment.proofs.SnapshotCall.Seeing.{saw_count}
+use Rattle.live_segment.proofs.SnapshotCall.Seeing.{began, takes_sees}
 use Rattle.live_segment.proofs.Walks.Sharing.{same_on}
+use Rattle.segment_promises.proofs.Calls.Sights.{took_sample}
 use Rattle.live_segment.proofs.DeltaCall.ValuesListed.{lists_then}
 use Rattle.segment_promises.proofs.ValueWalks.{left_of, one_there}
+use Rattle.segment_promises.proofs.Calls.Places.{behind_apart, behind_free}
 use Rattle.segment_promises.proofs.ValueWalks as way
-
--- what was taken of a sample stays taken
-pub took_still : (a b : Actor) → b.since ≡ a.since → SeesOn a.seen b.seen → a.since.singles ≤ length a.seen.singles → a.since.counts ≤ length a.seen.counts
-    → (sample : ℕ) → TookSample a sample → TookSample b sample
-took_still a b same sees singles counts sample (count, saw, inl none) = (count, saw_count a b same sees singles counts (sample + 6) count saw, inl none)
-took_still a b same sees singles counts sample (count, saw, inr (mark, marked, enough)) =
-    (count, saw_count a b same sees singles counts (sample + 6) count saw, inr (mark, saw_count a b same sees singles counts (sample + 7) mark marked, enough))
 
 -- it begins with nothing taken
 pub begins : (segment : Segment) (known : Known) (at : ℕ) (first : Pass) → TakesValues segment known first → ComesTo known.reference [] at first.me.0
@@ -124,7 +118,7 @@ module _ (segment : Segment) (known : Known) (passed : List ℕ) (at : ℕ) (tak
 
       lists_mid : ListsValues (λ value sample. TookSample mid.me.0 sample) (λ sample units. 1 ≤ units) known.reference passed taken mid.me.0.seen
       lists_mid = lists_still old.me.0.seen mid.me.0.seen value.on.seen.words known.reference (λ value sample. TookSample old.me.0 sample) (λ value sample. TookSample mid.me.0 sample)
-          (λ v sample took. took_still old.me.0 mid.me.0 (ap (λ (a : Actor). a.since) value.on.view) value.on.seen was.takes.singles was.takes.counts sample took)
+          (λ v sample took. took_sample old.me.0 mid.me.0 (takes_sees old.me.0 mid.me.0 (listed_of one) value.on) (began old.me.0 was.takes.singles was.takes.counts) sample took)
           (λ sample units. 1 ≤ units) (λ sample units. 1 ≤ units) (λ sample units some. some) passed taken was.lists
 
       pub along : TakesAlong segment known (passed ++ at ∷ []) found (taken ++ listed_of one) first new
@@ -136,7 +130,7 @@ module _ (segment : Segment) (known : Known) (passed : List ℕ) (at : ℕ) (tak
             step.learned chain_is;
         lists = lists_then known mid.me.0 new.me.0.seen was.comes.front passed behind.0 at (value.takes.takes.1, refl, value.takes.sparse) split_mid once
             (ap (λ (a : Actor). a.seen.words) step.view) (λ value sample. TookSample mid.me.0 sample) (λ value sample. TookSample new.me.0 sample)
-            (λ v sample took. took_still mid.me.0 new.me.0 (ap (λ (a : Actor). a.since) on_step.view) on_step.seen value.takes.singles value.takes.counts sample took)
+            (λ v sample took. took_sample mid.me.0 new.me.0 (takes_sees mid.me.0 new.me.0 [] on_step) (began mid.me.0 value.takes.singles value.takes.counts) sample took)
             (λ sample units. 1 ≤ units) (λ sample units. 1 ≤ units) (λ sample units some. some) taken one lists_mid value.lists;
       }
 

@@ -36,9 +36,9 @@ use Rattle.segment_promises.specs.Values.{NoRepeats}
 use Rattle.live_segment.specs.Records.{KnowsOwnNames}
 use Rattle.live_segment.specs.Finding.{IsAsked, Meets, SeesWords, ShowsName, ShowsSpec}
 use Rattle.live_segment.specs.Searching.{WalksAt, HasSearched, Searches, HasMadeNone}
-use Rattle.live_segment.proofs.Walks.Apart.{behind_apart}
 use Rattle.segment_promises.proofs.Growing.{extended_end, extended_grows, reference_behind, grows_on, still}
 use Rattle.segment_promises.proofs.Furthest.{last_of, last_least, last_most, last_stands}
+use Rattle.segment_promises.proofs.Calls.Places.{behind_apart}
 use Rattle.live_segment.proofs.Walks.Showing.{sees_on}
 use Rattle.live_segment.proofs.Walks.Walked.{all_given}
 

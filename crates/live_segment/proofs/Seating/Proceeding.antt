@@ -1,13 +1,8 @@
 -- A call of a recorder goes on, step by step.
-use Rattle.std.proofs.Common.{◌≡◌, ℕ, ◌==◌, Bool, true, false, if◌then◌else◌, refl, ap, ◌∙◌, arith}
-use Rattle.std.proofs.lemmas.Bool.{eqb-true, eq-eqb}
+use Rattle.std.proofs.Common.{refl, ap, ◌∙◌, arith}
 use Rattle.segment_machine.specs.declared.actor.Actor.{Actor}
 use Rattle.segment_machine.specs.declared.actor.Done.{Done}
 use Rattle.segment_machine.specs.declared.seen.Seen.{Seen}
-use Rattle.segment_machine.specs.declared.place.Look.{Look}
-use Rattle.segment_machine.specs.declared.place.Place.{Place}
-use Rattle.segment_machine.specs.declared.place.Place.TheVariants.{Looking}
-use Rattle.segment_machine.specs.Calls.{look_of, nothing_of}
 use Rattle.segment_promises.specs.Onward.{DoesOn, SeesOn}
 use Rattle.segment_promises.proofs.Growing.{grows_not, grows_on}
 use Rattle.live_segment.specs.Working.{FrameOfCall, LooksOn}
@@ -66,20 +61,3 @@ looks_on a b c first second = record {
   units = second.units ∙ first.units;
   entries = second.entries ∙ first.entries;
 }
-
--- ---- what it looks at
-
--- what it goes on with is of the histogram that it looks at
-pub looks_there : (place : Place) (histogram : ℕ) → (look_of place histogram).histogram ≡ histogram
-looks_there (Looking look) histogram = by_test (look.histogram == histogram) refl
-  where
-    by_test : (b : Bool) → (look.histogram == histogram) ≡ b → (if b then look else nothing_of histogram).histogram ≡ histogram
-    by_test true same = eqb-true look.histogram histogram same
-    by_test false apart = refl
-looks_there place histogram = refl
-
--- where it looked at that before, it goes on with that
-pub looks_again : (place : Place) (look : Look) (histogram : ℕ) → place ≡ Looking look → look.histogram ≡ histogram → look_of place histogram ≡ look
-looks_again place look histogram placed same =
-    ap (λ (p : Place). look_of p histogram) placed
-    ∙ ap (λ (b : Bool). if b then look else nothing_of histogram) (eq-eqb look.histogram histogram same)

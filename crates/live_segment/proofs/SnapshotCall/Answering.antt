@@ -1,15 +1,11 @@
 -- A snapshot is answered: its recorder has looked anew, has loaded the sum and the redundant count, and notes what it saw.
-use Rattle.std.proofs.Common.{◌≡◌, ◌≢◌, ℕ, ◌+◌, ◌-◌, ◌≤◌, true, true≢false, ℤ, pos, List, [], ◌∷◌, ◌++◌, drop, length, map, slice_index, Some, None, inl, inr, ⊎_elim, refl, sym, ap, ◌∙◌, subst, arith, length-append}
-use Rattle.std.specs.List.{All, Contains, range_with_len}
+use Rattle.std.proofs.Common.{◌≡◌, ◌≢◌, ℕ, ◌+◌, ◌-◌, ◌≤◌, true, true≢false, ℤ, List, [], ◌∷◌, ◌++◌, drop, length, map, Some, inl, inr, ⊎_elim, refl, sym, ap, ◌∙◌, subst, arith, length-append}
+use Rattle.std.specs.List.{Contains, range_with_len}
 use Rattle.std.proofs.lemmas.List.{drop-append-le}
 use Rattle.std.proofs.lemmas.List.Elements.{Contains-append_left}
-use Rattle.std.proofs.lemmas.List.FromFn.{get_or-map-range_with_len, length-map-range_with_len}
-use Rattle.std.proofs.lemmas.Simd.{map-map}
 use Rattle.bucket_ranges.specs.declared.spec.Spec.{Spec}
 use Rattle.bucket_ranges.specs.declared.spec.Spec.TheVariants as spec
-use Rattle.bucket_ranges.specs.Ranges.{boundaries_of}
-use Rattle.bucket_ranges.specs.Spec.{buckets_of, spec_fault}
-use Rattle.bucket_ranges.proofs.Ascent.{boundaries_of-split}
+use Rattle.bucket_ranges.specs.Spec.{buckets_of}
 use Rattle.segment_calls.specs.declared.answer.Snapshot.{Snapshot}
 use Rattle.segment_machine.specs.declared.actor.Actor.{Actor}
 use Rattle.segment_machine.specs.declared.actor.Answered.{Answered}
@@ -23,7 +19,7 @@ use Rattle.segment_machine.specs.Note.{answers, MayNote, noted, SawAll, SawBucke
 use Rattle.live_segment.specs.declared.segment.Segment.{Segment}
 use Rattle.live_segment.specs.Holders.{table_of, MayStep}
 use Rattle.segment_promises.specs.Onward.{SeesOn}
-use Rattle.live_segment.specs.Snapshots.{blank_totals, HasLooked, HasSeenBuckets, HasSnapshot, saw_sum}
+use Rattle.live_segment.specs.Snapshots.{HasLooked, HasSeenBuckets, HasSnapshot, saw_sum}
 use Rattle.live_segment.specs.Steps.{Pass, IsAtRest, IsSame}
 use Rattle.live_segment.specs.Taking.{answered_as}
 use Rattle.live_segment.specs.GhostNotes.{KnowsAlone}
@@ -45,27 +41,6 @@ saw_still a more at word since saw =
 -- a spec with buckets is not sparse
 pub not_sparse : (s : Spec) → has_buckets s ≡ true → s ≢ spec.Sparse
 not_sparse s has is = true≢false (sym has ∙ ap has_buckets is)
-
--- the keys of the buckets of a histogram
-pub keys_of_buckets : (known : Known) (boundaries : List ℕ) → spec_fault known.spec ≡ None → has_buckets known.spec ≡ true
-    → boundaries ≡ boundaries_of known.spec
-    → (map (λ (total : ℤ × ℕ). total.0) (blank_totals boundaries) ≡ map (bucket_key (Some known)) (range_with_len 0 (buckets_of known.spec)))
-    × (length (blank_totals boundaries) ≡ buckets_of known.spec)
-keys_of_buckets known boundaries lawful has are =
-    let split = boundaries_of-split known.spec lawful (not_sparse known.spec has) in
-    let long = ap length are in
-    let count = split.count in
-    let n : length boundaries - 1 ≡ buckets_of known.spec = omega (arith, long, count) in (
-      map-map (λ (total : ℤ × ℕ). total.0) (λ i. (pos (slice_index boundaries i), 0)) (range_with_len 0 (length boundaries - 1))
-          ∙ (λ j. map (λ i. pos (slice_index (are j) i)) (range_with_len 0 (n j))),
-      length-map-range_with_len (λ i. (pos (slice_index boundaries i), 0)) 0 (length boundaries - 1) ∙ n,
-    )
-
-pub no_units : (boundaries : List ℕ) → All (λ total. total.1 ≡ 0) (blank_totals boundaries)
-no_units boundaries k d below =
-    let blank : ℕ → ℤ × ℕ = λ i. (pos (slice_index boundaries i), 0) in
-    let long = length-map-range_with_len blank 0 (length boundaries - 1) in
-    ap (λ (total : ℤ × ℕ). total.1) (get_or-map-range_with_len blank 0 (length boundaries - 1) k k d (omega (arith, below, long)) (omega arith))
 
 -- it may load the sum then
 pub may_sum : (segment : Segment) (known : Known) (first seat : Pass) → first.table_id ≡ table_of segment → IsAtRest first.me.0 → KnowsAlone first.me.0 known

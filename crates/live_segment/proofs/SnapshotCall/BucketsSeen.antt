@@ -33,8 +33,8 @@ use Rattle.live_segment.specs.GhostNotes.{KnowsAlone, MayDo, Noted}
 use Rattle.live_segment.proofs.AddCall.Attempts.{is_on}
 use Rattle.live_segment.proofs.AddCall.Beginning.{known_there, sees_single}
 use Rattle.segment_promises.proofs.Growing.{grows_by, grows_not}
-use Rattle.live_segment.proofs.Seating.Proceeding.{looks_again, looks_there}
-use Rattle.live_segment.proofs.Walks.Sightings.{seen_now}
+use Rattle.segment_promises.proofs.Calls.Places.{looks_again, looks_there}
+use Rattle.segment_promises.proofs.Calls.SeenWords.{seen_now}
 
 -- a place at the counts of a histogram is free
 pub free_at : (a : Actor) (look : Look) (known : Known) → StandsAt a look known → is_bound a.hand.place ≡ false

@@ -11,7 +11,6 @@ use Rattle.segment_calls.specs.declared.answer.Snapshot.{Snapshot}
 use Rattle.segment_image.specs.Shape.{Dimensions}
 use Rattle.segment_machine.specs.declared.actor.Actor.{Actor}
 use Rattle.segment_machine.specs.declared.actor.Known.{Known}
-use Rattle.segment_machine.specs.declared.actor.Since.{Since}
 use Rattle.segment_machine.specs.declared.seen.Seen.{Seen}
 use Rattle.segment_machine.specs.Actor.{SawCount, has_buckets, is_bound, is_opener, known_at, looking}
 use Rattle.segment_machine.specs.Calls.{sight}
@@ -34,18 +33,18 @@ use Rattle.live_segment.specs.Steps.{IsAtRest, IsSame, Pass, Stepped}
 use Rattle.live_segment.specs.GhostNotes.{KnowsAlone, MayDo, Noted}
 use Rattle.live_segment.specs.Values.{HasListed, HasTotal, LooksAlong, LooksAtValues, SeesMore}
 use Rattle.live_segment.proofs.SnapshotCall.Answering.{answered, began, redundant_last, saw_still, summed}
-use Rattle.live_segment.proofs.Walks.Apart.{behind_apart, behind_free}
 use Rattle.live_segment.proofs.AddCall.Beginning.{known_there}
 use Rattle.segment_promises.proofs.ListedValues.{lists_nothing, lists_still}
-use Rattle.live_segment.proofs.DeltaCall.OneBucket.{long_still}
 use Rattle.segment_promises.proofs.Growing.{grows_not, extended_grows}
 use Rattle.live_segment.proofs.Seating.Proceeding.{sees_not, sees_on}
-use Rattle.live_segment.proofs.SnapshotCall.Seeing.{saw_count}
+use Rattle.segment_promises.proofs.Calls.Sights.{began_still, saw_count}
+use Rattle.live_segment.proofs.SnapshotCall.Seeing.{began as had, more_sees}
 use Rattle.live_segment.proofs.Walks.Sharing.{same_on}
 use Rattle.segment_promises.proofs.SortedKeys.{one_place, once_still}
-use Rattle.live_segment.proofs.DeltaCall.ValuesDelta.{all_passed, did_with}
+use Rattle.segment_promises.proofs.Calls.SampleLists.{all_passed, did_with}
 use Rattle.live_segment.proofs.DeltaCall.ValuesListed.{lists_then}
 use Rattle.segment_promises.proofs.ValueWalks.{behind_it, comes_first, left_of, passed_few, split_at_it}
+use Rattle.segment_promises.proofs.Calls.Places.{behind_apart, behind_free}
 use Rattle.segment_promises.proofs.ValueWalks as way
 
 -- ---- it sees more
@@ -77,10 +76,8 @@ looks_on segment known old new was same more free apart = record {
   sparse = was.sparse;
   free = free;
   apart = apart;
-  singles = subst (λ (s : Since). s.singles ≤ length new.me.0.seen.singles) (sym (ap (λ (a : Actor). a.since) more.view))
-      (long_still old.me.0.since.singles old.me.0.seen.singles new.me.0.seen.singles was.singles more.seen.singles);
-  counts = subst (λ (s : Since). s.counts ≤ length new.me.0.seen.counts) (sym (ap (λ (a : Actor). a.since) more.view))
-      (long_still old.me.0.since.counts old.me.0.seen.counts new.me.0.seen.counts was.counts more.seen.counts);
+  singles = (began_still old.me.0 new.me.0 (more_sees old.me.0 new.me.0 more) (had old.me.0 was.singles was.counts)).singles;
+  counts = (began_still old.me.0 new.me.0 (more_sees old.me.0 new.me.0 more) (had old.me.0 was.singles was.counts)).counts;
 }
 
 -- it begins with nothing listed
@@ -152,7 +149,7 @@ module _ (segment : Segment) (known : Known) (passed : List ℕ) (at : ℕ) (lis
         (Contains-append_left (map (λ (c : ℤ × ℕ). c.0) listed) (map (λ (c : ℤ × ℕ). c.0) (listed_of one)) value has)
 
     saw_mid : (where_it_is word : ℕ) → SawCount old.me.0 where_it_is word → SawCount mid.me.0 where_it_is word
-    saw_mid = saw_count old.me.0 mid.me.0 (ap (λ (a : Actor). a.since) more.view) more.seen was.looks.singles was.looks.counts
+    saw_mid = saw_count old.me.0 mid.me.0 (more_sees old.me.0 mid.me.0 more) (had old.me.0 was.looks.singles was.looks.counts)
 
     lists_mid : ListsValues (HasListed longer mid.me.0) (HasTotal mid.me.0) known.reference passed listed mid.me.0.seen
     lists_mid = lists_still old.me.0.seen mid.me.0.seen more.seen.words known.reference (HasListed listed old.me.0) (HasListed longer mid.me.0)
@@ -202,7 +199,7 @@ module _ (segment : Segment) (known : Known) (passed : List ℕ) (at : ℕ) (lis
           (ap (λ (a : Actor). is_looking a.hand.place) step.view ∙ behind_apart mid.me.0.hand.place at found looks_mid.apart)
 
       saw_new : (where_it_is word : ℕ) → SawCount mid.me.0 where_it_is word → SawCount new.me.0 where_it_is word
-      saw_new = saw_count mid.me.0 new.me.0 (ap (λ (a : Actor). a.since) on_step.view) on_step.seen looks_mid.singles looks_mid.counts
+      saw_new = saw_count mid.me.0 new.me.0 (more_sees mid.me.0 new.me.0 on_step) (had mid.me.0 looks_mid.singles looks_mid.counts)
 
       pub along : LooksAlong segment known (passed ++ at ∷ []) found longer first new
       along = record {

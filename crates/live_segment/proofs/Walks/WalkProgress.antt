@@ -26,8 +26,8 @@ use Rattle.live_segment.specs.Finding.{Meets, SeesWords}
 use Rattle.live_segment.specs.Searching.{HasSearched}
 use Rattle.live_segment.specs.Walks.{IsWalkProgress}
 use Rattle.segment_promises.proofs.Growing.{extended_end, extended_grows, reference_behind}
-use Rattle.live_segment.proofs.Walks.Apart.{behind_apart}
 use Rattle.segment_promises.proofs.Furthest.{last_of, last_least, last_most, last_stands}
+use Rattle.segment_promises.proofs.Calls.Places.{behind_apart}
 use Rattle.live_segment.proofs.Walks.Walked.{all_given}
 
 module _ {segment : Segment} {old : Pass} {given : List ℕ} {at : ℕ} (seated : IsSeated segment old) (way : IsWalkProgress given at old.me.0) where

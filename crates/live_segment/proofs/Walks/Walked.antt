@@ -38,11 +38,11 @@ use Rattle.segment_promises.specs.Values.{NoRepeats}
 use Rattle.live_segment.specs.Records.{LoadsNext, HasWalked}
 use Rattle.live_segment.specs.Walks.{HasCome, WalksOn}
 use Rattle.live_segment.proofs.Seating.Allowed.{does_at}
-use Rattle.live_segment.proofs.Walks.Apart.{behind_apart}
-use Rattle.live_segment.proofs.Walks.NoRepeats.{once_in}
+use Rattle.segment_promises.proofs.Calls.Orders.{once_in}
 use Rattle.live_segment.proofs.HistCall.OwnNames.{knows_own_names}
 use Rattle.live_segment.proofs.AddCall.OwnSamples.{knows_own_samples}
 use Rattle.segment_promises.proofs.Growing.{extended_end, extended_grows, grows_on, reference_behind}
+use Rattle.segment_promises.proofs.Calls.Places.{behind_apart}
 
 -- ---- its step
 

@@ -6,7 +6,6 @@ ghost use Rattle.live_segment.specs.Known.{KnowsRight};
 ghost use Rattle.live_segment.specs.Rule.{IsOf};
 ghost use Rattle.live_segment.specs.Steps.{IsAtRest};
 
-use super::{off_with, stand};
 use crate::recorder::KnownHistogram;
 use crate::rule::Pass;
 use crate::{Hist, OpenFault, Opener, Recorder, Segment};
@@ -64,6 +63,14 @@ fn take_turns(mut one: Recorder, other: &mut Recorder) -> Result<bool, Refusal>
     Ok(late)
 }
 
+// Whether words have these from an index on.
+fn stand(words: &[u64], from: usize, wanted: &[u64]) -> bool {
+    match words.get(from..) {
+        Some(rest) => rest.starts_with(wanted),
+        None => false,
+    }
+}
+
 fn open(alloc: Global, version: u64) -> Result<(Segment, Opener), OpenFault>
     ensures { IfOk result (λ made. IsMadeWith made.0 made.1) }
 {
@@ -85,8 +92,8 @@ fn image_of_turns(alloc: Global, version: u64) -> Result<Option<Image>, Fail> {
 #[test]
 fn packed_before_it_is_disabled(rt: HostRuntime) -> Result<(), Fail> {
     let rows = [
-        (1, off_with(1), [1, 2, 0]),
-        (2, 9_223_372_041_149_743_106, [1, 0, 0]),
+        (1, DISABLED_BIT + 1, [1, 2, 0]),
+        (2, DISABLED_BIT + (1 << 32) + 2, [1, 0, 0]),
     ];
     for (version, single, counts) in rows {
         let image = image_of_turns(rt.alloc(), version)?.expect(

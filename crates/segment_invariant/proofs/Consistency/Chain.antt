@@ -19,8 +19,7 @@ use Rattle.alloc_core.specs.Planned.{is_pointer}
 use Rattle.alloc_core.specs.Laws.{Apart, Behind}
 use Rattle.alloc_core.proofs.Layouts.{free_word, length_shown, behind_shown}
 use Rattle.alloc_core.proofs.Runs.{fresh_sound, free_is_pointer}
-use Rattle.list_core.specs.Chain.{stops, IsLinked, IsChain}
-use Rattle.list_core.specs.Laws.{IsStop}
+use Rattle.list_core.specs.Chain.{stops, IsStop, IsLinked, IsChain}
 use Rattle.list_core.proofs.Chains.{chain_of, one_place}
 use Rattle.segment_machine.specs.declared.actor.Actor.{Actor}
 use Rattle.segment_machine.specs.declared.actor.Claim.{Claim}

@@ -13,8 +13,7 @@ use lib.ListN.{get_elem?}
 use lib.Seq.{set-get_or}
 use Rattle.atomic_table.proofs.Lists.{at_set}
 use Rattle.segment_image.specs.Shape.{Dimensions}
-use Rattle.list_core.specs.Chain.{stops, IsLinked}
-use Rattle.list_core.specs.Laws.{IsStop, AreNeighbours}
+use Rattle.list_core.specs.Chain.{stops, IsStop, AreNeighbours, IsLinked}
 use Rattle.list_core.proofs.Chains.{one_place}
 use Rattle.segment_machine.specs.declared.actor.Actor.{Actor}
 use Rattle.segment_machine.specs.declared.actor.Given.{Given}

@@ -3,8 +3,7 @@
 use Rattle.std.proofs.Common.{◌≡◌, ℕ, false, List, ◌++◌, length, replicate, refl, sym, ◌∙◌, subst, arith, ◌<◌}
 use Rattle.std.specs.Prelude.{slice_index}
 use Rattle.std.proofs.lemmas.List.{get_or-replicate, length-replicate}
-use Rattle.list_core.specs.Chain.{IsLinked}
-use Rattle.list_core.specs.Laws.{IsStop}
+use Rattle.list_core.specs.Chain.{IsStop, IsLinked}
 use Rattle.list_core.proofs.Chains.{one_place}
 use Rattle.segment_machine.specs.declared.place.Place.{Place}
 use Rattle.segment_machine.specs.declared.place.Place.TheVariants.{Idle, Beaten}

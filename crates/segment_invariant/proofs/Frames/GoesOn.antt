@@ -12,8 +12,7 @@ use Rattle.segment_image.specs.Shape.{Dimensions}
 use Rattle.segment_image.specs.Words.{word_at}
 use Rattle.alloc_core.specs.Layout.{IsShown}
 use Rattle.alloc_core.specs.Laws.{Behind}
-use Rattle.list_core.specs.Chain.{IsLinked}
-use Rattle.list_core.specs.Laws.{IsStop}
+use Rattle.list_core.specs.Chain.{IsStop, IsLinked}
 use Rattle.segment_invariant.proofs.Frames.Ahead.{ahead_later}
 use Rattle.segment_invariant.proofs.Frames.Answers.{answered_set}
 use Rattle.segment_machine.specs.declared.actor.Actor.{Actor}

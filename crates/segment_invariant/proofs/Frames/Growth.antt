@@ -8,8 +8,7 @@ use Rattle.std.proofs.lemmas.List.Elements.{All-weaker}
 use mathlib.Core.Option.{none}
 use Rattle.bucket_ranges.specs.declared.spec.Spec.{Spec}
 use Rattle.alloc_core.specs.Laws.{Behind}
-use Rattle.list_core.specs.Chain.{stops}
-use Rattle.list_core.specs.Laws.{IsStop, AreNeighbours}
+use Rattle.list_core.specs.Chain.{stops, IsStop, AreNeighbours}
 use Rattle.list_core.specs.Walk.{IsPrefix}
 use Rattle.list_core.proofs.Prefixes.{prefix_of_prefix}
 use Rattle.segment_machine.specs.declared.seen.Seen.{Seen}

@@ -13,8 +13,7 @@ use Rattle.segment_image.specs.Words.{word_at}
 use Rattle.alloc_core.specs.Layout.{IsShown}
 use Rattle.alloc_core.specs.Laws.{Behind}
 use Rattle.bucket_ranges.specs.declared.spec.Spec.{Spec}
-use Rattle.list_core.specs.Chain.{IsLinked}
-use Rattle.list_core.specs.Laws.{IsStop, AreNeighbours}
+use Rattle.list_core.specs.Chain.{IsStop, AreNeighbours, IsLinked}
 use Rattle.list_core.proofs.Chains.{one_place}
 use Rattle.list_core.proofs.EventKinds.{link_through}
 use Rattle.alloc_core.proofs.Owners.{set_at}

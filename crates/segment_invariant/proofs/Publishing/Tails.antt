@@ -9,7 +9,6 @@ use lib.ListN.{get_elem?}
 use Rattle.segment_image.specs.Shape.{Dimensions}
 use Rattle.segment_image.specs.Words.{word_at}
 use Rattle.alloc_core.proofs.Layouts.{shown_tail, length_shown}
-use Rattle.list_core.specs.Laws.{IsStop, AreNeighbours}
 use Rattle.list_core.proofs.Chains.{one_place}
 use Rattle.list_core.proofs.EventKinds.{link_missed, behind_stop}
 use Rattle.segment_machine.specs.declared.actor.Actor.{Actor}
@@ -19,7 +18,7 @@ use Rattle.segment_machine.specs.declared.place.Place.TheVariants.{Idle, TailLoa
 use Rattle.segment_machine.specs.State.{State}
 use Rattle.segment_machine.specs.Event.{publishing_event, next, Ready}
 use Rattle.segment_machine.specs.Publishing.{load_tail, link, move_tail, after_link}
-use Rattle.list_core.specs.Chain.{stops}
+use Rattle.list_core.specs.Chain.{stops, IsStop, AreNeighbours}
 use Rattle.segment_invariant.proofs.Walking.Room.{list_fits}
 use Rattle.segment_invariant.proofs.Frames.Ahead.{ahead_at, unbound_unbeaten, reached_stop, reached_later}
 use Rattle.segment_invariant.specs.Body.{Anatomy, layout_of, order_of}

@@ -12,7 +12,7 @@ use Rattle.std.proofs.lemmas.List.Sums.{sum_by-append}
 use Rattle.std.proofs.lemmas.List.Sorted.{IsPermutation-refl}
 use Rattle.atomic_table.proofs.Lists.{at_longer, set_here}
 use Rattle.segment_image.specs.Shape.{Dimensions}
-use Rattle.list_core.specs.Laws.{IsStop}
+use Rattle.list_core.specs.Chain.{IsStop}
 use Rattle.segment_invariant.proofs.Frames.Ahead.{ahead_anew, reached_stop}
 use Rattle.segment_machine.specs.declared.entry.Entry.{Entry}
 use Rattle.segment_machine.specs.declared.entry.EntryProgress.{EntryProgress}

@@ -10,8 +10,7 @@ use lib.Seq.{get_or-append_seam}
 use Rattle.atomic_table.proofs.Lists.{at_longer}
 use Rattle.segment_image.specs.Shape.{Dimensions}
 use Rattle.segment_image.specs.Words.{word_at}
-use Rattle.list_core.specs.Chain.{stops, IsLinked}
-use Rattle.list_core.specs.Laws.{IsStop, AreNeighbours}
+use Rattle.list_core.specs.Chain.{stops, IsStop, AreNeighbours, IsLinked}
 use Rattle.list_core.specs.Walk.{IsPrefix}
 use Rattle.list_core.proofs.Chains.{one_place}
 use Rattle.list_core.proofs.EventKinds.{link_missed, behind_stop}

@@ -11,7 +11,7 @@ use Rattle.alloc_core.proofs.Runs.{free_is_pointer}
 use Rattle.bucket_ranges.specs.Reading.{name_words, record_buckets, record_single, Reading, IsReading, reading_along, name_of}
 use Rattle.bucket_ranges.specs.Single.{packed_bucket}
 use Rattle.bucket_ranges.proofs.Walks.{listed_agree}
-use Rattle.list_core.specs.Laws.{IsStop}
+use Rattle.list_core.specs.Chain.{IsStop}
 use Rattle.segment_machine.specs.State.{State}
 use Rattle.segment_machine.specs.Made.{AreNameWords}
 use Rattle.segment_machine.specs.declared.actor.Made.TheVariants as made

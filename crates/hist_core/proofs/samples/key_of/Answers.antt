@@ -1,6 +1,6 @@
 use Rattle.std.proofs.Common.{sym, ◌∙◌, rules}
 use Rattle.segment_machine.proofs.Keys.{keys_are_least}
-use Rattle.hist_core.proofs.Worlds.Buckets.{found_is}
+use Rattle.segment_promises.proofs.Calls.SpecBuckets.{found_is}
 use Rattle.hist_core.proofs.samples.key_of.Goals as goal
 
 pub returns-then-len-gt0 : goal.returns-then-len-gt0

@@ -2,4 +2,4 @@ use Rattle.list_core.proofs.Walks.{walk_goes}
 use Rattle.list_core.proofs.laws.walks_give_prefixes.Goals as goal
 
 pub returns : goal.returns
-returns c shape state given keeps front = walk_goes shape state given keeps front
+returns c words chain given is front = walk_goes words chain given is front

@@ -21,7 +21,7 @@ use Rattle.segment_invariant.specs.Invariant.{HasKey, Fits}
 use Rattle.segment_invariant.proofs.Lists.Firsts.{split_among}
 use Rattle.segment_invariant.proofs.Lists.Elements.{none_in, one_in, contains_at, at_from}
 use Rattle.segment_invariant.proofs.Lists.Maps.{contains_mapped}
-use Rattle.list_core.specs.Laws.{IsStop}
+use Rattle.list_core.specs.Chain.{IsStop}
 use Rattle.segment_promises.specs.Adoption.{IsAdoptable, first_entries, first_portion}
 use Rattle.segment_promises.proofs.Filters.{filtered}
 use Rattle.segment_promises.proofs.Adopting.Distinct.{among_rows}

@@ -8,8 +8,7 @@ use mathlib.Core.Option.{none, some}
 use lib.ListN.{get_elem?}
 use Rattle.segment_image.specs.Head.{head_of}
 use Rattle.bucket_ranges.specs.Reading.{IsListed, Reading, reading_along}
-use Rattle.list_core.specs.Chain.{IsLinked}
-use Rattle.list_core.specs.Laws.{IsStop}
+use Rattle.list_core.specs.Chain.{IsStop, IsLinked}
 use Rattle.segment_invariant.specs.Body.{Body, queue, plain, held, histogram, counts, sample, other, words_of, is_claimed, Piece, extent_of, Listed, Anatomy}
 use Rattle.segment_invariant.specs.Seen.{Stands}
 use Rattle.segment_invariant.specs.Invariant.{StandsAs, ListIsKept, ClaimedRight}

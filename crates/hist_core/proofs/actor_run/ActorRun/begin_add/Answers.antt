@@ -6,10 +6,10 @@ use mathlib.Core.Option.{some-injective}
 use Rattle.bucket_ranges.specs.Ranges.{AreBoundaries, boundaries_of}
 use Rattle.segment_machine.specs.Entry.{key_of}
 use Rattle.bucket_ranges.specs.Tally.{amount_of}
+use Rattle.segment_promises.proofs.Calls.SpecBuckets.{are_always}
 use Rattle.hist_core.specs.declared.hist.Known.{Known}
 use Rattle.hist_core.specs.ActorRun.{known_of}
 use Rattle.hist_core.proofs.Worlds.WorldStates.{is_there}
-use Rattle.hist_core.proofs.Worlds.Buckets.{are_always}
 use Rattle.hist_core.proofs.actor_run.ActorRun.begin_add.Goals as goal
 
 pub start-add-requires-clause-lawful : goal.start-add-requires-clause-lawful

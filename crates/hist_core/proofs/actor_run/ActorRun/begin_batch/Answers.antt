@@ -5,11 +5,11 @@ use Rattle.hist_core.specs.Add.{IsStarted}
 use mathlib.Core.Option.{some-injective}
 use Rattle.bucket_ranges.specs.Ranges.{AreBoundaries}
 use Rattle.segment_machine.specs.Entry.{batch_entries}
+use Rattle.segment_promises.proofs.Calls.SpecBuckets.{are_always}
 use Rattle.hist_core.specs.declared.batch.Batch.{Batch}
 use Rattle.hist_core.specs.declared.hist.Known.{Known}
 use Rattle.hist_core.specs.ActorRun.{known_of}
 use Rattle.hist_core.proofs.Worlds.WorldStates.{is_there}
-use Rattle.hist_core.proofs.Worlds.Buckets.{are_always}
 use Rattle.hist_core.proofs.actor_run.ActorRun.begin_batch.Goals as goal
 
 pub new_items-requires-clause-lawful : goal.new_items-requires-clause-lawful

@@ -2,10 +2,10 @@ use Rattle.std.proofs.Common.{arith, ◌∙◌, All, sym, subst, vec_len}
 use Rattle.std.proofs.Math.Logic.{∥∥₁_elim}
 use Rattle.std.proofs.Props.{props}
 use Rattle.hist_core.specs.declared.entry.Taken.{Taken}
-use Rattle.hist_core.specs.DeltaCall.{AreUnits}
 use Rattle.hist_core.proofs.Worlds.WorldStates.{is_there, shown_is}
 use Rattle.hist_core.proofs.DeltaCall.Deltas.{taken_ascends}
 use Rattle.hist_core.proofs.Worlds.Faults.{shows_nothing}
+use Rattle.segment_promises.specs.Calls.{AreUnits}
 use Rattle.hist_core.proofs.world.World.taken.Goals as goal
 
 pub returns-clause-items : goal.returns-clause-items

@@ -1,7 +1,7 @@
 -- What a step answers has its cause, and it keeps what holds of the list.
-use Rattle.std.proofs.Common.{◌∙◌, ap}
-use Rattle.list_core.specs.Publish.{Publishing, answer, IsStep}
-use Rattle.list_core.proofs.Steps.{is_step, goes_on, stray_cause, step_keeps_list, done_stop, no_stray, step_keeps}
+use Rattle.std.proofs.Common.{List, ℕ, ◌∙◌, ap}
+use Rattle.list_core.specs.Publish.{Publishing, answer, IsStep, chain_after, StandsOn}
+use Rattle.list_core.proofs.Steps.{is_step, goes_on, stray_cause, step_keeps, step_stands, other_stands, done_stop, no_stray}
 use Rattle.list_core.proofs.publish.Publish.step.Goals as goal
 
 -- what is known behind the last call
@@ -21,18 +21,28 @@ pub returns-clause-stray : goal.returns-clause-stray
 returns-clause-stray c stray =
     stray_cause c.args.self.now c.go_on.new.self c.args.words.now c.act-found.new.words c.answer.result (stepped c) stray
 
+-- where the publish then stands on a list
+stands : (c : goal.After-answer) (chain : List ℕ) → StandsOn c.args.words.now chain c.args.self.now
+    → StandsOn c.act-found.new.words (chain_after c.args.words.now chain c.args.self.now) c.go_on.new.self
+stands c chain on =
+    step_stands c.args.self.now c.go_on.new.self c.args.words.now c.act-found.new.words chain c.answer.result (stepped c) c.requires.reach on
+
 pub returns-clause-list : goal.returns-clause-list
-returns-clause-list c chain publishings owner mine list =
-    step_keeps_list c.args.self.now c.go_on.new.self c.args.words.now c.act-found.new.words chain publishings c.answer.result owner (stepped c) mine list
+returns-clause-list c chain on = stands c chain on
+
+pub returns-clause-others : goal.returns-clause-others
+returns-clause-others c chain other on also within ne =
+    other_stands c.args.self.now c.go_on.new.self other c.args.words.now c.act-found.new.words chain c.answer.result (stepped c) c.requires.reach on also within ne
+
+pub returns-clause-tail : goal.returns-clause-tail
+returns-clause-tail c chain on =
+    (step_keeps c.args.self.now c.go_on.new.self c.args.words.now c.act-found.new.words chain c.answer.result (stepped c) c.requires.reach on).tail
 
 pub returns-clause-done : goal.returns-clause-done
-returns-clause-done c chain publishings owner mine list done =
-    done_stop c.args.self.now c.go_on.new.self c.args.words.now c.act-found.new.words chain publishings c.answer.result owner (stepped c) mine list done
+returns-clause-done c chain on done =
+    done_stop c.go_on.new.self c.act-found.new.words (chain_after c.args.words.now chain c.args.self.now) c.answer.result (stands c chain on)
+    (stepped c).answers done
 
 pub returns-clause-lawful : goal.returns-clause-lawful
-returns-clause-lawful c chain publishings owner mine list =
-    no_stray c.args.self.now c.go_on.new.self c.args.words.now c.act-found.new.words chain publishings c.answer.result owner (stepped c) mine list
-
-pub returns-clause-keeps : goal.returns-clause-keeps
-returns-clause-keeps c shape state owner same mine keeps =
-    step_keeps c.args.self.now c.go_on.new.self c.args.words.now c.act-found.new.words c.answer.result shape state owner (stepped c) same mine keeps
+returns-clause-lawful c chain on =
+    no_stray c.go_on.new.self c.act-found.new.words (chain_after c.args.words.now chain c.args.self.now) c.answer.result (stands c chain on) (stepped c).answers

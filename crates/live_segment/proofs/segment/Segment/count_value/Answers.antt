@@ -6,7 +6,8 @@ use Rattle.live_segment.specs.Finishing.{item_of}
 use Rattle.live_segment.specs.Known.{known_view}
 use Rattle.live_segment.specs.Refusing.{IsNotCounted}
 use Rattle.live_segment.specs.Working.{CountsAlone, HasCounted}
-use Rattle.live_segment.proofs.DeltaCall.BucketKeys.{found_is, below, item_is, one_bucket, is_bucketed, is_sparse}
+use Rattle.segment_promises.proofs.Calls.SpecBuckets.{below, is_bucketed, is_sparse}
+use Rattle.live_segment.proofs.DeltaCall.BucketKeys.{found_is, item_is, one_bucket}
 use Rattle.live_segment.proofs.AddCall.TurnedAway.{turned_not_counted}
 use Rattle.live_segment.proofs.segment.Segment.count_value.Goals as goal
 

@@ -11,7 +11,8 @@ use Rattle.segment_invariant.proofs.Packing.OffForms.{few_buckets}
 use Rattle.live_segment.specs.Known.{known_view}
 use Rattle.live_segment.specs.Snapshots.{HasSeenBuckets, HasSnapshot, saw_sum}
 use Rattle.live_segment.specs.Taking.{answered_as}
-use Rattle.live_segment.proofs.SnapshotCall.Answering.{keys_of_buckets, no_units, may_sum, may_answer, saw_buckets, has_snapshot}
+use Rattle.segment_promises.proofs.Calls.BlankTotals.{keys_of_buckets, no_units}
+use Rattle.live_segment.proofs.SnapshotCall.Answering.{may_sum, may_answer, saw_buckets, has_snapshot}
 use Rattle.live_segment.proofs.segment.Segment.snapshot_of_buckets.Goals as goal
 
 pub look_at_buckets-requires-clause-buckets : goal.look_at_buckets-requires-clause-buckets

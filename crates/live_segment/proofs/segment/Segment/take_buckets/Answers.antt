@@ -1,7 +1,8 @@
 use Rattle.std.proofs.Common.{rules, FitsSigned, w32, ℕ, ℤ, pos, List, [], ◌∷◌, ◌++◌, ◌+◌, length, slice_index, vec_capacity, sym, ap, ◌∙◌, subst, arith}
 use Rattle.std.proofs.lemmas.Int.{to_z-of_z}
 use Rattle.live_segment.specs.Known.{known_view}
-use Rattle.live_segment.proofs.DeltaCall.AllBuckets.{HasDrawn, draws_first, draws_some, draws_none, split}
+use Rattle.live_segment.proofs.DeltaCall.AllBuckets.{HasDrawn, draws_first, draws_some, draws_none}
+use Rattle.segment_promises.proofs.Calls.SpecBuckets.{split}
 use Rattle.live_segment.proofs.segment.Segment.take_buckets.Goals as goal
 use Rattle.live_segment.proofs.segment.Segment.take_buckets.Goals.{then-units-gt0, else-units-gt0}
 
@@ -14,7 +15,7 @@ loop-bucket-init c = record {
 
 pub take_bucket-units-requires-clause-bucket : goal.take_bucket-units-requires-clause-bucket
 take_bucket-units-requires-clause-bucket c =
-    let count = (split (known_view c.args.histogram.now) c.requires.right.lawful c.requires.bucketed).count in
+    let count = (split c.args.histogram.now.spec c.requires.right.lawful c.requires.bucketed).count in
     let long = ap length c.requires.right.ranges in
     let end = c.len-bucket-end.ensures in
     let test = c.loop-bucket-test.true in
@@ -22,14 +23,14 @@ take_bucket-units-requires-clause-bucket c =
 
 pub take_bucket-units-requires-clause-buckets : goal.take_bucket-units-requires-clause-buckets
 take_bucket-units-requires-clause-buckets c =
-    ap length c.requires.right.ranges ∙ (split (known_view c.args.histogram.now) c.requires.right.lawful c.requires.bucketed).count
+    ap length c.requires.right.ranges ∙ (split c.args.histogram.now.spec c.requires.right.lawful c.requires.bucketed).count
 
 pub take_bucket-units-requires-clause-takes : goal.take_bucket-units-requires-clause-takes
 take_bucket-units-requires-clause-takes c = c.loop-bucket.invariant.drawn.stands
 
 pub push_reserved-requires : goal.push_reserved-requires
 push_reserved-requires c =
-    let count = (split (known_view c.args.histogram.now) c.requires.right.lawful c.requires.bucketed).count in
+    let count = (split c.args.histogram.now.spec c.requires.right.lawful c.requires.bucketed).count in
     let long = ap length c.requires.right.ranges in
     let end = c.len-bucket-end.ensures in
     let test = c.loop-bucket-test.true in
@@ -44,7 +45,7 @@ loop-bucket-preserved c =
     let step = c.take_bucket-units.ensures in
     let IsDrawn : List (ℤ × ℕ) → Type 0 =
     HasDrawn c.args.self.now known c.args.mounted.now c.args.seat.now c.take_bucket-units.new.seat (c.loop-bucket.bucket + 1) in
-    let count = (split known c.requires.right.lawful c.requires.bucketed).count in
+    let count = (split known.spec c.requires.right.lawful c.requires.bucketed).count in
     let long = ap length c.requires.right.ranges in
     let end = c.len-bucket-end.ensures in
     let test = c.loop-bucket-test.true in
@@ -77,7 +78,7 @@ returns-clause-stands c = c.loop-bucket.invariant.drawn.stands
 
 pub returns-clause-took : goal.returns-clause-took
 returns-clause-took c = λ bucket below.
-    let count = (split (known_view c.args.histogram.now) c.requires.right.lawful c.requires.bucketed).count in
+    let count = (split c.args.histogram.now.spec c.requires.right.lawful c.requires.bucketed).count in
     let long = ap length c.requires.right.ranges in
     let end = c.len-bucket-end.ensures in
     let test = c.loop-bucket-test.false in

@@ -2,7 +2,7 @@ use Rattle.std.proofs.Common.{rules, FitsSigned, w32, to_z, of_z, ℕ, ℤ, pos,
 use Rattle.std.proofs.lemmas.Int.{to_z-of_z}
 use Rattle.live_segment.specs.Deltas.{HasTakenBuckets}
 use Rattle.live_segment.specs.Known.{known_view}
-use Rattle.live_segment.proofs.DeltaCall.AllBuckets.{split}
+use Rattle.segment_promises.proofs.Calls.SpecBuckets.{split}
 use Rattle.live_segment.proofs.DeltaCall.OneDelta.{may_raise, within, took_some, took_no_more}
 use Rattle.live_segment.proofs.segment.Segment.take_packed.Goals as goal
 
@@ -13,7 +13,7 @@ raise_single_mark-mark-requires-clause-may c =
 pub low-requires : goal.low-requires
 low-requires c =
     let below = within c.args.self.now (known_view c.args.histogram.now) c.requires.takes.0 c.args.seat.now c.requires.takes.1 c.requires.takes.2 c.args.bucket c.args.units c.requires.takes.3 in
-    let count = (split (known_view c.args.histogram.now) c.requires.right.lawful c.requires.takes.1.bucketed).count in
+    let count = (split c.args.histogram.now.spec c.requires.right.lawful c.requires.takes.1.bucketed).count in
     let long = ap length c.requires.right.ranges in
     omega (arith, below, count, long)
 

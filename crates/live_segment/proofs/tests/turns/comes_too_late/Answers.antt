@@ -12,7 +12,7 @@ use Rattle.live_segment.specs.Mounting.{HasMounted, MayMount}
 use Rattle.live_segment.specs.Rule.{IsOf}
 use Rattle.live_segment.specs.Steps.{IsAtRest, IsSame, Pass}
 use Rattle.live_segment.proofs.AddCall.Beginning.{known_there}
-use Rattle.live_segment.proofs.DeltaCall.BucketKeys.{is_bucketed}
+use Rattle.segment_promises.proofs.Calls.SpecBuckets.{is_bucketed}
 use Rattle.live_segment.proofs.AddCall.Disabled.{IsDisabling, disabling, may_load, may_disable, looks_after}
 use Rattle.live_segment.proofs.AddCall.Mounted.{mounts_on}
 use Rattle.live_segment.proofs.tests.turns.comes_too_late.Goals as goal

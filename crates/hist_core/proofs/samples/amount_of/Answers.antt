@@ -1,9 +1,0 @@
-use Rattle.std.proofs.Common.{rules, arith}
-use Rattle.std.proofs.lemmas.Int.{ints}
-use Rattle.bucket_ranges.proofs.Sums.{returned-product}
-use Rattle.hist_core.proofs.samples.amount_of.Goals as goal
-
-pub returns-clause-small : goal.returns-clause-small
-returns-clause-small c =
-    returned-product c.from.result c.from-2.result 2147483648 c.args.units (search rules) (search rules)
-    (omega (arith, ints)) (omega (arith, ints)) (omega (arith, c.ranges.units))

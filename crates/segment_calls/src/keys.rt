@@ -1,0 +1,10 @@
+//! Keys with units, in the order of their keys.
+
+ghost use Rattle.segment_promises.specs.Values.{AreSorted};
+
+/// Sorts keys with units by their keys.
+pub fn sort_by_key(counts: &mut Vec<(i32, u64)>)
+    ensures { AreSorted counts.old.items counts.new.items }
+{
+    counts.sort_unstable_by_key(|count| count.0);
+}

@@ -1,0 +1,16 @@
+use Rattle.std.proofs.Common.{◌∙◌}
+use Rattle.live_segment.proofs.Seating.Callers.{knows_same}
+use Rattle.worked_rows.proofs.adding.add_all.Goals as goal
+
+pub loop-value-preserved : goal.loop-value-preserved
+loop-value-preserved c =
+    let same = c.add.ensures.same in
+    let before = c.loop-value.invariant.1 in (
+      knows_same c.loop-value.recorder c.add.new.self _ same c.loop-value.invariant.0,
+      record {
+        segment = same.segment ∙ before.segment;
+        table = same.table ∙ before.table;
+        known = same.known ∙ before.known;
+        fresh = same.fresh ∙ before.fresh;
+      },
+    )

@@ -1,0 +1,72 @@
+//! The words of an image that other tests begin with or end at, and the image of the greatest size.
+
+use live_segment::Segment;
+use segment_image::{ImageFault, Watched, header, read_words, write_words};
+use std::test::Fail;
+
+/// The words up to the last that is not 0 of a segment of 128 words in version 1: the boolean histogram `A` has two samples
+/// 1, which were packed in its single word, and then a sample 0.
+pub(crate) const THREE_SAMPLES: [u64; 38] = [
+    0x4083_05DC,
+    1,
+    128,
+    64,
+    7,
+    1,
+    0,
+    42,
+    16,
+    0,
+    0,
+    0,
+    4,
+    1,
+    0,
+    16,
+    16,
+    0xC879_9269,
+    1,
+    12,
+    2,
+    1,
+    2,
+    3,
+    32,
+    (1 << 63) + 1,
+    0,
+    2,
+    0,
+    3,
+    1,
+    65,
+    10,
+    0xC879_9269,
+    2,
+    0,
+    1,
+    2,
+];
+
+/// Whether words have these from an index on.
+pub(crate) fn stand(words: &[u64], from: usize, wanted: &[u64]) -> bool {
+    match words.get(from..) {
+        Some(rest) => rest.starts_with(wanted),
+        None => false,
+    }
+}
+
+#[test]
+fn largest_image(rt: HostRuntime) -> Result<(), Fail> {
+    let alloc = rt.alloc();
+    let (segment, opener) = Segment::create(alloc, 1_048_576, 65_536, 7, 0, 2)?;
+    let mut image = segment.close(opener);
+    let mut writer = Watched::new(Vec::new(alloc));
+    write_words(&mut writer, image.words())?;
+    let bytes = writer.into_inner();
+    assert_eq!(rt; bytes.len(), 8_388_608);
+    let words = read_words(alloc, &mut Watched::new(bytes.as_slice()), 1_048_576)?;
+    assert!(rt; words.as_slice() == image.words());
+    image.set_deleted();
+    assert_eq!(rt; header(image.words()).err(), Some(ImageFault::Deleted));
+    Ok(())
+}

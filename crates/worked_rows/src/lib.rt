@@ -1,0 +1,26 @@
+//! The tests of the libraries through their public calls: worked examples with the words that the format gives them, calls that
+//! no program makes, texts that no program prints, and calls whose memory or devices fail.
+//!
+//! They stand above all libraries, so that no other crate is proved once more for its tests.
+#![tactic(auto)]
+
+#[cfg(test)]
+mod adding;
+#[cfg(test)]
+mod deltas;
+#[cfg(test)]
+mod fault_texts;
+#[cfg(test)]
+mod foreign_words;
+#[cfg(test)]
+mod images;
+#[cfg(test)]
+mod records;
+#[cfg(test)]
+mod refused_memory;
+#[cfg(test)]
+mod streams;
+#[cfg(test)]
+mod tallies;
+#[cfg(test)]
+mod workers;

@@ -1,0 +1,47 @@
+//! Who may record, the records of the list, and what a corrupt segment answers.
+
+use bucket_ranges::Spec;
+use live_segment::{OpenFault, Segment};
+use segment_calls::Refusal;
+use std::test::Fail;
+
+#[test]
+fn records_and_a_shared_cursor(rt: HostRuntime) -> Result<(), Fail> {
+    let (segment, mut opener) = Segment::create(rt.alloc(), 128, 64, 7, 1, 1)?;
+    let mut first = opener.recorder(&segment, 3)?;
+    let mut second = opener.recorder(&segment, 0)?;
+    assert!(rt; first.units() == 3 && opener.units() == 4_294_967_292 && opener.outstanding() == 2);
+    first.hist(b"A", &Spec::Boolean)?;
+    let known = first.hist(b"B", &Spec::Boolean)?;
+    assert!(rt; first.knows(known) && !second.knows(known));
+    assert!(rt; first.records()?[..] == [16, 32] && first.records()?[..] == [16, 32]);
+    assert!(rt; first.fresh_records()?[..] == [16, 32] && first.fresh_records()?.is_empty());
+    assert!(rt; first.next_shared(0) == Some(16) && second.next_shared(0) == Some(32));
+    assert!(rt; first.next_shared(0).is_none());
+    second.hist(b"C", &Spec::Boolean)?;
+    assert!(rt; first.next_shared(0) == Some(48) && first.fresh_records()?[..] == [48]);
+    Ok(())
+}
+
+#[test]
+fn refusals(rt: HostRuntime) -> Result<(), Fail> {
+    for (cursors, version, fault) in [(9, 1, OpenFault::BadCursors), (8, 3, OpenFault::BadShape)] {
+        let made = Segment::create(rt.alloc(), 128, 64, 7, cursors, version);
+        assert_eq!(rt; made.err(), Some(fault));
+    }
+    let (segment, mut opener) = Segment::create(rt.alloc(), 64, 64, 7, 8, 2)?;
+    let mut first = opener.recorder(&segment, 0)?;
+    let mut second = opener.recorder(&segment, 0)?;
+    first.hist(b"A", &Spec::Boolean)?;
+    first.set_corrupt();
+    assert!(rt; second.hist(b"A", &Spec::Boolean).is_ok());
+    assert_eq!(rt;
+        second.hist(b"B", &Spec::Boolean).err(),
+        Some(Refusal::Corrupt)
+    );
+    assert_eq!(rt;
+        second.hist(b"A", &Spec::Sparse).err(),
+        Some(Refusal::OtherSpec)
+    );
+    Ok(())
+}

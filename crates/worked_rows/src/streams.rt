@@ -1,0 +1,140 @@
+//! A reader and a writer that fail once in mid-stream: the fault comes, and what was written is the beginning of the answer.
+
+use crate::images::THREE_SAMPLES;
+use persist_report_core::{CliFault, report};
+use segment_image::{ReadFault, Watched, WriteFault, read_bytes, read_words, write_words};
+use std::alloc::Global;
+use std::io;
+use std::io::{Read, Write};
+use std::test::Fail;
+
+const BYTES: &[u8] = &[2, 0, 0, 0, 1, 0, 0, 0, 1, 0, 0, 0, 0, 0, 0, 0x80];
+
+const WORDS: [u64; 2] = [(1 << 32) + 2, (1 << 63) + 1];
+
+const REPORT: &[u8] = b"A,boolean,0,1,1\nA,boolean,1,2,2\nA,total,3,2\n";
+
+// Counts calls: that of one number, from 0, fails, and later ones pass.
+#[derive(Drop)]
+struct Calls {
+    made: usize,
+    failing: usize,
+}
+
+impl Calls {
+    // None has been made yet.
+    fn new(failing: usize) -> Calls {
+        Calls { made: 0, failing }
+    }
+
+    fn count(&mut self) -> io::Result<()> {
+        let fails = self.made == self.failing;
+        self.made = self.made.saturating_add(1);
+        if fails {
+            return Err(io::ErrorKind::Other.into());
+        }
+        Ok(())
+    }
+}
+
+// Gives one byte a call.
+#[derive(Drop)]
+struct Source<'a> {
+    bytes: &'a [u8],
+    calls: Calls,
+}
+
+impl Read for Source<'_> {
+    fn read(&mut self, buf: &mut [u8]) -> io::Result<usize> {
+        self.calls.count()?;
+        if self.bytes.is_empty() || buf.is_empty() {
+            return Ok(0);
+        }
+        buf[0] = self.bytes[0];
+        self.bytes = &self.bytes[1..];
+        Ok(1)
+    }
+}
+
+// Takes at most 16 bytes a call.
+#[derive(Drop)]
+struct Sink {
+    text: Vec<u8>,
+    calls: Calls,
+}
+
+impl Write for Sink {
+    fn write(&mut self, buf: &[u8]) -> io::Result<usize> {
+        self.calls.count()?;
+        let most = buf.len().min(16);
+        self.text.write(&buf[..most])
+    }
+
+    fn flush(&mut self) -> io::Result<()> {
+        self.calls.count()
+    }
+}
+
+// A reader of sixteen bytes of which one call fails.
+fn sixteen_bytes(failing: usize) -> Watched<Source<'static>> {
+    let calls = Calls::new(failing);
+    Watched::new(Source {
+        bytes: BYTES,
+        calls,
+    })
+}
+
+// Sixteen bytes take sixteen calls, and one more finds the end. No memory is asked for the whole limit at once.
+#[test]
+fn failing_reads(rt: HostRuntime) -> Result<(), Fail> {
+    for failing in 0..17 {
+        let read = read_bytes(rt.alloc(), &mut sixteen_bytes(failing), 16);
+        assert_eq!(rt; read.err(), Some(ReadFault::Device), "{failing}");
+        let read = read_words(rt.alloc(), &mut sixteen_bytes(failing), 2);
+        assert_eq!(rt; read.err(), Some(ReadFault::Device), "{failing}");
+    }
+    let bytes = read_bytes(rt.alloc(), &mut sixteen_bytes(17), usize::MAX)?;
+    assert_eq!(rt; bytes.as_slice(), BYTES);
+    let words = read_words(rt.alloc(), &mut sixteen_bytes(17), usize::MAX)?;
+    assert_eq!(rt; words.as_slice(), WORDS.as_slice());
+    Ok(())
+}
+
+// The bytes of an image of three samples.
+fn image(alloc: Global) -> Result<Vec<u8>, Fail> {
+    let mut bytes = Watched::new(Vec::new(alloc));
+    write_words(&mut bytes, &THREE_SAMPLES)?;
+    write_words(&mut bytes, &[0; 90])?;
+    Ok(bytes.into_inner())
+}
+
+// Writes the report of an image to a writer of which one call fails: the fault, the calls, and what went out.
+fn report_to(alloc: Global, image: &[u8], failing: usize) -> (Option<CliFault>, usize, Vec<u8>) {
+    let calls = Calls::new(failing);
+    let text = Vec::new(alloc);
+    let mut sink = Watched::new(Sink { text, calls });
+    let fault = report(alloc, &mut Watched::new(image), &mut sink).err();
+    let Sink { text, calls } = sink.into_inner();
+    (fault, calls.made, text)
+}
+
+// Calls 0 to 2 write, and call 3 flushes. No call follows the one that failed.
+#[test]
+fn failing_writes(rt: HostRuntime) -> Result<(), Fail> {
+    let image = image(rt.alloc())?;
+    for (failing, made, len) in [(0, 1, 0), (1, 2, 16), (2, 3, 32), (3, 4, 44), (4, 4, 44)] {
+        let wanted = (failing < 4).then_some(CliFault::Write);
+        let (fault, calls, text) = report_to(rt.alloc(), image.as_slice(), failing);
+        assert!(rt;
+            fault == wanted && calls == made && text.len() == len,
+            "{failing}"
+        );
+        assert!(rt; REPORT.starts_with(text.as_slice()), "{failing}");
+    }
+    let text = Vec::new(rt.alloc());
+    let calls = Calls::new(1);
+    let mut sink = Watched::new(Sink { text, calls });
+    let written = write_words(&mut sink, &THREE_SAMPLES);
+    assert_eq!(rt; written.err(), Some(WriteFault::Device));
+    Ok(())
+}

@@ -1,0 +1,37 @@
+"""Command lines with known answers: in the folders cases/program/NNN the words (`cmd`) and the files that they name, and
+beside them what the program has to print, its status, and what it has to write into OUT (`OUT.expected`).
+
+The answers are those of an independent implementation.
+"""
+
+import pathlib
+import tempfile
+
+from support.program import ROOT, Answer, answer, difference
+
+PROGRAM = "persist_report"
+FOLDER = ROOT / "tests" / "cases" / "program"
+COMMANDS = ("report", "run", "merge")
+
+
+def wanted_of(case):
+    status = int((case / "status").read_text())
+    return Answer((case / "stdout").read_bytes(), (case / "stderr").read_bytes(), status)
+
+
+def wrong_of(program, case, words, out):
+    """What is wrong with the answer to a case, or None."""
+    came = answer(program, [out if word == "OUT" else word for word in words], cwd=case)
+    wrong = difference(wanted_of(case), came)
+    if wrong is None and "OUT" in words and out.read_bytes() != (case / "OUT.expected").read_bytes():
+        wrong = "other bytes than wanted were written into OUT"
+    return wrong
+
+
+def cases(program, _options):
+    with tempfile.TemporaryDirectory() as scratch:
+        out = pathlib.Path(scratch).resolve() / "out"
+        for case in sorted(FOLDER.iterdir()):
+            words = (case / "cmd").read_text().split()
+            if words[0] in COMMANDS:
+                yield f"{case.name}, {' '.join(words)}", wrong_of(program, case, words, out)

@@ -1,0 +1,9 @@
+"""Documents that are made of the sources are what these say now. No program is run."""
+
+from support import definitions
+
+PROGRAM = None
+
+
+def cases(_program, _options):
+    yield "docs/DEFINITIONS.md, which tests/support/definitions.py --write makes anew", definitions.difference()

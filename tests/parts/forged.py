@@ -1,0 +1,30 @@
+"""Forged images, as forge.py makes them, beside a plain reader of the same format, plain_reader.py."""
+
+import collections
+import pathlib
+import random
+
+from support import forge, plain_reader
+from support.program import Answer, answer, difference
+
+PROGRAM = "persist_report"
+ENOUGH_IMAGES = 1000
+
+
+def cases(program, options):
+    """Each image on standard input; and, where there were enough of them, whether each rule of the format came into play.
+
+    The same seed gives the same images. One whose answer differs is kept in the current folder.
+    """
+    seen = collections.Counter()
+    for number in range(options.images):
+        data = forge.image_of(random.Random(f"{options.seed} {number}"))
+        wrong = difference(Answer(*plain_reader.answer(data, seen)), answer(program, ["report"], data))
+        if wrong is not None:
+            kept = pathlib.Path(f"forged-{options.seed}-{number}.img").resolve()
+            kept.write_bytes(data)
+            wrong += f"; the image is kept as {kept}"
+        yield f"image {number} of seed {options.seed}", wrong
+    never = [rule for rule in plain_reader.RULES if not seen[rule]]
+    if options.images >= ENOUGH_IMAGES:
+        yield "rules in play", f"wanted each, came none of: {'; '.join(never)}" if never else None

@@ -1,0 +1,101 @@
+"""Images of the greatest size that are full: of samples, of names, and of the smallest blocks, each with its report; and the
+longest scripts.
+
+A program that searches a list from its front, for each sample or each name, does not end in time.
+"""
+
+import array
+import pathlib
+import random
+import sys
+import tempfile
+
+from support.program import Answer, answer, difference, fault
+
+PROGRAM = "persist_report"
+SIZE = 1_048_576
+PAGE = 65_536
+QUEUE = 12
+FIRST = 16
+SEGMENT_COOKIE = 0x408305DC
+BLOCK_COOKIE = 0xC8799269
+PURGED, HISTOGRAM, SAMPLE = 0, 1, 3
+BOOLEAN, SPARSE = 2, 4
+SAMPLES = 60_000
+LEAST, GREATEST = -(2**31), 2**31 - 1
+MOST_SCRIPT = 16_777_216
+
+
+def image_of(blocks):
+    """The bytes of an image whose list has these blocks, each its reference, size, type and payload."""
+    words = array.array("Q", bytes(8 * SIZE))
+    words[0:9] = array.array("Q", [SEGMENT_COOKIE, 1, SIZE, PAGE, 7, 1, 0, SIZE, blocks[-1][0]])
+    words[12:15] = array.array("Q", [4, 1, 0])
+    last = QUEUE
+    for at, size, tag, payload in blocks:
+        words[last + 3] = at
+        words[at : at + 4 + len(payload)] = array.array("Q", [size, BLOCK_COOKIE, tag, QUEUE, *payload])
+        last = at
+    if sys.byteorder == "big":
+        words.byteswap()
+    return words.tobytes()
+
+
+def samples(chance):
+    """One sparse histogram and its samples: first each value once, in no order, and then each once more."""
+    values = [LEAST, GREATEST, -1, 0, 1, *chance.sample(range(2, GREATEST), SAMPLES // 2 - 5)]
+    chance.shuffle(values)
+    counts = {value: chance.choice([0, 1, 7, chance.randrange(65_536)]) for value in values}
+    again = chance.sample(values, len(values))
+    units = sum(counts.values())
+    total = sum(value * count for value, count in counts.items())
+    record = (FIRST, 16, HISTOGRAM, [SPARSE, 0, 0, 0, 0, 0, 0, total % 2**64, 0, units, 1, ord("S")])
+    listed = [(value, counts[value]) for value in values] + [(value, 9) for value in again]
+    blocks = [(32 + 8 * i, 8, SAMPLE, [FIRST, value % 2**64, count, 0]) for i, (value, count) in enumerate(listed)]
+    lines = [f"S,sparse,{value},{value + 1},{count}\n" for value, count in sorted(counts.items()) if count]
+    lines.append(f"S,total,{units},{total}\n")
+    return image_of([record, *blocks]), "".join(lines).encode()
+
+
+def names(chance):
+    """As many boolean histograms as fit, each with one unit, whose names stand in no order on a list in no order."""
+    references = range(FIRST, SIZE, 16)
+    taken = [f"h{number:07x}" for number in chance.sample(range(16**7), len(references))]
+    words = [int.from_bytes(name.encode(), "little") for name in taken]
+    blocks = [(at, 16, HISTOGRAM, [BOOLEAN, 1, 2, 3, 0, 1, 0, 0, 0, 1, 8, word]) for at, word in zip(references, words)]
+    chance.shuffle(blocks)
+    report = "".join(f"{name},boolean,0,1,1\n{name},total,1,0\n" for name in sorted(taken))
+    return image_of(blocks), report.encode()
+
+
+def smallest(_chance):
+    """As many blocks of five words as fit, of a type that is passed over, on a list from the last to the first."""
+    references = [at for page in range(0, SIZE, PAGE) for at in range(max(page, FIRST), page + PAGE - 4, 5)]
+    return image_of([(at, 5, PURGED, []) for at in reversed(references)]), b""
+
+
+IMAGES = [samples, names, smallest]
+
+
+def scripts(program, folder):
+    """A script of the greatest length, and one that is a byte longer."""
+    head, record = b"segment,128,64,7\nhist,A,boolean\n", b"add,A,1,1\n"
+    count, rest = divmod(MOST_SCRIPT - len(head), len(record))
+    text = head + count * record + rest * b"\n"
+    script, out = folder / "script", folder / "out"
+    script.write_bytes(text)
+    wanted = Answer(f"A,boolean,1,2,{count}\nA,total,{count},{count}\n".encode())
+    for workers in (1, 4):
+        came = answer(program, ["run", script, out, "--workers", str(workers)])
+        yield f"the longest script, {workers} workers", difference(wanted, came)
+    script.write_bytes(text + b"\n")
+    wrong = difference(fault("TooLong", 3), answer(program, ["run", script, out]))
+    yield "a byte more", wrong or (f"{out.stat().st_size} bytes were written" if out.stat().st_size else None)
+
+
+def cases(program, _options):
+    for make in IMAGES:
+        image, report = make(random.Random(5))
+        yield make.__name__, difference(Answer(report), answer(program, ["report"], image))
+    with tempfile.TemporaryDirectory() as scratch:
+        yield from scripts(program, pathlib.Path(scratch))

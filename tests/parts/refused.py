@@ -1,0 +1,97 @@
+"""Memory that is refused: the program under ever larger limits of its data, until it needs no more.
+
+For small images the C library is told to ask the system for each allocation by itself. So each limit refuses the first
+allocation with which the program would have more than that, and each page more lets it come further.
+"""
+
+import os
+import pathlib
+import random
+import resource
+import tempfile
+
+from parts import known, largest
+from support.program import EXAMPLE, answer, difference, fault
+
+PROGRAM = "persist_report"
+PAGE = resource.getpagesize()
+MOST_TO_LOAD = 200
+MOST_PAGES = 100_000
+STEP = 100
+THREAD_STEP = 40
+NO_MEMORY, NO_THREAD = fault("NoMemory", 5), fault("NoThread", 5)
+NOT_LOADED = 127
+SCRIPT = b"segment,256,64,7\nhist,A,boolean\nhist,S,sparse\nadd,A,1,2\nadd,S,-5,1\nadd,A,0,1\ndelta,A\nadd,S,7,70000\n"
+EACH_BY_ITSELF = {"MALLOC_MMAP_THRESHOLD_": "0", "MALLOC_TOP_PAD_": "0"}
+COMMAND_LINES = [
+    ["report"],
+    ["report", EXAMPLE],
+    ["report", "no/such/file"],
+    ["report", 5_000 * "a-long-path/"],
+    ["report", 60_000 * b"\xff"],
+    ["--help"],
+    ["--version"],
+    ["help", "report"],
+    [],
+    ["reports"],
+    ["report", "one", "two"],
+]
+
+
+def answer_within(program, pages, words, data=b"", setting=EACH_BY_ITSELF):
+    """What the program answers with so many pages of data."""
+    limits = (PAGE * pages, PAGE * pages)
+    limited = {"env": {**os.environ, **setting}, "preexec_fn": lambda: resource.setrlimit(resource.RLIMIT_DATA, limits)}
+    return answer(program, words, data, **limited)
+
+
+def least_pages(program):
+    """The fewest pages with which the program is loaded and runs."""
+    statuses = [answer_within(program, pages, ["--version"]).status for pages in range(MOST_TO_LOAD)]
+    return max((pages + 1 for pages, status in enumerate(statuses) if status == NOT_LOADED), default=0)
+
+
+def wrong_of(program, words, data, pages, step, setting, out=None):
+    """What is wrong with the answers under limits that grow by `step` from these pages on, or None.
+
+    Each has to be NoMemory until it is the one that the program gives with ample memory; and NoMemory has to come. Where
+    there is none to start a worker, it is NoThread. Nothing is written to `out` before.
+    """
+    ample = answer(program, words, data)
+    refused = 0
+    if out is not None:
+        out.write_bytes(b"")
+    came = answer_within(program, pages, words, data, setting)
+    while came in (NO_MEMORY, NO_THREAD) and pages < MOST_PAGES:
+        refused += came == NO_MEMORY
+        if out is not None and out.read_bytes():
+            return f"under {pages} pages of data, {out.stat().st_size} bytes were written beside the fault"
+        pages += step
+        came = answer_within(program, pages, words, data, setting)
+    if came != ample:
+        return f"under {pages} pages of data, wanted NoMemory or the whole answer: {difference(ample, came)}"
+    return None if refused else "wanted NoMemory under some limit, came none"
+
+
+def longest_report():
+    """The known image that has the longest report."""
+    return max(known.FOLDER.glob("*.out"), key=lambda path: path.stat().st_size).with_suffix(".img")
+
+
+def files(program, least):
+    """Commands that write a file."""
+    with tempfile.TemporaryDirectory() as scratch:
+        script, out = pathlib.Path(scratch) / "script", pathlib.Path(scratch) / "out"
+        script.write_bytes(SCRIPT)
+        for words in (["run", script, out, "--workers", "3"], ["merge", EXAMPLE, EXAMPLE, out]):
+            yield words[0], wrong_of(program, words, b"", least, THREAD_STEP, EACH_BY_ITSELF, out)
+
+
+def cases(program, _options):
+    least = least_pages(program)
+    for words in [*COMMAND_LINES, ["report", longest_report()]]:
+        yield str(words)[:60], wrong_of(program, words, EXAMPLE.read_bytes(), least, 1, EACH_BY_ITSELF)
+    for make in largest.IMAGES:
+        image, _ = make(random.Random(5))
+        yield f"the largest image of {make.__name__}", wrong_of(program, ["report"], image, least, STEP, {})
+    yield from files(program, least)

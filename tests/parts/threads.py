@@ -1,0 +1,149 @@
+"""Threads that record beside one another: the report is what a plain tally of their samples and batches says, and all
+deltas of a histogram, the last among them, add up to it.
+
+The program prints the samples and batches that were accepted, what each delta and snapshot was answered, and the report
+of the image.
+"""
+
+import collections
+
+from support import plain_tally
+from support.program import answer
+
+PROGRAM = "recording_threads"
+THREADS = (2, 3, 4, 8, 16)
+ROUNDS = 200
+RECORDS = 100
+SPECS = {"boolean": ("boolean",), "custom": ("custom", 10, 100, 1000), "linear": ("linear", 1, 100, 20), "sparse": ("sparse",)}
+
+
+class Round:
+    """What one round printed."""
+
+    def __init__(self, lines):
+        self.samples = []
+        self.batches = []
+        self.deltas = collections.defaultdict(list)
+        self.snapshots = collections.defaultdict(list)
+        self.report = []
+        kinds = {"sample": self.sample, "batch": self.batch, "delta": self.delta, "snapshot": self.snapshot}
+        for place, line in enumerate(lines):
+            kind, *fields = line.split(",")
+            if kind == "report":
+                self.report = lines[place + 1:]
+                break
+            kinds[kind](*fields)
+
+    def sample(self, name, value, count):
+        self.samples.append((name, int(value), int(count)))
+
+    def batch(self, name, total, *items):
+        self.batches.append((name, int(total), pairs(items)))
+
+    def delta(self, name, total, *units):
+        self.deltas[name].append((int(total), pairs(units)))
+
+    def snapshot(self, name, total, redundant, *units):
+        self.snapshots[name].append((int(redundant), pairs(units)))
+
+
+def pairs(fields):
+    """Keys or values with their units, in the order in which they were printed."""
+    numbers = [int(field) for field in fields]
+    if len(numbers) % 2:
+        raise ValueError(f"no pairs: {numbers}")
+    return list(zip(numbers[::2], numbers[1::2]))
+
+
+def tally(samples, batches):
+    """What they add up to: a sample adds its value as often as it has units, a batch its sum.
+
+    All four histograms were made, whoever records into them.
+    """
+    histograms = {name: plain_tally.Histogram.of(spec) for name, spec in SPECS.items()}
+    for name, value, count in samples:
+        histograms[name].add(value, count)
+    for name, total, items in batches:
+        for value, count in items:
+            histograms[name].take({histograms[name].key(value): count}, 0)
+        histograms[name].take({}, total)
+    return histograms
+
+
+def wrong_deltas(name, deltas, tallied):
+    taken = collections.Counter()
+    for _, units in deltas:
+        keys = [low for low, _ in units]
+        if keys != sorted(set(keys)) or not all(count > 0 for _, count in units):
+            return f"a delta of {name} has {units}"
+        taken.update(dict(units))
+    if taken != tallied.counts or sum(amount for amount, _ in deltas) != tallied.sum:
+        return f"the deltas of {name} take {taken}, and the samples are {tallied.counts}"
+    return None
+
+
+def wrong_snapshots(name, snapshots, tallied):
+    for redundant, units in snapshots:
+        keys = [low for low, _ in units]
+        if keys != sorted(set(keys)) or (name != "sparse" and keys != tallied.boundaries[:-1]):
+            return f"a snapshot of {name} has the keys {keys}"
+        if redundant > sum(tallied.counts.values()) or any(count > tallied.counts[low] for low, count in units):
+            return f"a snapshot of {name} saw {units}, and the samples are {tallied.counts}"
+    return None
+
+
+def wrong_round(lines):
+    """What is wrong with a round, or None."""
+    done = Round(lines)
+    histograms = tally(done.samples, done.batches)
+    wanted = plain_tally.report(histograms).decode().splitlines()
+    if done.report != wanted:
+        return f"the report is {done.report}, and the samples and batches are {wanted}"
+    for name, tallied in histograms.items():
+        wrong = wrong_deltas(name, done.deltas[name], tallied)
+        wrong = wrong or wrong_snapshots(name, done.snapshots[name], tallied)
+        if wrong is not None:
+            return wrong
+    return None
+
+
+def rounds(program, words):
+    """The lines of each round of a run, or what it said in place of them."""
+    came = answer(program, words)
+    if came.status != 0 or came.error:
+        return None, f"status {came.status}, {came.error[:200]!r}"
+    lines = came.output.decode().splitlines()
+    starts = [place for place, line in enumerate(lines) if line.startswith("round,")]
+    return [lines[start + 1:end] for start, end in zip(starts, [*starts[1:], len(lines)])], None
+
+
+def recorded(program, threads, seed):
+    every, wrong = rounds(program, ["record", str(threads), str(seed), str(ROUNDS)])
+    if wrong is not None:
+        return wrong
+    if len(every) != ROUNDS:
+        return f"{len(every)} rounds"
+    return next(filter(None, map(wrong_round, every)), None)
+
+
+def shared(program):
+    """Two threads that share a cursor are given each record once between them, each in the order of the list."""
+    every, wrong = rounds(program, ["walk", "2", str(RECORDS), str(ROUNDS)])
+    if wrong is not None:
+        return wrong
+    for lines in every:
+        given = [tuple(map(int, line.split(",")[1:])) for line in lines]
+        for thread in (0, 1):
+            own = [reference for one, reference in given if one == thread]
+            if own != sorted(own):
+                return f"thread {thread} was given {own}"
+        # Boolean histograms with names of up to eight bytes take 16 words each.
+        if sorted(reference for _, reference in given) != [16 + 16 * i for i in range(RECORDS)]:
+            return f"given were {given}"
+    return None if len(every) == ROUNDS else f"{len(every)} rounds"
+
+
+def cases(program, options):
+    for threads in THREADS:
+        yield f"{threads} threads, {ROUNDS} rounds", recorded(program, threads, options.seed)
+    yield f"a shared cursor, {ROUNDS} rounds", shared(program)

@@ -1,0 +1,160 @@
+"""Worked examples of `run` and `merge`: scripts, and what is stored in the words of images, and what then has to be answered
+and written."""
+
+import pathlib
+import struct
+import tempfile
+
+from support.program import EXAMPLE, Answer, answer, difference, fault
+
+PROGRAM = "persist_report"
+VERSION, FREE, SECOND_COUNT = 1, 7, 37
+COUNTS_REFERENCE, SINGLE, SINGLE_MARK, SUM, SUM_MARK, REDUNDANT = 24, 25, 26, 27, 28, 29
+FIRST_COUNT = 36
+TOP = 2**63
+MOST_UNITS = 2**32 - 1
+MOST_SUM = 2**31 * MOST_UNITS
+
+SEGMENT = b"segment,128,64,7\n"
+THREE_SAMPLES = SEGMENT + b"hist,A,boolean\nadd,A,1,1\nadd,A,1,1\nadd,A,0,1\n"
+THREE_REPORT = b"A,boolean,0,1,1\nA,boolean,1,2,2\nA,total,3,2\n"
+
+SCRIPTS = {
+    "three samples": (THREE_SAMPLES, Answer(THREE_REPORT)),
+    "three samples and a delta": (THREE_SAMPLES + b"delta,A\n", Answer(THREE_REPORT)),
+    "no histogram": (SEGMENT, Answer()),
+    "no bytes": (b"", fault("BadLine 1", 3)),
+    "an unlawful page": (b"segment,128,60,7\n", fault("BadLine 1", 3)),
+    "an unknown name": (SEGMENT + b"hist,A,boolean\nadd,B,1,1\n", fault("BadLine 3", 3)),
+    "a count of 0": (SEGMENT + b"hist,A,boolean\nadd,A,1,0\n", fault("Refused 3 ZeroCount", 3)),
+    "one unit too many": (SEGMENT + b"hist,A,boolean\nadd,A,1,4294967295\nadd,A,1,1\n", fault("Refused 4 NoUnits", 3)),
+    "all units": (SEGMENT + b"hist,A,boolean\nadd,A,1,4294967295\n", Answer(b"A,boolean,1,2,4294967295\nA,total,4294967295,4294967295\n")),
+    "too few buckets": (SEGMENT + b"hist,a!,linear,1,10,2\n", fault("Refused 2 BadSpec TooFew", 3)),
+    "an unlawful name": (SEGMENT + b"hist,!x,boolean\n", fault("Refused 2 BadName", 3)),
+    "another spec": (SEGMENT + b"hist,A,boolean\nhist,A,linear,1,2,3\n", fault("Refused 3 OtherSpec", 3)),
+    "a record longer than a page": (SEGMENT + b"hist,A,linear,1,100,31\n", fault("Refused 2 TooLarge", 3)),
+    "no room": (b"segment,64,64,7\nhist,A,boolean\nhist,B,boolean\nhist,C,boolean\nhist,D,boolean\n", fault("Refused 5 Full", 3)),
+}
+
+# With one worker, whose second sample needs counts for which there is no room.
+NO_ROOM_FOR_COUNTS = b"segment,64,64,7\nhist,A,boolean\nhist,B,boolean\nhist,C,boolean\nadd,A,1,1\nadd,A,0,1\nadd,A,1,1\n"
+
+
+def image(stored):
+    """The example's image, the boolean histogram A with the samples 1, 1 and 0 in version 1, with these words in it."""
+    data = bytearray(EXAMPLE.read_bytes())
+    for at, word in stored.items():
+        data[8 * at : 8 * at + 8] = struct.pack("<Q", word % 2**64)
+    return bytes(data)
+
+
+def blank(version=1):
+    """An image without histograms."""
+    words = [0x408305DC, version, 128, 64, 7, 1, 0, 16, 12, 0, 0, 0, 4, 1, 0, 12]
+    return struct.pack("<16Q", *words) + bytes(8 * 112)
+
+
+def packed(stored):
+    """An image in which A has no block of counts, with these words in it."""
+    none = {COUNTS_REFERENCE: 0, FREE: 32, SINGLE: 0, SUM: 0, REDUNDANT: 0}
+    return image({**none, **stored})[: 8 * 32] + bytes(8 * 96)
+
+
+def frozen(bucket, units):
+    return TOP + bucket * 2**32 + units
+
+
+# Of the image in version 2: bucket 1 is frozen with two units, and bucket 0 has one.
+IN_VERSION_2 = {VERSION: 2, SINGLE: frozen(1, 2), FIRST_COUNT: 1, SECOND_COUNT: 0}
+# A delta took the two samples 1.
+TAKEN = {SINGLE_MARK: 2, SUM_MARK: 2}
+MOST_COUNTS = {FIRST_COUNT: MOST_UNITS, SECOND_COUNT: MOST_UNITS}
+REMAINDERS = image({VERSION: 2, SINGLE: frozen(0, 2), FIRST_COUNT: 0, SECOND_COUNT: 2, REDUNDANT: 4})
+REMAINDERS_REPORT = b"A,boolean,0,1,2\nA,boolean,1,2,2\nA,total,4,2\n"
+NO_UNITS = fault("Merge A NoUnits", 3)
+
+# BASE and DEAD, and the image that has to be written, by its bytes or by its report; or the fault.
+MERGES = {
+    "remainders": (image(TAKEN), image({}), REMAINDERS, REMAINDERS_REPORT),
+    "remainders, DEAD of version 2": (image(TAKEN), image(IN_VERSION_2), REMAINDERS, REMAINDERS_REPORT),
+    "remainders, BASE of version 2": (image({**IN_VERSION_2, **TAKEN}), image({}), REMAINDERS, REMAINDERS_REPORT),
+    "a remainder alone": (blank(), image(TAKEN), packed({VERSION: 2, SINGLE: 1, REDUNDANT: 1}), b"A,boolean,0,1,1\nA,total,1,0\n"),
+    "no histograms": (blank(), blank(2), blank(2), b""),
+    "no remainder": (blank(2), packed({SINGLE: 2**32 + 2, SUM: 2, REDUNDANT: 2, **TAKEN}), packed({VERSION: 2}), b"A,total,0,0\n"),
+    "a mark above its total": (
+        blank(),
+        image({SINGLE_MARK: 65_535}),
+        packed({VERSION: 2, SINGLE: 1, SUM: 2, REDUNDANT: 1}),
+        b"A,boolean,0,1,1\nA,total,1,2\n",
+    ),
+    "two items": (blank(), image({FIRST_COUNT: 2, SECOND_COUNT: 3, SUM: 3}), None, b"A,boolean,0,1,2\nA,boolean,1,2,3\nA,total,5,3\n"),
+    "the greatest sum": (blank(), packed({SUM: MOST_SUM}), packed({VERSION: 2, SUM: MOST_SUM}), b"A,total,0,9223372034707292160\n"),
+    "the least sum": (packed({SUM: -MOST_SUM}), blank(), packed({VERSION: 2, SUM: -MOST_SUM}), b"A,total,0,-9223372034707292160\n"),
+    "the least sum below its mark": (packed({SUM_MARK: MOST_SUM}), blank(), packed({VERSION: 2, SUM: -MOST_SUM}), b"A,total,0,-9223372034707292160\n"),
+    "a sum for the units that are left": (
+        image({FIRST_COUNT: MOST_UNITS - 4, SECOND_COUNT: 0, SUM: 0}),
+        packed({SUM: 4 * 2**31}),
+        None,
+        b"A,boolean,0,1,4294967291\nA,total,4294967291,8589934592\n",
+    ),
+    "a sum that is one too great": (image({FIRST_COUNT: MOST_UNITS - 4, SECOND_COUNT: 0, SUM: 0}), packed({SUM: 4 * 2**31 + 1}), NO_UNITS, None),
+    "two greatest sums": (packed({SUM: MOST_SUM}), packed({SUM: MOST_SUM}), NO_UNITS, None),
+    "past the units in DEAD": (blank(), image(MOST_COUNTS), NO_UNITS, None),
+    "past the units in BASE": (image(MOST_COUNTS), blank(), NO_UNITS, None),
+    "past the units of both": (image({FIRST_COUNT: MOST_UNITS - 2}), packed({SINGLE: 1}), NO_UNITS, None),
+    "another spec": (image({}), image({20: 1}), fault("Merge A OtherSpec", 3), None),
+    "faults of both": (image({0: 0}), b"no words", fault("Image BadCookie", 3), None),
+    "a fault of DEAD": (image({}), image({5: 2}), fault("Image Deleted", 3), None),
+    "no words in BASE": (image({})[:-1], image({}), fault("NotWords", 3), None),
+    "a word too few in DEAD": (image({}), image({})[:-8], fault("Image BadSize", 3), None),
+}
+
+
+def written(out):
+    return f"{len(out.read_bytes())} bytes were written" if out.read_bytes() else None
+
+
+def runs(program, folder):
+    script, out = folder / "script", folder / "out"
+    for name, (text, wanted) in SCRIPTS.items():
+        script.write_bytes(text)
+        for workers in (1, 2, 16):
+            wrong = difference(wanted, answer(program, ["run", script, out, "--workers", str(workers)]))
+            if wrong is None and wanted.status != 0:
+                wrong = written(out)
+            yield f"run, {name}, {workers} workers", wrong
+    script.write_bytes(NO_ROOM_FOR_COUNTS)
+    yield "run, no room for counts", difference(fault("Refused 6 Full", 3), answer(program, ["run", script, out])) or written(out)
+    script.write_bytes(THREE_SAMPLES)
+    answer(program, ["run", script, out])
+    yield "run, three samples, the image", None if out.read_bytes() == image(IN_VERSION_2) else "other words were written"
+
+
+def wrong_merge(program, folder, wanted, report):
+    """What is wrong with the merge of the images in a folder, or None."""
+    out = folder / "out"
+    came = answer(program, ["merge", folder / "base", folder / "dead", out])
+    if report is None:
+        return difference(wanted, came) or written(out)
+    wrong = difference(Answer(), came) or difference(Answer(report), answer(program, ["report", out]))
+    if wrong is None and wanted is not None and out.read_bytes() != wanted:
+        wrong = "other words were written"
+    return wrong
+
+
+def merges(program, folder):
+    for name, (base, dead, wanted, report) in MERGES.items():
+        (folder / "base").write_bytes(base)
+        (folder / "dead").write_bytes(dead)
+        yield f"merge, {name}", wrong_merge(program, folder, wanted, report)
+    (folder / "base").write_bytes(image({}))
+    (folder / "script").write_bytes(b"segment,512,256,7\nhist,L,linear,1,100,31\n")
+    answer(program, ["run", folder / "script", folder / "dead"])
+    yield "merge, too large for the page of BASE", wrong_merge(program, folder, fault("Merge L TooLarge", 3), None)
+
+
+def cases(program, _options):
+    with tempfile.TemporaryDirectory() as scratch:
+        folder = pathlib.Path(scratch)
+        yield from runs(program, folder)
+        yield from merges(program, folder)

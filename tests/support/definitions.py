@@ -1,0 +1,157 @@
+#!/usr/bin/env python3
+"""Makes docs/DEFINITIONS.md of the comments in specs/.
+
+    tests/support/definitions.py [--write]
+
+With --write it writes the file. Without, it says what differs in the file that is there, and the status is 1 where anything does.
+"""
+
+import difflib
+import pathlib
+import re
+import sys
+
+ROOT = pathlib.Path(__file__).resolve().parents[2]
+DOCUMENT = ROOT / "docs" / "DEFINITIONS.md"
+WIDTH = 140
+MOST_SIGNS = 110
+HEAD = """\
+# The definitions
+
+The index of the definitions that contracts speak of. It is made of the comments in `specs/`: do not edit it, but the comment there,
+and then run `tests/support/definitions.py --write`.
+
+Crates stand in the order of `ARCHITECTURE.md`. Of each, every module of `specs/` has its name, what it is about, and its definitions
+in the order of the file, each with the first sentence of its comment. Left out are those that no contract names, and no definition of
+another crate: the parts of those that are listed. The comment in the file says each in full.
+
+A definition says what is meant, and never how the code finds it. The machine has a page of its own to read first: `MACHINE.md`.
+What is proved of the definitions: `PROVED.md`.
+"""
+
+# The head of a definition that others may name.
+PUBLIC = re.compile(r"^(?:(?:abbrev|unfoldable|plain|opaque) )*pub (?:(?:abbrev|unfoldable|plain|opaque|record|data) )*([^\W\d][\w']*)")
+# What names definitions: in antt and in contracts.
+IMPORT = re.compile(r"^(pub |ghost |pub ghost )?use (?:Rattle\.)?(?:(\w+)\.)?specs\.(\w+)\.\{([^}]*)\}", re.MULTILINE)
+
+
+def crates():
+    """The crates that have definitions, in the order of docs/ARCHITECTURE.md, and then those that it does not have."""
+    listed = re.findall(r"^\| `(\w+)` \|", (ROOT / "docs" / "ARCHITECTURE.md").read_text(), re.MULTILINE)
+    every = sorted(folder.parent.name for folder in (ROOT / "crates").glob("*/specs"))
+    return sorted(every, key=lambda name: (listed.index(name) if name in listed else len(listed), name))
+
+
+def names_in(text):
+    """Which definitions a file brings in to name them: the crate, or None for its own, the module and the name."""
+    for kind, crate, module, names in IMPORT.findall(text):
+        if not kind.startswith("pub"):
+            for name in names.split(","):
+                yield crate or None, module, name.split(" as ")[0].strip()
+
+
+def named():
+    """The definitions that a contract names, or a definition of another crate: crate, module and name."""
+    found = set()
+    for folder in (ROOT / "crates").iterdir():
+        for file in [*folder.glob("src/**/*.rt"), *folder.glob("specs/*.antt")]:
+            for crate, module, name in names_in(file.read_text()):
+                if file.suffix == ".rt" or crate not in (None, folder.name):
+                    found.add((crate or folder.name, module, name))
+    return found
+
+
+def comment_above(lines, place):
+    """The comment that ends above a line: one paragraph."""
+    start = place
+    while start > 0 and lines[start - 1].startswith("--") and not lines[start - 1].startswith("-- --"):
+        start -= 1
+    return " ".join(line[2:].strip() for line in lines[start:place])
+
+
+def in_short(comment):
+    """The first sentence, or the whole where it is short, without a sign at the end."""
+    whole = comment.replace("`", "").strip()
+    if len(whole) > MOST_SIGNS:
+        whole = re.split(r"(?<=[^.])\. (?=[A-Z])", whole)[0]
+    return whole.rstrip(".:;")
+
+
+def definitions(text):
+    """The name and the comment of each definition of a module that others may name. Those without a line between them, and with no
+    comment of their own, share the comment of the first."""
+    lines, shared = text.split("\n"), ""
+    for place, line in enumerate(lines):
+        found = PUBLIC.match(line)
+        if line.startswith("pub use") or line.startswith("pub mod") or not found:
+            continue
+        comment = comment_above(lines, place)
+        shared = comment or (shared if place and lines[place - 1].strip() else "")
+        yield found[1], shared
+
+
+def grouped(listed):
+    """Definitions with one comment between them stand in one entry."""
+    groups = []
+    for name, comment in listed:
+        if groups and groups[-1][1] == comment:
+            groups[-1][0].append(name)
+        else:
+            groups.append(([name], comment))
+    return groups
+
+
+def wrapped(entry):
+    """The lines of an entry of a list."""
+    lines, line = [], "-"
+    for word in entry.split():
+        if len(line) + 1 + len(word) > WIDTH:
+            lines.append(line)
+            line = " "
+        line += " " + word
+    return [*lines, line]
+
+
+def module_lines(crate, file, used):
+    """The lines of a module, or none where nothing of it is listed."""
+    text = file.read_text()
+    about = re.match(r"(?:--.*\n)*", text)[0]
+    about = in_short(" ".join(line[2:].strip() for line in about.splitlines()))
+    listed = [one for one in definitions(text) if (crate, file.stem, one[0]) in used]
+    if not listed:
+        return []
+    lines = ["", f"**`{file.stem}`**: {about}" if about else f"**`{file.stem}`**"]
+    for names, comment in grouped(listed):
+        entry = ", ".join(f"`{name}`" for name in names)
+        lines += wrapped(f"{entry}: {in_short(comment)}" if comment else entry)
+    return lines
+
+
+def document():
+    used, lines = named(), [HEAD.rstrip("\n")]
+    for crate in crates():
+        modules = [module_lines(crate, file, used) for file in sorted((ROOT / "crates" / crate / "specs").glob("*.antt"))]
+        if any(modules):
+            lines += ["", f"## `{crate}`", *(line for module in modules for line in module)]
+    return "\n".join(lines) + "\n"
+
+
+def difference():
+    """Where the document differs from the comments, or None."""
+    came = difflib.unified_diff(DOCUMENT.read_text().splitlines(), document().splitlines(), "docs/DEFINITIONS.md", "specs/", "", "", 0, "")
+    return "\n".join(came) or None
+
+
+def main(arguments):
+    if arguments == ["--write"]:
+        DOCUMENT.write_text(document())
+        return 0
+    if arguments:
+        sys.exit(__doc__)
+    wrong = difference()
+    print(wrong or "docs/DEFINITIONS.md is what the comments in specs/ say")
+    return 1 if wrong else 0
+
+
+if __name__ == "__main__":
+    sys.exit(main(sys.argv[1:]))

@@ -1,0 +1,53 @@
+"""A program under test: what it answers, and how that differs from what was wanted."""
+
+import dataclasses
+import pathlib
+import subprocess
+
+ROOT = pathlib.Path(__file__).resolve().parents[2]
+EXAMPLE = ROOT / "examples" / "three_samples.img"
+SCRIPT = ROOT / "examples" / "three_samples.csv"
+MOST_SECONDS = 60
+
+
+@dataclasses.dataclass
+class Answer:
+    """What a program wrote to its two streams, and its status (of a signal, the number with a minus)."""
+
+    output: bytes = b""
+    error: bytes = b""
+    status: int = 0
+
+
+def built(name):
+    """Where 'rt ci' leaves the program of this name, or 'rt run' in its crate."""
+    return ROOT / "crates" / name / "out" / name
+
+
+def fault(text, status):
+    """The answer that tells a fault: one line on the error stream and nothing else."""
+    return Answer(error=f"persist_report: {text}\n".encode(), status=status)
+
+
+def answer(program, words, data=b"", **settings):
+    """What the program answers to these words; `data` is its standard input, unless the settings name another."""
+    given = {"input": data} if "stdin" not in settings else {}
+    streams = {"stdout": subprocess.PIPE, "stderr": subprocess.PIPE}
+    try:
+        done = subprocess.run([program, *words], timeout=MOST_SECONDS, **{**streams, **given, **settings})
+    except subprocess.TimeoutExpired:
+        return Answer(error=f"(no end within {MOST_SECONDS} seconds)".encode(), status=-1)
+    return Answer(done.stdout or b"", done.stderr or b"", done.returncode)
+
+
+def difference(wanted, came):
+    """What was wanted and what came, where two answers differ first; None where they are the same."""
+    if came.status != wanted.status:
+        return f"wanted status {wanted.status}, came {came.status} with {came.error[:200]!r} on the error stream"
+    for stream in ("error", "output"):
+        right, given = getattr(wanted, stream).splitlines(True), getattr(came, stream).splitlines(True)
+        for number in range(max(len(right), len(given))):
+            lines = [repr(one[number]) if number < len(one) else "no more" for one in (right, given)]
+            if lines[0] != lines[1]:
+                return f"line {number + 1} of the {stream}: wanted {lines[0]}, came {lines[1]}"
+    return None

@@ -1,0 +1,167 @@
+"""Schedules of the stepped world that come of a seed, and what the lines of one say of its calls.
+
+A schedule is made a round at a time, in which each actor begins a call or goes on by a few events; then it is replayed, to
+know which calls have ended. So no record of it is a fault.
+"""
+
+import collections
+
+from support.plain_reader import GREATEST, SEGMENT_COOKIE
+from support.plain_tally import Histogram
+
+LEAST_VALUE = -(2**31)
+SHAPES = [(64, 64), (128, 64), (128, 128), (192, 64), (256, 128), (512, 64)]
+SPECS = [("linear", 1, 10, 5), ("linear", 1, 4, 4), ("boolean",), ("custom", 7), ("custom", 3, 100), ("sparse",), ("sparse",)]
+NAMES = ["A", "B", "S", "a-long-name"]
+VALUES = [LEAST_VALUE, -5, -1, 0, 1, 1, 2, 3, 5, 7, 10, 100, GREATEST]
+COUNTS = [0, 1, 1, 1, 1, 2, 3, 65_534, 65_535, 65_536, 2**31]
+SUMS = [0, 0, -7, 5, 2**31, -(2**63), 2**63 - 1]
+TIMES = [1, 1, 1, 2, 3, 5, 10]
+ROUNDS = 24
+COUNTING = ("add", "batch")
+
+
+class Schedule:
+    """A schedule: the shape, the id and the version of its segment, how many actors there are, and the later records."""
+
+    def __init__(self, size, page, segment_id, actors, version):
+        self.size = size
+        self.page = page
+        self.id = segment_id
+        self.actors = actors
+        self.version = version
+        self.records = []
+
+    def text(self):
+        first = ("world", self.size, self.page, self.id, self.actors, self.version)
+        return "".join(",".join(map(str, record)) + "\n" for record in [first, *self.records])
+
+    def words(self):
+        """The words of a new segment."""
+        head = [SEGMENT_COOKIE, self.version, self.size, self.page, self.id, 1, 0, 16, 12, 0, 0, 0, 4, 1, 0, 12]
+        return head + [0] * (self.size - len(head))
+
+
+class Running:
+    """A call of an actor, and how many of its events have happened."""
+
+    def __init__(self, record):
+        self.record = record
+        self.events = 0
+
+
+class Done:
+    """What the lines of a schedule say was done up to an event: the words, and the calls that run and that were accepted.
+
+    `lines` are those up to the answer behind the event; with -1 events they are all.
+    """
+
+    def __init__(self, schedule, lines, events):
+        self.schedule = schedule
+        self.words = schedule.words()
+        self.lines = []
+        self.running = {}
+        self.known = collections.defaultdict(dict)
+        self.counted = collections.Counter()
+        last = None
+        for line in lines:
+            number, actor, what, *rest = line.decode().rstrip("\n").split(",")
+            ends_last = what == "answer" and last == (number, actor, "step")
+            if events == 0 and not ends_last:
+                break
+            events -= what == "step"
+            last = number, actor, what
+            self.lines.append(line)
+            {"begin": self.begin, "step": self.step, "answer": self.answer}[what](int(number), int(actor), rest)
+
+    def begin(self, number, actor, _):
+        self.running[actor] = Running(self.schedule.records[number - 2])
+
+    def step(self, _, actor, change):
+        self.running[actor].events += 1
+        if change:
+            at, old, new = map(int, change)
+            assert self.words[at] == old != new, f"word {at} is {self.words[at]}, and {change} changes it"
+            self.words[at] = new
+
+    def answer(self, number, actor, said):
+        # A call that needs no event is answered at once.
+        ended = self.running.pop(actor, None)
+        record = ended.record if ended else self.schedule.records[number - 2]
+        if said[0] == "hist":
+            self.known[actor][record[2]] = Histogram.of(record[3:])
+        elif said[0] == "added":
+            self.counted.update(self.entries(actor, record))
+        elif said[0] == "batch_refused":
+            self.counted.update(self.entries(actor, record, int(said[1])))
+
+    def entries(self, actor, record, most=None):
+        """The units of each key that a call counts, or of its first items."""
+        if record[0] not in COUNTING:
+            return {}
+        kind, _, name, *rest = record
+        numbers = rest if kind == "add" else rest[1:]
+        histogram = self.known[actor][name]
+        units = collections.Counter()
+        for value, count in list(zip(numbers[::2], numbers[1::2]))[:most]:
+            units[name, histogram.key(value)] += count
+        return units
+
+    def ended(self):
+        """The units of each key that calls which ended have counted."""
+        return self.counted
+
+    def begun(self):
+        """These, and those of the calls of which an event has happened."""
+        units = collections.Counter(self.counted)
+        for actor, call in self.running.items():
+            if call.events:
+                units.update(self.entries(actor, call.record))
+        return units
+
+    def counts_in(self, name):
+        """Whether a call runs that counts in the histogram of a name."""
+        return any(call.record[0] in COUNTING and call.record[2] == name for call in self.running.values())
+
+
+def item_of(chance):
+    return chance.choice(VALUES), chance.choice(COUNTS)
+
+
+def call_of(chance, actor, specs, known):
+    """The record of a call that an actor begins."""
+    if not known or chance.random() < 0.2:
+        name = chance.choice(NAMES)
+        spec = specs[name] if chance.random() < 0.9 else chance.choice(SPECS)
+        return "hist", actor, name, *spec
+    name = chance.choice(list(known))
+    kind = chance.choice(["add", "add", "add", "batch", "delta", "snapshot"])
+    if kind == "add":
+        return kind, actor, name, *item_of(chance)
+    if kind == "batch":
+        items = [item_of(chance) for _ in range(chance.choice([0, 1, 2, 3]))]
+        return kind, actor, name, chance.choice(SUMS), *(number for item in items for number in item)
+    return kind, actor, name
+
+
+def schedule_of(chance, replay):
+    """A schedule without a fault, and the answer to it. `replay` gives the answer to the text of one."""
+    size, page = chance.choice(SHAPES)
+    schedule = Schedule(size, page, chance.choice([0, 7, 2**64 - 1]), chance.randrange(1, 6), chance.choice([1, 2]))
+    specs = {name: chance.choice(SPECS) for name in NAMES}
+    running, known = {}, collections.defaultdict(dict)
+    for number in range(ROUNDS + 1):
+        last = number == ROUNDS
+        for actor in chance.sample(range(schedule.actors), schedule.actors):
+            if actor not in running and not last:
+                corrupts = chance.random() < 0.003
+                call = ("set_corrupt", actor) if corrupts else call_of(chance, actor, specs, known[actor])
+                schedule.records.append(call)
+            elif actor in running:
+                schedule.records.append(("step", actor, 10**6 if last else chance.choice(TIMES)))
+        came = replay(schedule.text())
+        if came.status != 0:
+            break
+        done = Done(schedule, came.output.splitlines(True), -1)
+        running, known = done.running, done.known
+    return schedule, came

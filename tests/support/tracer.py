@@ -1,0 +1,164 @@
+"""Runs a program so that chosen calls of it to the system fail (Linux on x86-64).
+
+The program is traced (ptrace): each call to the system stops it where the call begins and where it ends. A call that is to
+fail is not made, and the program is given an error in its place.
+"""
+
+import ctypes
+import dataclasses
+import errno
+import os
+import platform
+import signal
+import subprocess
+import sys
+import tempfile
+
+from support.program import Answer
+
+LIBC = ctypes.CDLL(None, use_errno=True)
+LIBC.ptrace.restype = ctypes.c_long
+LIBC.ptrace.argtypes = [ctypes.c_long, ctypes.c_long, ctypes.c_void_p, ctypes.c_void_p]
+TRACE_ME, POKE_USER, GO_ON, SET_OPTIONS, CALL_INFO = 0, 6, 24, 0x4200, 0x420E
+STOP_AT_CALLS, FOLLOW_THREADS, END_WITH_US = 1, 8, 0x100000
+AT_CALL = signal.SIGTRAP | 0x80
+ALL_CHILDREN = 0x40000000
+BEGINS = 1
+
+# Where a thread's registers lie: the result of a call, its third and first argument, its number.
+RESULT, THIRD, FIRST, NUMBER = 8 * 10, 8 * 12, 8 * 14, 8 * 15
+NO_CALL = 2**64 - 1
+
+READ, WRITE, MAP, BREAK, REMAP, CLONE, CLONE_3 = 0, 1, 9, 12, 25, 56, 435
+OUTPUT = "standard output"
+
+
+class Call(ctypes.Structure):
+    """What the system tells of a call where it begins."""
+
+    _fields_ = [
+        ("kind", ctypes.c_uint8),
+        ("machine", ctypes.c_uint32),
+        ("instruction", ctypes.c_uint64),
+        ("stack", ctypes.c_uint64),
+        ("number", ctypes.c_uint64),
+        ("arguments", ctypes.c_uint64 * 6),
+    ]
+
+
+@dataclasses.dataclass
+class Fault:
+    """Which calls fail: of those with these numbers, on these files alone where any are named, the one at `at`, from 0;
+    and all behind it, where it is `lasting`. With `most`, each read and write of them moves so many bytes at most instead.
+    """
+
+    numbers: tuple
+    files: tuple = ()
+    at: int = -1
+    lasting: bool = False
+    error: int = errno.EIO
+    most: int = 0
+    met: int = 0
+
+    def is_meant(self, thread, call):
+        return call.number in self.numbers and (not self.files or file_of(thread, call.arguments[0]) in self.files)
+
+    def fails_next(self):
+        """Counts a call; whether it fails."""
+        self.met += 1
+        place = self.met - 1
+        return self.at >= 0 and (place >= self.at if self.lasting else place == self.at)
+
+
+def file_of(thread, descriptor):
+    """The path of an open file, or None."""
+    if descriptor == 1:
+        return OUTPUT
+    try:
+        return os.readlink(f"/proc/{thread}/fd/{descriptor}")
+    except OSError:
+        return None
+
+
+def ptrace(request, thread, address=0, data=0):
+    if LIBC.ptrace(request, thread, address, data) < 0:
+        raise OSError(ctypes.get_errno(), f"ptrace {request}")
+
+
+def begin(thread, call, fault):
+    """Meets a call that begins; the registers that are to be set where it ends, each with its value."""
+    if not fault.is_meant(thread, call):
+        return []
+    if fault.most:
+        ptrace(POKE_USER, thread, THIRD, min(fault.most, call.arguments[2]))
+        return [(THIRD, call.arguments[2])]
+    if not fault.fails_next():
+        return []
+    if call.number == BREAK:
+        # It has no error: where it can't move the end of the data it tells where that is, as it does when asked for 0.
+        ptrace(POKE_USER, thread, FIRST, 0)
+        return [(FIRST, call.arguments[0])]
+    ptrace(POKE_USER, thread, NUMBER, NO_CALL)
+    return [(RESULT, 2**64 - fault.error)]
+
+
+def meet(thread, fault, to_set):
+    """Meets a thread that stands at a call, where it begins or ends. `to_set` has what is to be set there, by thread."""
+    call = Call()
+    ptrace(CALL_INFO, thread, ctypes.sizeof(call), ctypes.addressof(call))
+    if call.kind == BEGINS:
+        to_set[thread] = begin(thread, call, fault)
+    else:
+        for register, value in to_set.pop(thread, []):
+            ptrace(POKE_USER, thread, register, value)
+
+
+def next_stop(first):
+    """The next thread that stops and why, or None and the program's status where it has ended."""
+    while True:
+        thread, status = os.waitpid(-1, ALL_CHILDREN)
+        if os.WIFSTOPPED(status):
+            return thread, status
+        if thread == first:
+            return None, os.waitstatus_to_exitcode(status)
+
+
+def follow(first, fault):
+    """Follows a program from its beginning to its end; its status, of a signal the number with a minus."""
+    to_set = {}
+    thread, signal_given = first, 0
+    while True:
+        try:
+            ptrace(GO_ON, thread, 0, signal_given)
+        except ProcessLookupError:
+            pass  # another thread has ended the program
+        thread, status = next_stop(first)
+        if thread is None:
+            return status
+        reason = status >> 8
+        if reason == AT_CALL:
+            meet(thread, fault, to_set)
+        signal_given = reason if reason not in (AT_CALL, signal.SIGSTOP) and reason < 0x80 and reason != signal.SIGTRAP else 0
+
+
+def answer(program, words, fault, **settings):
+    """What the program answers where calls fail."""
+    with tempfile.TemporaryFile() as output, tempfile.TemporaryFile() as error:
+        streams = {"stdin": subprocess.DEVNULL, "stdout": output, "stderr": error}
+        running = subprocess.Popen([program, *words], preexec_fn=lambda: ptrace(TRACE_ME, 0), **streams, **settings)
+        os.waitpid(running.pid, 0)
+        ptrace(SET_OPTIONS, running.pid, 0, STOP_AT_CALLS | FOLLOW_THREADS | END_WITH_US)
+        running.returncode = follow(running.pid, fault)
+        output.seek(0)
+        error.seek(0)
+        return Answer(output.read(), error.read(), running.returncode)
+
+
+def can_trace():
+    """Whether programs may be traced here."""
+    if platform.system() != "Linux" or platform.machine() != "x86_64":
+        return False
+    try:
+        return answer(sys.executable, ["-c", ""], Fault(())).status == 0
+    except (OSError, subprocess.SubprocessError):
+        return False

@@ -15,6 +15,7 @@ pub mod Publishing
 pub mod Taking
 pub mod Finding
 pub mod Searching
+pub mod Seated
 pub mod Settling
 pub mod Answering
 pub mod Making

@@ -11,10 +11,9 @@ impl Segment {
     ghost use Rattle.bucket_ranges.specs.declared.spec.Spec.TheVariants.{Sparse};
     ghost use Rattle.live_segment.specs.Adding.{AnswersSample};
     ghost use Rattle.live_segment.specs.Finishing.{item_of};
-    ghost use Rattle.live_segment.specs.Holders.{table_of};
+    ghost use Rattle.live_segment.specs.Seated.{IsSeated};
     ghost use Rattle.live_segment.specs.Known.{known_view, KnowsRight};
     ghost use Rattle.live_segment.specs.Refusing.{IsNotCounted};
-    ghost use Rattle.live_segment.specs.Rule.{IsOf};
     ghost use Rattle.live_segment.specs.Steps.{IsAtRest, IsSame};
     ghost use Rattle.live_segment.specs.Working.{CountsAlone, HasCounted};
 
@@ -29,7 +28,7 @@ impl Segment {
         value: i32,
         units: u32,
     ) -> Result<(), Refusal>
-        requires seat { (seat.old.table_id ≡ table_of self.now) × IsOf self.now.setting seat.old.me.0 }
+        requires seat { IsSeated self.now seat.old }
         requires right { KnowsRight self.now.setting seat.old.me.0 histogram.now }
         requires rests { IsAtRest seat.old.me.0 }
         requires units { (1 ≤ units) × (units ≤ seat.old.me.0.units.share) }
@@ -53,7 +52,7 @@ impl Segment {
         value: i32,
         units: u32,
     ) -> Result<(), Refusal>
-        requires seat { (seat.old.table_id ≡ table_of self.now) × IsOf self.now.setting seat.old.me.0 }
+        requires seat { IsSeated self.now seat.old }
         requires right { KnowsRight self.now.setting seat.old.me.0 histogram.now }
         requires may { CountsAlone seat.old.me.0 (known_view histogram.now) (item_of (known_view histogram.now) value units) }
         ensures same { IsSame seat.old seat.new }
@@ -74,7 +73,7 @@ impl Segment {
         value: i32,
         units: u32,
     ) -> Result<(), Refusal>
-        requires seat { (seat.old.table_id ≡ table_of self.now) × IsOf self.now.setting seat.old.me.0 }
+        requires seat { IsSeated self.now seat.old }
         requires right { KnowsRight self.now.setting seat.old.me.0 histogram.now }
         requires sparse { histogram.now.spec ≡ Sparse }
         requires may { CountsAlone seat.old.me.0 (known_view histogram.now) (item_of (known_view histogram.now) value units) }

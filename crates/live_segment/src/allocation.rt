@@ -3,9 +3,8 @@
 ghost use Rattle.std.specs.Prelude.{◌≡◌, ◌+◌, ◌-◌, ◌≤◌, true, false, IfOk};
 ghost use Rattle.segment_image.specs.declared.layout.TheConstants.{BLOCK_HEADER};
 ghost use Rattle.segment_machine.specs.Event.{allocating_event};
-ghost use Rattle.segment_machine.specs.Actor.{is_bound, is_opener};
+ghost use Rattle.segment_machine.specs.Actor.{is_bound};
 ghost use Rattle.segment_machine.specs.Allocating.{exchange_free};
-ghost use Rattle.live_segment.specs.Rule.{IsOf};
 ghost use Rattle.live_segment.specs.Allocation.{Allocates, claimed, IsLost};
 
 use crate::rule::Pass;
@@ -15,7 +14,8 @@ use segment_calls::Refusal;
 use segment_image::layout::{CLAIMED_COOKIE, FLAG_CORRUPT, WASTED_COOKIE};
 
 impl Segment {
-    ghost use Rattle.live_segment.specs.Holders.{MayStep, table_of};
+    ghost use Rattle.live_segment.specs.Holders.{MayStep};
+    ghost use Rattle.live_segment.specs.Seated.{IsSeated};
     ghost use Rattle.live_segment.specs.Steps.{IsSame};
     ghost use Rattle.live_segment.specs.Refusing.{MayGiveUp};
 
@@ -24,7 +24,7 @@ impl Segment {
     /// `Corrupt` where the corrupt flag was loaded, `Full` where the words pass the end of the segment: a call that counts ends
     /// with that.
     pub(crate) fn allocate(&self, seat: &mut Pass, size: u64, tag: u64) -> Result<u64, Refusal>
-        requires seat { (seat.old.table_id ≡ table_of self.now) × (is_opener seat.old.me.0.role ≡ false) × IsOf self.now.setting seat.old.me.0 }
+        requires seat { IsSeated self.now seat.old }
         requires free { is_bound seat.old.me.0.hand.place ≡ false }
         requires size { (5 ≤ size) × (size ≤ self.now.setting.shape.page) }
         requires tag { (1 ≤ tag) × (tag ≤ 3) }

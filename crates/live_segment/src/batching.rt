@@ -1,6 +1,6 @@
 //! How the items of a batch are counted, one after the other.
 
-ghost use Rattle.std.specs.Prelude.{◌≡◌, ◌≢◌, ◌+◌, ◌≤◌, pos, MatchResult};
+ghost use Rattle.std.specs.Prelude.{◌≢◌, ◌+◌, ◌≤◌, pos, MatchResult};
 ghost use Rattle.std.specs.List.{All};
 ghost use Rattle.bucket_ranges.specs.Tally.{units_of};
 ghost use Rattle.segment_machine.specs.Entry.{batch_cost};
@@ -13,10 +13,9 @@ use segment_calls::{BatchRefusal, Refusal};
 impl Segment {
     ghost use Rattle.live_segment.specs.Batching.{HasItems, HasNoted, IsBatched, IsCutShort, StopsAt};
     ghost use Rattle.live_segment.specs.Finishing.{item_of};
-    ghost use Rattle.live_segment.specs.Holders.{table_of};
+    ghost use Rattle.live_segment.specs.Seated.{IsSeated};
     ghost use Rattle.live_segment.specs.Known.{known_view, KnowsRight};
     ghost use Rattle.live_segment.specs.Refusing.{IsNotCounted};
-    ghost use Rattle.live_segment.specs.Rule.{IsOf};
     ghost use Rattle.live_segment.specs.Steps.{IsAtRest, IsSame};
     ghost use Rattle.live_segment.specs.Working.{CountsAlone};
 
@@ -31,7 +30,7 @@ impl Segment {
         items: &[(i32, u32)],
         sum: i64,
     ) -> Result<(), BatchRefusal>
-        requires seat { (seat.old.table_id ≡ table_of self.now) × IsOf self.now.setting seat.old.me.0 }
+        requires seat { IsSeated self.now seat.old }
         requires right { KnowsRight self.now.setting seat.old.me.0 histogram.now }
         requires rests { IsAtRest seat.old.me.0 }
         requires units { All (λ item. 1 ≤ item.1) items.now × (batch_cost items.now sum ≤ seat.old.me.0.units.share) }
@@ -54,7 +53,7 @@ impl Segment {
         items: &[(i32, u32)],
         sum: i64,
     ) -> Result<(), BatchRefusal>
-        requires seat { (seat.old.table_id ≡ table_of self.now) × IsOf self.now.setting seat.old.me.0 }
+        requires seat { IsSeated self.now seat.old }
         requires right { KnowsRight self.now.setting seat.old.me.0 histogram.now }
         requires rests { IsAtRest seat.old.me.0 }
         requires units { All (λ item. 1 ≤ item.1) items.now × (batch_cost items.now sum ≤ seat.old.me.0.units.share) }
@@ -75,7 +74,7 @@ impl Segment {
         histogram: &KnownHistogram,
         items: &[(i32, u32)],
     ) -> Result<(), BatchRefusal>
-        requires seat { (seat.old.table_id ≡ table_of self.now) × IsOf self.now.setting seat.old.me.0 }
+        requires seat { IsSeated self.now seat.old }
         requires right { KnowsRight self.now.setting seat.old.me.0 histogram.now }
         requires rests { IsAtRest seat.old.me.0 }
         requires units { All (λ item. 1 ≤ item.1) items.now × (units_of items.now ≤ seat.old.me.0.units.share) }
@@ -106,7 +105,7 @@ impl Segment {
         histogram: &KnownHistogram,
         items: &[(i32, u32)],
     ) -> Result<(), BatchRefusal>
-        requires seat { (seat.old.table_id ≡ table_of self.now) × IsOf self.now.setting seat.old.me.0 }
+        requires seat { IsSeated self.now seat.old }
         requires right { KnowsRight self.now.setting seat.old.me.0 histogram.now }
         requires rests { IsAtRest seat.old.me.0 }
         requires units { All (λ item. 1 ≤ item.1) items.now × (units_of items.now ≤ seat.old.me.0.units.share) }
@@ -129,7 +128,7 @@ impl Segment {
         value: i32,
         units: u32,
     ) -> Result<(), Refusal>
-        requires seat { (seat.old.table_id ≡ table_of self.now) × IsOf self.now.setting seat.old.me.0 }
+        requires seat { IsSeated self.now seat.old }
         requires right { KnowsRight self.now.setting seat.old.me.0 histogram.now }
         requires may { CountsAlone seat.old.me.0 (known_view histogram.now) (item_of (known_view histogram.now) value units) }
         ensures same { IsSame seat.old seat.new }

@@ -23,7 +23,7 @@ impl Segment {
     ghost use Rattle.live_segment.specs.Known.{known_view, KnowsRight};
     ghost use Rattle.live_segment.specs.Refusing.{IsTurnedAway};
     ghost use Rattle.live_segment.specs.Holders.{table_of};
-    ghost use Rattle.live_segment.specs.Rule.{IsOf};
+    ghost use Rattle.live_segment.specs.Seated.{IsSeated};
     ghost use Rattle.live_segment.specs.Steps.{IsSame};
     ghost use Rattle.segment_image.specs.declared.layout.TheConstants.{BLOCK_HEADER};
     ghost use Rattle.live_segment.specs.GhostNotes.{HasAddedTo, MayAddTo, bucket_entry};
@@ -37,7 +37,7 @@ impl Segment {
         bucket: usize,
         units: u32,
     ) -> PackAttempt
-        requires seat { (seat.old.table_id ≡ table_of self.now) × IsOf self.now.setting seat.old.me.0 }
+        requires seat { IsSeated self.now seat.old }
         requires room { histogram.now.reference + 15 ≤ self.now.setting.shape.size }
         requires bucket { (bucket < buckets_of histogram.now.spec) × (bucket ≤ 65535) }
         requires may { MayCount seat.old.me.0 (known_view histogram.now) bucket units }
@@ -69,7 +69,7 @@ impl Segment {
         bucket: usize,
         units: u32,
     ) -> Result<(), Refusal>
-        requires seat { (seat.old.table_id ≡ table_of self.now) × IsOf self.now.setting seat.old.me.0 }
+        requires seat { IsSeated self.now seat.old }
         requires right { KnowsRight self.now.setting seat.old.me.0 histogram.now }
         requires bucket { bucket < buckets_of histogram.now.spec }
         requires may { MayCount seat.old.me.0 (known_view histogram.now) bucket units }

@@ -3,7 +3,6 @@
 ghost use Rattle.std.specs.Prelude.{◌≡◌, ◌+◌, ◌<◌, ◌≤◌, ℕ, length, true, false};
 ghost use Rattle.segment_machine.specs.Actor.{is_opener};
 ghost use Rattle.segment_machine.specs.Walking.{IsFixed};
-ghost use Rattle.live_segment.specs.Rule.{IsOf};
 ghost use Rattle.live_segment.specs.Finding.{IsAsked, Meets, SeesWords, ShowsWords, ShowsName, ShowsSpec};
 
 use crate::rule::Pass;
@@ -21,6 +20,7 @@ const BUCKETS: usize = HISTOGRAM_BUCKETS - BLOCK_HEADER;
 
 impl Segment {
     ghost use Rattle.live_segment.specs.Holders.{table_of};
+    ghost use Rattle.live_segment.specs.Seated.{IsSeated};
     ghost use Rattle.live_segment.specs.Steps.{IsSame};
 
     // Whether a record that was met has these words from a place on. They are loaded up to the first that is another one.
@@ -43,7 +43,7 @@ impl Segment {
 
     // Whether it has the name that is asked for.
     pub(crate) fn shows_name(&self, seat: &mut Pass, at: u64, asked: &Asked) -> bool
-        requires seat { (seat.old.table_id ≡ table_of self.now) × (is_opener seat.old.me.0.role ≡ false) × IsOf self.now.setting seat.old.me.0 }
+        requires seat { IsSeated self.now seat.old }
         requires asked { IsAsked self.now.setting.shape asked.now }
         requires met { Meets at seat.old.me.0 }
         requires room { at + 5 ≤ self.now.setting.shape.size }
@@ -63,7 +63,7 @@ impl Segment {
 
     // Whether it has the spec that is asked for, once it has the name.
     pub(crate) fn shows_spec(&self, seat: &mut Pass, at: u64, asked: &Asked) -> bool
-        requires seat { (seat.old.table_id ≡ table_of self.now) × (is_opener seat.old.me.0.role ≡ false) × IsOf self.now.setting seat.old.me.0 }
+        requires seat { IsSeated self.now seat.old }
         requires asked { IsAsked self.now.setting.shape asked.now }
         requires met { Meets at seat.old.me.0 }
         requires named { ShowsName asked.now at true seat.old.me.0 }

@@ -34,8 +34,7 @@ pub(crate) struct Mounted {
 impl Segment {
     ghost use Rattle.segment_machine.specs.declared.actor.Actor.{Actor};
     ghost use Rattle.live_segment.specs.declared.rule.Setting.{Setting};
-    ghost use Rattle.live_segment.specs.Holders.{table_of};
-    ghost use Rattle.live_segment.specs.Rule.{IsOf};
+    ghost use Rattle.live_segment.specs.Seated.{IsSeated};
     ghost use Rattle.live_segment.specs.Steps.{IsAtRest, IsSame};
 
     // The units of a bucket that the delta takes: its count is loaded, and where that is not 0, the mark is raised to it. The packed bucket
@@ -167,7 +166,7 @@ impl Segment {
         histogram: &KnownHistogram,
         taken: &mut Vec<(i32, u64)>,
     ) -> i64
-        requires seat { (seat.old.table_id ≡ table_of self.now) × IsOf self.now.setting seat.old.me.0 }
+        requires seat { IsSeated self.now seat.old }
         requires rests { IsAtRest seat.old.me.0 }
         requires right { KnowsRight self.now.setting seat.old.me.0 histogram.now }
         requires bucketed { has_buckets histogram.now.spec ≡ true }
@@ -235,7 +234,7 @@ impl Segment {
         histogram: &KnownHistogram,
         taken: &mut Vec<(i32, u64)>,
     ) -> i64
-        requires seat { (seat.old.table_id ≡ table_of self.now) × IsOf self.now.setting seat.old.me.0 }
+        requires seat { IsSeated self.now seat.old }
         requires rests { IsAtRest seat.old.me.0 }
         requires right { KnowsRight self.now.setting seat.old.me.0 histogram.now }
         requires sparse { histogram.now.spec ≡ Sparse }
@@ -268,7 +267,7 @@ impl Segment {
         histogram: &KnownHistogram,
         taken: &mut Vec<(i32, u64)>,
     ) -> i64
-        requires seat { (seat.old.table_id ≡ table_of self.now) × IsOf self.now.setting seat.old.me.0 }
+        requires seat { IsSeated self.now seat.old }
         requires rests { IsAtRest seat.old.me.0 }
         requires right { KnowsRight self.now.setting seat.old.me.0 histogram.now }
         requires room { (taken.old.items ≡ []) × HoldsKeys self.now (known_view histogram.now) (vec_capacity taken.old) }

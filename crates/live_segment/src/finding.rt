@@ -1,8 +1,5 @@
 //! How a recorder looks for the first record of a name along the list.
 
-ghost use Rattle.std.specs.Prelude.{◌≡◌, false};
-ghost use Rattle.segment_machine.specs.Actor.{is_opener};
-ghost use Rattle.live_segment.specs.Rule.{IsOf};
 ghost use Rattle.live_segment.specs.Finding.{IsAsked};
 ghost use Rattle.live_segment.specs.Searching.{WalksAt, HasSearched, Searches};
 
@@ -22,12 +19,12 @@ pub(crate) enum Search {
 }
 
 impl Segment {
-    ghost use Rattle.live_segment.specs.Holders.{table_of};
+    ghost use Rattle.live_segment.specs.Seated.{IsSeated};
     ghost use Rattle.live_segment.specs.Steps.{IsSame};
 
     // Walks along the list, on from where a walk stands, up to the first record of the name that is asked for.
     pub(crate) fn find(&self, seat: &mut Pass, from: u64, asked: &Asked) -> Search
-        requires seat { (seat.old.table_id ≡ table_of self.now) × (is_opener seat.old.me.0.role ≡ false) × IsOf self.now.setting seat.old.me.0 }
+        requires seat { IsSeated self.now seat.old }
         requires asked { IsAsked self.now.setting.shape asked.now }
         requires walks { WalksAt asked.now.name.items from seat.old.me.0 }
         ensures same { IsSame seat.old seat.new }

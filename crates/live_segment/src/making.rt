@@ -3,7 +3,6 @@
 ghost use Rattle.std.specs.Prelude.{◌≡◌, ◌≢◌, ◌+◌, ◌-◌, ◌≤◌, [], false, length, slice_index};
 ghost use Rattle.segment_machine.specs.Actor.{is_opener};
 ghost use Rattle.segment_machine.specs.Calls.{MayTurn};
-ghost use Rattle.live_segment.specs.Rule.{IsOf};
 ghost use Rattle.live_segment.specs.Finding.{IsAsked};
 ghost use Rattle.live_segment.specs.Making.{HasBlock, HasFilled, Makes, SaysAsked};
 
@@ -14,6 +13,7 @@ use segment_image::layout::{BLOCK_HEADER, TYPE_HISTOGRAM};
 
 impl Segment {
     ghost use Rattle.live_segment.specs.Holders.{table_of};
+    ghost use Rattle.live_segment.specs.Seated.{IsSeated};
     ghost use Rattle.live_segment.specs.Steps.{IsSame};
 
     // Stores the words of a payload, but for those that are 0, in the block at a word that it claimed last. The last is not 0.
@@ -41,7 +41,7 @@ impl Segment {
         asked: &Asked,
         said: &Announcement,
     ) -> Result<(), Refusal>
-        requires seat { (seat.old.table_id ≡ table_of self.now) × (is_opener seat.old.me.0.role ≡ false) × IsOf self.now.setting seat.old.me.0 }
+        requires seat { IsSeated self.now seat.old }
         requires rests { MayTurn seat.old.me.0 × (seat.old.me.0.entries.running ≡ []) }
         requires asked { IsAsked self.now.setting.shape asked.now }
         requires says { SaysAsked asked.now said.now }

@@ -26,10 +26,9 @@ impl Segment {
     ghost use Rattle.live_segment.specs.Known.{known_view};
     ghost use Rattle.live_segment.specs.Adding.{block_words};
     ghost use Rattle.bucket_ranges.specs.Ranges.{boundaries_of};
-    ghost use Rattle.live_segment.specs.Holders.{table_of};
+    ghost use Rattle.live_segment.specs.Seated.{IsSeated};
     ghost use Rattle.live_segment.specs.Mounting.{MayMount, HasBlank, LooksAtCounts, HasMounted, HasNotMounted, HasDisabled};
     ghost use Rattle.live_segment.specs.Refusing.{MayGiveUp};
-    ghost use Rattle.live_segment.specs.Rule.{IsOf};
     ghost use Rattle.live_segment.specs.Steps.{IsSame};
     ghost use Rattle.live_segment.specs.Working.{CountsWithin};
 
@@ -39,7 +38,7 @@ impl Segment {
         seat: &mut Pass,
         histogram: &KnownHistogram,
     ) -> Result<u64, Refusal>
-        requires seat { (seat.old.table_id ≡ table_of self.now) × IsOf self.now.setting seat.old.me.0 }
+        requires seat { IsSeated self.now seat.old }
         requires room { histogram.now.reference + 15 ≤ self.now.setting.shape.size }
         requires fits { block_words (known_view histogram.now) ≤ self.now.setting.shape.page }
         requires right { (spec_fault histogram.now.spec ≡ None) × (histogram.now.ranges ≡ boundaries_of histogram.now.spec) }
@@ -59,7 +58,7 @@ impl Segment {
 
     // A blank block of its own becomes the counts of a histogram. Where another recorder's are there, it is given up.
     fn mount(&self, seat: &mut Pass, histogram: &KnownHistogram, at: u64) -> u64
-        requires seat { (seat.old.table_id ≡ table_of self.now) × IsOf self.now.setting seat.old.me.0 }
+        requires seat { IsSeated self.now seat.old }
         requires room { (histogram.now.reference + 15 ≤ self.now.setting.shape.size) × (at + 5 ≤ self.now.setting.shape.size) }
         requires may { MayMount seat.old.me.0 (known_view histogram.now) }
         requires blank { HasBlank seat.old.me.0 (known_view histogram.now) at }
@@ -78,7 +77,7 @@ impl Segment {
     // Disables the single word of a histogram whose counts it looks at, and adds the units that this had to their count.
     // Where it is off, nothing is left to do.
     pub(crate) fn disable_single(&self, seat: &mut Pass, histogram: &KnownHistogram, counts: u64)
-        requires seat { (seat.old.table_id ≡ table_of self.now) × IsOf self.now.setting seat.old.me.0 }
+        requires seat { IsSeated self.now seat.old }
         requires room { histogram.now.reference + 15 ≤ self.now.setting.shape.size }
         requires may { MayMount seat.old.me.0 (known_view histogram.now) }
         requires stands { LooksAtCounts seat.old.me.0 (known_view histogram.now) counts }

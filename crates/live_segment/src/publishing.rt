@@ -1,8 +1,7 @@
 //! How a recorder puts a record on the list.
 
 ghost use Rattle.std.specs.Prelude.{◌≡◌, ◌+◌, ◌≤◌, false};
-ghost use Rattle.segment_machine.specs.Actor.{is_bound, is_opener};
-ghost use Rattle.live_segment.specs.Rule.{IsOf};
+ghost use Rattle.segment_machine.specs.Actor.{is_bound};
 ghost use Rattle.live_segment.specs.Publishing.{IsFilledFor, HasPublishedFor};
 
 use crate::rule::{Announcement, Pass};
@@ -10,13 +9,13 @@ use crate::segment::Segment;
 use segment_image::layout::QUEUE;
 
 impl Segment {
-    ghost use Rattle.live_segment.specs.Holders.{table_of};
+    ghost use Rattle.live_segment.specs.Seated.{IsSeated};
     ghost use Rattle.live_segment.specs.Steps.{IsSame};
 
     /// Puts a block of its own that is filled at the end of the list: from then on it is the record that is said, and a walk
     /// that reaches the end has passed it.
     pub(crate) fn publish(&self, seat: &mut Pass, at: u64, said: &Announcement)
-        requires seat { (seat.old.table_id ≡ table_of self.now) × (is_opener seat.old.me.0.role ≡ false) × IsOf self.now.setting seat.old.me.0 }
+        requires seat { IsSeated self.now seat.old }
         requires free { is_bound seat.old.me.0.hand.place ≡ false }
         requires room { at + 5 ≤ self.now.setting.shape.size }
         requires filled { IsFilledFor seat.old.me.0 at said.now }

@@ -3,6 +3,7 @@
 ghost use Rattle.std.specs.Prelude.{◌≡◌, [], map};
 ghost use Rattle.segment_machine.specs.Seats.{newcomer};
 ghost use Rattle.live_segment.specs.Rule.{IsOf};
+ghost use Rattle.live_segment.specs.Seated.{IsSeated};
 ghost use Rattle.live_segment.specs.Steps.{IsAtRest};
 ghost use Rattle.live_segment.specs.Known.{known_view, KnowsRight};
 ghost use Rattle.live_segment.specs.Walks.{HasCome};
@@ -67,8 +68,7 @@ pub struct Recorder<'a> {
     known: Vec<KnownHistogram>,
     // Up to where it was given fresh records.
     fresh: WalkPlace,
-    ghost fits: { seat.table_id ≡ segment.now.table.shared.table_id },
-    ghost set: { IsOf segment.now.setting seat.me.0 },
+    ghost seated: { IsSeated segment.now seat },
     ghost rests: { IsAtRest seat.me.0 },
     ghost counted: { units ≡ seat.me.0.units.share },
     ghost listed: { map known_view known.items ≡ seat.me.0.answers.names },

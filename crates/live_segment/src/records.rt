@@ -1,8 +1,7 @@
 //! How a recorder walks along the list.
 
 ghost use Rattle.std.specs.Prelude.{◌≡◌, ◌-◌, ◌/◌, ◌≤◌, [], false, drop, length, vec_capacity};
-ghost use Rattle.segment_machine.specs.Actor.{is_bound, is_opener};
-ghost use Rattle.live_segment.specs.Rule.{IsOf};
+ghost use Rattle.segment_machine.specs.Actor.{is_bound};
 ghost use Rattle.live_segment.specs.Walks.{HasCome, WalksOn};
 
 use crate::rule::Pass;
@@ -33,13 +32,13 @@ impl WalkPlace {
 }
 
 impl Segment {
-    ghost use Rattle.live_segment.specs.Holders.{table_of};
+    ghost use Rattle.live_segment.specs.Seated.{IsSeated};
     ghost use Rattle.live_segment.specs.Steps.{IsSame};
 
     // Walks along the list, on from a place to its end, and lists the records behind. There is room for as many as fit in a
     // segment.
     pub(crate) fn walk(&self, seat: &mut Pass, place: &mut WalkPlace, records: &mut Vec<u64>)
-        requires seat { (seat.old.table_id ≡ table_of self.now) × (is_opener seat.old.me.0.role ≡ false) × IsOf self.now.setting seat.old.me.0 }
+        requires seat { IsSeated self.now seat.old }
         requires free { is_bound seat.old.me.0.hand.place ≡ false }
         requires come { HasCome self.now.setting.shape.size seat.old.me.0.seen.chain place.old }
         requires room { (records.old.items ≡ []) × ((self.now.setting.shape.size - 16) / 5 ≤ vec_capacity records.old) }

@@ -2,9 +2,8 @@
 
 ghost use Rattle.std.specs.Prelude.{◌≡◌, ◌+◌, ◌≤◌, false, MatchResult};
 ghost use Rattle.segment_machine.specs.declared.actor.Known.{Known};
-ghost use Rattle.segment_machine.specs.Actor.{is_bound, is_opener};
+ghost use Rattle.segment_machine.specs.Actor.{is_bound};
 ghost use Rattle.segment_machine.specs.Actor.{Sparse as KnowsSparse};
-ghost use Rattle.live_segment.specs.Rule.{IsOf};
 ghost use Rattle.live_segment.specs.Finding.{Meets, SeesWords};
 ghost use Rattle.live_segment.specs.Searching.{HasSearched};
 ghost use Rattle.live_segment.specs.Sampling.{ShowsValue, WalksBehind, FindsSample, HasMadeSample, HasNotMadeSample, HasSampleOf, LacksSampleOf};
@@ -27,7 +26,7 @@ pub(crate) enum SampleSearch {
 
 impl Segment {
     ghost use Rattle.bucket_ranges.specs.declared.spec.Spec.TheVariants.{Sparse};
-    ghost use Rattle.live_segment.specs.Holders.{table_of};
+    ghost use Rattle.live_segment.specs.Seated.{IsSeated};
     ghost use Rattle.live_segment.specs.Known.{known_view, KnowsRight};
     ghost use Rattle.live_segment.specs.Refusing.{MayGiveUp};
     ghost use Rattle.live_segment.specs.Steps.{IsSame};
@@ -41,7 +40,7 @@ impl Segment {
         histogram: &KnownHistogram,
         value: i32,
     ) -> Result<u64, Refusal>
-        requires seat { (seat.old.table_id ≡ table_of self.now) × (is_opener seat.old.me.0.role ≡ false) × IsOf self.now.setting seat.old.me.0 }
+        requires seat { IsSeated self.now seat.old }
         requires free { is_bound seat.old.me.0.hand.place ≡ false }
         requires right { KnowsRight self.now.setting seat.old.me.0 histogram.now }
         requires sparse { histogram.now.spec ≡ Sparse }
@@ -65,7 +64,7 @@ impl Segment {
     //
     // `Corrupt` or `Full` where no block could be claimed for it: a call that counts ends with that.
     fn make_sample(&self, seat: &mut Pass, histogram: u64, value: i32) -> Result<(), Refusal>
-        requires seat { (seat.old.table_id ≡ table_of self.now) × (is_opener seat.old.me.0.role ≡ false) × IsOf self.now.setting seat.old.me.0 }
+        requires seat { IsSeated self.now seat.old }
         requires free { is_bound seat.old.me.0.hand.place ≡ false }
         requires sparse { (known : Known) × KnowsSparse seat.old.me.0 histogram known }
         requires page { 8 ≤ self.now.setting.shape.page }
@@ -91,7 +90,7 @@ impl Segment {
         histogram: u64,
         value: i32,
     ) -> SampleSearch
-        requires seat { (seat.old.table_id ≡ table_of self.now) × (is_opener seat.old.me.0.role ≡ false) × IsOf self.now.setting seat.old.me.0 }
+        requires seat { IsSeated self.now seat.old }
         requires walks { WalksBehind histogram value from seat.old.me.0 }
         ensures same { IsSame seat.old seat.new }
         ensures view { HasSearched seat.old.me.0 seat.new.me.0 }
@@ -112,7 +111,7 @@ impl Segment {
 
     // Whether a record that was met is a sample of the value.
     fn shows_value(&self, seat: &mut Pass, at: u64, histogram: u64, value: i32) -> bool
-        requires seat { (seat.old.table_id ≡ table_of self.now) × (is_opener seat.old.me.0.role ≡ false) × IsOf self.now.setting seat.old.me.0 }
+        requires seat { IsSeated self.now seat.old }
         requires met { Meets at seat.old.me.0 }
         requires room { at + 5 ≤ self.now.setting.shape.size }
         ensures same { IsSame seat.old seat.new }

@@ -1,9 +1,7 @@
 //! How a `hist` of a recorder is answered.
 
-ghost use Rattle.std.specs.Prelude.{◌≡◌, [], false};
-ghost use Rattle.segment_machine.specs.Actor.{is_opener};
+ghost use Rattle.std.specs.Prelude.{◌≡◌, []};
 ghost use Rattle.segment_machine.specs.Calls.{MayTurn};
-ghost use Rattle.live_segment.specs.Rule.{IsOf};
 ghost use Rattle.live_segment.specs.Finding.{IsAsked};
 ghost use Rattle.live_segment.specs.Making.{SaysAsked};
 ghost use Rattle.live_segment.specs.Settling.{IsAnnouncedOf, LooksUp, Settles};
@@ -16,7 +14,7 @@ use segment_calls::{Asked, Refusal};
 use segment_image::layout::QUEUE;
 
 impl Segment {
-    ghost use Rattle.live_segment.specs.Holders.{table_of};
+    ghost use Rattle.live_segment.specs.Seated.{IsSeated};
     ghost use Rattle.live_segment.specs.Steps.{IsSame};
 
     // The first record of the name that is asked for, which is made where there is none.
@@ -28,7 +26,7 @@ impl Segment {
         asked: &Asked,
         said: &Announcement,
     ) -> Result<u64, Refusal>
-        requires seat { (seat.old.table_id ≡ table_of self.now) × (is_opener seat.old.me.0.role ≡ false) × IsOf self.now.setting seat.old.me.0 }
+        requires seat { IsSeated self.now seat.old }
         requires rests { MayTurn seat.old.me.0 × (seat.old.me.0.entries.running ≡ []) × (seat.old.me.0.answers.owed ≡ []) }
         requires asked { IsAsked self.now.setting.shape asked.now }
         requires says { SaysAsked asked.now said.now }
@@ -58,7 +56,7 @@ impl Segment {
         asked: &Asked,
         said: &Announcement,
     ) -> Result<u64, Refusal>
-        requires seat { (seat.old.table_id ≡ table_of self.now) × (is_opener seat.old.me.0.role ≡ false) × IsOf self.now.setting seat.old.me.0 }
+        requires seat { IsSeated self.now seat.old }
         requires rests { MayTurn seat.old.me.0 × (seat.old.me.0.entries.running ≡ []) × (seat.old.me.0.answers.owed ≡ []) }
         requires asked { IsAsked self.now.setting.shape asked.now }
         requires says { SaysAsked asked.now said.now }
@@ -82,7 +80,7 @@ impl Segment {
     /// `Corrupt` or `Full` where no block could be claimed for its record, `OtherSpec` where the first record of the name has
     /// another spec.
     pub(crate) fn ask(&self, seat: &mut Pass, asked: Asked) -> Result<KnownHistogram, Refusal>
-        requires seat { (seat.old.table_id ≡ table_of self.now) × (is_opener seat.old.me.0.role ≡ false) × IsOf self.now.setting seat.old.me.0 }
+        requires seat { IsSeated self.now seat.old }
         requires rests { MayTurn seat.old.me.0 × (seat.old.me.0.entries.running ≡ []) × (seat.old.me.0.answers.owed ≡ []) }
         requires asked { IsAsked self.now.setting.shape asked }
         ensures same { IsSame seat.old seat.new }

@@ -1,8 +1,7 @@
 //! How recorders share a cursor along the list.
 
 ghost use Rattle.std.specs.Prelude.{◌≡◌, ◌<◌, ◌++◌, false};
-ghost use Rattle.segment_machine.specs.Actor.{is_bound, is_opener};
-ghost use Rattle.live_segment.specs.Rule.{IsOf};
+ghost use Rattle.segment_machine.specs.Actor.{is_bound};
 ghost use Rattle.live_segment.specs.Cursors.{AnswersNext, gift};
 
 use crate::rule::Pass;
@@ -10,12 +9,12 @@ use crate::segment::Segment;
 use segment_image::layout::QUEUE;
 
 impl Segment {
-    ghost use Rattle.live_segment.specs.Holders.{table_of};
+    ghost use Rattle.live_segment.specs.Seated.{IsSeated};
     ghost use Rattle.live_segment.specs.Steps.{IsSame};
 
     /// Moves a shared cursor on to the record behind it, and gives that; none where the list ends there.
     pub(crate) fn next_shared(&self, seat: &mut Pass, cursor: usize) -> Option<u64>
-        requires seat { (seat.old.table_id ≡ table_of self.now) × (is_opener seat.old.me.0.role ≡ false) × IsOf self.now.setting seat.old.me.0 }
+        requires seat { IsSeated self.now seat.old }
         requires free { is_bound seat.old.me.0.hand.place ≡ false }
         requires cursor { cursor < self.now.setting.cursors }
         ensures same { IsSame seat.old seat.new }

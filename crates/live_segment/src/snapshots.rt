@@ -60,8 +60,8 @@ impl Segment {
     ghost use Rattle.segment_machine.specs.Note.{answers, MayNote, noted};
     ghost use Rattle.segment_machine.specs.Taking.{load_sum};
     ghost use Rattle.live_segment.specs.Holders.{MayStep, table_of};
+    ghost use Rattle.live_segment.specs.Seated.{IsSeated};
     ghost use Rattle.live_segment.specs.Known.{known_view, KnowsRight};
-    ghost use Rattle.live_segment.specs.Rule.{IsOf};
     ghost use Rattle.live_segment.specs.Steps.{IsAtRest, IsSame};
     ghost use Rattle.live_segment.specs.Snapshots.{HasSeenBuckets, HasSnapshot, saw_sum};
     ghost use Rattle.live_segment.specs.Taking.{answered_as};
@@ -74,7 +74,7 @@ impl Segment {
         histogram: &KnownHistogram,
         totals: &mut [(i32, u64)],
     )
-        requires seat { (seat.old.table_id ≡ table_of self.now) × IsOf self.now.setting seat.old.me.0 }
+        requires seat { IsSeated self.now seat.old }
         requires rests { IsAtRest seat.old.me.0 }
         requires right { KnowsRight self.now.setting seat.old.me.0 histogram.now }
         requires bucketed { has_buckets histogram.now.spec ≡ true }
@@ -136,7 +136,7 @@ impl Segment {
         histogram: &KnownHistogram,
         mut totals: Vec<(i32, u64)>,
     ) -> Snapshot
-        requires seat { (seat.old.table_id ≡ table_of self.now) × IsOf self.now.setting seat.old.me.0 }
+        requires seat { IsSeated self.now seat.old }
         requires rests { IsAtRest seat.old.me.0 }
         requires right { KnowsRight self.now.setting seat.old.me.0 histogram.now }
         requires bucketed { has_buckets histogram.now.spec ≡ true }
@@ -184,7 +184,7 @@ impl Segment {
         histogram: &KnownHistogram,
         mut totals: Vec<(i32, u64)>,
     ) -> Snapshot
-        requires seat { (seat.old.table_id ≡ table_of self.now) × IsOf self.now.setting seat.old.me.0 }
+        requires seat { IsSeated self.now seat.old }
         requires rests { IsAtRest seat.old.me.0 }
         requires right { KnowsRight self.now.setting seat.old.me.0 histogram.now }
         requires sparse { histogram.now.spec ≡ Sparse }
@@ -227,7 +227,7 @@ impl Segment {
         histogram: &KnownHistogram,
         totals: Vec<(i32, u64)>,
     ) -> Snapshot
-        requires seat { (seat.old.table_id ≡ table_of self.now) × IsOf self.now.setting seat.old.me.0 }
+        requires seat { IsSeated self.now seat.old }
         requires rests { IsAtRest seat.old.me.0 }
         requires right { KnowsRight self.now.setting seat.old.me.0 histogram.now }
         requires totals { OpensWith self.now histogram.now totals }

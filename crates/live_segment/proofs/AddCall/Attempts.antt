@@ -23,8 +23,8 @@ use Rattle.segment_machine.specs.Packing.{load_single, pack, after_pack, IsSingl
 use Rattle.segment_promises.specs.Follows.{noted_by}
 use Rattle.live_segment.specs.declared.segment.Segment.{Segment}
 use Rattle.live_segment.specs.declared.bucket_counting.PackAttempt.TheVariants.{Packed, Off, Passed}
-use Rattle.live_segment.specs.Holders.{table_of, MayStep}
-use Rattle.live_segment.specs.Rule.{IsOf}
+use Rattle.live_segment.specs.Holders.{MayStep}
+use Rattle.live_segment.specs.Seated.{IsSeated}
 use Rattle.live_segment.specs.Steps.{Pass, IsSame, Stepped}
 use Rattle.segment_promises.specs.Onward.{SeesOn}
 use Rattle.live_segment.specs.GhostNotes.{MayPack, HasPacked, Noted, bucket_entry, bucket_notes}
@@ -42,10 +42,16 @@ is_on word below = by_test (nat_le (2 ^ 63) word) refl
     by_test true e = let le = leb-true (2 ^ 63) word e in absurd (omega (arith, le, below))
     by_test false e = refl
 
-module _ (segment : Segment) (known : Known) (bucket units : ℕ) (first old : Pass) (table : first.table_id ≡ table_of segment)
-    (of : IsOf segment.setting first.me.0) (may : MayCount first.me.0 known bucket units) (same : IsSame first old)
-    (looks : LooksFor (bucket_entry known bucket units) first.me.0 old.me.0) (done : old.me.0.done ≡ first.me.0.done)
-    (counts : old.me.0.seen.counts ≡ first.me.0.seen.counts) where
+-- between two attempts: what was asked, and what has become of it
+pub record IsPackingOn (segment : Segment) (known : Known) (bucket units : ℕ) (first old : Pass) : Type 0 where
+  pub seated : IsSeated segment first
+  pub may : MayCount first.me.0 known bucket units
+  pub same : IsSame first old
+  pub looks : LooksFor (bucket_entry known bucket units) first.me.0 old.me.0
+  pub done : old.me.0.done ≡ first.me.0.done
+  pub counts : old.me.0.seen.counts ≡ first.me.0.seen.counts
+
+module _ {segment : Segment} {known : Known} {bucket units : ℕ} {first old : Pass} (attempt : IsPackingOn segment known bucket units first old) where
   abbrev pub at : ℕ
   at = known.reference + 9
 
@@ -56,16 +62,16 @@ module _ (segment : Segment) (known : Known) (bucket units : ℕ) (first old : P
   version = old.me.0.segment.version
 
   still : MayCount old.me.0 known bucket units
-  still = may_yet first.me.0 old.me.0 known bucket units may looks
+  still = may_yet first.me.0 old.me.0 known bucket units attempt.may attempt.looks
 
   pub may_load : MayStep segment old (packing_event (load_single known.reference))
   may_load = record {
-    table = same.0 ∙ table;
+    table = attempt.same.0 ∙ attempt.seated.table;
     recorder = still.counts.recorder;
     ready = (still.counts.free, (known, knows old.me.0 known bucket units still));
   }
 
-  module _ (word : ℕ) (seat : Pass) (step : Stepped old (packing_event (load_single known.reference)) word seat) where
+  module _ {word : ℕ} {seat : Pass} (step : Stepped old (packing_event (load_single known.reference)) word seat) where
     abbrev look : Look
     look = record (look_of old.me.0.hand.place known.reference) { single = Some word }
 
@@ -76,21 +82,21 @@ module _ (segment : Segment) (known : Known) (bucket units : ℕ) (first old : P
     learned = step.learned known (knows old.me.0 known bucket units still)
 
     pub same_seat : IsSame first seat
-    same_seat = (step.same.0 ∙ same.0, step.same.1 ∙ same.1, step.same.2 ∙ same.2)
+    same_seat = (step.same.0 ∙ attempt.same.0, step.same.1 ∙ attempt.same.1, step.same.2 ∙ attempt.same.2)
 
     pub looks_at : LooksFor (bucket_entry known bucket units) first.me.0 seat.me.0
-    looks_at = looks_for_on first.me.0 old.me.0 seat.me.0 known (bucket_entry known bucket units) may.counts looks
+    looks_at = looks_for_on first.me.0 old.me.0 seat.me.0 known (bucket_entry known bucket units) attempt.may.counts attempt.looks
         (looks_for (bucket_entry known bucket units) old.me.0 seat.me.0
         (subst (LooksOn old.me.0) (sym step.view) (singled old.me.0 (Looking look) (seen_here ∷ []) refl)))
 
     pub done_still : seat.me.0.done ≡ first.me.0.done
-    done_still = ap (λ (x : Actor). x.done) step.view ∙ done
+    done_still = ap (λ (x : Actor). x.done) step.view ∙ attempt.done
 
     pub counts_still : seat.me.0.seen.counts ≡ first.me.0.seen.counts
-    counts_still = ap (λ (x : Actor). x.seen.counts) step.view ∙ counts
+    counts_still = ap (λ (x : Actor). x.seen.counts) step.view ∙ attempt.counts
 
     loaded_may : MayCount seat.me.0 known bucket units
-    loaded_may = may_yet first.me.0 seat.me.0 known bucket units may looks_at
+    loaded_may = may_yet first.me.0 seat.me.0 known bucket units attempt.may looks_at
 
     singles : seat.me.0.seen.singles ≡ old.me.0.seen.singles ++ seen_here ∷ []
     singles = ap (λ (x : Actor). x.seen.singles) step.view
@@ -101,7 +107,7 @@ module _ (segment : Segment) (known : Known) (bucket units : ℕ) (first old : P
 
     since : Contains (drop (length first.me.0.seen.singles) seat.me.0.seen.singles) seen_here
     since =
-        let (more, is) = looks.proceeds.seen.singles in
+        let (more, is) = attempt.looks.proceeds.seen.singles in
         let begin = first.me.0.seen.singles in
         let all : seat.me.0.seen.singles ≡ begin ++ (more ++ seen_here ∷ []) =
         singles ∙ (ap (λ (l : List Sighting). l ++ seen_here ∷ []) is ∙ append_assoc begin more (seen_here ∷ [])) in
@@ -122,14 +128,17 @@ module _ (segment : Segment) (known : Known) (bucket units : ℕ) (first old : P
     tries_passed on none = (looks_at, done_still, counts_still, (word, since, is_on word on, none))
 
     -- the word has a form that can be packed
-    pub formed : word < 2 ^ 63 → (word ≡ 0) ⊎ (1 ≤ word % 2 ^ 32)
+    formed : word < 2 ^ 63 → (word ≡ 0) ⊎ (1 ≤ word % 2 ^ 32)
     formed on = by (on_units version n word learned.0 (is_on word on))
       where
         by : {X : Type 0} → (word ≡ 0) ⊎ ((1 ≤ word % 2 ^ 32) × X) → (word ≡ 0) ⊎ (1 ≤ word % 2 ^ 32)
         by (inl none) = inl none
         by (inr (some, form)) = inr some
 
-    module _ (on : word < 2 ^ 63) (packed : ℕ) (packs : IsPacking bucket units word packed) where
+    module _ (on : word < 2 ^ 63) {packed : ℕ} (would_pack : (word ≡ 0) ⊎ (1 ≤ word % 2 ^ 32) → IsPacking bucket units word packed) where
+      packs : IsPacking bucket units word packed
+      packs = would_pack (formed on)
+
       abbrev x : Actor
       x = noted_by seat.me.0 (bucket_notes seat.me.0 known bucket units)
 
@@ -151,7 +160,7 @@ module _ (segment : Segment) (known : Known) (bucket units : ℕ) (first old : P
             look,
             known,
             bucket,
-            (is_next seat.me.0 known (bucket_entry known bucket units) loaded_may.counts, ap (λ (z : Bool). false || z) (ne_eqb units 0 (let some = may.counts.some in λ e. omega (arith, e, some)))),
+            (is_next seat.me.0 known (bucket_entry known bucket units) loaded_may.counts, ap (λ (z : Bool). false || z) (ne_eqb units 0 (let some = attempt.may.counts.some in λ e. omega (arith, e, some)))),
             (ap (λ (y : Actor). y.hand.place) only ∙ placed, looks_there old.me.0.hand.place known.reference, refl, is_on word on, knows_still),
             refl,
             (below, refl),
@@ -172,7 +181,7 @@ module _ (segment : Segment) (known : Known) (bucket units : ℕ) (first old : P
         tries_packed won =
             let view : after.me.0 ≡ after_pack true x known.reference packed found =
             told.view ∙ ap (λ (b : Bool). after_pack b x known.reference packed found) (eq-eqb found word won) in
-            counted_behind first.me.0 seat.me.0 after.me.0 known (bucket_entry known bucket units) may.counts looks_at (ap (λ d. d.filled) done_still)
+            counted_behind first.me.0 seat.me.0 after.me.0 known (bucket_entry known bucket units) attempt.may.counts looks_at (ap (λ d. d.filled) done_still)
             (counted seat.me.0 after.me.0 known (bucket_entry known bucket units) (record x.hand { place = Idle }) (record x.seen { singles = x.seen.singles ++ sight at packed })
             loaded_may.counts refl
             (subst (λ (y : Actor). SeesOn seat.me.0.seen (record y.seen { singles = y.seen.singles ++ sight at packed })) (sym only) (sees_single seat.me.0.seen (sight at packed)))
@@ -186,14 +195,16 @@ module _ (segment : Segment) (known : Known) (bucket units : ℕ) (first old : P
               × (after.me.0.seen.counts ≡ seat.me.0.seen.counts) × (after.me.0.seen.singles ≡ seat.me.0.seen.singles ++ sight at found)
           came_late = late seat.me.0 after.me.0 known (bucket_entry known bucket units) (record x.hand { place = Idle }) (sight at found) loaded_may.counts refl view
 
-          pub looks_after : LooksFor (bucket_entry known bucket units) first.me.0 after.me.0
-          looks_after = looks_for_on first.me.0 seat.me.0 after.me.0 known (bucket_entry known bucket units) may.counts looks_at came_late.0
-
-          pub done_after : after.me.0.done ≡ first.me.0.done
-          done_after = came_late.1 ∙ done_still
-
-          pub counts_after : after.me.0.seen.counts ≡ first.me.0.seen.counts
-          counts_after = came_late.2 ∙ counts_still
+          -- it tries again
+          pub attempted : IsPackingOn segment known bucket units first after
+          attempted = record {
+            seated = attempt.seated;
+            may = attempt.may;
+            same = same_after;
+            looks = looks_for_on first.me.0 seat.me.0 after.me.0 known (bucket_entry known bucket units) attempt.may.counts looks_at came_late.0;
+            done = came_late.1 ∙ done_still;
+            counts = came_late.2 ∙ counts_still;
+          }
 
           -- what the exchange found is further on
           further : rank version n word < rank version n found
@@ -209,7 +220,7 @@ module _ (segment : Segment) (known : Known) (bucket units : ℕ) (first old : P
           pub falls : 65536 - last_rank segment.setting.version n at after.me.0.seen.singles
               < 65536 - last_rank segment.setting.version n at old.me.0.seen.singles
           falls = subst (λ (v : ℕ). 65536 - last_rank v n at after.me.0.seen.singles < 65536 - last_rank v n at old.me.0.seen.singles)
-              (ap (λ (y : Actor). y.segment.version) looks.proceeds.same ∙ of.version) less
+              (ap (λ (y : Actor). y.segment.version) attempt.looks.proceeds.same ∙ attempt.seated.of.version) less
             where
               less : 65536 - last_rank version n at after.me.0.seen.singles < 65536 - last_rank version n at old.me.0.seen.singles
               less =

@@ -130,29 +130,34 @@ module _ (known : Known) (bucket units counts : ℕ) (seat : Pass) (may : MayCou
   pub adds : (found : ℕ) (after : Pass) → HasAddedTo seat at units found after → HasCounted (bucket_entry known bucket units) a after.me.0
   adds found after has = counted_at known (bucket_entry known bucket units) at found seat after may.counts (has_told found after has)
 
--- it had looked before
-module _ (segment : Segment) (known : Known) (bucket units counts : ℕ) (old seat : Pass) (may : MayCount old.me.0 known bucket units)
-    (looks : LooksFor (bucket_entry known bucket units) old.me.0 seat.me.0) (filled : seat.me.0.done.filled ≡ old.me.0.done.filled)
-    (off : StandsOff seat.me.0 known counts) (below : bucket < buckets_of known.spec) where
-  may_here : MayCount seat.me.0 known bucket units
-  may_here = may_yet old.me.0 seat.me.0 known bucket units may looks
+-- it looks at counts in use, and may add units of a bucket to the count of that
+pub record IsAtCounts (known : Known) (bucket units counts : ℕ) (old seat : Pass) : Type 0 where
+  pub may : MayCount old.me.0 known bucket units
+  pub looks : LooksFor (bucket_entry known bucket units) old.me.0 seat.me.0
+  pub filled : seat.me.0.done.filled ≡ old.me.0.done.filled
+  pub off : StandsOff seat.me.0 known counts
 
-  pub room_here : IsOf segment.setting old.me.0 → counts + 4 + bucket < segment.setting.shape.size
-  room_here of = subst (λ (shape : Dimensions). counts + 4 + bucket < shape.size) (ap (λ (b : Actor). b.segment.shape) looks.proceeds.same ∙ of.shape)
-      (count_within known bucket units counts seat may_here off below)
+module _ {known : Known} {bucket units counts : ℕ} {old seat : Pass} (is : IsAtCounts known bucket units counts old seat) (below : bucket < buckets_of known.spec) where
+  may_here : MayCount seat.me.0 known bucket units
+  may_here = may_yet old.me.0 seat.me.0 known bucket units is.may is.looks
+
+  pub room_here : (segment : Segment) → IsOf segment.setting old.me.0 → counts + 4 + bucket < segment.setting.shape.size
+  room_here segment of = subst (λ (shape : Dimensions). counts + 4 + bucket < shape.size) (ap (λ (b : Actor). b.segment.shape) is.looks.proceeds.same ∙ of.shape)
+      (count_within known bucket units counts seat may_here is.off below)
 
   pub may_add_here : MayAddTo seat (counts + 4 + bucket) units
-  may_add_here = may_add known bucket units counts seat may_here off below
+  may_add_here = may_add known bucket units counts seat may_here is.off below
 
   module _ (found : ℕ) (after : Pass) (has : HasAddedTo seat (counts + 4 + bucket) units found after) where
     pub same_here : IsSame old seat → IsSame old after
     same_here same =
-        let told = has_told known bucket units counts seat may_here off below found after has in
+        let told = has_told known bucket units counts seat may_here is.off below found after has in
         (told.same.0 ∙ same.0, told.same.1 ∙ same.1, told.same.2 ∙ same.2)
 
     pub counted_here : HasCounted (bucket_entry known bucket units) old.me.0 after.me.0
     counted_here =
-        counted_behind old.me.0 seat.me.0 after.me.0 known (bucket_entry known bucket units) may.counts looks filled (adds known bucket units counts seat may_here off below found after has)
+        counted_behind old.me.0 seat.me.0 after.me.0 known (bucket_entry known bucket units) is.may.counts is.looks is.filled
+        (adds known bucket units counts seat may_here is.off below found after has)
 
 -- ---- behind an attempt to pack
 
@@ -165,8 +170,8 @@ module _ (known : Known) (bucket units : ℕ) (old mid : Pass) (may : MayCount o
     pub counts_off : MayCount mid.me.0 known bucket units
     counts_off = may_yet old.me.0 mid.me.0 known bucket units may looks_off
 
-    module _ (found : ℕ) (seat : Pass) (step : Stepped mid (counting_event (load_counts known.reference)) found seat) where
-      pub stands_off : StandsOff seat.me.0 known found
+    module _ {found : ℕ} {seat : Pass} (step : Stepped mid (counting_event (load_counts known.reference)) found seat) where
+      stands_off : StandsOff seat.me.0 known found
       stands_off =
           let (word, counts, placed, off, saw) = tried.3 in
           let there : found ≢ 0 = step.learned.1.1 word saw off in
@@ -176,13 +181,15 @@ module _ (known : Known) (bucket units : ℕ) (old mid : Pass) (may : MayCount o
             (there, step.learned.0 known (knows mid.me.0 known bucket units counts_off) there),
           )
 
-      pub looks_off_on : LooksFor (bucket_entry known bucket units) old.me.0 seat.me.0
-      looks_off_on = looks_for_on old.me.0 mid.me.0 seat.me.0 known (bucket_entry known bucket units) may.counts looks_off
-          (looks_for (bucket_entry known bucket units) mid.me.0 seat.me.0 (subst (LooksOn mid.me.0) (sym step.view)
-          (with_words mid.me.0 (next mid.me.0 (counting_event (load_counts known.reference)) found).hand (sight_counts known.reference found) refl)))
-
-      pub filled_off : seat.me.0.done.filled ≡ old.me.0.done.filled
-      filled_off = ap (λ (b : Actor). b.done.filled) step.view ∙ ap (λ d. d.filled) tried.1
+      pub at_counts_off : IsAtCounts known bucket units found old seat
+      at_counts_off = record {
+        may = may;
+        looks = looks_for_on old.me.0 mid.me.0 seat.me.0 known (bucket_entry known bucket units) may.counts looks_off
+            (looks_for (bucket_entry known bucket units) mid.me.0 seat.me.0 (subst (LooksOn mid.me.0) (sym step.view)
+            (with_words mid.me.0 (next mid.me.0 (counting_event (load_counts known.reference)) found).hand (sight_counts known.reference found) refl)));
+        filled = ap (λ (b : Actor). b.done.filled) step.view ∙ ap (λ d. d.filled) tried.1;
+        off = stands_off;
+      }
 
   -- the single word cannot take them: counts are found or made
   module _ (tried : Tries known bucket units old.me.0 Passed mid.me.0) where
@@ -195,13 +202,14 @@ module _ (known : Known) (bucket units : ℕ) (old mid : Pass) (may : MayCount o
     -- they are in use then
     module _ (counts : ℕ) (with_counts seat : Pass) (mounted : HasMounted known mid.me.0 counts with_counts.me.0)
         (disabled : HasDisabled known counts with_counts.me.0 seat.me.0) where
-      pub looks_passed_on : LooksFor (bucket_entry known bucket units) old.me.0 seat.me.0
-      looks_passed_on =
-          let first = looks_for_on old.me.0 mid.me.0 with_counts.me.0 known (bucket_entry known bucket units) may.counts looks_passed (looks_for (bucket_entry known bucket units) mid.me.0 with_counts.me.0 mounted.looks) in
-          looks_for_on old.me.0 with_counts.me.0 seat.me.0 known (bucket_entry known bucket units) may.counts first (looks_for (bucket_entry known bucket units) with_counts.me.0 seat.me.0 disabled.looks)
-
-      pub filled_passed : seat.me.0.done.filled ≡ old.me.0.done.filled
-      filled_passed = ap (λ d. d.filled) disabled.done ∙ (mounted.filled ∙ ap (λ d. d.filled) tried.1)
+      pub at_counts_passed : IsAtCounts known bucket units counts old seat
+      at_counts_passed =
+          let first = looks_for_on old.me.0 mid.me.0 with_counts.me.0 known (bucket_entry known bucket units) may.counts looks_passed (looks_for (bucket_entry known bucket units) mid.me.0 with_counts.me.0 mounted.looks) in record {
+            may = may;
+            looks = looks_for_on old.me.0 with_counts.me.0 seat.me.0 known (bucket_entry known bucket units) may.counts first (looks_for (bucket_entry known bucket units) with_counts.me.0 seat.me.0 disabled.looks);
+            filled = ap (λ d. d.filled) disabled.done ∙ (mounted.filled ∙ ap (λ d. d.filled) tried.1);
+            off = disabled.stands;
+          }
 
     -- a single word that cannot take them is seen still
     pub turned : (why : Refusal) (new : Pass) → HasNotMounted why known mid.me.0 new.me.0 → IsTurnedAway why known bucket units old.me.0 new.me.0

@@ -22,12 +22,12 @@ use Rattle.segment_machine.specs.Form.{is_off, off_word, units_in, Leads}
 use Rattle.segment_machine.specs.Packing.{load_single, disable, add_moved, after_disable, after_disabling, IsSingleOf}
 use Rattle.segment_invariant.proofs.Packing.OffForms.{on_form}
 use Rattle.live_segment.specs.declared.segment.Segment.{Segment}
-use Rattle.live_segment.specs.Holders.{table_of, MayStep}
-use Rattle.live_segment.specs.Mounting.{MayMount, HasDisabled}
-use Rattle.live_segment.specs.Rule.{IsOf}
+use Rattle.live_segment.specs.Holders.{MayStep}
+use Rattle.live_segment.specs.Seated.{IsSeated}
+use Rattle.live_segment.specs.Mounting.{MayMount, HasDisabled, LooksAtCounts}
 use Rattle.live_segment.specs.Steps.{Pass, IsSame, Stepped}
 use Rattle.live_segment.specs.Working.{CountsWithin, LooksAt, LooksOn}
-use Rattle.live_segment.proofs.Seating.Proceeding.{does_not, looks_on}
+use Rattle.live_segment.proofs.Seating.Proceeding.{does_not, looks_on, sees_not}
 use Rattle.segment_promises.proofs.Growing.{grows_by, grows_not}
 use Rattle.live_segment.proofs.AddCall.Beginning.{singled}
 use Rattle.live_segment.proofs.AddCall.Attempts.{is_on}
@@ -44,10 +44,34 @@ off_is version word = le-leb (2 ^ 63) (off_word version word) (by (version == 2)
     by false true = omega arith
     by false false = omega arith
 
-module _ (segment : Segment) (known : Known) (counts : ℕ) (first old : Pass) (table : first.table_id ≡ table_of segment)
-    (of : IsOf segment.setting first.me.0) (may : MayMount first.me.0 known) (within : CountsWithin first.me.0 known counts) (same : IsSame first old)
-    (looks : LooksOn first.me.0 old.me.0) (done : old.me.0.done ≡ first.me.0.done)
-    (stands : (single : Option ℕ) × LooksAt old.me.0 known.reference single counts) where
+-- between two attempts: what was asked, and what has become of it
+pub record IsDisabling (segment : Segment) (known : Known) (counts : ℕ) (first old : Pass) : Type 0 where
+  pub seated : IsSeated segment first
+  pub may : MayMount first.me.0 known
+  pub within : CountsWithin first.me.0 known counts
+  pub same : IsSame first old
+  pub looks : LooksOn first.me.0 old.me.0
+  pub done : old.me.0.done ≡ first.me.0.done
+  pub stands : (single : Option ℕ) × LooksAt old.me.0 known.reference single counts
+
+-- before the first attempt it has not even looked
+pub disabling : {segment : Segment} {known : Known} {counts : ℕ} {first : Pass} → IsSeated segment first → MayMount first.me.0 known
+    → LooksAtCounts first.me.0 known counts → IsDisabling segment known counts first first
+disabling {first = first} seated may stands = record {
+  seated = seated;
+  may = may;
+  within = stands.1;
+  same = (refl, refl, refl);
+  looks = record {
+    proceeds = record { same = refl; free = may.free; done = does_not first.me.0.done; seen = sees_not first.me.0.seen };
+    units = refl;
+    entries = refl;
+  };
+  done = refl;
+  stands = stands.0;
+}
+
+module _ {segment : Segment} {known : Known} {counts : ℕ} {first old : Pass} (attempt : IsDisabling segment known counts first old) where
   abbrev at : ℕ
   at = known.reference + 9
 
@@ -58,10 +82,10 @@ module _ (segment : Segment) (known : Known) (counts : ℕ) (first old : Pass) (
   version = old.me.0.segment.version
 
   still : MayMount old.me.0 known
-  still = mounts_on first.me.0 old.me.0 known may looks
+  still = mounts_on first.me.0 old.me.0 known attempt.may attempt.looks
 
   pub may_load : MayStep segment old (packing_event (load_single known.reference))
-  may_load = record { table = same.0 ∙ table; recorder = still.recorder; ready = (still.free, (known, still.knows)) }
+  may_load = record { table = attempt.same.0 ∙ attempt.seated.table; recorder = still.recorder; ready = (still.free, (known, still.knows)) }
 
   module _ (word : ℕ) (seat : Pass) (step : Stepped old (packing_event (load_single known.reference)) word seat) where
     abbrev b : Actor
@@ -79,7 +103,7 @@ module _ (segment : Segment) (known : Known) (counts : ℕ) (first old : Pass) (
 
     placed : b.hand.place ≡ Looking (look (Some word))
     placed = ap (λ (x : Actor). x.hand.place) step.view
-        ∙ ap (λ (l : Look). Looking (record l { single = Some word })) (looks_again old.me.0.hand.place (look stands.0) known.reference stands.1 refl)
+        ∙ ap (λ (l : Look). Looking (record l { single = Some word })) (looks_again old.me.0.hand.place (look attempt.stands.0) known.reference attempt.stands.1 refl)
 
     looks_here : look_of b.hand.place known.reference ≡ look (Some word)
     looks_here = looks_again b.hand.place (look (Some word)) known.reference placed refl
@@ -89,19 +113,19 @@ module _ (segment : Segment) (known : Known) (counts : ℕ) (first old : Pass) (
         (singled old.me.0 (next old.me.0 (packing_event (load_single known.reference)) word).hand.place (sight (known.reference + 9) word) refl)
 
     looks_still : LooksOn first.me.0 b
-    looks_still = looks_on first.me.0 old.me.0 b looks loads
+    looks_still = looks_on first.me.0 old.me.0 b attempt.looks loads
 
     done_still : b.done ≡ first.me.0.done
-    done_still = ap (λ (x : Actor). x.done) step.view ∙ done
+    done_still = ap (λ (x : Actor). x.done) step.view ∙ attempt.done
 
     pub same_seat : IsSame first seat
-    same_seat = (step.same.0 ∙ same.0, step.same.1 ∙ same.1, step.same.2 ∙ same.2)
+    same_seat = (step.same.0 ∙ attempt.same.0, step.same.1 ∙ attempt.same.1, step.same.2 ∙ attempt.same.2)
 
     -- counts lie where they lay
     within_on : (c : Actor) → LooksOn first.me.0 c → CountsWithin c known counts
     within_on c on = (
-      within.0,
-      subst (λ (size : ℕ). counts + (4 + 2 * buckets_of known.spec) ≤ size) (sym (ap (λ (x : Actor). x.segment.shape.size) on.proceeds.same)) within.1,
+      attempt.within.0,
+      subst (λ (size : ℕ). counts + (4 + 2 * buckets_of known.spec) ≤ size) (sym (ap (λ (x : Actor). x.segment.shape.size) on.proceeds.same)) attempt.within.1,
     )
 
     pub finds_off : 2 ^ 63 ≤ word → HasDisabled known counts first.me.0 b
@@ -110,10 +134,10 @@ module _ (segment : Segment) (known : Known) (counts : ℕ) (first old : Pass) (
     module _ (on : word < 2 ^ 63) where
       pub may_disable : MayStep segment seat (packing_event (disable known.reference word))
       may_disable =
-          let it = mounts_on first.me.0 b known may looks_still in record {
-            table = step.same.0 ∙ (same.0 ∙ table);
+          let it = mounts_on first.me.0 b known attempt.may looks_still in record {
+            table = step.same.0 ∙ (attempt.same.0 ∙ attempt.seated.table);
             recorder = it.recorder;
-            ready = (look (Some word), known, (placed, refl, refl, is_on word on, it.knows), within.0, it.counts);
+            ready = (look (Some word), known, (placed, refl, refl, is_on word on, it.knows), attempt.within.0, it.counts);
           }
 
       module _ (found : ℕ) (after : Pass) (tried : Stepped seat (packing_event (disable known.reference word)) found after) where
@@ -140,7 +164,7 @@ module _ (segment : Segment) (known : Known) (counts : ℕ) (first old : Pass) (
               ∙ ap (λ (l : Look). with_place (after_disabling b.segment.version l word (form_seen b known.reference word))) looks_here)
 
           versions : segment.setting.version ≡ b.segment.version
-          versions = sym (ap (λ (x : Actor). x.segment.version) looks_still.proceeds.same ∙ of.version)
+          versions = sym (ap (λ (x : Actor). x.segment.version) looks_still.proceeds.same ∙ attempt.seated.of.version)
 
           view_as : (moves : Bool) → moves ≡ ((segment.setting.version == 1) && nat_lt 0 word) → after.me.0 ≡ with_place (place_by moves)
           view_as moves is = view ∙ ap (λ (x : Bool). with_place (place_by x)) (sym (is ∙ ap (λ (v : ℕ). (v == 1) && nat_lt 0 word) versions))
@@ -171,7 +195,7 @@ module _ (segment : Segment) (known : Known) (counts : ℕ) (first old : Pass) (
 
             form : form_seen b known.reference word ≡ Some (single.Packed (word / 2 ^ 32) (word % 2 ^ 32))
             form =
-                let it = mounts_on first.me.0 b known may looks_still in
+                let it = mounts_on first.me.0 b known attempt.may looks_still in
                 (λ i. single_of (ap (λ (x : Actor). x.segment.version) loads.proceeds.same i) (known_buckets (it.alone i)) word) ∙ formed.1
 
             moving : after.me.0.hand.place ≡ Moving (look (Some off)) (word / 2 ^ 32) (word % 2 ^ 32)
@@ -180,13 +204,13 @@ module _ (segment : Segment) (known : Known) (counts : ℕ) (first old : Pass) (
 
             pub may_move : MayStep segment after (packing_event (add_moved counts (word / 2 ^ 32) (word % 2 ^ 32)))
             may_move = record {
-              table = same_after.0 ∙ table;
-              recorder = ap (λ (x : Actor). is_opener x.role) (view_as true is) ∙ (mounts_on first.me.0 b known may looks_still).recorder;
+              table = same_after.0 ∙ attempt.seated.table;
+              recorder = ap (λ (x : Actor). is_opener x.role) (view_as true is) ∙ (mounts_on first.me.0 b known attempt.may looks_still).recorder;
               ready = (look (Some off), moving, refl);
             }
 
             pub moves_within : counts + 4 + word / 2 ^ 32 < first.me.0.segment.shape.size
-            moves_within = let below = formed.0 in let most = within.1 in omega (arith, below, most)
+            moves_within = let below = formed.0 in let most = attempt.within.1 in omega (arith, below, most)
 
             pub moved : (count : ℕ) (last : Pass) → Stepped after (packing_event (add_moved counts (word / 2 ^ 32) (word % 2 ^ 32))) count last
                 → HasDisabled known counts first.me.0 last.me.0
@@ -252,7 +276,7 @@ module _ (segment : Segment) (known : Known) (counts : ℕ) (first old : Pass) (
           pub falls : 65536 - last_rank segment.setting.version n at after.me.0.seen.singles
               < 65536 - last_rank segment.setting.version n at old.me.0.seen.singles
           falls = subst (λ (v : ℕ). 65536 - last_rank v n at after.me.0.seen.singles < 65536 - last_rank v n at old.me.0.seen.singles)
-              (ap (λ (y : Actor). y.segment.version) looks.proceeds.same ∙ of.version) less
+              (ap (λ (y : Actor). y.segment.version) attempt.looks.proceeds.same ∙ attempt.seated.of.version) less
             where
               less : 65536 - last_rank version n at after.me.0.seen.singles < 65536 - last_rank version n at old.me.0.seen.singles
               less =

@@ -9,16 +9,15 @@ use Rattle.segment_machine.specs.declared.actor.Given.{Given}
 use Rattle.segment_machine.specs.declared.actor.Made.TheVariants as made
 use Rattle.segment_machine.specs.declared.actor.Published.{Published}
 use Rattle.segment_machine.specs.declared.seen.Sighting.{Sighting}
-use Rattle.segment_machine.specs.Actor.{is_opener}
 use Rattle.segment_machine.specs.Event.{walking_event}
 use Rattle.segment_machine.specs.Made.{SawOther}
 use Rattle.segment_machine.specs.Walking.{load_next, records_met}
 use Rattle.segment_invariant.proofs.Lists.Maps.{contains_map}
 use Rattle.live_segment.specs.declared.sampling.SampleSearch.TheVariants as search
 use Rattle.live_segment.specs.declared.segment.Segment.{Segment}
-use Rattle.live_segment.specs.Rule.{IsOf}
 use Rattle.live_segment.specs.Steps.{Pass, Stepped}
-use Rattle.live_segment.specs.Holders.{table_of, MayStep}
+use Rattle.live_segment.specs.Holders.{MayStep}
+use Rattle.live_segment.specs.Seated.{IsSeated}
 use Rattle.segment_promises.specs.Values.{NoRepeats}
 use Rattle.live_segment.specs.Records.{KnowsOwnSamples}
 use Rattle.live_segment.specs.Finding.{Meets, SeesWords}
@@ -30,20 +29,19 @@ use Rattle.segment_promises.proofs.Growing.{others_still}
 
 -- ---- a next
 
-module _ (segment : Segment) (old : Pass) (histogram : ℕ) (value : ℤ) (at : ℕ)
-    (seat : (old.table_id ≡ table_of segment) × (is_opener old.me.0.role ≡ false) × IsOf segment.setting old.me.0) (walks : WalksBehind histogram value at old.me.0) where
+module _ {segment : Segment} {old : Pass} {histogram : ℕ} {value : ℤ} {at : ℕ} (seated : IsSeated segment old) (walks : WalksBehind histogram value at old.me.0) where
   abbrev given : List ℕ
   given = walks.front ++ histogram ∷ walks.given
 
   pub may_follow : MayStep segment old (walking_event (load_next at))
-  may_follow = way.may_follow segment old given at seat.0 seat.1 seat.2 walks.way
+  may_follow = way.may_follow seated walks.way
 
   pub room : at + 5 ≤ segment.setting.shape.size
-  room = way.room segment old given at seat.0 seat.1 seat.2 walks.way
+  room = way.room seated walks.way
 
   module _ (found : ℕ) (new : Pass) (load : Stepped old (walking_event (load_next at)) found new) where
     pub searched : HasSearched old.me.0 new.me.0
-    searched = way.searched segment old given at seat.0 seat.1 seat.2 walks.way found new load
+    searched = way.searched seated walks.way found new load
 
     others_then : All (SawOther new.me.0.seen histogram value) walks.given
     others_then = others_still old.me.0.seen new.me.0.seen searched.words histogram value walks.given walks.others
@@ -51,17 +49,17 @@ module _ (segment : Segment) (old : Pass) (histogram : ℕ) (value : ℤ) (at : 
     -- at the end of the list there is none, and so it has published none
     pub ends : NoRepeats old.me.0.seen.chain → KnowsOwnSamples old.me.0 → found ≡ 12 → FindsSample histogram value (search.End at) new.me.0
     ends once knows end =
-        let whole : given ≡ old.me.0.seen.chain = way.whole segment old given at seat.0 seat.1 seat.2 walks.way found new load once end in (
+        let whole : given ≡ old.me.0.seen.chain = way.whole seated walks.way found new load once end in (
           record {
             front = walks.front;
             given = walks.given;
-            way = way.way_still segment old given at seat.0 seat.1 seat.2 walks.way found new load once end;
+            way = way.way_still seated walks.way found new load once end;
             others = others_then;
           },
           (
             walks.front,
             walks.given,
-            way.chain_still segment old given at seat.0 seat.1 seat.2 walks.way found new load once end ∙ sym whole,
+            way.chain_still seated walks.way found new load once end ∙ sym whole,
             others_then,
           ),
           λ r has.
@@ -69,7 +67,7 @@ module _ (segment : Segment) (old : Pass) (histogram : ℕ) (value : ℤ) (at : 
               let published : Contains old.me.0.done.published p =
               subst (λ (l : List Published). Contains l p) (ap (λ (a : Actor). a.done.published) load.view) has in
               let listed : Contains old.me.0.seen.chain r = All-contains (Contains old.me.0.seen.chain) (records_met old.me.0) r
-              (way.met_all segment old given at seat.0 seat.1 seat.2 walks.way found new load once end)
+              (way.met_all seated walks.way found new load once end)
               (Contains-append_left
               (map (λ (p : Published). p.reference) old.me.0.done.published ++ map (λ (g : Given). g.reference) old.me.0.done.given)
               (filter (λ at. not (at == 12)) (old.me.0.seen.tails ++ map (λ (s : Sighting). s.word) old.me.0.seen.cursors)) r
@@ -81,14 +79,14 @@ module _ (segment : Segment) (old : Pass) (histogram : ℕ) (value : ℤ) (at : 
 
     module _ (miss : found ≢ 12) where
       pub meets : Meets found new.me.0
-      meets = way.meets segment old given at seat.0 seat.1 seat.2 walks.way found new load miss
+      meets = way.meets seated walks.way found new load miss
 
       pub room_found : found + 5 ≤ segment.setting.shape.size
-      room_found = way.room_found segment old given at seat.0 seat.1 seat.2 walks.way found new load miss
+      room_found = way.room_found seated walks.way found new load miss
 
       module _ (b : Actor) (sees : SeesWords new.me.0 b) where
         on : IsWalkProgress (given ++ found ∷ []) found b
-        on = way.way_on segment old given at seat.0 seat.1 seat.2 walks.way found new load miss b sees
+        on = way.way_on seated walks.way found new load miss b sees
 
         others_last : All (SawOther b.seen histogram value) walks.given
         others_last = others_still new.me.0.seen b.seen sees.words histogram value walks.given others_then

@@ -1,5 +1,6 @@
 -- A batch without a sum: its first items and its last one. Where the first ones are cut short, all of it is.
-use Rattle.std.proofs.Common.{◌≡◌, ◌+◌, ◌-◌, ◌≤◌, ℤ, ℕ, List, [], ◌∷◌, ◌++◌, map, take, length, get_or, sym, ap, ◌∙◌, subst, arith}
+use Rattle.std.proofs.Common.{◌≡◌, ◌+◌, ◌-◌, ◌<◌, ◌≤◌, ℤ, pos, ℕ, List, [], ◌∷◌, ◌++◌, map, take, length, get_or, sym, ap, ◌∙◌, subst, arith}
+use Rattle.std.specs.List.{All}
 use Rattle.std.proofs.Math.Seq.{take-length}
 use Rattle.std.proofs.lemmas.List.{take-append-le, take_more}
 use Rattle.atomic_table.proofs.Lists.{at_longer}
@@ -13,12 +14,22 @@ use Rattle.segment_machine.specs.Actor.{log_of}
 use Rattle.segment_machine.specs.Entry.{item_entry}
 use Rattle.live_segment.specs.Adding.{Pays}
 use Rattle.live_segment.specs.Batching.{IsCutShort}
+use Rattle.live_segment.proofs.BatchCall.Items.{within_all}
 
 pub front_and_last : (items : List (ℤ × ℕ)) (d : ℤ × ℕ) → 1 ≤ length items
     → take (length items - 1) items ++ get_or items (length items - 1) d ∷ [] ≡ items
 front_and_last items d some =
     let all : length items - 1 + 1 ≡ length items = omega (arith, some) in
     sym (take_more items (length items - 1) d (omega (arith, some))) ∙ (ap (λ (n : ℕ). take n items) all ∙ take-length items)
+
+-- the last item has units, and the share has those of all
+pub last_fits : (known : Known) (items : List (ℤ × ℕ)) (share : ℕ) → 1 ≤ length items → All (λ item. 1 ≤ item.1) items × (units_of items ≤ share)
+    → (1 ≤ (get_or items (length items - 1) (pos 0, 0)).1)
+    × (units_of (take (length items - 1) items) + (get_or items (length items - 1) (pos 0, 0)).1 ≤ share)
+last_fits known items share some (each, total) =
+    let within : length items - 1 < length items = omega (arith, some) in
+    let most = within_all known.name (boundaries_of known.spec) items (length items - 1) (pos 0, 0) within in
+    (each (length items - 1) (pos 0, 0) within, omega (arith, most, total))
 
 pub cut_before : (known : Known) (front behind : List (ℤ × ℕ)) (refusal : BatchRefusal) (old new : Actor) → IsCutShort known front refusal old new
     → IsCutShort known (front ++ behind) refusal old new

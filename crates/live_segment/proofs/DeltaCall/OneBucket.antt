@@ -136,7 +136,7 @@ none_packed (Some (Frozen b units)) bucket apart = ap (λ (t : Bool). if t then 
 
 -- ---- at the counts
 
-module _ (segment : Segment) (known : Known) (mounted : Mounted) (old : Pass) (takes : TakesAt segment known mounted old) where
+module _ {segment : Segment} {known : Known} {mounted : Mounted} {old : Pass} (takes : TakesAt segment known mounted old) where
   abbrev look : Look
   look = record { histogram = known.reference; single = Some takes.word; counts = mounted.counts }
 
@@ -193,7 +193,7 @@ module _ (segment : Segment) (known : Known) (mounted : Mounted) (old : Pass) (t
     room = let inside = subst (λ (s : Dimensions). mounted.counts + (4 + 2 * buckets_of known.spec) ≤ s.size) takes.of.shape takes.within.1 in
         omega (arith, inside, below)
 
-    module _ (count : ℕ) (mid : Pass) (load : Stepped old (taking_event (load_count at)) count mid) where
+    module _ {count : ℕ} {mid : Pass} (load : Stepped old (taking_event (load_count at)) count mid) where
       where_is : at_count old.me.0.hand.place at count ≡ CountLoaded look bucket count
       where_is =
           let bucket_is : at - (mounted.counts + 4) ≡ bucket = omega arith in
@@ -257,13 +257,13 @@ module _ (segment : Segment) (known : Known) (mounted : Mounted) (old : Pass) (t
               seen = record mid.me.0.seen { counts = mid.me.0.seen.counts ++ sight mark (max found least) };
             }) (marked key mine found least mid.me.0.deltas.taken is_key)) (sees_count mid.me.0.seen (sight mark (max found least)))
 
-        pub raises_on : TakesOn (units_of_key mine (least - found)) old.me.0 new.me.0
+        raises_on : TakesOn (units_of_key mine (least - found)) old.me.0 new.me.0
         raises_on = takes_then old.me.0 mid.me.0 new.me.0 [] (units_of_key mine (least - found)) loads_on raised
 
         pub same_raised : IsSame old new
         same_raised = (same.0 ∙ load.same.0, same.1 ∙ load.same.1, same.2 ∙ load.same.2)
 
-        pub stays_raised : TakesAt segment known mounted new
+        stays_raised : TakesAt segment known mounted new
         stays_raised =
             let there : new.me.0.hand.place ≡ Looking look = ap (λ (a : Actor). a.hand.place) view ∙ ap back placed in
             stays new (units_of_key mine (least - found)) same_raised raises_on
@@ -317,7 +317,7 @@ module _ (segment : Segment) (known : Known) (mounted : Mounted) (old : Pass) (t
           );
         }
 
-        pub key_packed : single_key mid.me.0 mid.me.0.hand.place ≡ bucket_key (Some known) bucket
+        key_packed : single_key mid.me.0 mid.me.0.hand.place ≡ bucket_key (Some known) bucket
         key_packed =
             let names = mid.me.0.answers.names in
             ap (single_key mid.me.0) placed
@@ -325,14 +325,17 @@ module _ (segment : Segment) (known : Known) (mounted : Mounted) (old : Pass) (t
             ∙ (ap (λ (p : Option ℕ). bucket_key (known_at names known.reference) (unwrap_or p 0)) holds
             ∙ ap (λ (k : Option Known). bucket_key k bucket) stays_loaded.alone))
 
-        module _ (found : ℕ) (new : Pass) (raise : Stepped mid (taking_event (raise_single_mark known.reference (count + mounted.kept))) found new) where
-          still : TakesAt segment known mounted new
-          still = stays_raised new _ (bucket_key (Some known) bucket) _ found (count + mounted.kept) raise.same key_packed raise.view
+        module _ {found : ℕ} {new : Pass} (raise : Stepped mid (taking_event (raise_single_mark known.reference (count + mounted.kept))) found new) where
+          pub stays_packed : TakesAt segment known mounted new
+          stays_packed = stays_raised new _ (bucket_key (Some known) bucket) _ found (count + mounted.kept) raise.same key_packed raise.view
+
+          pub raises_packed : TakesOn (units_of_key (bucket_key (Some known) bucket) (count + mounted.kept - found)) old.me.0 new.me.0
+          raises_packed = raises_on new _ (bucket_key (Some known) bucket) _ found (count + mounted.kept) raise.same key_packed raise.view
 
           pub took_packed : TookBucket new.me.0 known bucket
           took_packed =
               took new _ (bucket_key (Some known) bucket) _ found (count + mounted.kept) raise.same key_packed raise.view
-              (inl (still.word, still.saw, sym still.packed ∙ packs, refl)) total_is
+              (inl (stays_packed.word, stays_packed.saw, sym stays_packed.packed ∙ packs, refl)) total_is
 
       -- each other has its own behind the counts
       module _ (apart : mounted.packed ≢ Some bucket) where
@@ -345,7 +348,7 @@ module _ (segment : Segment) (known : Known) (mounted : Mounted) (old : Pass) (t
         pub nothing_there : count ≡ 0 → TookBucket mid.me.0 known bucket
         nothing_there none = took_nothing (count_is ∙ none)
 
-        pub key_other : taken_key mid.me.0 mid.me.0.hand.place ≡ bucket_key (Some known) bucket
+        key_other : taken_key mid.me.0 mid.me.0.hand.place ≡ bucket_key (Some known) bucket
         key_other = ap (taken_key mid.me.0) placed ∙ ap (λ (k : Option Known). bucket_key k bucket) stays_loaded.alone
 
         module _ (mark : ℕ) (where_mark : mark ≡ at + buckets_of known.spec) where
@@ -372,12 +375,16 @@ module _ (segment : Segment) (known : Known) (mounted : Mounted) (old : Pass) (t
             );
           }
 
-          module _ (found : ℕ) (new : Pass) (raise : Stepped mid (taking_event (raise_mark mark count)) found new) where
+          module _ {found : ℕ} {new : Pass} (raise : Stepped mid (taking_event (raise_mark mark count)) found new) where
+            pub stays_other : TakesAt segment known mounted new
+            stays_other = stays_raised new _ (bucket_key (Some known) bucket) mark found count raise.same key_other raise.view
+
+            pub raises_other : TakesOn (units_of_key (bucket_key (Some known) bucket) (count - found)) old.me.0 new.me.0
+            raises_other = raises_on new _ (bucket_key (Some known) bucket) mark found count raise.same key_other raise.view
+
             pub took_other : TookBucket new.me.0 known bucket
             took_other =
-                let mine = bucket_key (Some known) bucket in
-                let still : TakesAt segment known mounted new = stays_raised new _ mine mark found count raise.same key_other raise.view in
-                took new _ mine mark found count raise.same key_other raise.view (inr (mounted.counts, still.there, stands_mark)) count_is
+                took new _ (bucket_key (Some known) bucket) mark found count raise.same key_other raise.view (inr (mounted.counts, stays_other.there, stands_mark)) count_is
 
 -- whether a bucket is the packed one
 pub is_packed : (packed : Option ℕ) (bucket : ℕ) → option_eq nat_eq packed (Some bucket) ≡ true → packed ≡ Some bucket

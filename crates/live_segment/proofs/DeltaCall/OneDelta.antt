@@ -34,7 +34,8 @@ use Rattle.segment_invariant.proofs.Consistency.Marks.{packed_all}
 use Rattle.segment_invariant.proofs.Lists.Maps.{contains_map}
 use Rattle.live_segment.specs.declared.segment.Segment.{Segment}
 use Rattle.live_segment.specs.Deltas.{HasTakenBuckets, TakesAt, TakesOn, TakesWord, units_of_key}
-use Rattle.live_segment.specs.Holders.{MayStep, table_of}
+use Rattle.live_segment.specs.Holders.{MayStep}
+use Rattle.live_segment.specs.Seated.{IsSeated}
 use Rattle.segment_promises.specs.Onward.{SeesOn}
 use Rattle.live_segment.specs.Rule.{IsOf}
 use Rattle.live_segment.specs.Steps.{IsAtRest, IsSame, Pass, Stepped}
@@ -50,8 +51,8 @@ use Rattle.segment_promises.proofs.Calls.Places.{looks_again, looks_there}
 
 -- ---- it begins
 
-module _ (segment : Segment) (known : Known) (first : Pass) (table : first.table_id ≡ table_of segment) (of : IsOf segment.setting first.me.0)
-    (rests : IsAtRest first.me.0) (alone : KnowsAlone first.me.0 known) (bucketed : has_buckets known.spec ≡ true) where
+module _ {segment : Segment} (known : Known) {first : Pass} (seated : IsSeated segment first) (rests : IsAtRest first.me.0)
+    (alone : KnowsAlone first.me.0 known) (bucketed : has_buckets known.spec ≡ true) where
   has : Contains first.me.0.answers.names known
   has = (known_there first.me.0.answers.names known.reference known alone).0
 
@@ -102,9 +103,9 @@ module _ (segment : Segment) (known : Known) (first : Pass) (table : first.table
 
     pub takes_word : TakesWord segment known word one
     takes_word = record {
-      table = told.same.0 ∙ table;
+      table = told.same.0 ∙ seated.table;
       recorder = ap (λ (a : Actor). is_opener a.role) view ∙ rests.recorder;
-      of = subst (IsOf segment.setting) (sym view) (record { shape = of.shape; version = of.version; cursors = of.cursors });
+      of = subst (IsOf segment.setting) (sym view) (record { shape = seated.of.shape; version = seated.of.version; cursors = seated.of.cursors });
       alone = subst (λ (a : Actor). KnowsAlone a known) (sym view) alone;
       bucketed = bucketed;
       takes = subst (λ (a : Actor). Takes a known.reference known) (sym view) (refl, has, refl, (first.me.0.deltas.taken, _, refl, refl));

@@ -15,7 +15,7 @@ use Rattle.segment_machine.specs.Walking.{load_next}
 use Rattle.segment_invariant.proofs.Lists.Maps.{contains_map}
 use Rattle.live_segment.specs.declared.segment.Segment.{Segment}
 use Rattle.live_segment.specs.Deltas.{HasTaken, HasTakenSum, MayTakeSum, TakesValues}
-use Rattle.live_segment.specs.Holders.{table_of}
+use Rattle.live_segment.specs.Seated.{IsSeated}
 use Rattle.segment_promises.specs.Onward.{SeesOn}
 use Rattle.segment_promises.specs.Values.{NoRepeats, AreSorted, ComesTo}
 use Rattle.live_segment.specs.Rule.{IsOf}
@@ -33,8 +33,8 @@ use Rattle.segment_promises.proofs.Calls.Places.{behind_apart, behind_free}
 
 -- ---- it begins
 
-module _ (segment : Segment) (known : Known) (first : Pass) (table : first.table_id ≡ table_of segment) (of : IsOf segment.setting first.me.0)
-    (rests : IsAtRest first.me.0) (alone : KnowsAlone first.me.0 known) (sparse : known.spec ≡ spec.Sparse) (front behind : List ℕ)
+module _ {segment : Segment} (known : Known) {first : Pass} (seated : IsSeated segment first) (rests : IsAtRest first.me.0)
+    (alone : KnowsAlone first.me.0 known) (sparse : known.spec ≡ spec.Sparse) (front behind : List ℕ)
     (split : first.me.0.seen.chain ≡ front ++ known.reference ∷ behind) where
   has : Contains first.me.0.answers.names known
   has = (known_there first.me.0.answers.names known.reference known alone).0
@@ -82,9 +82,9 @@ module _ (segment : Segment) (known : Known) (first : Pass) (table : first.table
 
     pub takes_values : TakesValues segment known one
     takes_values = record {
-      table = told.same.0 ∙ table;
+      table = told.same.0 ∙ seated.table;
       recorder = ap (λ (a : Actor). is_opener a.role) view ∙ rests.recorder;
-      of = subst (IsOf segment.setting) (sym view) (record { shape = of.shape; version = of.version; cursors = of.cursors });
+      of = subst (IsOf segment.setting) (sym view) (record { shape = seated.of.shape; version = seated.of.version; cursors = seated.of.cursors });
       alone = subst (λ (a : Actor). KnowsAlone a known) (sym view) alone;
       sparse = sparse;
       takes = subst (λ (a : Actor). Takes a known.reference known) (sym view) (refl, has, refl, (first.me.0.deltas.taken, _, refl, refl));

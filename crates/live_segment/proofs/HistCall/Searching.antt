@@ -28,9 +28,9 @@ use Rattle.segment_invariant.proofs.Lists.Maps.{contains_map}
 use Rattle.segment_calls.specs.declared.asked.Asked.{Asked}
 use Rattle.live_segment.specs.declared.finding.Search.TheVariants as search
 use Rattle.live_segment.specs.declared.segment.Segment.{Segment}
-use Rattle.live_segment.specs.Rule.{IsOf}
 use Rattle.live_segment.specs.Steps.{Pass, IsSame, Stepped}
-use Rattle.live_segment.specs.Holders.{table_of, MayStep}
+use Rattle.live_segment.specs.Holders.{MayStep}
+use Rattle.live_segment.specs.Seated.{IsSeated}
 use Rattle.segment_promises.specs.Onward.{Grows}
 use Rattle.segment_promises.specs.Values.{NoRepeats}
 use Rattle.live_segment.specs.Records.{KnowsOwnNames}
@@ -83,8 +83,7 @@ sees_searched a b sees = record {
 
 -- ---- a next
 
-module _ (segment : Segment) (old : Pass) (name : List ℕ) (at : ℕ) (table : old.table_id ≡ table_of segment) (records : is_opener old.me.0.role ≡ false)
-    (of : IsOf segment.setting old.me.0) (walks : WalksAt name at old.me.0) where
+module _ {segment : Segment} {old : Pass} {name : List ℕ} {at : ℕ} (seated : IsSeated segment old) (walks : WalksAt name at old.me.0) where
   abbrev given : List ℕ
   given = walks.given
 
@@ -93,13 +92,13 @@ module _ (segment : Segment) (old : Pass) (name : List ℕ) (at : ℕ) (table : 
 
   pub may_follow : MayStep segment old (walking_event (load_next at))
   may_follow = record {
-    table = table;
-    recorder = records;
+    table = seated.table;
+    recorder = seated.recorder;
     ready = subst (λ (n : ℕ). Ready old.me.0 (walking_event (load_next n))) (sym walks.stands) (walks_agree 0 1 old.me.0 given (walks.free, walks.front)).1;
   }
 
   pub room : at + 5 ≤ segment.setting.shape.size
-  room = subst (λ (d : Dimensions). at + 5 ≤ d.size) of.shape walks.within
+  room = subst (λ (d : Dimensions). at + 5 ≤ d.size) seated.of.shape walks.within
 
   module _ (found : ℕ) (new : Pass) (load : Stepped old (walking_event (load_next at)) found new) where
     chain_is : new.me.0.seen.chain ≡ extended chain at found
@@ -182,7 +181,7 @@ module _ (segment : Segment) (old : Pass) (name : List ℕ) (at : ℕ) (table : 
       pub room_found : found + 5 ≤ segment.setting.shape.size
       room_found =
           (reference_behind segment.setting.shape.size found
-          (subst (λ (d : Dimensions). is_reference d.size found ≡ true) of.shape load.learned.reference) miss).1
+          (subst (λ (d : Dimensions). is_reference d.size found ≡ true) seated.of.shape load.learned.reference) miss).1
 
       -- what a walk knows that goes on behind a record of another name
       pub walks_then : (b : Actor) → SeesWords new.me.0 b → SawOtherName b.seen name found → WalksAt name found b
@@ -194,7 +193,7 @@ module _ (segment : Segment) (old : Pass) (name : List ℕ) (at : ℕ) (table : 
             front = subst (IsPrefix (given ++ found ∷ [])) (sym then_chain) longer.1;
             stands = sym (get_or_push (stops given) found 0 (length (given ++ found ∷ [])) (omega (arith, long)));
             within = subst (λ (d : Dimensions). found + 5 ≤ d.size)
-                (sym (ap (λ (x : Actor). x.segment.shape) sees.view ∙ (ap (λ (x : Actor). x.segment.shape) load.view ∙ of.shape))) room_found;
+                (sym (ap (λ (x : Actor). x.segment.shape) sees.view ∙ (ap (λ (x : Actor). x.segment.shape) load.view ∙ seated.of.shape))) room_found;
             others = All-push (SawOtherName b.seen name) given found (others_still new.me.0.seen b.seen sees.words name given others_then) other;
           }
 
@@ -226,7 +225,7 @@ module _ (segment : Segment) (old : Pass) (name : List ℕ) (at : ℕ) (table : 
           let most = last_most b.seen.chain found in
           let few = load.learned.few in
           let ends = ap length (ap (λ (x : Actor). x.seen.chain) sees.view ∙ chain_is) in
-          let size = ap (λ (d : Dimensions). d.size) of.shape in
+          let size = ap (λ (d : Dimensions). d.size) seated.of.shape in
           (omega (arith, far, near), omega (arith, most, few, ends, size))
 
 -- ---- a record of the name
@@ -241,32 +240,29 @@ name_still a b grows name at (tag, len, letters, spells, words) = (
 )
 
 -- a recorder's seat goes on at its segment
-pub seat_on : (segment : Segment) (first old : Pass) → (first.table_id ≡ table_of segment) × (is_opener first.me.0.role ≡ false) × IsOf segment.setting first.me.0
-    → IsSame first old → HasSearched first.me.0 old.me.0
-    → (old.table_id ≡ table_of segment) × (is_opener old.me.0.role ≡ false) × IsOf segment.setting old.me.0
-seat_on segment first old (table, records, of) same searched = (
-  same.0 ∙ table,
-  ap (λ (a : Actor). is_opener a.role) searched.view ∙ records,
-  record {
-    shape = ap (λ (a : Actor). a.segment.shape) searched.view ∙ of.shape;
-    version = ap (λ (a : Actor). a.segment.version) searched.view ∙ of.version;
-    cursors = ap (λ (a : Actor). a.segment.cursors) searched.view ∙ of.cursors;
-  },
-)
+pub seat_on : {segment : Segment} {first : Pass} (old : Pass) → IsSeated segment first → IsSame first old → HasSearched first.me.0 old.me.0 → IsSeated segment old
+seat_on old seated same searched = record {
+  table = same.0 ∙ seated.table;
+  recorder = ap (λ (a : Actor). is_opener a.role) searched.view ∙ seated.recorder;
+  of = record {
+    shape = ap (λ (a : Actor). a.segment.shape) searched.view ∙ seated.of.shape;
+    version = ap (λ (a : Actor). a.segment.version) searched.view ∙ seated.of.version;
+    cursors = ap (λ (a : Actor). a.segment.cursors) searched.view ∙ seated.of.cursors;
+  };
+}
 
-module _ (segment : Segment) (old : Pass) (asked : Asked) (is : IsAsked segment.setting.shape asked) (at : ℕ)
-    (seat : (old.table_id ≡ table_of segment) × (is_opener old.me.0.role ≡ false) × IsOf segment.setting old.me.0)
+module _ {segment : Segment} {old : Pass} {asked : Asked} (is : IsAsked segment.setting.shape asked) {at : ℕ} (seated : IsSeated segment old)
     (walks : WalksAt asked.name.items at old.me.0) (found : ℕ) (new : Pass) (load : Stepped old (walking_event (load_next at)) found new) (miss : found ≢ 12)
     (named : Actor) (sees : SeesWords new.me.0 named) (name : ShowsName asked found true named) (last : Actor) (then_sees : SeesWords named last) where
   all_seen : SeesWords new.me.0 last
   all_seen = sees_on new.me.0 named last sees then_sees
 
   it_meets : Meets found last
-  it_meets = subst (Meets found) (sym all_seen.view) (meets segment old asked.name.items at seat.0 seat.1 seat.2 walks found new load miss)
+  it_meets = subst (Meets found) (sym all_seen.view) (meets seated walks found new load miss)
 
   is_first : IsFirstNamed last.seen asked.name.items found
   is_first =
-      first_named segment old asked.name.items at seat.0 seat.1 seat.2 walks found new load miss last all_seen
+      first_named seated walks found new load miss last all_seen
       (name_still named.seen last.seen then_sees.words asked.name.items found name.0)
 
   pub met_spec : ShowsSpec asked found true last.seen → Searches asked (search.Met found) last

@@ -19,10 +19,10 @@ use Rattle.segment_promises.specs.Follows.{MayNoteAll, noted_by}
 use Rattle.live_segment.specs.declared.rule.Announcement.{Announcement}
 use Rattle.live_segment.specs.declared.segment.Segment.{Segment}
 use Rattle.live_segment.specs.Holders.{table_of, MayStep}
+use Rattle.live_segment.specs.Seated.{IsSeated}
 use Rattle.live_segment.specs.Listing.{asked_for, asking_notes, link_notes, MayLink, HasLinked}
 use Rattle.segment_promises.specs.Onward.{Grows}
 use Rattle.live_segment.specs.Publishing.{IsFilledAs, HasPublished, owed_as}
-use Rattle.live_segment.specs.Rule.{IsOf}
 use Rattle.live_segment.specs.Steps.{Pass, IsSame, Stepped}
 use Rattle.live_segment.specs.GhostNotes.{Noted}
 use Rattle.live_segment.proofs.NewRecords.Owned.{own_there, own_changed, others_stay}
@@ -57,13 +57,12 @@ pub record IsWaiting (first now : Pass) (at : ℕ) (made : Made) (own : Own) : T
 
 -- ---- the next of its own
 
-module _ (segment : Segment) (first : Pass) (at : ℕ) (made : Made) (is : IsFilledAs first.me.0 at made) (table : first.table_id ≡ table_of segment)
-    (records : is_opener first.me.0.role ≡ false) where
+module _ {segment : Segment} {first : Pass} {at : ℕ} {made : Made} (is : IsFilledAs first.me.0 at made) (seated : IsSeated segment first) where
   pub may_store : MayStep segment first (publishing_event (store_own_next at))
   may_store =
       let there = own_there at first.me.0.hand.own is.own is.stands in record {
-        table = table;
-        recorder = records;
+        table = seated.table;
+        recorder = seated.recorder;
         ready = (is.own, (there.0, is.next), there.1);
       }
 
@@ -123,18 +122,18 @@ owes own at (Sample histogram value) = refl
 
 -- ---- between two tries
 
-module _ (segment : Segment) (first old : Pass) (at : ℕ) (made : Made) (is : IsFilledAs first.me.0 at made) (table : first.table_id ≡ table_of segment)
-    (records : is_opener first.me.0.role ≡ false) (of : IsOf segment.setting first.me.0) (waits : IsWaiting first old at made is.own) where
+module _ {segment : Segment} {first old : Pass} {at : ℕ} {made : Made} (is : IsFilledAs first.me.0 at made) (seated : IsSeated segment first)
+    (waits : IsWaiting first old at made is.own) where
   shape_is : old.me.0.segment.shape ≡ segment.setting.shape
-  shape_is = ap (λ (a : Actor). a.segment.shape) waits.view ∙ of.shape
+  shape_is = ap (λ (a : Actor). a.segment.shape) waits.view ∙ seated.of.shape
 
   old_records : is_opener old.me.0.role ≡ false
-  old_records = ap (λ (a : Actor). is_opener a.role) waits.view ∙ records
+  old_records = ap (λ (a : Actor). is_opener a.role) waits.view ∙ seated.recorder
 
   pub may_load : MayStep segment old (publishing_event load_tail)
   may_load =
       let there = own_there at old.me.0.hand.own (queued is.own waits.what) waits.block in record {
-        table = waits.same.0 ∙ table;
+        table = waits.same.0 ∙ seated.table;
         recorder = old_records;
         ready = (waits.free, (queued is.own waits.what, (there.0, refl)));
       }
@@ -145,7 +144,7 @@ module _ (segment : Segment) (first old : Pass) (at : ℕ) (made : Made) (is : I
         (subst (λ (s : Dimensions). is_reference s.size tail ≡ true) shape_is step.learned)
 
     pub table_still : seat.table_id ≡ table_of segment
-    table_still = step.same.0 ∙ (waits.same.0 ∙ table)
+    table_still = step.same.0 ∙ (waits.same.0 ∙ seated.table)
 
     block_still : own_at seat.me.0.hand.own at ≡ Some (queued is.own waits.what)
     block_still = ap (λ (a : Actor). own_at a.hand.own at) step.view ∙ waits.block
@@ -219,7 +218,7 @@ module _ (segment : Segment) (first old : Pass) (at : ℕ) (made : Made) (is : I
 
         pub may_end : MayStep segment after (publishing_event (move_tail tail at))
         may_end = record {
-          table = same_after.0 ∙ table;
+          table = same_after.0 ∙ seated.table;
           recorder = after_records;
           ready = inl (ap (λ (a : Actor). a.hand.place) won);
         }
@@ -280,7 +279,7 @@ module _ (segment : Segment) (first old : Pass) (at : ℕ) (made : Made) (is : I
 
         pub may_go_on : MayStep segment after (publishing_event (move_tail tail found))
         may_go_on = record {
-          table = same_after.0 ∙ table;
+          table = same_after.0 ∙ seated.table;
           recorder = after_records;
           ready = inr (ap (λ (a : Actor). a.hand.place) lost);
         }
@@ -326,7 +325,7 @@ module _ (segment : Segment) (first old : Pass) (at : ℕ) (made : Made) (is : I
           falls =
               let few : 5 * (x.done.beaten + 1) + 16 ≤ x.segment.shape.size = told.learned.1 miss in
               let size : x.segment.shape.size ≡ segment.setting.shape.size =
-              ap (λ (a : Actor). a.segment.shape.size) viewed ∙ ap (λ (s : Dimensions). s.size) of.shape in
+              ap (λ (a : Actor). a.segment.shape.size) viewed ∙ ap (λ (s : Dimensions). s.size) seated.of.shape in
               let times : x.done.beaten ≡ old.me.0.done.beaten = ap (λ (a : Actor). a.done.beaten) viewed in
               let more = more_beaten in
               omega (arith, few, size, times, more)

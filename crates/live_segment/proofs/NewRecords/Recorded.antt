@@ -3,23 +3,22 @@ use Rattle.std.proofs.Common.{◌≡◌, ℕ, ◌+◌, ◌-◌, false, List, [],
 use Rattle.std.specs.Prelude.{Ok}
 use Rattle.segment_machine.specs.declared.actor.Actor.{Actor}
 use Rattle.segment_machine.specs.declared.actor.Made.TheVariants.{Histogram}
-use Rattle.segment_machine.specs.Actor.{is_bound, is_opener}
+use Rattle.segment_machine.specs.Actor.{is_bound}
 use Rattle.segment_machine.specs.Taking.{is_looking}
 use Rattle.segment_calls.specs.declared.asked.Asked.{Asked}
 use Rattle.live_segment.specs.declared.rule.Announcement.{Announcement}
 use Rattle.live_segment.specs.declared.segment.Segment.{Segment}
 use Rattle.live_segment.specs.Allocation.{Allocates, claimed}
 use Rattle.live_segment.specs.Finding.{IsAsked}
-use Rattle.live_segment.specs.Holders.{table_of}
+use Rattle.live_segment.specs.Seated.{IsSeated}
 use Rattle.live_segment.specs.Making.{HasFilled, HasMade, SaysAsked}
 use Rattle.live_segment.specs.Publishing.{HasPublished, HasPublishedFor}
 use Rattle.segment_promises.specs.Onward.{Grows}
-use Rattle.live_segment.specs.Rule.{IsOf}
 use Rattle.live_segment.specs.Searching.{asked_at}
 use Rattle.live_segment.specs.Steps.{Pass, IsSame}
 
 module _ (segment : Segment) (asked : Asked) (is : IsAsked segment.setting.shape asked) (old mid : Pass)
-    (seat : (old.table_id ≡ table_of segment) × (is_opener old.me.0.role ≡ false) × IsOf segment.setting old.me.0) (size at : ℕ)
+    (seat : IsSeated segment old) (size at : ℕ)
     (sized : size ≡ 4 + length asked.payload.items) (same : IsSame old mid) (allocates : Allocates size 1 old.me.0 (Ok at) mid.me.0) where
   abbrev behind : ℕ
   behind = allocates.0

@@ -23,10 +23,10 @@ use Rattle.segment_machine.specs.Packing.{load_single}
 use Rattle.segment_invariant.proofs.Lists.Elements.{contains_at, below_length}
 use Rattle.segment_invariant.proofs.Lists.Pairs.{element_at}
 use Rattle.live_segment.specs.declared.segment.Segment.{Segment}
-use Rattle.live_segment.specs.Holders.{table_of, MayStep}
+use Rattle.live_segment.specs.Holders.{MayStep}
+use Rattle.live_segment.specs.Seated.{IsSeated}
 use Rattle.live_segment.specs.Looking.{StandsAt, MayLookAt, HasLookedAt}
 use Rattle.segment_promises.specs.Onward.{SeesOn}
-use Rattle.live_segment.specs.Rule.{IsOf}
 use Rattle.live_segment.specs.Snapshots.{HavePacked, HasLooked, HasSeenBuckets}
 use Rattle.live_segment.specs.Steps.{Pass, IsAtRest, Stepped}
 use Rattle.live_segment.specs.GhostNotes.{KnowsAlone, MayDo, Noted}
@@ -55,8 +55,8 @@ pub has_looked : (a b : Actor) (place : Place) (seen : Seen) → b ≡ record (l
     → is_bound place ≡ false → SeesOn a.seen seen → HasLooked a b
 has_looked a b place seen is free sees = subst (HasLooked a) (sym is) (record { same = refl; free = free; seen = sees })
 
-module _ (segment : Segment) (known : Known) (first : Pass) (table : first.table_id ≡ table_of segment) (of : IsOf segment.setting first.me.0)
-    (rests : IsAtRest first.me.0) (alone : KnowsAlone first.me.0 known) (bucketed : has_buckets known.spec ≡ true) where
+module _ {segment : Segment} (known : Known) {first : Pass} (seated : IsSeated segment first) (rests : IsAtRest first.me.0)
+    (alone : KnowsAlone first.me.0 known) (bucketed : has_buckets known.spec ≡ true) where
   abbrev a : Actor
   a = first.me.0
 
@@ -95,11 +95,11 @@ module _ (segment : Segment) (known : Known) (first : Pass) (table : first.table
 
     form_same : (totals : List (ℤ × ℕ)) (bucket : ℕ) → length totals ≡ buckets_of known.spec
         → packed_of totals bucket ≡ units_packed (single_of a.segment.version (buckets_of known.spec) word) bucket
-    form_same totals bucket long = λ i. units_packed (single_of (sym of.version i) (long i) word) bucket
+    form_same totals bucket long = λ i. units_packed (single_of (sym seated.of.version i) (long i) word) bucket
 
     pub may_load : MayStep segment one reference
     may_load = record {
-      table = looked.same.0 ∙ table;
+      table = looked.same.0 ∙ seated.table;
       recorder = ap (λ (b : Actor). is_opener b.role) looked.view ∙ rests.recorder;
       ready = subst (λ (b : Actor). Ready b reference) (sym looked.view) (refl, (known, knows));
     }
@@ -133,7 +133,7 @@ module _ (segment : Segment) (known : Known) (first : Pass) (table : first.table
       used = learned.1.1 word (Contains-append_right a.seen.singles (sight (known.reference + 9) word) _ (0, omega arith, refl)) is_off_word
 
       pub within : counts + (4 + 2 * buckets_of known.spec) ≤ segment.setting.shape.size
-      within = subst (λ (s : Dimensions). counts + (4 + 2 * buckets_of known.spec) ≤ s.size) of.shape (learned.0 known knows used)
+      within = subst (λ (s : Dimensions). counts + (4 + 2 * buckets_of known.spec) ≤ s.size) seated.of.shape (learned.0 known knows used)
 
       abbrev look : Look
       look = record (look_of at_word.hand.place known.reference) { counts = counts }
@@ -154,7 +154,7 @@ module _ (segment : Segment) (known : Known) (first : Pass) (table : first.table
 
       pub may_look_at : (n : ℕ) → n ≡ buckets_of known.spec → MayLookAt segment two counts n
       may_look_at n long = record {
-        table = loaded.same.0 ∙ (looked.same.0 ∙ table);
+        table = loaded.same.0 ∙ (looked.same.0 ∙ seated.table);
         recorder = ap (λ (b : Actor). is_opener b.role) view_two ∙ rests.recorder;
         look = look;
         known = known;

@@ -22,7 +22,8 @@ use Rattle.segment_machine.specs.Walking.{extended, load_next}
 use Rattle.segment_machine.proofs.Values.{value_word}
 use Rattle.live_segment.specs.declared.segment.Segment.{Segment}
 use Rattle.live_segment.specs.Deltas.{AreUnits}
-use Rattle.live_segment.specs.Holders.{MayStep, table_of}
+use Rattle.live_segment.specs.Holders.{MayStep}
+use Rattle.live_segment.specs.Seated.{IsSeated}
 use Rattle.segment_promises.specs.Onward.{SeesOn}
 use Rattle.segment_promises.specs.Values.{NoRepeats, AreSorted, ComesTo, ListsOf, ListsValues, listed_of}
 use Rattle.live_segment.specs.Rule.{IsOf}
@@ -229,8 +230,8 @@ module _ (segment : Segment) (known : Known) (passed : List ℕ) (at : ℕ) (lis
 
 -- ---- it begins
 
-module _ (segment : Segment) (known : Known) (first : Pass) (table : first.table_id ≡ table_of segment) (of : IsOf segment.setting first.me.0)
-    (rests : IsAtRest first.me.0) (alone : KnowsAlone first.me.0 known) (sparse : known.spec ≡ spec.Sparse) (front behind : List ℕ)
+module _ {segment : Segment} (known : Known) {first : Pass} (seated : IsSeated segment first) (rests : IsAtRest first.me.0)
+    (alone : KnowsAlone first.me.0 known) (sparse : known.spec ≡ spec.Sparse) (front behind : List ℕ)
     (stands : first.me.0.seen.chain ≡ front ++ known.reference ∷ behind) where
   abbrev opening : Event
   opening = walking_event (load_next known.reference)
@@ -253,9 +254,9 @@ module _ (segment : Segment) (known : Known) (first : Pass) (table : first.table
 
     pub looks_first : LooksAtValues segment known one
     looks_first = record {
-      table = looked.same.0 ∙ table;
+      table = looked.same.0 ∙ seated.table;
       recorder = ap (λ (a : Actor). is_opener a.role) view ∙ rests.recorder;
-      of = subst (IsOf segment.setting) (sym view) (record { shape = of.shape; version = of.version; cursors = of.cursors });
+      of = subst (IsOf segment.setting) (sym view) (record { shape = seated.of.shape; version = seated.of.version; cursors = seated.of.cursors });
       alone = subst (λ (a : Actor). KnowsAlone a known) (sym view) alone;
       sparse = sparse;
       free = ap (λ (a : Actor). is_bound a.hand.place) view ∙ behind_free first.me.0.hand.place known.reference found rests.free;

@@ -17,9 +17,9 @@ use Rattle.segment_machine.specs.Cursors.{load_cursor, move_cursor, after_cursor
 use Rattle.segment_machine.specs.Event.{cursor_event, walking_event, next}
 use Rattle.segment_machine.specs.Walking.{load_next, behind, records_met, IsNextOf}
 use Rattle.live_segment.specs.declared.segment.Segment.{Segment}
-use Rattle.live_segment.specs.Rule.{IsOf}
 use Rattle.live_segment.specs.Steps.{Pass, IsSame, Stepped}
-use Rattle.live_segment.specs.Holders.{table_of, MayStep}
+use Rattle.live_segment.specs.Holders.{MayStep}
+use Rattle.live_segment.specs.Seated.{IsSeated}
 use Rattle.segment_promises.specs.Onward.{Grows}
 use Rattle.segment_promises.proofs.Growing.{grows_on, extended_grows, extended_end, reference_within, reference_behind}
 use Rattle.live_segment.specs.Cursors.{AnswersNext, IsLate, IsGivenNext, IsAtEnd, StandsBehind, at_cursor, ended_at}
@@ -89,26 +89,31 @@ same_on a b c one two = (two.0 ∙ one.0, two.1 ∙ one.1, two.2 ∙ one.2)
 abbrev followed : Actor → ℕ → ℕ → ℕ → Actor
 followed a cursor at found = next (at_cursor a cursor at) (walking_event (load_next at)) found
 
-module _ (segment : Segment) (cursor : ℕ) (first old : Pass) (table : first.table_id ≡ table_of segment)
-    (records : is_opener first.me.0.role ≡ false) (of : IsOf segment.setting first.me.0) (few : cursor < segment.setting.cursors)
-    (same : IsSame first old) (late : IsLate cursor first.me.0 old.me.0) where
+-- between two tries: what was asked, and how often it has come too late
+pub record IsSharing (segment : Segment) (cursor : ℕ) (first old : Pass) : Type 0 where
+  pub seated : IsSeated segment first
+  pub few : cursor < segment.setting.cursors
+  pub same : IsSame first old
+  pub late : IsLate cursor first.me.0 old.me.0
+
+module _ {segment : Segment} {cursor : ℕ} {first old : Pass} (turn : IsSharing segment cursor first old) where
   numbered : old.me.0.segment.cursors ≡ segment.setting.cursors
-  numbered = ap (λ (a : Actor). a.segment.cursors) late.same ∙ of.cursors
+  numbered = ap (λ (a : Actor). a.segment.cursors) turn.late.same ∙ turn.seated.of.cursors
 
   old_shape : old.me.0.segment.shape ≡ segment.setting.shape
-  old_shape = ap (λ (a : Actor). a.segment.shape) late.same ∙ of.shape
+  old_shape = ap (λ (a : Actor). a.segment.shape) turn.late.same ∙ turn.seated.of.shape
 
   old_records : is_opener old.me.0.role ≡ false
-  old_records = ap (λ (a : Actor). is_opener a.role) late.same ∙ records
+  old_records = ap (λ (a : Actor). is_opener a.role) turn.late.same ∙ turn.seated.recorder
 
   pub shape_is : old.me.0.segment.shape ≡ segment.setting.shape
   shape_is = old_shape
 
   pub may_load : MayStep segment old (cursor_event (load_cursor cursor))
   may_load = record {
-    table = same.0 ∙ table;
+    table = turn.same.0 ∙ turn.seated.table;
     recorder = old_records;
-    ready = (late.free, subst (λ (n : ℕ). cursor < n) (sym numbered) few);
+    ready = (turn.late.free, subst (λ (n : ℕ). cursor < n) (sym numbered) turn.few);
   }
 
   module _ (at : ℕ) (mid : Pass) (load : Stepped old (cursor_event (load_cursor cursor)) at mid) where
@@ -117,7 +122,7 @@ module _ (segment : Segment) (cursor : ℕ) (first old : Pass) (table : first.ta
 
     pub may_follow : MayStep segment mid (walking_event (load_next at))
     may_follow = record {
-      table = load.same.0 ∙ (same.0 ∙ table);
+      table = load.same.0 ∙ (turn.same.0 ∙ turn.seated.table);
       recorder = ap (λ (a : Actor). is_opener a.role) load.view ∙ old_records;
       ready = (ap is_bound place, inr (inr (cursor, place)));
     }
@@ -135,7 +140,7 @@ module _ (segment : Segment) (cursor : ℕ) (first old : Pass) (table : first.ta
       learned = subst (λ (a : Actor). IsNextOf a at found) load.view follow.learned
 
       pub same_still : IsSame first new
-      same_still = same_on first mid new (same_on first old mid same load.same) follow.same
+      same_still = same_on first mid new (same_on first old mid turn.same load.same) follow.same
 
       pub new_shape : new.me.0.segment.shape ≡ segment.setting.shape
       new_shape = ap (λ (a : Actor). a.segment.shape) view ∙ old_shape
@@ -150,7 +155,7 @@ module _ (segment : Segment) (cursor : ℕ) (first old : Pass) (table : first.ta
           }) in
           let (chain, seen, ends, met) = learned.given cursor refl end in record {
             late = old.me.0;
-            before = late;
+            before = turn.late;
             at = at;
             next = subst (λ (n : ℕ). IsNextOf (at_cursor old.me.0 cursor at) at n) end learned;
             view = last;
@@ -166,7 +171,7 @@ module _ (segment : Segment) (cursor : ℕ) (first old : Pass) (table : first.ta
 
         pub may_move : MayStep segment new (cursor_event (move_cursor cursor at found))
         may_move = record {
-          table = follow.same.0 ∙ (load.same.0 ∙ (same.0 ∙ table));
+          table = follow.same.0 ∙ (load.same.0 ∙ (turn.same.0 ∙ turn.seated.table));
           recorder = ap (λ (a : Actor). is_opener a.role) view ∙ old_records;
           ready = stands;
         }
@@ -181,11 +186,11 @@ module _ (segment : Segment) (cursor : ℕ) (first old : Pass) (table : first.ta
           -- the exchange took
           pub given : other ≡ at → StandsBehind at found last.me.0 → IsGivenNext cursor first.me.0 found last.me.0
           given took (chain, neighbours, ordered) =
-              let shape : old.me.0.segment.shape ≡ first.me.0.segment.shape = ap (λ (a : Actor). a.segment.shape) late.same in
+              let shape : old.me.0.segment.shape ≡ first.me.0.segment.shape = ap (λ (a : Actor). a.segment.shape) turn.late.same in
               let (low, high) = reference_behind first.me.0.segment.shape.size found
               (subst (λ (s : Dimensions). is_reference s.size found ≡ true) shape learned.reference) miss in record {
                 late = old.me.0;
-                before = late;
+                before = turn.late;
                 at = at;
                 next = learned;
                 behind = low;
@@ -208,14 +213,14 @@ module _ (segment : Segment) (cursor : ℕ) (first old : Pass) (table : first.ta
                 → slice_index last.me.0.done.lost cursor ≡ slice_index old.me.0.done.lost cursor + 1
             counted many =
                 ap (λ (l : List ℕ). slice_index l cursor) losses
-                ∙ get_or-set_same old.me.0.done.lost cursor (slice_index old.me.0.done.lost cursor + 1) 0 (omega (arith, many, numbered, few))
+                ∙ get_or-set_same old.me.0.done.lost cursor (slice_index old.me.0.done.lost cursor + 1) 0 (omega (arith, many, numbered, turn.few))
 
             pub later : length old.me.0.done.lost ≡ old.me.0.segment.cursors → IsLate cursor first.me.0 last.me.0
             later many =
                 let sum = counted many in
-                let were = late.lost in
+                let were = turn.late.lost in
                 let chains = ap (λ (a : Actor). a.seen.chain) again in record {
-                  same = again ∙ ap (λ (a : Actor). after_cursor false (followed a cursor at found) cursor found other) late.same
+                  same = again ∙ ap (λ (a : Actor). after_cursor false (followed a cursor at found) cursor found other) turn.late.same
                       ∙ (λ i. record first.me.0 {
                         hand = record first.me.0.hand { place = Idle };
                         done = record first.me.0.done { lost = sym losses i };
@@ -230,16 +235,16 @@ module _ (segment : Segment) (cursor : ℕ) (first old : Pass) (table : first.ta
                   lost = losses ∙ (ap (λ (l : List ℕ). set l cursor (slice_index old.me.0.done.lost cursor + 1)) were
                       ∙ (set-set first.me.0.done.lost cursor _ _
                       ∙ ap (set first.me.0.done.lost cursor) (sym sum)));
-                  more = let rose = late.more in omega (arith, sum, rose);
-                  chain = grows_on first.me.0.seen.chain old.me.0.seen.chain last.me.0.seen.chain late.chain
+                  more = let rose = turn.late.more in omega (arith, sum, rose);
+                  chain = grows_on first.me.0.seen.chain old.me.0.seen.chain last.me.0.seen.chain turn.late.chain
                       (subst (Grows old.me.0.seen.chain) (sym chains) (extended_grows old.me.0.seen.chain at found));
-                  sights = (late.sights ++ sight cursor at) ++ sight cursor other;
+                  sights = (turn.late.sights ++ sight cursor at) ++ sight cursor other;
                   cursors = ap (λ (a : Actor). a.seen.cursors) again
-                      ∙ (ap (λ (l : List Sighting). (l ++ sight cursor at) ++ sight cursor other) late.cursors
-                      ∙ (ap (λ (l : List Sighting). l ++ sight cursor other) (append_assoc first.me.0.seen.cursors late.sights (sight cursor at))
-                      ∙ append_assoc first.me.0.seen.cursors (late.sights ++ sight cursor at) (sight cursor other)));
-                  of = All-push (λ (s : Sighting). s.at ≡ cursor) (late.sights ++ sight cursor at) (record { at = cursor; word = other })
-                      (All-push (λ (s : Sighting). s.at ≡ cursor) late.sights (record { at = cursor; word = at }) late.of refl) refl;
+                      ∙ (ap (λ (l : List Sighting). (l ++ sight cursor at) ++ sight cursor other) turn.late.cursors
+                      ∙ (ap (λ (l : List Sighting). l ++ sight cursor other) (append_assoc first.me.0.seen.cursors turn.late.sights (sight cursor at))
+                      ∙ append_assoc first.me.0.seen.cursors (turn.late.sights ++ sight cursor at) (sight cursor other)));
+                  of = All-push (λ (s : Sighting). s.at ≡ cursor) (turn.late.sights ++ sight cursor at) (record { at = cursor; word = other })
+                      (All-push (λ (s : Sighting). s.at ≡ cursor) turn.late.sights (record { at = cursor; word = at }) turn.late.of refl) refl;
                 }
 
             -- that happens few times

@@ -10,16 +10,16 @@ use Rattle.list_core.specs.Chain.{is_reference, stops}
 use Rattle.list_core.specs.Walk.{IsPrefix, given_after, said_of, stands_behind}
 use Rattle.list_core.proofs.Walks.{place_of}
 use Rattle.segment_machine.specs.declared.actor.Actor.{Actor}
-use Rattle.segment_machine.specs.Actor.{is_bound, is_opener}
+use Rattle.segment_machine.specs.Actor.{is_bound}
 use Rattle.segment_machine.specs.Event.{walking_event, Ready}
 use Rattle.segment_machine.specs.Stages.{Walks}
 use Rattle.segment_machine.specs.Taking.{is_looking}
 use Rattle.segment_machine.specs.Walking.{load_next, extended, records_met}
 use Rattle.segment_machine.proofs.Stages.Walks.{walks_agree}
 use Rattle.live_segment.specs.declared.segment.Segment.{Segment}
-use Rattle.live_segment.specs.Rule.{IsOf}
 use Rattle.live_segment.specs.Steps.{Pass, Stepped}
-use Rattle.live_segment.specs.Holders.{table_of, MayStep}
+use Rattle.live_segment.specs.Holders.{MayStep}
+use Rattle.live_segment.specs.Seated.{IsSeated}
 use Rattle.segment_promises.specs.Onward.{Grows}
 use Rattle.segment_promises.specs.Values.{NoRepeats}
 use Rattle.live_segment.specs.Finding.{Meets, SeesWords}
@@ -30,20 +30,19 @@ use Rattle.segment_promises.proofs.Furthest.{last_of, last_least, last_most, las
 use Rattle.segment_promises.proofs.Calls.Places.{behind_apart}
 use Rattle.live_segment.proofs.Walks.Walked.{all_given}
 
-module _ (segment : Segment) (old : Pass) (given : List ℕ) (at : ℕ) (table : old.table_id ≡ table_of segment) (records : is_opener old.me.0.role ≡ false)
-    (of : IsOf segment.setting old.me.0) (way : IsWalkProgress given at old.me.0) where
+module _ {segment : Segment} {old : Pass} {given : List ℕ} {at : ℕ} (seated : IsSeated segment old) (way : IsWalkProgress given at old.me.0) where
   abbrev chain : List ℕ
   chain = old.me.0.seen.chain
 
   pub may_follow : MayStep segment old (walking_event (load_next at))
   may_follow = record {
-    table = table;
-    recorder = records;
+    table = seated.table;
+    recorder = seated.recorder;
     ready = subst (λ (n : ℕ). Ready old.me.0 (walking_event (load_next n))) (sym way.stands) (walks_agree 0 1 old.me.0 given (way.free, way.front)).1;
   }
 
   pub room : at + 5 ≤ segment.setting.shape.size
-  room = subst (λ (d : Dimensions). at + 5 ≤ d.size) of.shape way.within
+  room = subst (λ (d : Dimensions). at + 5 ≤ d.size) seated.of.shape way.within
 
   module _ (found : ℕ) (new : Pass) (load : Stepped old (walking_event (load_next at)) found new) where
     chain_is : new.me.0.seen.chain ≡ extended chain at found
@@ -115,7 +114,7 @@ module _ (segment : Segment) (old : Pass) (given : List ℕ) (at : ℕ) (table :
       pub room_found : found + 5 ≤ segment.setting.shape.size
       room_found =
           (reference_behind segment.setting.shape.size found
-          (subst (λ (d : Dimensions). is_reference d.size found ≡ true) of.shape load.learned.reference) miss).1
+          (subst (λ (d : Dimensions). is_reference d.size found ≡ true) seated.of.shape load.learned.reference) miss).1
 
       -- it goes on behind that record, once words of it were seen
       module _ (b : Actor) (sees : SeesWords new.me.0 b) where
@@ -127,7 +126,7 @@ module _ (segment : Segment) (old : Pass) (given : List ℕ) (at : ℕ) (table :
               front = subst (IsPrefix (given ++ found ∷ [])) (sym then_chain) longer.1;
               stands = sym (get_or_push (stops given) found 0 (length (given ++ found ∷ [])) (omega (arith, long)));
               within = subst (λ (d : Dimensions). found + 5 ≤ d.size)
-                  (sym (ap (λ (x : Actor). x.segment.shape) sees.view ∙ (ap (λ (x : Actor). x.segment.shape) load.view ∙ of.shape))) room_found;
+                  (sym (ap (λ (x : Actor). x.segment.shape) sees.view ∙ (ap (λ (x : Actor). x.segment.shape) load.view ∙ seated.of.shape))) room_found;
             }
 
         -- it has come further along the list, which fits in the segment
@@ -147,5 +146,5 @@ module _ (segment : Segment) (old : Pass) (given : List ℕ) (at : ℕ) (table :
             let most = last_most b.seen.chain found in
             let few = load.learned.few in
             let ends = ap length (ap (λ (x : Actor). x.seen.chain) sees.view ∙ chain_is) in
-            let size = ap (λ (d : Dimensions). d.size) of.shape in
+            let size = ap (λ (d : Dimensions). d.size) seated.of.shape in
             (omega (arith, far, near), omega (arith, most, few, ends, size))

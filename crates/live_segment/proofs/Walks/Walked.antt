@@ -26,9 +26,10 @@ use Rattle.segment_machine.specs.Walking.{load_next, extended, records_met}
 use Rattle.segment_machine.proofs.Stages.Walks.{walks_agree}
 use Rattle.live_segment.specs.declared.rule.Setting.{Setting}
 use Rattle.live_segment.specs.declared.segment.Segment.{Segment}
-use Rattle.live_segment.specs.Rule.{Runs, IsOf, opened_of}
+use Rattle.live_segment.specs.Rule.{Runs, opened_of}
 use Rattle.live_segment.specs.Steps.{Pass, Sat, IsSame, Stepped}
-use Rattle.live_segment.specs.Holders.{table_of, MayStep}
+use Rattle.live_segment.specs.Holders.{MayStep}
+use Rattle.live_segment.specs.Seated.{IsSeated}
 use Rattle.segment_promises.specs.Onward.{Grows, StaysApart}
 use Rattle.live_segment.specs.declared.recorder.KnownHistogram.{KnownHistogram}
 use Rattle.live_segment.specs.declared.records.WalkPlace.{WalkPlace}
@@ -113,12 +114,11 @@ all_given given (r ∷ rs) chain found is once again end =
     let passed : length given < length chain = omega (arith, long) in
     absurd (once 0 (suc (length given)) (omega arith) (omega (arith, passed)) (sym end ∙ again passed))
 
-module _ (segment : Segment) (first old : Pass) (given : List ℕ) (at : ℕ) (table : first.table_id ≡ table_of segment)
-    (records : is_opener first.me.0.role ≡ false) (of : IsOf segment.setting first.me.0) (is : IsWalking first old given at) where
+module _ {segment : Segment} {first old : Pass} {given : List ℕ} {at : ℕ} (seated : IsSeated segment first) (is : IsWalking first old given at) where
   pub may_load : MayStep segment old (walking_event (load_next at))
   may_load = record {
-    table = is.same.0 ∙ table;
-    recorder = ap (λ (a : Actor). is_opener a.role) is.view ∙ records;
+    table = is.same.0 ∙ seated.table;
+    recorder = ap (λ (a : Actor). is_opener a.role) is.view ∙ seated.recorder;
     ready = subst (λ (n : ℕ). Ready old.me.0 (walking_event (load_next n))) (sym is.stands) (walks_agree 0 1 old.me.0 given is.walks).1;
   }
 
@@ -128,7 +128,7 @@ module _ (segment : Segment) (first old : Pass) (given : List ℕ) (at : ℕ) (t
       let to = segment.shaped.one in
       let inside : stands_behind given + 5 ≤ segment.setting.shape.size =
       stands_within segment.setting.shape.size given (omega (arith, from, to))
-      (subst (λ (s : Dimensions). All (λ r. (16 ≤ r) × (r + 5 ≤ s.size)) given) of.shape is.within) in
+      (subst (λ (s : Dimensions). All (λ r. (16 ≤ r) × (r + 5 ≤ s.size)) given) seated.of.shape is.within) in
       let here = is.stands in omega (arith, inside, here)
 
   module _ (found : ℕ) (new : Pass) (load : Stepped old (walking_event (load_next at)) found new) where
@@ -203,7 +203,7 @@ module _ (segment : Segment) (first old : Pass) (given : List ℕ) (at : ℕ) (t
           let long : length new.me.0.seen.chain ≡ length (given ++ found ∷ []) + length rest = ap length front ∙ length-append (given ++ found ∷ []) rest in
           let one = length_push given found in
           let all = ap length chain_is in
-          let shape : old.me.0.segment.shape ≡ segment.setting.shape = ap (λ (a : Actor). a.segment.shape) is.view ∙ of.shape in
+          let shape : old.me.0.segment.shape ≡ segment.setting.shape = ap (λ (a : Actor). a.segment.shape) is.view ∙ seated.of.shape in
           let fits : 5 * length (extended old.me.0.seen.chain at found) + 16 ≤ segment.setting.shape.size =
           subst (λ (s : Dimensions). 5 * length (extended old.me.0.seen.chain at found) + 16 ≤ s.size) shape load.learned.few in
           omega (arith, long, one, all, fits)

@@ -13,8 +13,7 @@ invariant_of-self c =
     let refused = c.in_err-add_sample.ensures.outcome.0 in
     let onward = refused.onward in
     let old = c.args.self.now in record {
-      fits = c.add_sample.ensures.same.0 ∙ old.fits;
-      set = is_of_still _ _ _ onward old.set;
+      seated = record { table = c.add_sample.ensures.same.0 ∙ old.seated.table; recorder = (c.add_sample.ensures.rests).recorder; of = is_of_still _ _ _ onward old.seated.of };
       rests = c.add_sample.ensures.rests;
       counted = let paid = refused.pays.share in let counted = old.counted in omega (arith, paid, counted);
       listed = old.listed ∙ sym (names_still _ _ onward);
@@ -23,8 +22,12 @@ invariant_of-self c =
       come = come_still _ _ _ _ onward.seen.chain old.come;
     }
 
-pub invariant_of-self-2-clause-set : goal.invariant_of-self-2-clause-set
-invariant_of-self-2-clause-set c = is_of_still _ _ _ c.in_ok-add_sample.ensures.outcome.onward c.args.self.now.set
+pub invariant_of-self-2-clause-seated : goal.invariant_of-self-2-clause-seated
+invariant_of-self-2-clause-seated c = record {
+  table = c.add_sample.ensures.same.0 ∙ c.args.self.now.seated.table;
+  recorder = c.add_sample.ensures.rests.recorder;
+  of = is_of_still _ _ _ c.in_ok-add_sample.ensures.outcome.onward c.args.self.now.seated.of;
+}
 
 pub invariant_of-self-2-clause-counted : goal.invariant_of-self-2-clause-counted
 invariant_of-self-2-clause-counted c =

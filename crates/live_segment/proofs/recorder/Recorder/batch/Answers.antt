@@ -33,8 +33,7 @@ invariant_of-self c =
     let cut = c.in-Err-counted.ensures.outcome in
     let onward = cut.onward in
     let old = c.args.self.now in record {
-      fits = c.in-Err-counted.ensures.same.0 ∙ old.fits;
-      set = is_of_still _ _ _ onward old.set;
+      seated = record { table = c.in-Err-counted.ensures.same.0 ∙ old.seated.table; recorder = (c.in-Err-counted.ensures.rests).recorder; of = is_of_still _ _ _ onward old.seated.of };
       rests = c.in-Err-counted.ensures.rests;
       counted = let paid = cut.pays.share in let counted = old.counted in let first = c.units_of_items.ensures in omega (arith, paid, counted, first);
       listed = old.listed ∙ sym (names_still _ _ onward);
@@ -68,8 +67,7 @@ invariant_of-self-2 c =
     let done = c.in_default.ensures.outcome in
     let onward = done.onward in
     let old = c.args.self.now in record {
-      fits = c.in_default.ensures.same.0 ∙ old.fits;
-      set = is_of_still _ _ _ onward old.set;
+      seated = record { table = c.in_default.ensures.same.0 ∙ old.seated.table; recorder = (c.in_default.ensures.rests).recorder; of = is_of_still _ _ _ onward old.seated.of };
       rests = c.in_default.ensures.rests;
       counted = let paid = done.pays.share in let counted = old.counted in let cost = (c.in-Ok.ensures old.seat.me.0 (sym counted)).0 in omega (arith, paid, counted, cost);
       listed = old.listed ∙ sym (names_still _ _ onward);

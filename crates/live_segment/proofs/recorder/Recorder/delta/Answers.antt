@@ -11,8 +11,7 @@ pub invariant_of-self : goal.invariant_of-self
 invariant_of-self c =
     let old = c.args.self.now in
     let taken = c.take_delta-sum.ensures.taken in record {
-      fits = c.take_delta-sum.ensures.same.0 ∙ old.fits;
-      set = taken_of _ _ _ _ _ taken _ old.set;
+      seated = record { table = c.take_delta-sum.ensures.same.0 ∙ old.seated.table; recorder = (taken_rests _ _ _ _ _ taken old.rests).recorder; of = taken_of _ _ _ _ _ taken _ old.seated.of };
       rests = taken_rests _ _ _ _ _ taken old.rests;
       counted = old.counted ∙ sym (taken_share _ _ _ _ _ taken);
       listed = old.listed ∙ sym (taken_names _ _ _ _ _ taken);

@@ -39,8 +39,7 @@ invariant_of-self-in-Break-branch-3 c =
     let old = me.seat.me.0 in
     let new = c.ask.new.seat.me.0 in
     let (looks, owes, why_is) = c.in_err-known.ensures.outcome in record {
-      fits = c.in_err-known.ensures.same.0 ∙ me.fits;
-      set = of_still old new looks me.segment.now.setting me.set;
+      seated = record { table = c.in_err-known.ensures.same.0 ∙ me.seated.table; recorder = (rests_still old new looks me.rests owes).recorder; of = of_still old new looks me.segment.now.setting me.seated.of };
       rests = rests_still old new looks me.rests owes;
       counted = me.counted ∙ sym (share_still old new looks);
       listed = ap (map known_view) c.in_ok-reserve.ensures.items ∙ (me.listed ∙ sym (names_still old new looks));
@@ -59,13 +58,12 @@ invariant_of-self-2 c =
     let (is, comes) = c.in_ok-known.ensures.outcome in
     let none = none_known me.known.items old c.args.name.now me.listed c.in_default.ensures in
     let grew = c.push_reserved.ensures.items ∙ ap (λ l. l ++ known ∷ []) c.in_ok-reserve.ensures.items in record {
-      fits = c.in_ok-known.ensures.same.0 ∙ me.fits;
-      set = of_then _ known.reference old new comes me.segment.now.setting me.set;
+      seated = record { table = c.in_ok-known.ensures.same.0 ∙ me.seated.table; recorder = (rests_then _ known.reference old new comes me.rests).recorder; of = of_then _ known.reference old new comes me.segment.now.setting me.seated.of };
       rests = rests_then _ known.reference old new comes me.rests;
       counted = me.counted ∙ sym (share_same _ known.reference old new comes);
-      listed = listed_then me.segment.now.setting c.args.name.now c.args.spec.now _ known old new me.set c.in_ok-asked.ensures none is comes me.known.items
+      listed = listed_then me.segment.now.setting c.args.name.now c.args.spec.now _ known old new me.seated.of c.in_ok-asked.ensures none is comes me.known.items
           c.push_reserved.new.self.items grew me.listed;
-      right = right_then me.segment.now.setting c.args.name.now c.args.spec.now _ known old new me.set c.in_ok-asked.ensures none is comes me.known.items
+      right = right_then me.segment.now.setting c.args.name.now c.args.spec.now _ known old new me.seated.of c.in_ok-asked.ensures none is comes me.known.items
           c.push_reserved.new.self.items grew me.right;
       free = c.in_ok-known.ensures.same.2 ∙ me.free;
       come = come_still me.segment.now.setting.shape.size old.seen.chain new.seen.chain me.fresh (chain_grew _ known.reference old new comes) me.come;
@@ -77,7 +75,7 @@ returns-clause-named c =
     let old = me.seat.me.0 in
     let (is, comes) = c.in_ok-known.ensures.outcome in
     let none = none_known me.known.items old c.args.name.now me.listed c.in_default.ensures in
-    named_then me.segment.now.setting c.args.name.now c.args.spec.now _ c.in_ok-known.known old c.ask.new.seat.me.0 me.set c.in_ok-asked.ensures none is comes c.len-index.result
+    named_then me.segment.now.setting c.args.name.now c.args.spec.now _ c.in_ok-known.known old c.ask.new.seat.me.0 me.seated.of c.in_ok-asked.ensures none is comes c.len-index.result
     (count_of me.known.items old.answers.names c.len-index.result me.listed (c.len-index.ensures ∙ (c.reserve.new.self.ok.0 ∙ ap length c.in_ok-reserve.ensures.items)))
 
 pub returns-clause-answer : goal.returns-clause-answer
@@ -87,7 +85,7 @@ returns-clause-answer c =
     inr (
       none_known me.known.items old c.args.name.now me.listed c.in_default.ensures,
       count_of me.known.items old.answers.names c.len-index.result me.listed (c.len-index.ensures ∙ (c.reserve.new.self.ok.0 ∙ ap length c.in_ok-reserve.ensures.items)),
-      (c.in_ok-asked.asked, c.in_ok-known.known.reference, asked_here me.segment.now.setting old me.set c.in_ok-asked.ensures, c.in_ok-known.ensures.outcome.1),
+      (c.in_ok-asked.asked, c.in_ok-known.known.reference, asked_here me.segment.now.setting old me.seated.of c.in_ok-asked.ensures, c.in_ok-known.ensures.outcome.1),
     )
 
 pub returns-in_err-known-clause-answer : goal.returns-in_err-known-clause-answer
@@ -96,4 +94,4 @@ returns-in_err-known-clause-answer c =
     let p = err_from_is_err_and c.from_residual-in_err-known.result c.from_residual-in_err-known.ensures.1 in
     let (looks, owes, why_is) = c.in_err-known.ensures.outcome in
     rw (p.1, p.2)
-    (inr (inr (none_known me.known.items me.seat.me.0 c.args.name.now me.listed c.in_default.ensures, (c.in_ok-asked.asked, asked_here me.segment.now.setting me.seat.me.0 me.set c.in_ok-asked.ensures, why_is), looks, owes ∙ sym me.rests.owes)))
+    (inr (inr (none_known me.known.items me.seat.me.0 c.args.name.now me.listed c.in_default.ensures, (c.in_ok-asked.asked, asked_here me.segment.now.setting me.seat.me.0 me.seated.of c.in_ok-asked.ensures, why_is), looks, owes ∙ sym me.rests.owes)))

@@ -16,8 +16,7 @@ pub invariant_of-self : goal.invariant_of-self
 invariant_of-self c =
     let old = c.args.self.now in
     let has = c.take_snapshot-snapshot.ensures.answer in record {
-      fits = c.take_snapshot-snapshot.ensures.same.0 ∙ old.fits;
-      set = looked_of _ _ _ _ has _ old.set;
+      seated = record { table = c.take_snapshot-snapshot.ensures.same.0 ∙ old.seated.table; recorder = (looked_rests _ _ _ _ has old.rests).recorder; of = looked_of _ _ _ _ has _ old.seated.of };
       rests = looked_rests _ _ _ _ has old.rests;
       counted = old.counted ∙ sym (looked_share _ _ _ _ has);
       listed = old.listed ∙ sym (looked_names _ _ _ _ has);

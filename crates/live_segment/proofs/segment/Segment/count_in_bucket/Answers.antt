@@ -1,7 +1,7 @@
 use Rattle.std.proofs.Common.{◌∙◌, rules}
 use Rattle.std.proofs.lemmas.Result.{err_from_is_err_and}
 use Rattle.live_segment.specs.Known.{known_view}
-use Rattle.live_segment.proofs.AddCall.Counted.{may_mount, may_do_without, room_here, may_add_here, same_here, counted_here, counts_off, stands_off, looks_off_on, filled_off, may_passed, looks_passed_on, filled_passed, turned}
+use Rattle.live_segment.proofs.AddCall.Counted.{may_mount, may_do_without, room_here, may_add_here, same_here, counted_here, counts_off, at_counts_off, may_passed, at_counts_passed, turned}
 use Rattle.live_segment.proofs.AddCall.Mounted.{may_load_counts, mounts_on}
 use Rattle.live_segment.proofs.segment.Segment.count_in_bucket.Goals as goal
 
@@ -9,7 +9,7 @@ pub load_counts-counts-requires-clause-may : goal.load_counts-counts-requires-cl
 load_counts-counts-requires-clause-may c =
     let k = known_view c.args.histogram.now in
     let may = counts_off k c.args.bucket c.args.units c.args.seat.now c.pack_units.new.seat c.requires.may c.in-Off.ensures.outcome in
-    may_load_counts c.args.self.now k c.pack_units.new.seat (c.pack_units.ensures.same.0 ∙ c.requires.seat.0) (may_mount _ k c.args.bucket c.args.units may)
+    may_load_counts c.args.self.now k c.pack_units.new.seat (c.pack_units.ensures.same.0 ∙ c.requires.seat.table) (may_mount _ k c.args.bucket c.args.units may)
 
 pub counts_of-requires-clause-may : goal.counts_of-requires-clause-may
 counts_of-requires-clause-may c =
@@ -35,57 +35,44 @@ disable_single-requires-clause-may c =
 pub add_to_bucket_count-requires-clause-room : goal.add_to_bucket_count-requires-clause-room
 add_to_bucket_count-requires-clause-room c =
     let k = known_view c.args.histogram.now in
-    room_here c.args.self.now k c.args.bucket c.args.units _ c.args.seat.now c.load_counts-counts.new.seat c.requires.may
-    (looks_off_on k c.args.bucket c.args.units c.args.seat.now c.pack_units.new.seat c.requires.may c.in-Off.ensures.outcome _ c.load_counts-counts.new.seat c.load_counts-counts.ensures.step)
-    (filled_off k c.args.bucket c.args.units c.args.seat.now c.pack_units.new.seat c.requires.may c.in-Off.ensures.outcome _ c.load_counts-counts.new.seat c.load_counts-counts.ensures.step)
-    (stands_off k c.args.bucket c.args.units c.args.seat.now c.pack_units.new.seat c.requires.may c.in-Off.ensures.outcome _ c.load_counts-counts.new.seat c.load_counts-counts.ensures.step) c.requires.bucket c.requires.seat.1
+    let at = at_counts_off k c.args.bucket c.args.units c.args.seat.now c.pack_units.new.seat c.requires.may c.in-Off.ensures.outcome c.load_counts-counts.ensures.step in
+    room_here at c.requires.bucket c.args.self.now c.requires.seat.of
 
 pub add_to_bucket_count-requires-clause-may : goal.add_to_bucket_count-requires-clause-may
 add_to_bucket_count-requires-clause-may c =
     let k = known_view c.args.histogram.now in
-    may_add_here c.args.self.now k c.args.bucket c.args.units _ c.args.seat.now c.load_counts-counts.new.seat c.requires.may
-    (looks_off_on k c.args.bucket c.args.units c.args.seat.now c.pack_units.new.seat c.requires.may c.in-Off.ensures.outcome _ c.load_counts-counts.new.seat c.load_counts-counts.ensures.step)
-    (filled_off k c.args.bucket c.args.units c.args.seat.now c.pack_units.new.seat c.requires.may c.in-Off.ensures.outcome _ c.load_counts-counts.new.seat c.load_counts-counts.ensures.step)
-    (stands_off k c.args.bucket c.args.units c.args.seat.now c.pack_units.new.seat c.requires.may c.in-Off.ensures.outcome _ c.load_counts-counts.new.seat c.load_counts-counts.ensures.step) c.requires.bucket
+    let at = at_counts_off k c.args.bucket c.args.units c.args.seat.now c.pack_units.new.seat c.requires.may c.in-Off.ensures.outcome c.load_counts-counts.ensures.step in
+    may_add_here at c.requires.bucket
 
 pub returns-in-Off-clause-same : goal.returns-in-Off-clause-same
 returns-in-Off-clause-same c =
     let k = known_view c.args.histogram.now in
-    same_here c.args.self.now k c.args.bucket c.args.units _ c.args.seat.now c.load_counts-counts.new.seat c.requires.may
-    (looks_off_on k c.args.bucket c.args.units c.args.seat.now c.pack_units.new.seat c.requires.may c.in-Off.ensures.outcome _ c.load_counts-counts.new.seat c.load_counts-counts.ensures.step)
-    (filled_off k c.args.bucket c.args.units c.args.seat.now c.pack_units.new.seat c.requires.may c.in-Off.ensures.outcome _ c.load_counts-counts.new.seat c.load_counts-counts.ensures.step)
-    (stands_off k c.args.bucket c.args.units c.args.seat.now c.pack_units.new.seat c.requires.may c.in-Off.ensures.outcome _ c.load_counts-counts.new.seat c.load_counts-counts.ensures.step) c.requires.bucket _ c.add_to_bucket_count.new.seat c.add_to_bucket_count.ensures
-    (search rules)
+    let at = at_counts_off k c.args.bucket c.args.units c.args.seat.now c.pack_units.new.seat c.requires.may c.in-Off.ensures.outcome c.load_counts-counts.ensures.step in
+    same_here at c.requires.bucket _ c.add_to_bucket_count.new.seat c.add_to_bucket_count.ensures (search rules)
 
 pub returns-in-Off-clause-outcome : goal.returns-in-Off-clause-outcome
 returns-in-Off-clause-outcome c =
     let k = known_view c.args.histogram.now in
-    counted_here c.args.self.now k c.args.bucket c.args.units _ c.args.seat.now c.load_counts-counts.new.seat c.requires.may
-    (looks_off_on k c.args.bucket c.args.units c.args.seat.now c.pack_units.new.seat c.requires.may c.in-Off.ensures.outcome _ c.load_counts-counts.new.seat c.load_counts-counts.ensures.step)
-    (filled_off k c.args.bucket c.args.units c.args.seat.now c.pack_units.new.seat c.requires.may c.in-Off.ensures.outcome _ c.load_counts-counts.new.seat c.load_counts-counts.ensures.step)
-    (stands_off k c.args.bucket c.args.units c.args.seat.now c.pack_units.new.seat c.requires.may c.in-Off.ensures.outcome _ c.load_counts-counts.new.seat c.load_counts-counts.ensures.step) c.requires.bucket _ c.add_to_bucket_count.new.seat c.add_to_bucket_count.ensures
+    let at = at_counts_off k c.args.bucket c.args.units c.args.seat.now c.pack_units.new.seat c.requires.may c.in-Off.ensures.outcome c.load_counts-counts.ensures.step in
+    counted_here at c.requires.bucket _ c.add_to_bucket_count.new.seat c.add_to_bucket_count.ensures
 
 pub add_to_bucket_count-requires-in-Passed-clause-may : goal.add_to_bucket_count-requires-in-Passed-clause-may
 add_to_bucket_count-requires-in-Passed-clause-may c =
     let k = known_view c.args.histogram.now in
-    may_add_here c.args.self.now k c.args.bucket c.args.units _ c.args.seat.now c.disable_single.new.seat c.requires.may
-    (looks_passed_on k c.args.bucket c.args.units c.args.seat.now c.pack_units.new.seat c.requires.may c.in-Passed.ensures.outcome c.in_ok-counts-in-Passed.counts c.counts_of.new.seat c.disable_single.new.seat c.in_ok-counts-in-Passed.ensures.outcome c.disable_single.ensures.disabled)
-    (filled_passed k c.args.bucket c.args.units c.args.seat.now c.pack_units.new.seat c.requires.may c.in-Passed.ensures.outcome c.in_ok-counts-in-Passed.counts c.counts_of.new.seat c.disable_single.new.seat c.in_ok-counts-in-Passed.ensures.outcome c.disable_single.ensures.disabled)
-    c.disable_single.ensures.disabled.stands c.requires.bucket
+    let at = at_counts_passed k c.args.bucket c.args.units c.args.seat.now c.pack_units.new.seat c.requires.may c.in-Passed.ensures.outcome _ c.counts_of.new.seat
+    c.disable_single.new.seat c.in_ok-counts-in-Passed.ensures.outcome c.disable_single.ensures.disabled in
+    may_add_here at c.requires.bucket
 
 pub returns-in_ok-counts-in-Passed-clause-same : goal.returns-in_ok-counts-in-Passed-clause-same
 returns-in_ok-counts-in-Passed-clause-same c =
     let k = known_view c.args.histogram.now in
-    same_here c.args.self.now k c.args.bucket c.args.units _ c.args.seat.now c.disable_single.new.seat c.requires.may
-    (looks_passed_on k c.args.bucket c.args.units c.args.seat.now c.pack_units.new.seat c.requires.may c.in-Passed.ensures.outcome c.in_ok-counts-in-Passed.counts c.counts_of.new.seat c.disable_single.new.seat c.in_ok-counts-in-Passed.ensures.outcome c.disable_single.ensures.disabled)
-    (filled_passed k c.args.bucket c.args.units c.args.seat.now c.pack_units.new.seat c.requires.may c.in-Passed.ensures.outcome c.in_ok-counts-in-Passed.counts c.counts_of.new.seat c.disable_single.new.seat c.in_ok-counts-in-Passed.ensures.outcome c.disable_single.ensures.disabled)
-    c.disable_single.ensures.disabled.stands c.requires.bucket _ c.add_to_bucket_count-in-Passed.new.seat c.add_to_bucket_count-in-Passed.ensures
-    (search rules)
+    let at = at_counts_passed k c.args.bucket c.args.units c.args.seat.now c.pack_units.new.seat c.requires.may c.in-Passed.ensures.outcome _ c.counts_of.new.seat
+    c.disable_single.new.seat c.in_ok-counts-in-Passed.ensures.outcome c.disable_single.ensures.disabled in
+    same_here at c.requires.bucket _ c.add_to_bucket_count-in-Passed.new.seat c.add_to_bucket_count-in-Passed.ensures (search rules)
 
 pub returns-in_ok-counts-in-Passed-clause-outcome : goal.returns-in_ok-counts-in-Passed-clause-outcome
 returns-in_ok-counts-in-Passed-clause-outcome c =
     let k = known_view c.args.histogram.now in
-    counted_here c.args.self.now k c.args.bucket c.args.units _ c.args.seat.now c.disable_single.new.seat c.requires.may
-    (looks_passed_on k c.args.bucket c.args.units c.args.seat.now c.pack_units.new.seat c.requires.may c.in-Passed.ensures.outcome c.in_ok-counts-in-Passed.counts c.counts_of.new.seat c.disable_single.new.seat c.in_ok-counts-in-Passed.ensures.outcome c.disable_single.ensures.disabled)
-    (filled_passed k c.args.bucket c.args.units c.args.seat.now c.pack_units.new.seat c.requires.may c.in-Passed.ensures.outcome c.in_ok-counts-in-Passed.counts c.counts_of.new.seat c.disable_single.new.seat c.in_ok-counts-in-Passed.ensures.outcome c.disable_single.ensures.disabled)
-    c.disable_single.ensures.disabled.stands c.requires.bucket _ c.add_to_bucket_count-in-Passed.new.seat c.add_to_bucket_count-in-Passed.ensures
+    let at = at_counts_passed k c.args.bucket c.args.units c.args.seat.now c.pack_units.new.seat c.requires.may c.in-Passed.ensures.outcome _ c.counts_of.new.seat
+    c.disable_single.new.seat c.in_ok-counts-in-Passed.ensures.outcome c.disable_single.ensures.disabled in
+    counted_here at c.requires.bucket _ c.add_to_bucket_count-in-Passed.new.seat c.add_to_bucket_count-in-Passed.ensures

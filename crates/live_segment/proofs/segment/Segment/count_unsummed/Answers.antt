@@ -1,8 +1,6 @@
-use Rattle.std.proofs.Common.{of_z, to_z, ◌≡◌, ◌∙◌, ◌+◌, ◌-◌, ◌<◌, ◌≤◌, ℕ, ℤ, pos, List, [], ◌∷◌, take, drop, length, slice_index_or, rules, sym, subst, w32, arith}
+use Rattle.std.proofs.Common.{of_z, to_z, ◌≡◌, ◌∙◌, ◌-◌, ◌<◌, ℕ, ℤ, pos, List, [], ◌∷◌, take, drop, length, slice_index_or, rules, sym, subst, w32, arith}
 use Rattle.std.proofs.lemmas.List.{take-append-drop, length-take-le}
 use Rattle.std.proofs.lemmas.Result.{err_from_is_err_and}
-use Rattle.bucket_ranges.specs.Ranges.{boundaries_of}
-use Rattle.bucket_ranges.specs.Tally.{units_of}
 use Rattle.segment_machine.specs.Counting.{add_redundant}
 use Rattle.segment_machine.specs.Event.{counting_event}
 use Rattle.segment_machine.specs.Note.{ends}
@@ -12,11 +10,10 @@ use Rattle.live_segment.specs.Known.{known_view}
 use Rattle.live_segment.specs.Refusing.{IsNotCounted}
 use Rattle.live_segment.specs.GhostNotes.{MayDo, Noted}
 use Rattle.live_segment.specs.Working.{CountsAlone, HasCounted}
-use Rattle.live_segment.proofs.BatchCall.Items.{within_all}
 use Rattle.live_segment.proofs.BatchCall.ItemsCounted.{may_next}
 use Rattle.live_segment.proofs.BatchCall.ItemsRefused.{stops_at}
 use Rattle.live_segment.proofs.BatchCall.LastItem.{may_end_batch, same_ended, last_rests, last_batched}
-use Rattle.live_segment.proofs.BatchCall.Unsummed.{cut_before, front_and_last}
+use Rattle.live_segment.proofs.BatchCall.Unsummed.{cut_before, front_and_last, last_fits}
 use Rattle.live_segment.proofs.segment.Segment.count_unsummed.Goals as goal
 
 pub returns-in_err-count_items-clause-outcome : goal.returns-in_err-count_items-clause-outcome
@@ -37,12 +34,8 @@ count_value-requires-clause-may c =
     let items = c.args.items.now in
     let k = length items - 1 in
     let item = slice_index_or items k (pos 0, 0) in
-    let within : k < length items = omega (arith, c.in-len1-up.len_at_least) in
     let trip : to_z w32 (of_z w32 item.0) ≡ item.0 = search rules in
-    let most = within_all known.name (boundaries_of known.spec) items k (pos 0, 0) within in
-    let total = c.requires.units.1 in
-    let one = c.requires.units.0 k (pos 0, 0) within in
-    let enough : units_of (take k items) + item.1 ≤ c.args.seat.now.me.0.units.share = omega (arith, most, total) in
+    let (one, enough) = last_fits known items c.args.seat.now.me.0.units.share c.in-len1-up.len_at_least c.requires.units in
     subst (λ (v : ℤ). CountsAlone c.count_items.new.seat.me.0 known (item_of known v item.1)) (sym trip)
     (may_next known item c.args.seat.now.me.0 c.count_items.new.seat.me.0 c.requires.rests (take k items) c.requires.right.alone
     c.in_ok-count_items.ensures.outcome one enough)
@@ -55,10 +48,7 @@ returns-in-Err-clause-outcome c =
     let item = slice_index_or items k (pos 0, 0) in
     let within : k < length items = omega (arith, c.in-len1-up.len_at_least) in
     let trip : to_z w32 (of_z w32 item.0) ≡ item.0 = search rules in
-    let most = within_all known.name (boundaries_of known.spec) items k (pos 0, 0) within in
-    let total = c.requires.units.1 in
-    let one = c.requires.units.0 k (pos 0, 0) within in
-    let enough : units_of (take k items) + item.1 ≤ c.args.seat.now.me.0.units.share = omega (arith, most, total) in
+    let (one, enough) = last_fits known items c.args.seat.now.me.0.units.share c.in-len1-up.len_at_least c.requires.units in
     let first : length (take k items) ≡ k = length-take-le k items (omega arith) in
     subst (λ (n : ℕ). IsCutShort known items (record { added = n; why = c.in-Err.why }) c.args.seat.now.me.0 c.count_value.new.seat.me.0) (sym first)
     (stops_at known items k (pos 0, 0) c.args.seat.now.me.0 c.count_items.new.seat.me.0 c.count_value.new.seat.me.0 c.in-Err.why within c.requires.rests
@@ -73,10 +63,7 @@ returns-in-Err-clause-rests c =
     let item = slice_index_or items k (pos 0, 0) in
     let within : k < length items = omega (arith, c.in-len1-up.len_at_least) in
     let trip : to_z w32 (of_z w32 item.0) ≡ item.0 = search rules in
-    let most = within_all known.name (boundaries_of known.spec) items k (pos 0, 0) within in
-    let total = c.requires.units.1 in
-    let one = c.requires.units.0 k (pos 0, 0) within in
-    let enough : units_of (take k items) + item.1 ≤ c.args.seat.now.me.0.units.share = omega (arith, most, total) in
+    let (one, enough) = last_fits known items c.args.seat.now.me.0.units.share c.in-len1-up.len_at_least c.requires.units in
     (stops_at known items k (pos 0, 0) c.args.seat.now.me.0 c.count_items.new.seat.me.0 c.count_value.new.seat.me.0 c.in-Err.why within c.requires.rests
     c.in_ok-count_items.ensures.outcome one enough
     (subst (λ (v : ℤ). IsNotCounted c.in-Err.why known v item.1 c.count_items.new.seat.me.0 c.count_value.new.seat.me.0) trip c.in-Err.ensures.outcome)).1
@@ -87,12 +74,8 @@ add_last-requires-clause-may c =
     let items = c.args.items.now in
     let k = length items - 1 in
     let item = slice_index_or items k (pos 0, 0) in
-    let within : k < length items = omega (arith, c.in-len1-up.len_at_least) in
     let trip : to_z w32 (of_z w32 item.0) ≡ item.0 = search rules in
-    let most = within_all known.name (boundaries_of known.spec) items k (pos 0, 0) within in
-    let total = c.requires.units.1 in
-    let one = c.requires.units.0 k (pos 0, 0) within in
-    let enough : units_of (take k items) + item.1 ≤ c.args.seat.now.me.0.units.share = omega (arith, most, total) in
+    let (one, enough) = last_fits known items c.args.seat.now.me.0.units.share c.in-len1-up.len_at_least c.requires.units in
     let counted = subst (λ (v : ℤ). HasCounted (item_of known v item.1) c.count_items.new.seat.me.0 c.count_value.new.seat.me.0) trip c.in_default-count_value.ensures.outcome in
     subst (λ (n : ℕ). MayDo c.count_value.new.seat [] (counting_event (add_redundant known.reference n)) (ends ∷ [])) (sym c.from.ensures)
     (may_end_batch known (take k items) item c.args.seat.now.me.0 c.count_items.new.seat.me.0 c.count_value.new.seat c.requires.rests c.requires.right.alone c.in_ok-count_items.ensures.outcome one enough counted)
@@ -103,12 +86,8 @@ returns-clause-same c =
     let items = c.args.items.now in
     let k = length items - 1 in
     let item = slice_index_or items k (pos 0, 0) in
-    let within : k < length items = omega (arith, c.in-len1-up.len_at_least) in
     let trip : to_z w32 (of_z w32 item.0) ≡ item.0 = search rules in
-    let most = within_all known.name (boundaries_of known.spec) items k (pos 0, 0) within in
-    let total = c.requires.units.1 in
-    let one = c.requires.units.0 k (pos 0, 0) within in
-    let enough : units_of (take k items) + item.1 ≤ c.args.seat.now.me.0.units.share = omega (arith, most, total) in
+    let (one, enough) = last_fits known items c.args.seat.now.me.0.units.share c.in-len1-up.len_at_least c.requires.units in
     let counted = subst (λ (v : ℤ). HasCounted (item_of known v item.1) c.count_items.new.seat.me.0 c.count_value.new.seat.me.0) trip c.in_default-count_value.ensures.outcome in
     let noted = subst (λ (n : ℕ). Noted c.count_value.new.seat [] (counting_event (add_redundant known.reference n)) (ends ∷ []) c.add_last.result c.add_last.new.seat) c.from.ensures c.add_last.ensures in
     let so_far = c.count_items.ensures.same in
@@ -122,12 +101,8 @@ returns-clause-rests c =
     let items = c.args.items.now in
     let k = length items - 1 in
     let item = slice_index_or items k (pos 0, 0) in
-    let within : k < length items = omega (arith, c.in-len1-up.len_at_least) in
     let trip : to_z w32 (of_z w32 item.0) ≡ item.0 = search rules in
-    let most = within_all known.name (boundaries_of known.spec) items k (pos 0, 0) within in
-    let total = c.requires.units.1 in
-    let one = c.requires.units.0 k (pos 0, 0) within in
-    let enough : units_of (take k items) + item.1 ≤ c.args.seat.now.me.0.units.share = omega (arith, most, total) in
+    let (one, enough) = last_fits known items c.args.seat.now.me.0.units.share c.in-len1-up.len_at_least c.requires.units in
     let counted = subst (λ (v : ℤ). HasCounted (item_of known v item.1) c.count_items.new.seat.me.0 c.count_value.new.seat.me.0) trip c.in_default-count_value.ensures.outcome in
     let noted = subst (λ (n : ℕ). Noted c.count_value.new.seat [] (counting_event (add_redundant known.reference n)) (ends ∷ []) c.add_last.result c.add_last.new.seat) c.from.ensures c.add_last.ensures in
     last_rests known (take k items) item c.args.seat.now.me.0 c.count_items.new.seat.me.0 c.count_value.new.seat c.requires.rests c.requires.right.alone c.in_ok-count_items.ensures.outcome one enough counted
@@ -139,12 +114,8 @@ returns-clause-outcome c =
     let items = c.args.items.now in
     let k = length items - 1 in
     let item = slice_index_or items k (pos 0, 0) in
-    let within : k < length items = omega (arith, c.in-len1-up.len_at_least) in
     let trip : to_z w32 (of_z w32 item.0) ≡ item.0 = search rules in
-    let most = within_all known.name (boundaries_of known.spec) items k (pos 0, 0) within in
-    let total = c.requires.units.1 in
-    let one = c.requires.units.0 k (pos 0, 0) within in
-    let enough : units_of (take k items) + item.1 ≤ c.args.seat.now.me.0.units.share = omega (arith, most, total) in
+    let (one, enough) = last_fits known items c.args.seat.now.me.0.units.share c.in-len1-up.len_at_least c.requires.units in
     let counted = subst (λ (v : ℤ). HasCounted (item_of known v item.1) c.count_items.new.seat.me.0 c.count_value.new.seat.me.0) trip c.in_default-count_value.ensures.outcome in
     let noted = subst (λ (n : ℕ). Noted c.count_value.new.seat [] (counting_event (add_redundant known.reference n)) (ends ∷ []) c.add_last.result c.add_last.new.seat) c.from.ensures c.add_last.ensures in
     subst (λ (l : List (ℤ × ℕ)). IsBatched known l (pos 0) c.args.seat.now.me.0 c.add_last.new.seat.me.0) (front_and_last items (pos 0, 0) c.in-len1-up.len_at_least)

@@ -1,4 +1,5 @@
 use Rattle.std.proofs.Common.{◌-◌}
+use Rattle.live_segment.specs.Seated.{IsSeated}
 use Rattle.live_segment.specs.Searching.{HasSearched, WalksAt}
 use Rattle.live_segment.specs.Steps.{IsSame}
 use Rattle.segment_promises.proofs.Furthest.{last_of}
@@ -6,6 +7,7 @@ use Rattle.live_segment.proofs.segment.Segment.find.Given as goal
 
 abbrev pub invariant-loop-from : goal.invariant-loop-from
 invariant-loop-from l = record {
+  seated : IsSeated l.self l.seat;
   same : IsSame l.initial.seat l.seat;
   searched : HasSearched l.initial.seat.me.0 l.seat.me.0;
   walks : WalksAt l.asked.name.items l.at l.seat.me.0;

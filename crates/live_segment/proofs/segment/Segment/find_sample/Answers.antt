@@ -8,70 +8,72 @@ use Rattle.live_segment.proofs.AddCall.SampleSearches.{may_follow, room, searche
 use Rattle.live_segment.proofs.segment.Segment.find_sample.Goals as goal
 
 pub loop-from-init : goal.loop-from-init
-loop-from-init c = record { same = (refl, refl, refl); searched = searched_not c.args.seat.now.me.0; walks = λ value same. subst (λ (v : ℤ). WalksBehind c.args.histogram v c.args.from c.args.seat.now.me.0) (sym (same ∙ to_z-of_z w32 c.args.value c.ranges.value)) c.requires.walks }
+loop-from-init c = record { seated = c.requires.seat; same = (refl, refl, refl); searched = searched_not c.args.seat.now.me.0; walks = λ value same. subst (λ (v : ℤ). WalksBehind c.args.histogram v c.args.from c.args.seat.now.me.0) (sym (same ∙ to_z-of_z w32 c.args.value c.ranges.value)) c.requires.walks }
 
 pub load_next-next-requires-clause-may : goal.load_next-next-requires-clause-may
 load_next-next-requires-clause-may c =
-    let was = c.loop-from.invariant in let seat = seat_on c.args.self.now c.args.seat.now c.loop-from.seat c.requires.seat was.same was.searched in
-    may_follow c.args.self.now c.loop-from.seat c.args.histogram c.args.value c.loop-from.at seat (was.walks c.args.value (sym (to_z-of_z w32 c.args.value c.ranges.value)))
+    let was = c.loop-from.invariant in
+    may_follow was.seated (was.walks c.args.value (sym (to_z-of_z w32 c.args.value c.ranges.value)))
 
 pub load_next-next-requires-clause-room : goal.load_next-next-requires-clause-room
 load_next-next-requires-clause-room c =
-    let was = c.loop-from.invariant in let seat = seat_on c.args.self.now c.args.seat.now c.loop-from.seat c.requires.seat was.same was.searched in
-    room c.args.self.now c.loop-from.seat c.args.histogram c.args.value c.loop-from.at seat (was.walks c.args.value (sym (to_z-of_z w32 c.args.value c.ranges.value)))
+    let was = c.loop-from.invariant in
+    room was.seated (was.walks c.args.value (sym (to_z-of_z w32 c.args.value c.ranges.value)))
 
 pub returns-then-next-eq-QUEUE-clause-view : goal.returns-then-next-eq-QUEUE-clause-view
 returns-then-next-eq-QUEUE-clause-view c =
-    let was = c.loop-from.invariant in let seat = seat_on c.args.self.now c.args.seat.now c.loop-from.seat c.requires.seat was.same was.searched in
-    searched_on _ _ _ was.searched (searched c.args.self.now c.loop-from.seat c.args.histogram c.args.value c.loop-from.at seat (was.walks c.args.value (sym (to_z-of_z w32 c.args.value c.ranges.value))) _ _ c.load_next-next.ensures.step)
+    let was = c.loop-from.invariant in
+    searched_on _ _ _ was.searched (searched was.seated (was.walks c.args.value (sym (to_z-of_z w32 c.args.value c.ranges.value))) _ _ c.load_next-next.ensures.step)
 
 pub returns-then-next-eq-QUEUE-clause-outcome : goal.returns-then-next-eq-QUEUE-clause-outcome
 returns-then-next-eq-QUEUE-clause-outcome c =
-    let was = c.loop-from.invariant in let seat = seat_on c.args.self.now c.args.seat.now c.loop-from.seat c.requires.seat was.same was.searched in
-    ends c.args.self.now c.loop-from.seat c.args.histogram c.args.value c.loop-from.at seat (was.walks c.args.value (sym (to_z-of_z w32 c.args.value c.ranges.value))) _ _ c.load_next-next.ensures.step c.load_next-next.ensures.once c.load_next-next.ensures.samples c.if-next-eq-QUEUE.true
+    let was = c.loop-from.invariant in
+    ends was.seated (was.walks c.args.value (sym (to_z-of_z w32 c.args.value c.ranges.value))) _ _ c.load_next-next.ensures.step c.load_next-next.ensures.once c.load_next-next.ensures.samples c.if-next-eq-QUEUE.true
 
 pub shows_value-requires-clause-met : goal.shows_value-requires-clause-met
 shows_value-requires-clause-met c =
-    let was = c.loop-from.invariant in let seat = seat_on c.args.self.now c.args.seat.now c.loop-from.seat c.requires.seat was.same was.searched in
-    meets c.args.self.now c.loop-from.seat c.args.histogram c.args.value c.loop-from.at seat (was.walks c.args.value (sym (to_z-of_z w32 c.args.value c.ranges.value))) _ _ c.load_next-next.ensures.step c.if-next-eq-QUEUE.false
+    let was = c.loop-from.invariant in
+    meets was.seated (was.walks c.args.value (sym (to_z-of_z w32 c.args.value c.ranges.value))) _ _ c.load_next-next.ensures.step c.if-next-eq-QUEUE.false
 
 pub shows_value-requires-clause-seat : goal.shows_value-requires-clause-seat
 shows_value-requires-clause-seat c =
-    let was = c.loop-from.invariant in let seat = seat_on c.args.self.now c.args.seat.now c.loop-from.seat c.requires.seat was.same was.searched in
-    seat_on c.args.self.now c.loop-from.seat c.load_next-next.new.seat seat c.load_next-next.ensures.step.same (searched c.args.self.now c.loop-from.seat c.args.histogram c.args.value c.loop-from.at seat (was.walks c.args.value (sym (to_z-of_z w32 c.args.value c.ranges.value))) _ _ c.load_next-next.ensures.step)
+    let was = c.loop-from.invariant in
+    seat_on c.load_next-next.new.seat was.seated c.load_next-next.ensures.step.same (searched was.seated (was.walks c.args.value (sym (to_z-of_z w32 c.args.value c.ranges.value))) _ _ c.load_next-next.ensures.step)
 
 pub shows_value-requires-clause-room : goal.shows_value-requires-clause-room
 shows_value-requires-clause-room c =
-    let was = c.loop-from.invariant in let seat = seat_on c.args.self.now c.args.seat.now c.loop-from.seat c.requires.seat was.same was.searched in
-    room_found c.args.self.now c.loop-from.seat c.args.histogram c.args.value c.loop-from.at seat (was.walks c.args.value (sym (to_z-of_z w32 c.args.value c.ranges.value))) _ _ c.load_next-next.ensures.step c.if-next-eq-QUEUE.false
+    let was = c.loop-from.invariant in
+    room_found was.seated (was.walks c.args.value (sym (to_z-of_z w32 c.args.value c.ranges.value))) _ _ c.load_next-next.ensures.step c.if-next-eq-QUEUE.false
 
 pub returns-then-shows_value-clause-view : goal.returns-then-shows_value-clause-view
 returns-then-shows_value-clause-view c =
-    let was = c.loop-from.invariant in let seat = seat_on c.args.self.now c.args.seat.now c.loop-from.seat c.requires.seat was.same was.searched in
-    searched_on _ _ _ was.searched (searched_on _ _ _ (searched c.args.self.now c.loop-from.seat c.args.histogram c.args.value c.loop-from.at seat (was.walks c.args.value (sym (to_z-of_z w32 c.args.value c.ranges.value))) _ _ c.load_next-next.ensures.step) (sees_searched _ _ c.shows_value.ensures.view))
+    let was = c.loop-from.invariant in
+    searched_on _ _ _ was.searched (searched_on _ _ _ (searched was.seated (was.walks c.args.value (sym (to_z-of_z w32 c.args.value c.ranges.value))) _ _ c.load_next-next.ensures.step) (sees_searched _ _ c.shows_value.ensures.view))
 
 pub returns-then-shows_value-clause-outcome : goal.returns-then-shows_value-clause-outcome
 returns-then-shows_value-clause-outcome c =
-    let was = c.loop-from.invariant in let seat = seat_on c.args.self.now c.args.seat.now c.loop-from.seat c.requires.seat was.same was.searched in
-    met_first c.args.self.now c.loop-from.seat c.args.histogram c.args.value c.loop-from.at seat (was.walks c.args.value (sym (to_z-of_z w32 c.args.value c.ranges.value))) _ _ c.load_next-next.ensures.step c.if-next-eq-QUEUE.false _ c.shows_value.ensures.view
+    let was = c.loop-from.invariant in
+    met_first was.seated (was.walks c.args.value (sym (to_z-of_z w32 c.args.value c.ranges.value))) _ _ c.load_next-next.ensures.step c.if-next-eq-QUEUE.false _ c.shows_value.ensures.view
     (subst (λ (b : Bool). ShowsValue c.args.histogram c.args.value c.load_next-next.result b c.shows_value.new.seat.me.0) c.if-shows_value.true
     (subst (λ (v : ℤ). ShowsValue c.args.histogram v c.load_next-next.result c.shows_value.result c.shows_value.new.seat.me.0) (to_z-of_z w32 c.args.value c.ranges.value) c.shows_value.ensures.shown))
 
 pub loop-from-smaller : goal.loop-from-smaller
 loop-from-smaller c =
-    let was = c.loop-from.invariant in let seat = seat_on c.args.self.now c.args.seat.now c.loop-from.seat c.requires.seat was.same was.searched in
-    let (further, most) = comes_further c.args.self.now c.loop-from.seat _ c.loop-from.at seat.0 seat.1 seat.2 (was.walks c.args.value (sym (to_z-of_z w32 c.args.value c.ranges.value))).way _ _ c.load_next-next.ensures.step c.if-next-eq-QUEUE.false
+    let was = c.loop-from.invariant in
+    let (further, most) = comes_further was.seated (was.walks c.args.value (sym (to_z-of_z w32 c.args.value c.ranges.value))).way _ _ c.load_next-next.ensures.step c.if-next-eq-QUEUE.false
     _ c.shows_value.ensures.view c.load_next-next.ensures.once in omega (arith, further, most)
 
 pub loop-from-preserved : goal.loop-from-preserved
 loop-from-preserved c =
-    let was = c.loop-from.invariant in let seat = seat_on c.args.self.now c.args.seat.now c.loop-from.seat c.requires.seat was.same was.searched in
+    let was = c.loop-from.invariant in
     record {
+      seated = seat_on c.shows_value.new.seat was.seated (same_on c.loop-from.seat c.load_next-next.new.seat c.shows_value.new.seat c.load_next-next.ensures.step.same c.shows_value.ensures.same)
+          (searched_on _ _ _ (searched was.seated (was.walks c.args.value (sym (to_z-of_z w32 c.args.value c.ranges.value))) _ _ c.load_next-next.ensures.step) (sees_searched _ _ c.shows_value.ensures.view));
       same = same_on c.args.seat.now c.loop-from.seat c.shows_value.new.seat was.same
           (same_on c.loop-from.seat c.load_next-next.new.seat c.shows_value.new.seat c.load_next-next.ensures.step.same c.shows_value.ensures.same);
-      searched = searched_on _ _ _ was.searched (searched_on _ _ _ (searched c.args.self.now c.loop-from.seat c.args.histogram c.args.value c.loop-from.at seat (was.walks c.args.value (sym (to_z-of_z w32 c.args.value c.ranges.value))) _ _ c.load_next-next.ensures.step) (sees_searched _ _ c.shows_value.ensures.view));
+      searched = searched_on _ _ _ was.searched (searched_on _ _ _ (searched was.seated (was.walks c.args.value (sym (to_z-of_z w32 c.args.value c.ranges.value))) _ _ c.load_next-next.ensures.step) (sees_searched _ _ c.shows_value.ensures.view));
       walks = λ value same. subst (λ (v : ℤ). WalksBehind c.args.histogram v c.load_next-next.result c.shows_value.new.seat.me.0) (sym (same ∙ to_z-of_z w32 c.args.value c.ranges.value))
-          (walks_then c.args.self.now c.loop-from.seat c.args.histogram c.args.value c.loop-from.at seat (was.walks c.args.value (sym (to_z-of_z w32 c.args.value c.ranges.value))) _ _ c.load_next-next.ensures.step c.if-next-eq-QUEUE.false _ c.shows_value.ensures.view
+          (walks_then was.seated (was.walks c.args.value (sym (to_z-of_z w32 c.args.value c.ranges.value))) _ _ c.load_next-next.ensures.step c.if-next-eq-QUEUE.false _ c.shows_value.ensures.view
           (subst (λ (b : Bool). ShowsValue c.args.histogram c.args.value c.load_next-next.result b c.shows_value.new.seat.me.0) c.if-shows_value.false
           (subst (λ (v : ℤ). ShowsValue c.args.histogram v c.load_next-next.result c.shows_value.result c.shows_value.new.seat.me.0) (to_z-of_z w32 c.args.value c.ranges.value) c.shows_value.ensures.shown)));
     }

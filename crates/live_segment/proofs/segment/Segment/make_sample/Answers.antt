@@ -18,14 +18,14 @@ returns-in_err-at-clause-outcome c =
 pub store_payload-requires-clause-may : goal.store_payload-requires-clause-may
 store_payload-requires-clause-may c =
     may_store c.args.seat.now.me.0 c.in_ok-at.at c.in_ok-at.ensures.outcome.0 c.in_ok-at.ensures.outcome.3 c.args.self.now c.allocate.new.seat []
-    c.in_ok-at.ensures.outcome.1 (c.in_ok-at.ensures.same.0 ∙ c.requires.seat.0) c.requires.seat.1 0 c.args.histogram (omega arith) (omega arith)
+    c.in_ok-at.ensures.outcome.1 (c.in_ok-at.ensures.same.0 ∙ c.requires.seat.table) c.requires.seat.recorder 0 c.args.histogram (omega arith) (omega arith)
 
 pub store_payload-requires-then-word-ne0-clause-may :
     goal.store_payload-requires-then-word-ne0-clause-may
 store_payload-requires-then-word-ne0-clause-may c =
     may_store_value c.args.self.now c.args.seat.now c.allocate.new.seat c.store_payload.new.seat c.in_ok-at.at c.in_ok-at.ensures.outcome.0 c.args.histogram
-    c.args.value c.in_ok-at.ensures.outcome.3 c.in_ok-at.ensures.outcome.1 c.store_payload.ensures.apart (c.in_ok-at.ensures.same.0 ∙ c.requires.seat.0)
-    c.requires.seat.1 c.store_payload.ensures.stepped c.cast_unsigned-word.result
+    c.args.value c.in_ok-at.ensures.outcome.3 c.in_ok-at.ensures.outcome.1 c.store_payload.ensures.apart (c.in_ok-at.ensures.same.0 ∙ c.requires.seat.table)
+    c.requires.seat.recorder c.store_payload.ensures.stepped c.cast_unsigned-word.result
 
 pub publish-requires-clause-filled : goal.publish-requires-clause-filled
 publish-requires-clause-filled c =
@@ -34,19 +34,19 @@ publish-requires-clause-filled c =
     c.cast_unsigned-word.ensures
     ∙ (ap (λ (v : ℤ). of_z w64 (to_z w64 (of_z w64 v))) (c.from.ensures ∙ to_z-of_z w32 c.args.value c.ranges.value)
     ∙ ap (of_z w64) (to_z-of_z w64 c.args.value wide)) in
-    let table = c.in_ok-at.ensures.same.0 ∙ c.requires.seat.0 in
+    let table = c.in_ok-at.ensures.same.0 ∙ c.requires.seat.table in
     let claims = c.in_ok-at.ensures.outcome in
     let put : IsPut c.args.seat.now.me.0 c.in_ok-at.at claims.0 c.args.histogram c.args.value c.if-word-ne0.seat.me.0 =
     elim c.if-word-ne0.branch [
       | then-word-ne0 w ↦
           subst (λ (s : Pass). IsPut c.args.seat.now.me.0 c.in_ok-at.at claims.0 c.args.histogram c.args.value s.me.0) (sym w.seat-is)
           (put_two c.args.self.now c.args.seat.now c.allocate.new.seat c.store_payload.new.seat c.in_ok-at.at claims.0 c.args.histogram c.args.value claims.3
-          claims.1 c.store_payload.ensures.apart table c.requires.seat.1 c.store_payload.ensures.stepped c.cast_unsigned-word.result word_is
+          claims.1 c.store_payload.ensures.apart table c.requires.seat.recorder c.store_payload.ensures.stepped c.cast_unsigned-word.result word_is
           w.store_payload-then-word-ne0.ensures.apart w.store_payload-then-word-ne0.new.seat w.store_payload-then-word-ne0.ensures.stepped)
       | else-word-ne0 w ↦
           subst (λ (s : Pass). IsPut c.args.seat.now.me.0 c.in_ok-at.at claims.0 c.args.histogram c.args.value s.me.0) (sym w.seat-is)
           (put_one c.args.self.now c.args.seat.now c.allocate.new.seat c.store_payload.new.seat c.in_ok-at.at claims.0 c.args.histogram c.args.value claims.3
-          claims.1 c.store_payload.ensures.apart table c.requires.seat.1 c.store_payload.ensures.stepped (sym word_is ∙ w.if-word-ne0.false))
+          claims.1 c.store_payload.ensures.apart table c.requires.seat.recorder c.store_payload.ensures.stepped (sym word_is ∙ w.if-word-ne0.false))
     ] in (
       Sample c.args.histogram c.args.value,
       ap (λ (v : ℤ). Some (Sample c.args.histogram v)) (to_z-of_z w32 c.args.value c.ranges.value),
@@ -61,19 +61,19 @@ returns-clause-outcome c =
     c.cast_unsigned-word.ensures
     ∙ (ap (λ (v : ℤ). of_z w64 (to_z w64 (of_z w64 v))) (c.from.ensures ∙ to_z-of_z w32 c.args.value c.ranges.value)
     ∙ ap (of_z w64) (to_z-of_z w64 c.args.value wide)) in
-    let table = c.in_ok-at.ensures.same.0 ∙ c.requires.seat.0 in
+    let table = c.in_ok-at.ensures.same.0 ∙ c.requires.seat.table in
     let claims = c.in_ok-at.ensures.outcome in
     let put : IsPut c.args.seat.now.me.0 c.in_ok-at.at claims.0 c.args.histogram c.args.value c.if-word-ne0.seat.me.0 =
     elim c.if-word-ne0.branch [
       | then-word-ne0 w ↦
           subst (λ (s : Pass). IsPut c.args.seat.now.me.0 c.in_ok-at.at claims.0 c.args.histogram c.args.value s.me.0) (sym w.seat-is)
           (put_two c.args.self.now c.args.seat.now c.allocate.new.seat c.store_payload.new.seat c.in_ok-at.at claims.0 c.args.histogram c.args.value claims.3
-          claims.1 c.store_payload.ensures.apart table c.requires.seat.1 c.store_payload.ensures.stepped c.cast_unsigned-word.result word_is
+          claims.1 c.store_payload.ensures.apart table c.requires.seat.recorder c.store_payload.ensures.stepped c.cast_unsigned-word.result word_is
           w.store_payload-then-word-ne0.ensures.apart w.store_payload-then-word-ne0.new.seat w.store_payload-then-word-ne0.ensures.stepped)
       | else-word-ne0 w ↦
           subst (λ (s : Pass). IsPut c.args.seat.now.me.0 c.in_ok-at.at claims.0 c.args.histogram c.args.value s.me.0) (sym w.seat-is)
           (put_one c.args.self.now c.args.seat.now c.allocate.new.seat c.store_payload.new.seat c.in_ok-at.at claims.0 c.args.histogram c.args.value claims.3
-          claims.1 c.store_payload.ensures.apart table c.requires.seat.1 c.store_payload.ensures.stepped (sym word_is ∙ w.if-word-ne0.false))
+          claims.1 c.store_payload.ensures.apart table c.requires.seat.recorder c.store_payload.ensures.stepped (sym word_is ∙ w.if-word-ne0.false))
     ] in
     made c.in_ok-at.at c.args.histogram c.args.value c.args.seat.now.me.0 c.allocate.new.seat.me.0 c.if-word-ne0.seat.me.0 c.publish.new.seat.me.0
     c.in_ok-at.ensures.unspoiled claims put

@@ -4,19 +4,19 @@ use Rattle.live_segment.proofs.segment.Segment.mount.Goals as goal
 
 pub mount_counts-found-requires-clause-may : goal.mount_counts-found-requires-clause-may
 mount_counts-found-requires-clause-may c =
-    may_mount c.args.self.now (known_view c.args.histogram.now) c.args.seat.now c.args.at c.requires.seat.0 c.requires.may c.requires.blank c.requires.within
+    may_mount c.args.self.now (known_view c.args.histogram.now) c.args.seat.now c.args.at c.requires.seat.table c.requires.may c.requires.blank c.requires.within
 
 pub returns-then-found-eq0-clause-mounted : goal.returns-then-found-eq0-clause-mounted
 returns-then-found-eq0-clause-mounted c =
-    mounts_first c.args.self.now (known_view c.args.histogram.now) c.args.seat.now c.args.at c.requires.seat.0 c.requires.may c.requires.blank c.requires.within
+    mounts_first c.args.self.now (known_view c.args.histogram.now) c.args.seat.now c.args.at c.requires.seat.table c.requires.may c.requires.blank c.requires.within
     _ c.mount_counts-found.new.seat c.mount_counts-found.ensures c.if-found-eq0.true
 
 pub purge_block-requires-clause-may : goal.purge_block-requires-clause-may
 purge_block-requires-clause-may c =
-    may_purge c.args.self.now (known_view c.args.histogram.now) c.args.seat.now c.args.at c.requires.seat.0 c.requires.may c.requires.blank c.requires.within
+    may_purge c.args.self.now (known_view c.args.histogram.now) c.args.seat.now c.args.at c.requires.seat.table c.requires.may c.requires.blank c.requires.within
     _ c.mount_counts-found.new.seat c.mount_counts-found.ensures c.if-found-eq0.false
 
 pub returns-clause-mounted : goal.returns-clause-mounted
 returns-clause-mounted c =
-    mounts_late c.args.self.now (known_view c.args.histogram.now) c.args.seat.now c.args.at c.requires.seat.0 c.requires.may c.requires.blank c.requires.within
+    mounts_late c.args.self.now (known_view c.args.histogram.now) c.args.seat.now c.args.at c.requires.seat.table c.requires.may c.requires.blank c.requires.within
     _ c.mount_counts-found.new.seat c.mount_counts-found.ensures c.if-found-eq0.false c.purge_block.new.seat c.purge_block.ensures

@@ -6,61 +6,51 @@ use Rattle.live_segment.proofs.segment.Segment.publish.Goals as goal
 
 pub store_own_next-requires-clause-may : goal.store_own_next-requires-clause-may
 store_own_next-requires-clause-may c =
-    may_store c.args.self.now c.args.seat.now c.args.at c.requires.filled.0 c.requires.filled.2 c.requires.seat.0 c.requires.seat.1
+    may_store c.requires.filled.2 c.requires.seat
 
 pub loop-seat-init : goal.loop-seat-init
 loop-seat-init c = λ made asked is.
-    begins c.args.self.now c.args.seat.now c.args.at made is c.requires.seat.0 c.requires.seat.1 _ _ c.requires.free c.store_own_next.ensures
+    begins is c.requires.seat _ _ c.requires.free c.store_own_next.ensures
 
 pub load_tail-tail-requires : goal.load_tail-tail-requires
 load_tail-tail-requires c =
-    may_load c.args.self.now c.args.seat.now _ c.args.at c.requires.filled.0 c.requires.filled.2 c.requires.seat.0 c.requires.seat.1 c.requires.seat.2
-    (c.loop-seat.invariant c.requires.filled.0 c.requires.filled.1 c.requires.filled.2)
+    may_load c.requires.filled.2 c.requires.seat (c.loop-seat.invariant c.requires.filled.0 c.requires.filled.1 c.requires.filled.2)
 
 pub link-next-requires-clause-table : goal.link-next-requires-clause-table
 link-next-requires-clause-table c =
-    table_still c.args.self.now c.args.seat.now _ c.args.at c.requires.filled.0 c.requires.filled.2 c.requires.seat.0 c.requires.seat.1 c.requires.seat.2
-    (c.loop-seat.invariant c.requires.filled.0 c.requires.filled.1 c.requires.filled.2) _ _ c.load_tail-tail.ensures
+    table_still c.requires.filled.2 c.requires.seat (c.loop-seat.invariant c.requires.filled.0 c.requires.filled.1 c.requires.filled.2) _ _ c.load_tail-tail.ensures
 
 pub link-next-requires-clause-room : goal.link-next-requires-clause-room
 link-next-requires-clause-room c =
-    room c.args.self.now c.args.seat.now _ c.args.at c.requires.filled.0 c.requires.filled.2 c.requires.seat.0 c.requires.seat.1 c.requires.seat.2
-    (c.loop-seat.invariant c.requires.filled.0 c.requires.filled.1 c.requires.filled.2) _ _ c.load_tail-tail.ensures
+    room c.requires.filled.2 c.requires.seat (c.loop-seat.invariant c.requires.filled.0 c.requires.filled.1 c.requires.filled.2) _ _ c.load_tail-tail.ensures
 
 pub link-next-requires-clause-may : goal.link-next-requires-clause-may
 link-next-requires-clause-may c =
-    may_link c.args.self.now c.args.seat.now _ c.args.at c.requires.filled.0 c.requires.filled.2 c.requires.seat.0 c.requires.seat.1 c.requires.seat.2
-    (c.loop-seat.invariant c.requires.filled.0 c.requires.filled.1 c.requires.filled.2) _ _ c.load_tail-tail.ensures c.args.said.now c.requires.filled.1
+    may_link c.requires.filled.2 c.requires.seat (c.loop-seat.invariant c.requires.filled.0 c.requires.filled.1 c.requires.filled.2) _ _ c.load_tail-tail.ensures c.args.said.now c.requires.filled.1
 
 pub move_tail-requires : goal.move_tail-requires
 move_tail-requires c =
-    may_end c.args.self.now c.args.seat.now _ c.args.at c.requires.filled.0 c.requires.filled.2 c.requires.seat.0 c.requires.seat.1 c.requires.seat.2
-    (c.loop-seat.invariant c.requires.filled.0 c.requires.filled.1 c.requires.filled.2) _ _ c.load_tail-tail.ensures c.args.said.now c.requires.filled.1 _ _ c.link-next.ensures c.if-next-eq-QUEUE.true
+    may_end c.requires.filled.2 c.requires.seat (c.loop-seat.invariant c.requires.filled.0 c.requires.filled.1 c.requires.filled.2) _ _ c.load_tail-tail.ensures c.args.said.now c.requires.filled.1 _ _ c.link-next.ensures c.if-next-eq-QUEUE.true
 
 pub returns-then-next-eq-QUEUE-clause-same : goal.returns-then-next-eq-QUEUE-clause-same
 returns-then-next-eq-QUEUE-clause-same c =
-    same_end c.args.self.now c.args.seat.now _ c.args.at c.requires.filled.0 c.requires.filled.2 c.requires.seat.0 c.requires.seat.1 c.requires.seat.2
-    (c.loop-seat.invariant c.requires.filled.0 c.requires.filled.1 c.requires.filled.2) _ _ c.load_tail-tail.ensures c.args.said.now c.requires.filled.1 _ _ c.link-next.ensures c.if-next-eq-QUEUE.true _ _ c.move_tail.ensures
+    same_end c.requires.filled.2 c.requires.seat (c.loop-seat.invariant c.requires.filled.0 c.requires.filled.1 c.requires.filled.2) _ _ c.load_tail-tail.ensures c.args.said.now c.requires.filled.1 _ _ c.link-next.ensures c.if-next-eq-QUEUE.true _ _ c.move_tail.ensures
 
 pub returns-then-next-eq-QUEUE-clause-published : goal.returns-then-next-eq-QUEUE-clause-published
 returns-then-next-eq-QUEUE-clause-published c = λ made asked.
     let both : Some c.requires.filled.0 ≡ Some made = sym c.requires.filled.1 ∙ asked in
     let one : c.requires.filled.0 ≡ made = cc in
     subst (λ (m : Made). HasPublished c.args.at m c.args.seat.now.me.0 c.move_tail.new.seat.me.0) one
-    (has_published c.args.self.now c.args.seat.now _ c.args.at c.requires.filled.0 c.requires.filled.2 c.requires.seat.0 c.requires.seat.1 c.requires.seat.2
-    (c.loop-seat.invariant c.requires.filled.0 c.requires.filled.1 c.requires.filled.2) _ _ c.load_tail-tail.ensures c.args.said.now c.requires.filled.1 _ _ c.link-next.ensures c.if-next-eq-QUEUE.true _ _ c.move_tail.ensures)
+    (has_published c.requires.filled.2 c.requires.seat (c.loop-seat.invariant c.requires.filled.0 c.requires.filled.1 c.requires.filled.2) _ _ c.load_tail-tail.ensures c.args.said.now c.requires.filled.1 _ _ c.link-next.ensures c.if-next-eq-QUEUE.true _ _ c.move_tail.ensures)
 
 pub move_tail-requires-in-loop-seat : goal.move_tail-requires-in-loop-seat
 move_tail-requires-in-loop-seat c =
-    may_go_on c.args.self.now c.args.seat.now _ c.args.at c.requires.filled.0 c.requires.filled.2 c.requires.seat.0 c.requires.seat.1 c.requires.seat.2
-    (c.loop-seat.invariant c.requires.filled.0 c.requires.filled.1 c.requires.filled.2) _ _ c.load_tail-tail.ensures c.args.said.now c.requires.filled.1 _ _ c.link-next.ensures c.if-next-eq-QUEUE.false
+    may_go_on c.requires.filled.2 c.requires.seat (c.loop-seat.invariant c.requires.filled.0 c.requires.filled.1 c.requires.filled.2) _ _ c.load_tail-tail.ensures c.args.said.now c.requires.filled.1 _ _ c.link-next.ensures c.if-next-eq-QUEUE.false
 
 pub loop-seat-smaller : goal.loop-seat-smaller
 loop-seat-smaller c =
-    falls c.args.self.now c.args.seat.now _ c.args.at c.requires.filled.0 c.requires.filled.2 c.requires.seat.0 c.requires.seat.1 c.requires.seat.2
-    (c.loop-seat.invariant c.requires.filled.0 c.requires.filled.1 c.requires.filled.2) _ _ c.load_tail-tail.ensures c.args.said.now c.requires.filled.1 _ _ c.link-next.ensures c.if-next-eq-QUEUE.false _ _ c.move_tail-in-loop-seat.ensures
+    falls c.requires.filled.2 c.requires.seat (c.loop-seat.invariant c.requires.filled.0 c.requires.filled.1 c.requires.filled.2) _ _ c.load_tail-tail.ensures c.args.said.now c.requires.filled.1 _ _ c.link-next.ensures c.if-next-eq-QUEUE.false _ _ c.move_tail-in-loop-seat.ensures
 
 pub loop-seat-preserved : goal.loop-seat-preserved
 loop-seat-preserved c = λ made asked is.
-    waits_on c.args.self.now c.args.seat.now _ c.args.at made is c.requires.seat.0 c.requires.seat.1 c.requires.seat.2
-    (c.loop-seat.invariant made asked is) _ _ c.load_tail-tail.ensures c.args.said.now asked _ _ c.link-next.ensures c.if-next-eq-QUEUE.false _ _ c.move_tail-in-loop-seat.ensures
+    waits_on is c.requires.seat (c.loop-seat.invariant made asked is) _ _ c.load_tail-tail.ensures c.args.said.now asked _ _ c.link-next.ensures c.if-next-eq-QUEUE.false _ _ c.move_tail-in-loop-seat.ensures

@@ -7,7 +7,7 @@ use Rattle.live_segment.proofs.AddCall.SampleOf.{walk_begins, knows_still, walk_
 use Rattle.live_segment.proofs.segment.Segment.sample_of.Goals as goal
 
 pub find_sample-requires-clause-walks : goal.find_sample-requires-clause-walks
-find_sample-requires-clause-walks c = walk_begins c.args.self.now.setting c.args.histogram.now _ c.args.seat.now.me.0 c.requires.seat.2 c.requires.free c.requires.right
+find_sample-requires-clause-walks c = walk_begins c.args.self.now.setting c.args.histogram.now _ c.args.seat.now.me.0 c.requires.seat.of c.requires.free c.requires.right
 
 pub returns-in-Met-clause-outcome : goal.returns-in-Met-clause-outcome
 returns-in-Met-clause-outcome c =

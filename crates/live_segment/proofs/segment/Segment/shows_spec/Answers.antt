@@ -12,8 +12,8 @@ returns-then-not-shows-clause-shown c =
 
 pub load_published-requires-clause-may : goal.load_published-requires-clause-may
 load_published-requires-clause-may c =
-    may_load_fixed c.args.self.now c.args.seat.now c.shows.new.seat c.args.at c.requires.seat.0 c.requires.seat.1 c.requires.met c.shows.ensures.same c.shows.ensures.view 7
-    (buckets_fixed c.args.self.now c.args.seat.now c.shows.new.seat c.args.asked.now c.args.at c.requires.asked c.requires.seat.2 c.requires.named c.shows.ensures.view)
+    may_load_fixed c.args.self.now c.args.seat.now c.shows.new.seat c.args.at c.requires.seat.table c.requires.seat.recorder c.requires.met c.shows.ensures.same c.shows.ensures.view 7
+    (buckets_fixed c.args.self.now c.args.seat.now c.shows.new.seat c.args.asked.now c.args.at c.requires.asked c.requires.seat.of c.requires.named c.shows.ensures.view)
 
 pub returns-then-load_published-index-clause-view : goal.returns-then-load_published-index-clause-view
 returns-then-load_published-index-clause-view c =
@@ -28,7 +28,7 @@ returns-then-load_published-index-clause-shown c =
 
 pub shows-requires-2-clause-fixed : goal.shows-requires-2-clause-fixed
 shows-requires-2-clause-fixed c =
-    ranges_fixed c.args.self.now c.args.seat.now c.shows.new.seat c.args.asked.now c.args.at c.requires.asked c.requires.seat.2 c.requires.named c.shows.ensures.view
+    ranges_fixed c.args.self.now c.args.seat.now c.shows.new.seat c.args.asked.now c.args.at c.requires.asked c.requires.seat.of c.requires.named c.shows.ensures.view
     c.load_published.new.seat c.load_published.result _ (fields_are c.args.self.now.setting.shape c.args.asked.now c.requires.asked c.deref.result.now c.deref.ensures.value)
     (subst (λ (b : Bool). ShowsWords c.args.at 4 (take 3 c.deref.result.now) b c.shows.new.seat.me.0.seen) c.if-not-shows.false c.shows.ensures.shown) c.load_published.ensures
     (c.if-load_published-index.false ∙ buckets_are c.args.self.now.setting.shape c.args.asked.now c.requires.asked c.index.result.now c.index.ensures) _
@@ -36,7 +36,7 @@ shows-requires-2-clause-fixed c =
 
 pub shows-requires-2-clause-room : goal.shows-requires-2-clause-room
 shows-requires-2-clause-room c =
-    ranges_room c.args.self.now c.args.seat.now c.shows.new.seat c.args.asked.now c.args.at c.requires.asked c.requires.seat.2 c.requires.named c.shows.ensures.view
+    ranges_room c.args.self.now c.args.seat.now c.shows.new.seat c.args.asked.now c.args.at c.requires.asked c.requires.seat.of c.requires.named c.shows.ensures.view
     c.load_published.new.seat c.load_published.result _ (fields_are c.args.self.now.setting.shape c.args.asked.now c.requires.asked c.deref.result.now c.deref.ensures.value)
     (subst (λ (b : Bool). ShowsWords c.args.at 4 (take 3 c.deref.result.now) b c.shows.new.seat.me.0.seen) c.if-not-shows.false c.shows.ensures.shown) c.load_published.ensures
     (c.if-load_published-index.false ∙ buckets_are c.args.self.now.setting.shape c.args.asked.now c.requires.asked c.index.result.now c.index.ensures) _
@@ -44,7 +44,7 @@ shows-requires-2-clause-room c =
 
 pub returns-clause-shown : goal.returns-clause-shown
 returns-clause-shown c =
-    shown_spec c.args.self.now c.args.seat.now c.shows.new.seat c.args.asked.now c.args.at c.requires.asked c.requires.seat.2 c.requires.named c.shows.ensures.view
+    shown_spec c.args.self.now c.args.seat.now c.shows.new.seat c.args.asked.now c.args.at c.requires.asked c.requires.seat.of c.requires.named c.shows.ensures.view
     c.load_published.new.seat c.load_published.result _ (fields_are c.args.self.now.setting.shape c.args.asked.now c.requires.asked c.deref.result.now c.deref.ensures.value)
     (subst (λ (b : Bool). ShowsWords c.args.at 4 (take 3 c.deref.result.now) b c.shows.new.seat.me.0.seen) c.if-not-shows.false c.shows.ensures.shown) c.load_published.ensures
     (c.if-load_published-index.false ∙ buckets_are c.args.self.now.setting.shape c.args.asked.now c.requires.asked c.index.result.now c.index.ensures)

@@ -30,7 +30,7 @@ look_at_buckets-requires-clause-blank c =
 
 pub look_at_sum-sum-requires-clause-may : goal.look_at_sum-sum-requires-clause-may
 look_at_sum-sum-requires-clause-may c =
-    may_sum c.args.self.now (known_view c.args.histogram.now) c.args.seat.now c.look_at_buckets.new.seat c.requires.seat.0 c.requires.rests c.requires.right.alone
+    may_sum c.args.self.now (known_view c.args.histogram.now) c.args.seat.now c.look_at_buckets.new.seat c.requires.seat.table c.requires.rests c.requires.right.alone
     c.look_at_buckets.ensures.same c.look_at_buckets.ensures.saw.looked
 
 pub answer_with-requires-clause-may : goal.answer_with-requires-clause-may

@@ -16,19 +16,19 @@ use Rattle.live_segment.proofs.segment.Segment.snapshot_of_values.Goals as goal
 pub look_next-first-requires-clause-may : goal.look_next-first-requires-clause-may
 look_next-first-requires-clause-may c =
     let (front, behind, split) = stands_there c.args.seat.now.me.0.seen.chain c.args.histogram.now.reference c.requires.right.met in
-    may_look c.args.self.now (known_view c.args.histogram.now) c.args.seat.now c.requires.seat.0 c.requires.seat.1 c.requires.rests c.requires.right.alone c.requires.sparse
+    may_look (known_view c.args.histogram.now) c.requires.seat c.requires.rests c.requires.right.alone c.requires.sparse
     front behind split
 
 pub look_at_values-requires-clause-looks : goal.look_at_values-requires-clause-looks
 look_at_values-requires-clause-looks c =
     let (front, behind, split) = stands_there c.args.seat.now.me.0.seen.chain c.args.histogram.now.reference c.requires.right.met in
-    looks_first c.args.self.now (known_view c.args.histogram.now) c.args.seat.now c.requires.seat.0 c.requires.seat.1 c.requires.rests c.requires.right.alone c.requires.sparse
+    looks_first (known_view c.args.histogram.now) c.requires.seat c.requires.rests c.requires.right.alone c.requires.sparse
     front behind split c.look_next-first.result c.look_next-first.new.seat c.look_next-first.ensures
 
 pub look_at_values-requires-clause-comes : goal.look_at_values-requires-clause-comes
 look_at_values-requires-clause-comes c =
     let (front, behind, split) = stands_there c.args.seat.now.me.0.seen.chain c.args.histogram.now.reference c.requires.right.met in
-    comes c.args.self.now (known_view c.args.histogram.now) c.args.seat.now c.requires.seat.0 c.requires.seat.1 c.requires.rests c.requires.right.alone c.requires.sparse
+    comes (known_view c.args.histogram.now) c.requires.seat c.requires.rests c.requires.right.alone c.requires.sparse
     front behind split c.look_next-first.result c.look_next-first.new.seat c.look_next-first.ensures
 
 pub look_at_sum-sum-requires-clause-may : goal.look_at_sum-sum-requires-clause-may
@@ -36,9 +36,9 @@ look_at_sum-sum-requires-clause-may c =
     let known = known_view c.args.histogram.now in
     let (front, behind, split) = stands_there c.args.seat.now.me.0.seen.chain c.args.histogram.now.reference c.requires.right.met in
     let (passed, along) = c.look_at_values.ensures in
-    let looked = has_looked c.args.self.now known c.args.seat.now c.requires.seat.0 c.requires.seat.1 c.requires.rests c.requires.right.alone c.requires.sparse
+    let looked = has_looked known c.requires.seat c.requires.rests c.requires.right.alone c.requires.sparse
     front behind split c.look_next-first.result c.look_next-first.new.seat c.look_next-first.ensures c.look_at_values.new.seat passed c.look_at_values.new.totals.items along in
-    may_sum c.args.self.now known c.args.seat.now c.look_at_values.new.seat c.requires.seat.0 c.requires.rests c.requires.right.alone
+    may_sum c.args.self.now known c.args.seat.now c.look_at_values.new.seat c.requires.seat.table c.requires.rests c.requires.right.alone
     (same_on c.args.seat.now c.look_next-first.new.seat c.look_at_values.new.seat c.look_next-first.ensures.same along.same) looked
 
 pub answer_with-requires-clause-may : goal.answer_with-requires-clause-may
@@ -46,7 +46,7 @@ answer_with-requires-clause-may c =
     let known = known_view c.args.histogram.now in
     let (front, behind, split) = stands_there c.args.seat.now.me.0.seen.chain c.args.histogram.now.reference c.requires.right.met in
     let (passed, along) = c.look_at_values.ensures in
-    let looked = has_looked c.args.self.now known c.args.seat.now c.requires.seat.0 c.requires.seat.1 c.requires.rests c.requires.right.alone c.requires.sparse
+    let looked = has_looked known c.requires.seat c.requires.rests c.requires.right.alone c.requires.sparse
     front behind split c.look_next-first.result c.look_next-first.new.seat c.look_next-first.ensures c.look_at_values.new.seat passed c.look_at_values.new.totals.items along in
     let a = c.args.seat.now.me.0 in
     let b = c.look_at_values.new.seat.me.0 in
@@ -63,7 +63,7 @@ returns-clause-answer c =
     let known = known_view c.args.histogram.now in
     let (front, behind, split) = stands_there c.args.seat.now.me.0.seen.chain c.args.histogram.now.reference c.requires.right.met in
     let (passed, along) = c.look_at_values.ensures in
-    let looked = has_looked c.args.self.now known c.args.seat.now c.requires.seat.0 c.requires.seat.1 c.requires.rests c.requires.right.alone c.requires.sparse
+    let looked = has_looked known c.requires.seat c.requires.rests c.requires.right.alone c.requires.sparse
     front behind split c.look_next-first.result c.look_next-first.new.seat c.look_next-first.ensures c.look_at_values.new.seat passed c.look_at_values.new.totals.items along in
     let a = c.args.seat.now.me.0 in
     let b = c.look_at_values.new.seat.me.0 in
@@ -82,7 +82,7 @@ returns-clause-units c =
     let known = known_view c.args.histogram.now in
     let (front, behind, split) = stands_there c.args.seat.now.me.0.seen.chain c.args.histogram.now.reference c.requires.right.met in
     let (passed, along) = c.look_at_values.ensures in
-    let looked = has_looked c.args.self.now known c.args.seat.now c.requires.seat.0 c.requires.seat.1 c.requires.rests c.requires.right.alone c.requires.sparse
+    let looked = has_looked known c.requires.seat c.requires.rests c.requires.right.alone c.requires.sparse
     front behind split c.look_next-first.result c.look_next-first.new.seat c.look_next-first.ensures c.look_at_values.new.seat passed c.look_at_values.new.totals.items along in
     let a = c.args.seat.now.me.0 in
     let b = c.look_at_values.new.seat.me.0 in

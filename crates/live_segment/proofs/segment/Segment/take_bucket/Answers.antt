@@ -2,63 +2,63 @@ use Rattle.std.proofs.Common.{ℕ, Some, subst, sym, ◌∙◌, arith}
 use Rattle.segment_machine.specs.Actor.{bucket_key}
 use Rattle.live_segment.specs.Deltas.{TakesOn, units_of_key}
 use Rattle.live_segment.specs.Known.{known_view}
-use Rattle.live_segment.proofs.DeltaCall.OneBucket.{stays_loaded, loads_on, packed_nothing, may_raise_single, key_packed, took_packed, nothing_there, may_raise, key_other, took_other, stays_raised, raises_on, is_packed, is_other}
+use Rattle.live_segment.proofs.DeltaCall.OneBucket.{stays_loaded, loads_on, packed_nothing, may_raise_single, took_packed, nothing_there, may_raise, took_other, stays_packed, raises_packed, stays_other, raises_other, is_packed, is_other}
 use Rattle.live_segment.proofs.segment.Segment.take_bucket.Goals as goal
 
 pub returns-then-total-eq0-clause-stands : goal.returns-then-total-eq0-clause-stands
 returns-then-total-eq0-clause-stands c =
-    stays_loaded c.args.self.now (known_view c.args.histogram.now) c.args.mounted.now c.args.seat.now c.requires.takes c.args.bucket c.requires.bucket c.load_count-count.result c.load_count-count.new.seat c.load_count-count.ensures
+    stays_loaded c.requires.takes c.args.bucket c.requires.bucket c.load_count-count.ensures
 
 pub returns-then-total-eq0-clause-took : goal.returns-then-total-eq0-clause-took
 returns-then-total-eq0-clause-took c =
-    packed_nothing c.args.self.now (known_view c.args.histogram.now) c.args.mounted.now c.args.seat.now c.requires.takes c.args.bucket c.requires.bucket c.load_count-count.result c.load_count-count.new.seat c.load_count-count.ensures (is_packed c.args.mounted.now.packed c.args.bucket (sym c.eq.ensures ∙ c.if-eq.true)) c.if-total-eq0.true
+    packed_nothing c.requires.takes c.args.bucket c.requires.bucket c.load_count-count.ensures (is_packed c.args.mounted.now.packed c.args.bucket (sym c.eq.ensures ∙ c.if-eq.true)) c.if-total-eq0.true
 
 pub returns-then-total-eq0-clause-on : goal.returns-then-total-eq0-clause-on
 returns-then-total-eq0-clause-on c =
-    loads_on c.args.self.now (known_view c.args.histogram.now) c.args.mounted.now c.args.seat.now c.requires.takes c.args.bucket c.requires.bucket c.load_count-count.result c.load_count-count.new.seat c.load_count-count.ensures
+    loads_on c.requires.takes c.args.bucket c.requires.bucket c.load_count-count.ensures
 
 pub raise_single_mark-requires-clause-may : goal.raise_single_mark-requires-clause-may
 raise_single_mark-requires-clause-may c =
-    may_raise_single c.args.self.now (known_view c.args.histogram.now) c.args.mounted.now c.args.seat.now c.requires.takes c.args.bucket c.requires.bucket c.load_count-count.result c.load_count-count.new.seat c.load_count-count.ensures (is_packed c.args.mounted.now.packed c.args.bucket (sym c.eq.ensures ∙ c.if-eq.true)) c.if-total-eq0.false
+    may_raise_single c.requires.takes c.args.bucket c.requires.bucket c.load_count-count.ensures (is_packed c.args.mounted.now.packed c.args.bucket (sym c.eq.ensures ∙ c.if-eq.true)) c.if-total-eq0.false
 
 pub returns-then-count-eq0-clause-stands : goal.returns-then-count-eq0-clause-stands
 returns-then-count-eq0-clause-stands c =
-    stays_loaded c.args.self.now (known_view c.args.histogram.now) c.args.mounted.now c.args.seat.now c.requires.takes c.args.bucket c.requires.bucket c.load_count-count.result c.load_count-count.new.seat c.load_count-count.ensures
+    stays_loaded c.requires.takes c.args.bucket c.requires.bucket c.load_count-count.ensures
 
 pub returns-then-count-eq0-clause-took : goal.returns-then-count-eq0-clause-took
 returns-then-count-eq0-clause-took c =
-    nothing_there c.args.self.now (known_view c.args.histogram.now) c.args.mounted.now c.args.seat.now c.requires.takes c.args.bucket c.requires.bucket c.load_count-count.result c.load_count-count.new.seat c.load_count-count.ensures (is_other c.args.mounted.now.packed c.args.bucket (sym c.eq.ensures ∙ c.if-eq.false)) c.if-count-eq0.true
+    nothing_there c.requires.takes c.args.bucket c.requires.bucket c.load_count-count.ensures (is_other c.args.mounted.now.packed c.args.bucket (sym c.eq.ensures ∙ c.if-eq.false)) c.if-count-eq0.true
 
 pub returns-then-count-eq0-clause-on : goal.returns-then-count-eq0-clause-on
 returns-then-count-eq0-clause-on c =
-    loads_on c.args.self.now (known_view c.args.histogram.now) c.args.mounted.now c.args.seat.now c.requires.takes c.args.bucket c.requires.bucket c.load_count-count.result c.load_count-count.new.seat c.load_count-count.ensures
+    loads_on c.requires.takes c.args.bucket c.requires.bucket c.load_count-count.ensures
 
 pub raise_mark-requires-clause-may : goal.raise_mark-requires-clause-may
 raise_mark-requires-clause-may c =
-    may_raise c.args.self.now (known_view c.args.histogram.now) c.args.mounted.now c.args.seat.now c.requires.takes c.args.bucket c.requires.bucket c.load_count-count.result c.load_count-count.new.seat c.load_count-count.ensures (is_other c.args.mounted.now.packed c.args.bucket (sym c.eq.ensures ∙ c.if-eq.false)) _ (let long = c.requires.buckets in omega (arith, long)) c.if-count-eq0.false
+    may_raise c.requires.takes c.args.bucket c.requires.bucket c.load_count-count.ensures (is_other c.args.mounted.now.packed c.args.bucket (sym c.eq.ensures ∙ c.if-eq.false)) _ (let long = c.requires.buckets in omega (arith, long)) c.if-count-eq0.false
 
 pub returns-else-total-eq0-clause-stands : goal.returns-else-total-eq0-clause-stands
 returns-else-total-eq0-clause-stands c =
-    stays_raised c.args.self.now (known_view c.args.histogram.now) c.args.mounted.now c.args.seat.now c.requires.takes c.args.bucket c.requires.bucket c.load_count-count.result c.load_count-count.new.seat c.load_count-count.ensures c.raise_single_mark.new.seat _ (bucket_key (Some (known_view c.args.histogram.now)) c.args.bucket) _ c.raise_single_mark.result _ c.raise_single_mark.ensures.same (key_packed c.args.self.now (known_view c.args.histogram.now) c.args.mounted.now c.args.seat.now c.requires.takes c.args.bucket c.requires.bucket c.load_count-count.result c.load_count-count.new.seat c.load_count-count.ensures (is_packed c.args.mounted.now.packed c.args.bucket (sym c.eq.ensures ∙ c.if-eq.true))) c.raise_single_mark.ensures.view
+    stays_packed c.requires.takes c.args.bucket c.requires.bucket c.load_count-count.ensures (is_packed c.args.mounted.now.packed c.args.bucket (sym c.eq.ensures ∙ c.if-eq.true)) c.raise_single_mark.ensures
 
 pub returns-else-total-eq0-clause-took : goal.returns-else-total-eq0-clause-took
 returns-else-total-eq0-clause-took c =
-    took_packed c.args.self.now (known_view c.args.histogram.now) c.args.mounted.now c.args.seat.now c.requires.takes c.args.bucket c.requires.bucket c.load_count-count.result c.load_count-count.new.seat c.load_count-count.ensures (is_packed c.args.mounted.now.packed c.args.bucket (sym c.eq.ensures ∙ c.if-eq.true)) c.raise_single_mark.result c.raise_single_mark.new.seat c.raise_single_mark.ensures
+    took_packed c.requires.takes c.args.bucket c.requires.bucket c.load_count-count.ensures (is_packed c.args.mounted.now.packed c.args.bucket (sym c.eq.ensures ∙ c.if-eq.true)) c.raise_single_mark.ensures
 
 pub returns-else-total-eq0-clause-on : goal.returns-else-total-eq0-clause-on
 returns-else-total-eq0-clause-on c =
     subst (λ (n : ℕ). TakesOn (units_of_key (bucket_key (Some (known_view c.args.histogram.now)) c.args.bucket) n) c.args.seat.now.me.0 c.raise_single_mark.new.seat.me.0) (sym c.saturating_sub.ensures)
-    (raises_on c.args.self.now (known_view c.args.histogram.now) c.args.mounted.now c.args.seat.now c.requires.takes c.args.bucket c.requires.bucket c.load_count-count.result c.load_count-count.new.seat c.load_count-count.ensures c.raise_single_mark.new.seat _ (bucket_key (Some (known_view c.args.histogram.now)) c.args.bucket) _ c.raise_single_mark.result _ c.raise_single_mark.ensures.same (key_packed c.args.self.now (known_view c.args.histogram.now) c.args.mounted.now c.args.seat.now c.requires.takes c.args.bucket c.requires.bucket c.load_count-count.result c.load_count-count.new.seat c.load_count-count.ensures (is_packed c.args.mounted.now.packed c.args.bucket (sym c.eq.ensures ∙ c.if-eq.true))) c.raise_single_mark.ensures.view)
+    (raises_packed c.requires.takes c.args.bucket c.requires.bucket c.load_count-count.ensures (is_packed c.args.mounted.now.packed c.args.bucket (sym c.eq.ensures ∙ c.if-eq.true)) c.raise_single_mark.ensures)
 
 pub returns-else-count-eq0-clause-stands : goal.returns-else-count-eq0-clause-stands
 returns-else-count-eq0-clause-stands c =
-    stays_raised c.args.self.now (known_view c.args.histogram.now) c.args.mounted.now c.args.seat.now c.requires.takes c.args.bucket c.requires.bucket c.load_count-count.result c.load_count-count.new.seat c.load_count-count.ensures c.raise_mark.new.seat _ (bucket_key (Some (known_view c.args.histogram.now)) c.args.bucket) _ c.raise_mark.result _ c.raise_mark.ensures.same (key_other c.args.self.now (known_view c.args.histogram.now) c.args.mounted.now c.args.seat.now c.requires.takes c.args.bucket c.requires.bucket c.load_count-count.result c.load_count-count.new.seat c.load_count-count.ensures (is_other c.args.mounted.now.packed c.args.bucket (sym c.eq.ensures ∙ c.if-eq.false))) c.raise_mark.ensures.view
+    stays_other c.requires.takes c.args.bucket c.requires.bucket c.load_count-count.ensures (is_other c.args.mounted.now.packed c.args.bucket (sym c.eq.ensures ∙ c.if-eq.false)) _ (let long = c.requires.buckets in omega (arith, long)) c.raise_mark.ensures
 
 pub returns-else-count-eq0-clause-took : goal.returns-else-count-eq0-clause-took
 returns-else-count-eq0-clause-took c =
-    took_other c.args.self.now (known_view c.args.histogram.now) c.args.mounted.now c.args.seat.now c.requires.takes c.args.bucket c.requires.bucket c.load_count-count.result c.load_count-count.new.seat c.load_count-count.ensures (is_other c.args.mounted.now.packed c.args.bucket (sym c.eq.ensures ∙ c.if-eq.false)) _ (let long = c.requires.buckets in omega (arith, long)) c.raise_mark.result c.raise_mark.new.seat c.raise_mark.ensures
+    took_other c.requires.takes c.args.bucket c.requires.bucket c.load_count-count.ensures (is_other c.args.mounted.now.packed c.args.bucket (sym c.eq.ensures ∙ c.if-eq.false)) _ (let long = c.requires.buckets in omega (arith, long)) c.raise_mark.ensures
 
 pub returns-else-count-eq0-clause-on : goal.returns-else-count-eq0-clause-on
 returns-else-count-eq0-clause-on c =
     subst (λ (n : ℕ). TakesOn (units_of_key (bucket_key (Some (known_view c.args.histogram.now)) c.args.bucket) n) c.args.seat.now.me.0 c.raise_mark.new.seat.me.0) (sym c.saturating_sub-else-eq.ensures)
-    (raises_on c.args.self.now (known_view c.args.histogram.now) c.args.mounted.now c.args.seat.now c.requires.takes c.args.bucket c.requires.bucket c.load_count-count.result c.load_count-count.new.seat c.load_count-count.ensures c.raise_mark.new.seat _ (bucket_key (Some (known_view c.args.histogram.now)) c.args.bucket) _ c.raise_mark.result _ c.raise_mark.ensures.same (key_other c.args.self.now (known_view c.args.histogram.now) c.args.mounted.now c.args.seat.now c.requires.takes c.args.bucket c.requires.bucket c.load_count-count.result c.load_count-count.new.seat c.load_count-count.ensures (is_other c.args.mounted.now.packed c.args.bucket (sym c.eq.ensures ∙ c.if-eq.false))) c.raise_mark.ensures.view)
+    (raises_other c.requires.takes c.args.bucket c.requires.bucket c.load_count-count.ensures (is_other c.args.mounted.now.packed c.args.bucket (sym c.eq.ensures ∙ c.if-eq.false)) _ (let long = c.requires.buckets in omega (arith, long)) c.raise_mark.ensures)

@@ -1,15 +1,18 @@
 //! What one thread records.
 
-ghost use Rattle.std.specs.Prelude.{IfOk, IfSome};
-ghost use Rattle.live_segment.specs.Holders.{Knows, SharesSegment};
+ghost use Rattle.std.specs.Prelude.{◌<◌, ◌≤◌, IfOk, IfSome};
+ghost use Rattle.live_segment.specs.Holders.{Knows};
+ghost use Rattle.record_and_stop.specs.Recording.{IsBeside};
 
-use live_segment::{Hist, Recorder, Refusal, Spec};
+use bucket_ranges::Spec;
+use live_segment::{Hist, Recorder};
+use segment_calls::Refusal;
 
 // How many calls a thread makes.
-const CALLS: u16 = 1000;
+const CALLS: u32 = 1000;
 
 /// How many units a thread needs: two samples of each call.
-pub(crate) const UNITS: u32 = 2 * CALLS as u32;
+pub(crate) const UNITS: u32 = 2 * CALLS;
 
 /// How many samples of a histogram were accepted, and what they add up to.
 #[derive(Clone, Copy)]
@@ -79,15 +82,16 @@ fn make_calls(
     recorder: &mut Recorder,
     latency: Hist,
     failed: Hist,
-    first: u8,
-    calls: u16,
+    first: u32,
+    calls: u32,
 ) -> Result<Accepted, Refusal>
-    requires { Knows recorder.old latency × Knows recorder.old failed }
-    ensures { SharesSegment recorder.old recorder.new }
+    requires knows { Knows recorder.old latency × Knows recorder.old failed }
+    requires small { (first < 16) × (calls ≤ 1000) }
+    ensures beside { IsBeside recorder.old recorder.new }
 {
     let mut samples = Accepted::none();
     for call in 0..calls {
-        let value = (u32::from(first) + u32::from(call)) as i32;
+        let value = (first + call) as i32;
         recorder.add(latency, value, 1)?;
         samples.latency.note(value);
         recorder.add(failed, value % 2, 1)?;
@@ -99,10 +103,11 @@ fn make_calls(
 /// Makes the calls of a thread, or half of them where it stops: then it drops its recorder.
 pub(crate) fn record<'a>(
     mut recorder: Recorder<'a>,
-    thread: u8,
+    thread: u32,
     stops: bool,
 ) -> Result<Outcome<'a>, Refusal>
-    ensures { IfOk result (λ outcome. IfSome outcome.recorder (SharesSegment recorder.entry)) }
+    requires few { thread < 16 }
+    ensures beside { IfOk result (λ outcome. IfSome outcome.recorder (IsBeside recorder.entry)) }
 {
     let latency = recorder.hist(
         b"latency",

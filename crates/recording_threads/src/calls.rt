@@ -1,9 +1,12 @@
 //! The calls of one thread.
 
 ghost use Rattle.std.specs.Prelude.{◌<◌, IfOk};
-ghost use Rattle.live_segment.specs.Holders.{Knows, SharesSegment};
+ghost use Rattle.live_segment.specs.Holders.{Knows};
+ghost use Rattle.recording_threads.specs.Holders.{IsBeside};
 
-use live_segment::{CustomValues, Delta, Hist, Recorder, Refusal, Snapshot, Spec};
+use bucket_ranges::{CustomValues, Spec};
+use live_segment::{Hist, Recorder};
+use segment_calls::{Delta, Refusal, Snapshot};
 use std::alloc::Global;
 
 /// How many calls a thread makes.
@@ -104,7 +107,7 @@ fn meet_all(
     first: usize,
 ) -> Result<Vec<(&'static str, Hist)>, Refusal>
     requires { first < 4 }
-    ensures { SharesSegment recorder.old recorder.new }
+    ensures { IsBeside recorder.old recorder.new }
 {
     let mut histograms = Vec::new(alloc);
     for i in 0..NAMES.len() {
@@ -147,7 +150,7 @@ fn batch_of(alloc: Global, numbers: &mut Numbers, name: &'static str) -> Result<
 impl<'a> Worker<'a> {
     fn add(&mut self, name: &'static str, histogram: Hist) -> Result<(), Refusal>
         requires { Knows self.old.done.recorder histogram }
-        ensures { SharesSegment self.old.done.recorder self.new.done.recorder }
+        ensures { IsBeside self.old.done.recorder self.new.done.recorder }
     {
         let sample = sample_of(&mut self.numbers, name);
         self.done
@@ -158,7 +161,7 @@ impl<'a> Worker<'a> {
 
     fn batch(&mut self, name: &'static str, histogram: Hist) -> Result<(), Refusal>
         requires { Knows self.old.done.recorder histogram }
-        ensures { SharesSegment self.old.done.recorder self.new.done.recorder }
+        ensures { IsBeside self.old.done.recorder self.new.done.recorder }
     {
         let batch = batch_of(self.alloc, &mut self.numbers, name)?;
         self.done
@@ -170,7 +173,7 @@ impl<'a> Worker<'a> {
 
     fn take(&mut self, name: &'static str, histogram: Hist) -> Result<(), Refusal>
         requires { Knows self.old.done.recorder histogram }
-        ensures { SharesSegment self.old.done.recorder self.new.done.recorder }
+        ensures { IsBeside self.old.done.recorder self.new.done.recorder }
     {
         let delta = self.done.recorder.delta(histogram)?;
         put(&mut self.done.deltas, (name, delta))
@@ -178,7 +181,7 @@ impl<'a> Worker<'a> {
 
     fn look(&mut self, name: &'static str, histogram: Hist) -> Result<(), Refusal>
         requires { Knows self.old.done.recorder histogram }
-        ensures { SharesSegment self.old.done.recorder self.new.done.recorder }
+        ensures { IsBeside self.old.done.recorder self.new.done.recorder }
     {
         let snapshot = self.done.recorder.snapshot(histogram)?;
         put(&mut self.done.snapshots, (name, snapshot))
@@ -186,7 +189,7 @@ impl<'a> Worker<'a> {
 
     // The next call.
     fn call(&mut self) -> Result<(), Refusal>
-        ensures { SharesSegment self.old.done.recorder self.new.done.recorder }
+        ensures { IsBeside self.old.done.recorder self.new.done.recorder }
     {
         let place = self.numbers.below(NAMES.len() as u32) as usize;
         let kind = self.numbers.below(16);
@@ -211,7 +214,7 @@ pub(crate) fn run<'a>(
     mut recorder: Recorder<'a>,
     seed: u32,
 ) -> Result<Done<'a>, Refusal>
-    ensures { IfOk result (λ done. SharesSegment recorder.entry done.recorder) }
+    ensures { IfOk result (λ done. IsBeside recorder.entry done.recorder) }
 {
     let histograms = meet_all(alloc, &mut recorder, seed as usize % NAMES.len())?;
     let mut worker = Worker {

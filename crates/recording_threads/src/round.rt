@@ -1,13 +1,15 @@
 //! One round: a segment from its first words to its report.
 
-ghost use Rattle.std.specs.Prelude.{IfOk, All};
-ghost use Rattle.live_segment.specs.Holders.{IsMadeWith, RecordsInto, SharesSegment};
+ghost use Rattle.std.specs.Prelude.{◌≡◌, ◌<◌, ℕ, length, slice_index_or, IfOk, All};
+ghost use Rattle.live_segment.specs.Holders.{IsMadeWith, table_of};
+ghost use Rattle.recording_threads.specs.Holders.{GivesBack, IsBeside, IsDoneAt, IsJobAt};
 
 use crate::calls::{Done, NAMES, UNITS, run, spec_of};
 use crate::lines::{show_batch, show_delta, show_sample, show_snapshot};
 use anyhow::Result;
-use live_segment::{Opener, Recorder, Refusal, Segment};
+use live_segment::{Opener, Recorder, Segment};
 use persist_report_core::report;
+use segment_calls::Refusal;
 use segment_image::{Watched, write_words};
 use std::alloc::{AllocError, Global};
 use std::thread::Threads;
@@ -34,7 +36,7 @@ fn prepare<'a>(
 ) -> Result<Vec<Job<'a>>>
     requires made { IsMadeWith segment.now opener.old }
     ensures made { IsMadeWith segment.entry.now opener.new }
-    ensures jobs { IfOk result (λ jobs. All (λ job. RecordsInto segment.entry.now job.recorder) jobs.items) }
+    ensures jobs { IfOk result (λ jobs. All (IsJobAt (table_of segment.entry.now)) jobs.items) }
 {
     let mut jobs = Vec::new(alloc);
     for thread in 0..threads {
@@ -51,7 +53,8 @@ fn run_all<'a, R: Threads + Sync>(
     alloc: Global,
     jobs: Vec<Job<'a>>,
 ) -> Result<Vec<Result<Done<'a>, Refusal>>, AllocError>
-    ensures { (segment : _) → All (λ job. RecordsInto segment job.recorder) jobs.entry.items → IfOk result (λ all. All (λ done. IfOk done (λ done. RecordsInto segment done.recorder)) all.items) }
+    ensures len { IfOk result (λ all. length all.items ≡ length jobs.entry.items) }
+    ensures each { IfOk result (λ all. (k : ℕ) (d : _) (e : _) → k < length jobs.entry.items → GivesBack (slice_index_or jobs.entry.items k d) (slice_index_or all.items k e)) }
 {
     thread::map_vec(
         rt,
@@ -87,7 +90,7 @@ fn show_all(
     all: Vec<Result<Done, Refusal>>,
 ) -> Result<()>
     requires made { IsMadeWith segment.now opener.old }
-    requires of { All (λ done. IfOk done (λ done. RecordsInto segment.now done.recorder)) all.items }
+    requires of { All (IsDoneAt (table_of segment.now)) all.items }
     ensures made { IsMadeWith segment.now opener.new }
 {
     for done in all {
@@ -101,7 +104,7 @@ fn show_all(
 
 // One more delta of a histogram.
 fn show_delta_of(rt: &(impl Print + AllocGlobal), recorder: &mut Recorder, name: &str) -> Result<()>
-    ensures { SharesSegment recorder.old recorder.new }
+    ensures { IsBeside recorder.old recorder.new }
 {
     let histogram = recorder.hist(name.as_bytes(), &spec_of(rt.alloc(), name)?)?;
     let delta = recorder.delta(histogram)?;
@@ -111,7 +114,7 @@ fn show_delta_of(rt: &(impl Print + AllocGlobal), recorder: &mut Recorder, name:
 
 // One more delta of each histogram.
 fn show_deltas(rt: &(impl Print + AllocGlobal), recorder: &mut Recorder) -> Result<()>
-    ensures { SharesSegment recorder.old recorder.new }
+    ensures { IsBeside recorder.old recorder.new }
 {
     for i in 0..NAMES.len() {
         show_delta_of(rt, recorder, NAMES[i])?;

@@ -1,5 +1,5 @@
 -- Who holds a segment, an opener or a recorder: what it has done and seen, and which segment that is.
-use Rattle.std.specs.Prelude.{◌≡◌, false, ◌<◌, length}
+use Rattle.std.specs.Prelude.{◌≡◌, false, ◌<◌, ℕ, length}
 use mathlib.Core.Option.{some}
 use lib.ListN.{get_elem?}
 use Rattle.atomic_table.specs.Seated.{TableId}
@@ -50,6 +50,18 @@ pub record IsSameOpener (old new : Opener) : Type 0 where
 -- a recorder is one of the segment that an opener was made with
 abbrev pub IsRecorderOf : Recorder → Opener → Type 0
 IsRecorderOf recorder opener = recorder.seat.table_id ≡ opener.seat.table_id
+
+-- a recorder records into a segment: an opener that was made with the segment may join it
+abbrev pub RecordsInto : Segment → Recorder → Type 0
+RecordsInto segment recorder = recorder.seat.table_id ≡ table_of segment
+
+-- two recorders record into the same segment; and one, as a call began and when it has returned
+abbrev pub SharesSegment : Recorder → Recorder → Type 0
+SharesSegment one other = other.seat.table_id ≡ one.seat.table_id
+
+-- the segment of a recorder has a shared cursor of this number
+abbrev pub HasCursor : Recorder → ℕ → Type 0
+HasCursor recorder cursor = cursor < (view_of_recorder recorder).segment.cursors
 
 -- a recorder goes on with the same segment, knows the same histograms, and was given no fresh records
 pub record IsSameRecorder (old new : Recorder) : Type 0 where

@@ -4,6 +4,10 @@
 //! it back; when the segment is closed, its words are those of an image. What holds between any two steps is the
 //! invariant of `segment_invariant`: it is the rule of the table that has the words, so each step is proved to keep it.
 //! What a thread has done and seen is the view of its seat at that table, which takes no memory.
+//!
+//! A program that records needs this crate alone: what its calls take and answer, as [`Spec`] and [`Refusal`], is exported here.
+//! The clauses of a function that is passed a segment, an opener or a recorder take their words from `specs/Holders.antt`:
+//! `IsMadeWith`, `RecordsInto`, `SharesSegment`, `Knows`, `HasCursor`. `proofs/Seating/Callers.antt` has the lemmas on them.
 #![tactic(auto)]
 
 mod adding;
@@ -35,7 +39,11 @@ mod steps;
 #[cfg(test)]
 mod tests;
 
+pub use bucket_ranges::{CustomValues, Spec, SpecFault};
 pub use fault::OpenFault;
 pub use opener::Opener;
 pub use recorder::{Hist, Recorder};
 pub use segment::{MAX_CURSORS, Segment};
+pub use segment_calls::{BatchRefusal, Delta, Refusal, Snapshot};
+pub use segment_image::Image;
+pub use segment_image::layout::{VERSION_FROZEN, VERSION_MOVING};

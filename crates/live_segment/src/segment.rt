@@ -76,8 +76,18 @@ impl Segment {
     ghost use Rattle.live_segment.specs.Steps.{IsSame, Joinable};
     ghost use Rattle.live_segment.specs.Holders.{IsNew, IsMadeWith, view_of_opener};
 
-    /// A new segment of `size` words in pages of `page` words with so many shared cursors, and its opener, which has all
-    /// its units.
+    /// A new segment without records, and its opener, which has all 4,294,967,295 units.
+    ///
+    /// - `size`: how many words of 64 bits it has, 16 of them for the header. Whole pages, 1,048,576 words at most. It does not
+    ///   grow: where a record finds no room, its call is refused as `Full`.
+    /// - `page`: how many words a page has. A multiple of 16, from 64 to 65,536. A block lies in one page, so a record of more
+    ///   words is refused as `TooLarge`, and so are counts: a histogram of n buckets takes 4 + 2n words for them.
+    /// - `id`: any number. It stands in the header of the image, for whoever has to tell segments apart; no call looks at it.
+    /// - `cursors`: how many cursors along the list the recorders share ([`Recorder::next_shared`](crate::Recorder::next_shared)),
+    ///   0 to [`MAX_CURSORS`]. They are numbered from 0, and are no part of the image. 0 where no thread reads what others record.
+    /// - `version`: which format the image has. [`VERSION_FROZEN`](crate::VERSION_FROZEN), 2, unless a reader that knows only
+    ///   [`VERSION_MOVING`](crate::VERSION_MOVING), 1, is to read it. In version 1 units move out of a packed bucket when a histogram
+    ///   gets counts, and those of a thread that stops in between are missing in the image; in version 2 no unit moves.
     ///
     /// The first fault is answered: `BadShape` where page, size or version is not lawful, `BadCursors` where there are to
     /// be more than eight; then `NoMemory`.

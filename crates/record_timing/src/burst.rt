@@ -4,8 +4,7 @@ ghost use Rattle.live_segment.specs.Holders.{IsMadeWith, Knows};
 
 use crate::plan::{Plan, VALUES};
 use anyhow::{Result, bail};
-use live_segment::{Hist, Opener, Recorder, Segment};
-use segment_calls::Refusal;
+use live_segment::{Hist, Opener, Recorder, Refusal, Segment, VERSION_MOVING};
 use std::alloc::Global;
 use std::rt::Clock;
 use std::thread;
@@ -110,7 +109,7 @@ pub(crate) fn time<R: Threads + Clock + AllocGlobal + Sync>(
     values: &[i32; VALUES],
 ) -> Result<u128> {
     let alloc = rt.alloc();
-    let (segment, mut opener) = Segment::create(alloc, 1 << 20, 1 << 16, 7, 0, 1)?;
+    let (segment, mut opener) = Segment::create(alloc, 1 << 20, 1 << 16, 7, 0, VERSION_MOVING)?;
     let samples = plan.histograms().saturating_mul(plan.samples());
     let units = samples.saturating_add(PAST_PACKED);
     let jobs = prepare_all(alloc, plan, &segment, &mut opener, units)?;

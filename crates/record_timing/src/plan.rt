@@ -1,6 +1,6 @@
 //! What a burst records.
 
-use bucket_ranges::Spec;
+use live_segment::Spec;
 
 const MOST_PACKED: u32 = 65_535;
 

@@ -1,6 +1,6 @@
--- What those who call an opener and its recorders rest on: an opener is of its segment still when it has made or joined a recorder, and a
--- histogram that a recorder knows it knows still behind any of its calls.
-use Rattle.std.proofs.Common.{◌≡◌, ℕ, ◌<◌, List, map, length, sym, ap, ◌∙◌, subst, arith}
+-- What those who call an opener and its recorders rest on: an opener is of its segment still when it has made or joined a recorder; a
+-- histogram that a recorder knows it knows still behind any of its calls; and what threads give back has what each call promises.
+use Rattle.std.proofs.Common.{◌≡◌, ℕ, ◌<◌, List, [], ◌∷◌, All, map, length, slice_index_or, sym, ap, ◌∙◌, subst, arith}
 use Rattle.std.proofs.lemmas.List.{length-append}
 use Rattle.segment_machine.specs.declared.actor.Actor.{Actor}
 use Rattle.segment_machine.specs.declared.actor.Known.{Known}
@@ -46,3 +46,18 @@ joined_still segment old new other made same view = record {
   table = same.table ∙ made.table;
   of = subst (IsOf segment.setting) (sym view) (let of = made.of in record { shape = of.shape; version = of.version; cursors = of.cursors });
 }
+
+-- ---- the jobs of threads
+
+-- an element of a list that has one
+element_of : {X : Type 0} (xs : List X) (k : ℕ) → k < length xs → X
+element_of [] k below = absurd (omega (arith, below))
+element_of (x ∷ rest) k below = x
+
+-- all jobs have what a result needs, so all results have what it promises
+pub all_results : {J X : Type 0} (P : J → Type 0) (Q : X → Type 0) (jobs : List J) (results : List X) → length results ≡ length jobs
+    → ((k : ℕ) (d : J) (e : X) → k < length jobs → P (slice_index_or jobs k d) → Q (slice_index_or results k e)) → All P jobs → All Q results
+all_results P Q jobs results same each all = λ k e below.
+    let here : k < length jobs = omega (arith, below, same) in
+    let one = element_of jobs k here in
+    each k one e here (all k one here)

@@ -43,6 +43,7 @@ event_at allocation (Claimed at size) = None
 event_at allocation Full = None
 event_at allocation Corrupt = None
 
+-- the next event of an allocation, or none where it has ended
 abbrev pub next_event : Allocation → Option Event
 next_event allocation = event_at allocation allocation.stage
 

@@ -114,6 +114,7 @@ pub data Move : Type 0 where
   fills : (owner index value : ℕ) → Move
   spoils : Move
 
+-- a move makes of an old state a new one
 abbrev pub IsMove : Dimensions → Move → State → State → Type 0
 IsMove shape (starts payload tag) old new =
     (a : Allocation) × (started shape payload tag ≡ Ok a) × (new ≡ record old { allocations = old.allocations ++ a ∷ [] })

@@ -24,10 +24,11 @@ sample_entry words at = ((sample_histogram words at, sample_value words at), (sa
 abbrev pub entry_of : Sample → Entry
 entry_of sample = ((sample.histogram, sample.value), (sample.count, sample.mark))
 
--- the value and the count; the mark
+-- the value and the count
 abbrev pub entry_count : Entry → ℤ × ℕ
 entry_count entry = (entry.0.1, entry.1.0)
 
+-- the mark of an entry
 abbrev pub entry_mark : Entry → ℕ
 entry_mark entry = entry.1.1
 

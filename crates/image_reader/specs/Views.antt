@@ -6,6 +6,7 @@ use Rattle.image_reader.specs.declared.reading.HistReading.{HistReading}
 use Rattle.image_reader.specs.declared.reading.BadRecord.{BadRecord}
 use Rattle.image_reader.specs.declared.reading.Reading.{Reading}
 
+-- a histogram that was read, as the definition of a reading has it
 abbrev pub histogram_view : HistReading → definition.Histogram
 histogram_view hist = record {
   reference = hist.reference;
@@ -18,9 +19,11 @@ histogram_view hist = record {
   redundant = hist.redundant;
 }
 
+-- a bad record: its reference and its fault
 abbrev pub bad_view : BadRecord → ℕ × RecordFault
 bad_view bad = (bad.reference, bad.fault)
 
+-- what was read, as the definition of a reading has it
 abbrev pub reading_view : Reading → definition.Reading
 reading_view reading = record {
   id = reading.id;

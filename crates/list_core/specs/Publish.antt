@@ -36,6 +36,7 @@ event_at reference (MoveTail old new linked) = Some (move_tail old new)
 event_at reference Published = None
 event_at reference Strayed = None
 
+-- the next event of a publish, or none where it has ended
 abbrev pub next_event : Publishing → Option Event
 next_event publish = event_at publish.reference publish.stage
 
@@ -96,11 +97,12 @@ pub record IsReach (n : ℕ) (publish : Publishing) : Type 0 where
 abbrev pub started : ℕ → Publishing
 started reference = record { reference = reference; stage = StoreOwnNext }
 
--- the chain after the next event of a publish: longer by its record, at its end, where the link succeeds
+-- the chain after the event of a stage: longer by the record, at its end, where the link succeeds
 abbrev pub chain_at : List ℕ → List ℕ → ℕ → Stage → List ℕ
 chain_at words chain reference (Link tail) = if word_at words (tail + BLOCK_NEXT) == QUEUE then chain ++ reference ∷ [] else chain
 chain_at words chain reference _ = chain
 
+-- the chain after the next event of a publish
 abbrev pub chain_after : List ℕ → List ℕ → Publishing → List ℕ
 chain_after words chain publish = chain_at words chain publish.reference publish.stage
 

@@ -14,6 +14,7 @@ abbrev pub entries_in : Option HistRecord → CallKind → List Entry
 entries_in (Some hist) (kind.Add value count) = sample_entry hist.name (boundaries_of hist.spec) (value, count) ∷ []
 entries_in _ _ = []
 
+-- the entries of a call, which names its histogram by the place of its `hist` record
 abbrev pub entries_of_call : List HistRecord → ScriptCall → List Entry
 entries_of_call hists call = entries_in (slice_get hists call.hist) call.kind
 

@@ -26,14 +26,17 @@ from_three make _ _ _ = None
 
 -- ---- the fields behind the word `segment`, `add` or `delta`
 
+-- a size, a page and an id
 abbrev pub segment_in : List (List ℕ) → Option Request
 segment_in (size ∷ page ∷ id ∷ []) = from_three Segment (unsigned_number size) (unsigned_number page) (long_number id)
 segment_in _ = None
 
+-- a name, a value, and how often it is counted
 abbrev pub add_in : List (List ℕ) → Option Request
 add_in (name ∷ value ∷ count ∷ []) = from_two (Add name) (signed_number value) (unsigned_number count)
 add_in _ = None
 
+-- a name
 abbrev pub delta_in : List (List ℕ) → Option Request
 delta_in (name ∷ []) = Some (Delta name)
 delta_in _ = None
@@ -45,6 +48,7 @@ abbrev pub numbers_in : List (List ℕ) → Option (List ℕ)
 numbers_in [] = Some []
 numbers_in (field ∷ rest) = from_two (λ number more. number ∷ more) (unsigned_number field) (numbers_in rest)
 
+-- the least and the greatest value, and how many buckets
 abbrev pub linear_in : List (List ℕ) → Option Spec
 linear_in (min ∷ max ∷ buckets ∷ []) = from_three Linear (unsigned_number min) (unsigned_number max) (unsigned_number buckets)
 linear_in _ = None
@@ -89,6 +93,7 @@ request_in (word ∷ behind) = request_behind word behind
 
 -- ---- the program's values
 
+-- a request of the code, as it is defined here
 abbrev pub request_view : code.Request → Request
 request_view (variants.Segment size page id) = Segment size page id
 request_view (variants.Hist name spec) = Hist name.now spec

@@ -146,9 +146,11 @@ IsScriptFault pool bytes (NoUnits number) = (length bytes ≤ 16777216) × (scri
 
 -- ---- the program's values
 
+-- a `hist` record of the code, as it is defined here
 abbrev pub hist_view : ScriptHist → HistRecord
 hist_view hist = record { name = hist.name.items; spec = hist.spec; number = hist.number }
 
+-- a script of the code, as it is defined here
 abbrev pub script_view : code.Script → Script
 script_view script = record {
   shape = script.shape;

@@ -15,13 +15,15 @@ IsBeside one other = other.seat.table_id ≡ one.seat.table_id
 abbrev pub IsAt : TableId → Recorder → Type 0
 IsAt segment recorder = recorder.seat.table_id ≡ segment
 
--- what a thread is given, and what it gives back if it was not refused
+-- the recorder that a thread is given is one of a segment
 abbrev pub IsJobAt : TableId → Job → Type 0
 IsJobAt segment job = IsAt segment job.recorder
 
+-- the recorder that a thread gives back is one of a segment, unless the thread was refused
 abbrev pub IsDoneAt : TableId → Result Done Refusal → Type 0
 IsDoneAt segment result = IfOk result (λ done. IsAt segment done.recorder)
 
+-- and it is one of the same segment as the recorder that the thread was given, unless the thread was refused
 abbrev pub GivesBack : Job → Result Done Refusal → Type 0
 GivesBack job result = IfOk result (λ done. IsBeside job.recorder done.recorder)
 

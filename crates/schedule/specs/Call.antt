@@ -35,6 +35,7 @@ abbrev pub sample_in : List (List ℕ) → Option (List ℕ × ℤ × ℕ)
 sample_in (name ∷ value ∷ count ∷ []) = option_map (λ item. (name, item.0, item.1)) (item_in value count)
 sample_in _ = None
 
+-- the call that counts a sample
 abbrev pub add_in : List (List ℕ) → Option Call
 add_in fields = option_map (λ sample. Add sample.0 sample.1 sample.2) (sample_in fields)
 

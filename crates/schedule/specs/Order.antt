@@ -30,6 +30,7 @@ opening_in _ = None
 abbrev pub some_number : ℕ → Option ℕ
 some_number times = if nat_le 1 times then Some times else None
 
+-- the one field that says how many events
 abbrev pub times_in : List (List ℕ) → Option ℕ
 times_in (times ∷ []) = option_and_then some_number (long_number times)
 times_in _ = None
@@ -50,9 +51,11 @@ order_in _ = None
 
 -- ---- the program's values
 
+-- what an actor of the code is to do, as it is defined here
 abbrev pub kind_view : code.OrderKind → Kind
 kind_view (kind.Begin call) = Begin (call_view call)
 kind_view (kind.Step times) = Step times
 
+-- an order of the code: its actor, and what that is to do
 abbrev pub order_view : Order → ℕ × Kind
 order_view order = (order.actor, kind_view order.kind)

@@ -34,10 +34,11 @@ sum_left h = h.sum -ℤ h.sum_mark
 abbrev pub units_left : Histogram → ℕ
 units_left h = units_of (items_left h)
 
--- the entries of its batch, and the units that this costs
+-- the entries of the batch of what is left of it
 abbrev pub entries_left : Histogram → List Entry
 entries_left h = batch_entries h.name (boundaries_of h.spec) (items_left h) (sum_left h)
 
+-- the units that this batch costs
 abbrev pub cost_left : Histogram → ℕ
 cost_left h = batch_cost (items_left h) (sum_left h)
 

@@ -1,0 +1,80 @@
+"""Programs that are run by `rt try`, which builds them without any proof, and how their answers differ from what was wanted."""
+
+import dataclasses
+import re
+import subprocess
+
+from support.program import ROOT, Answer, difference
+
+# The line of a case: how it ended, its status, and whether it wrote what was wanted. Before it stands what it told.
+LINE = re.compile(rb"(.*?)^case=(\S+) run=(\S+) status=(\S+) (.*?)$\n", re.MULTILINE | re.DOTALL)
+# What a case wrote that has no file of the output that is wanted.
+SHOWN = re.compile(rb"^== (\S+)$\n", re.MULTILINE)
+
+
+@dataclasses.dataclass
+class Case:
+    """A command line with its standard input, and what has to come: the answer, and the bytes of the files that it writes."""
+
+    name: str
+    words: list
+    data: bytes
+    wanted: Answer
+    written: dict = dataclasses.field(default_factory=dict)
+
+
+def run(crate, words, data=b""):
+    """What `rt try` says in the folder of a crate."""
+    return subprocess.run(["rt", "try", *words], cwd=ROOT / "crates" / crate, input=data, capture_output=True)
+
+
+def end_of(came):
+    """The end of what a run of `rt try` said."""
+    return f"status {came.returncode}\n" + (came.stdout[-1000:] + came.stderr[-2000:]).decode(errors="replace")
+
+
+def store(cases, folder):
+    """Writes a folder of cases as `rt try` reads it: NAME is the standard input, NAME.args the words, NAME.stdout the output.
+
+    Of a case that tells a fault there is no NAME.stdout, since `rt try` shows what it tells only then.
+    """
+    folder.mkdir()
+    for case in cases:
+        (folder / case.name).write_bytes(case.data)
+        (folder / f"{case.name}.args").write_text("".join(f"{word}\n" for word in case.words))
+        if not case.wanted.error:
+            (folder / f"{case.name}.stdout").write_bytes(case.wanted.output)
+
+
+def wrong_of(case, line, shown):
+    """What is wrong with a case by its line and what it wrote, or None."""
+    if line is None:
+        return "it was not run"
+    told, ended, status, rest = line
+    if ended != b"ended":
+        return f"run={ended.decode()} {rest.decode()}\n{told.decode(errors='replace')}"
+    if case.wanted.error:
+        wrong = difference(case.wanted, Answer(shown, told, int(status)))
+    elif int(status) != case.wanted.status or b"output=expected" not in rest.split():
+        wrong = f"status {int(status)}, {rest.decode()}\n{told[-500:].decode(errors='replace')}"
+    else:
+        wrong = None
+    for path, data in case.written.items():
+        if wrong is None and not (path.is_file() and path.read_bytes() == data):
+            wrong = f"other bytes than wanted were written into {path.name}"
+    return wrong
+
+
+def replay(crate, cases, folder):
+    """Builds the program of a crate once and runs it on each case: the name of each, and what is wrong with it, or None."""
+    store(cases, folder / "cases")
+    came = run(crate, ["--cases", str(folder / "cases")])
+    lines = {name: (told, *found) for told, name, *found in LINE.findall(came.stderr)}
+    _, *shown = SHOWN.split(came.stdout)
+    shown = dict(zip(shown[::2], shown[1::2]))
+    if not lines:
+        yield "build", end_of(came)
+        return
+    for case in cases:
+        name = case.name.encode()
+        yield case.name, wrong_of(case, lines.get(name), shown.get(name, b""))

@@ -6,10 +6,13 @@ import subprocess
 
 from support.program import ROOT, Answer, difference
 
-# The line of a case: how it ended, its status, and whether it wrote what was wanted. Before it stands what it told.
-LINE = re.compile(rb"(.*?)^case=(\S+) run=(\S+) status=(\S+) (.*?)$\n", re.MULTILINE | re.DOTALL)
+# The line of a case: how it ended, its status where it did, and whether it wrote what was wanted. Before it stands what it told.
+LINE = re.compile(rb"(.*?)^case=(\S+) run=(\S+)(?: status=(\S+))?(.*?)$\n", re.MULTILINE | re.DOTALL)
 # What a case wrote that has no file of the output that is wanted.
 SHOWN = re.compile(rb"^== (\S+)$\n", re.MULTILINE)
+
+# How much is shown of how an output differs.
+MOST_SIGNS = 500
 
 
 @dataclasses.dataclass
@@ -30,7 +33,7 @@ def run(crate, words, data=b""):
 
 def end_of(came):
     """The end of what a run of `rt try` said."""
-    return f"status {came.returncode}\n" + (came.stdout[-1000:] + came.stderr[-2000:]).decode(errors="replace")
+    return f"status {came.returncode}\n" + (came.stdout[-1000:] + came.stderr[-2000:]).decode(errors="replace").rstrip()
 
 
 def store(cases, folder):
@@ -51,12 +54,15 @@ def wrong_of(case, line, shown):
     if line is None:
         return "it was not run"
     told, ended, status, rest = line
+    text = told.decode(errors="replace").rstrip()
     if ended != b"ended":
-        return f"run={ended.decode()} {rest.decode()}\n{told.decode(errors='replace')}"
+        return f"run={ended.decode()}{rest.decode()}\n{text}"
     if case.wanted.error:
         wrong = difference(case.wanted, Answer(shown, told, int(status)))
-    elif int(status) != case.wanted.status or b"output=expected" not in rest.split():
-        wrong = f"status {int(status)}, {rest.decode()}\n{told[-500:].decode(errors='replace')}"
+    elif int(status) != case.wanted.status:
+        wrong = f"wanted status {case.wanted.status}, came {int(status)}\n{text}"
+    elif b"output=expected" not in rest.split():
+        wrong = text.split("\n")[-1][:MOST_SIGNS]
     else:
         wrong = None
     for path, data in case.written.items():

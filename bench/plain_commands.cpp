@@ -283,16 +283,17 @@ void run_workers(Segment& segment, const Script& script, std::size_t workers) {
     if (least != nullptr) refuse(*least);
 }
 
-void write_image(std::FILE* file, const Words& words) {
+// Makes or empties OUT behind all else, so a fault before leaves it as it was. A fault of the device does not.
+void write_image(const char* path, const Words& words) {
     std::string bytes(8 * words.size(), '\0');
     for (std::size_t i = 0; i < words.size(); ++i) {
         for (int byte = 0; byte < 8; ++byte) bytes[8 * i + byte] = static_cast<char>(words[i] >> 8 * byte);
     }
-    plain::write_out(file, bytes);
+    plain::write_out(open(path, "wb", "Write").get(), bytes);
 }
 
 void run(const char* script_path, const char* out_path, std::size_t workers) {
-    const File script_file = open(script_path, "rb", "Read"), out = open(out_path, "wb", "Write");
+    const File script_file = open(script_path, "rb", "Read");
     std::string text = plain::bytes_of(script_file.get(), kMostScript);
     if (text.size() > kMostScript) throw Failure{"TooLong", 3};
     const Script script = ScriptReader(text).read();
@@ -301,7 +302,7 @@ void run(const char* script_path, const char* out_path, std::size_t workers) {
     run_workers(segment, script, workers);
     const Words words = segment.image();
     const std::string report = plain::report_of(words);
-    write_image(out.get(), words);
+    write_image(out_path, words);
     plain::write_out(stdout, report);
 }
 
@@ -333,13 +334,12 @@ void merge_image(Recorder& recorder, const Words& words) {
 
 void merge(const char* base_path, const char* dead_path, const char* out_path) {
     const File base_file = open(base_path, "rb", "Read"), dead_file = open(dead_path, "rb", "Read");
-    const File out = open(out_path, "wb", "Write");
     const Words base = image_of(base_file.get()), dead = image_of(dead_file.get());
     Segment segment(base[2], base[3], base[4]);
     Recorder recorder(segment, plain::kMostUnits);
     merge_image(recorder, base);
     merge_image(recorder, dead);
-    write_image(out.get(), segment.image());
+    write_image(out_path, segment.image());
 }
 
 void report(const char* path) { plain::write_out(stdout, plain::report_of(image_of(open(path, "rb", "Read").get()))); }

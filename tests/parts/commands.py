@@ -1,13 +1,14 @@
 """Command lines with known answers: in the folders cases/program/NNN the words (`cmd`) and the files that they name, and
 beside them what the program has to print, its status, and what it has to write into OUT (`OUT.expected`).
 
-The answers are those of an independent implementation.
+There is no OUT before the command, and none behind a fault: the `OUT.expected` of a fault is empty, which says that nothing
+is written. The answers are those of an independent implementation.
 """
 
 import pathlib
 import tempfile
 
-from support.program import ROOT, Answer, answer, difference
+from support.program import ROOT, Answer, answer, content, difference
 
 PROGRAM = "persist_report"
 FOLDER = ROOT / "tests" / "cases" / "program"
@@ -19,11 +20,19 @@ def wanted_of(case):
     return Answer((case / "stdout").read_bytes(), (case / "stderr").read_bytes(), status)
 
 
+def image_of(case, status):
+    """What has to stand in OUT behind the command; None where there has to be no OUT."""
+    written = (case / "OUT.expected").read_bytes()
+    return written if written or status == 0 else None
+
+
 def wrong_of(program, case, words, out):
     """What is wrong with the answer to a case, or None."""
+    out.unlink(missing_ok=True)
+    wanted = wanted_of(case)
     came = answer(program, [out if word == "OUT" else word for word in words], cwd=case)
-    wrong = difference(wanted_of(case), came)
-    if wrong is None and "OUT" in words and out.read_bytes() != (case / "OUT.expected").read_bytes():
+    wrong = difference(wanted, came)
+    if wrong is None and "OUT" in words and content(out) != image_of(case, wanted.status):
         wrong = "other bytes than wanted were written into OUT"
     return wrong
 

@@ -3,17 +3,21 @@
 import os
 import pathlib
 import resource
+import shutil
 import signal
+import stat
 import struct
 import subprocess
 import tempfile
 
-from support.program import EXAMPLE, SCRIPT, Answer, answer, difference, fault
+from support.program import EXAMPLE, SCRIPT, Answer, answer, content, difference, fault
 
 PROGRAM = "persist_report"
 REPORT = Answer(b"A,boolean,0,1,1\nA,boolean,1,2,2\nA,total,3,2\n")
 READ_FAULT, WRITE_FAULT = fault("Read", 4), fault("Write", 4)
 MOST_BYTES = 8_388_608
+# What stands in OUT before a command.
+STOOD = b"what stood there before"
 
 # What is stored at a word of a lawful header, and the fault that the image then has.
 HEADER_FAULTS = [
@@ -205,32 +209,160 @@ def outputs(program, folder):
 
 
 def inputs_of_commands(program, folder):
-    """Inputs of `run` and `merge`: all files are opened in the order of the arguments, and last OUT, which is emptied."""
+    """Inputs of `run` and `merge`: all files are opened in the order of the arguments, and last OUT, which stays as it was."""
     out = folder / "out"
-    opened, not_opened = b"", b"what stood there before"
     no_words = folder / "no-words"
     no_words.write_bytes(b"1234567")
     cases_of = {
-        "no script": (["run", "missing", out], READ_FAULT, not_opened),
-        "no script and no folder": (["run", "missing", folder / "missing" / "out"], READ_FAULT, not_opened),
-        "no folder": (["run", SCRIPT, folder / "missing" / "out"], WRITE_FAULT, not_opened),
-        "a folder": (["run", SCRIPT, folder], WRITE_FAULT, not_opened),
-        "a script that cannot be read": (["run", "/proc/self/mem", out], READ_FAULT, opened),
-        "a folder as a script": (["run", folder, out], READ_FAULT, opened),
-        "a script without an end": (["run", "/dev/zero", out], fault("TooLong", 3), opened),
-        "no base": (["merge", "missing", EXAMPLE, out], READ_FAULT, not_opened),
-        "no dead": (["merge", no_words, "missing", out], READ_FAULT, not_opened),
-        "no folder for the merge": (["merge", no_words, EXAMPLE, folder / "missing" / "out"], WRITE_FAULT, not_opened),
-        "a base that cannot be read": (["merge", "/proc/self/mem", no_words, out], READ_FAULT, opened),
-        "a base that is no image": (["merge", no_words, "/proc/self/mem", out], fault("NotWords", 3), opened),
-        "a dead that cannot be read": (["merge", EXAMPLE, "/proc/self/mem", out], READ_FAULT, opened),
-        "a dead without an end": (["merge", EXAMPLE, "/dev/zero", out], fault("TooLong", 3), opened),
-        "a base without an end": (["merge", "/dev/zero", no_words, out], fault("TooLong", 3), opened),
+        "no script": (["run", "missing", out], READ_FAULT),
+        "no script and no folder": (["run", "missing", folder / "missing" / "out"], READ_FAULT),
+        "no folder": (["run", SCRIPT, folder / "missing" / "out"], WRITE_FAULT),
+        "no name": (["run", SCRIPT, ""], WRITE_FAULT),
+        "a folder": (["run", SCRIPT, folder], WRITE_FAULT),
+        "a missing folder as OUT": (["run", "/proc/self/mem", f"{folder}/missing/"], WRITE_FAULT),
+        "a missing folder and a dot": (["run", "/proc/self/mem", f"{folder}/missing/."], WRITE_FAULT),
+        "a folder without new files": (["run", "/proc/self/mem", "/proc/out"], WRITE_FAULT),
+        "a file as a folder": (["run", "/proc/self/mem", f"{out}/out"], WRITE_FAULT),
+        "a script that cannot be read": (["run", "/proc/self/mem", out], READ_FAULT),
+        "a folder as a script": (["run", folder, out], READ_FAULT),
+        "a script without an end": (["run", "/dev/zero", out], fault("TooLong", 3)),
+        "a script that is no script": (["run", no_words, out], fault("BadLine 1", 3)),
+        "no base": (["merge", "missing", EXAMPLE, out], READ_FAULT),
+        "no dead": (["merge", no_words, "missing", out], READ_FAULT),
+        "no folder for the merge": (["merge", no_words, EXAMPLE, folder / "missing" / "out"], WRITE_FAULT),
+        "a base that cannot be read": (["merge", "/proc/self/mem", no_words, out], READ_FAULT),
+        "a base that is no image": (["merge", no_words, "/proc/self/mem", out], fault("NotWords", 3)),
+        "a dead that cannot be read": (["merge", EXAMPLE, "/proc/self/mem", out], READ_FAULT),
+        "a dead without an end": (["merge", EXAMPLE, "/dev/zero", out], fault("TooLong", 3)),
+        "a base without an end": (["merge", "/dev/zero", no_words, out], fault("TooLong", 3)),
     }
-    for name, (words, wanted, left) in cases_of.items():
-        out.write_bytes(not_opened)
+    for name, (words, wanted) in cases_of.items():
+        out.write_bytes(STOOD)
+        beside = set(folder.iterdir())
         wrong = difference(wanted, answer(program, words, cwd=folder))
-        yield name, wrong or (None if out.read_bytes() == left else f"{out.read_bytes()[:50]!r} stands in OUT")
+        yield name, wrong or wrong_folder(folder, beside, out, STOOD)
+    out.unlink()
+
+
+def wrong_folder(folder, beside, out, wanted):
+    """What is wrong where OUT is wanted with these bytes, and these files in its folder; or None."""
+    if content(out) != wanted:
+        return f"{(content(out) or b'')[:50]!r} stands in OUT"
+    strays = set(folder.iterdir()) ^ beside
+    return f"files were made or removed: {sorted(map(str, strays))}" if strays else None
+
+
+def images_of(program, folder):
+    """The images that `run` and `merge` make of the examples."""
+    paths = [folder / name for name in ("run-image", "merge-image")]
+    for path, words in zip(paths, (["run", SCRIPT], ["merge", EXAMPLE, EXAMPLE])):
+        answer(program, [*words, path])
+        yield path.read_bytes()
+        path.unlink()
+
+
+def inputs_as_outputs(program, folder):
+    """OUT is an input too: that is read whole before OUT is another, and stays where the command has a fault."""
+    run_image, merged = images_of(program, folder)
+    script, example, bad = SCRIPT.read_bytes(), EXAMPLE.read_bytes(), b"no script and no image"
+    cases_of = {
+        "run x x": (["run", "x", "x"], script, None, Answer(REPORT.output), run_image),
+        "run x ./x": (["run", "x", "./x"], script, None, Answer(REPORT.output), run_image),
+        "run x x, no script": (["run", "x", "x"], bad, None, fault("BadLine 1", 3), bad),
+        "merge x y x": (["merge", "x", "y", "x"], example, example, Answer(), merged),
+        "merge y x x": (["merge", "y", "x", "x"], example, example, Answer(), merged),
+        "merge x x x": (["merge", "x", "x", "x"], example, None, Answer(), merged),
+        "merge x y x, no image in x": (["merge", "x", "y", "x"], bad, example, fault("NotWords", 3), bad),
+        "merge y x x, no image in x": (["merge", "y", "x", "x"], bad, example, fault("NotWords", 3), bad),
+        "merge x y x, no image in y": (["merge", "x", "y", "x"], example, bad, fault("NotWords", 3), example),
+        "merge y x x, no image in y": (["merge", "y", "x", "x"], example, bad, fault("NotWords", 3), example),
+    }
+    for name, (words, x, y, wanted, left) in cases_of.items():
+        room = folder / "room"
+        room.mkdir()
+        for path, data in ((room / "x", x), (room / "y", y)):
+            if data is not None:
+                path.write_bytes(data)
+        beside = set(room.iterdir())
+        wrong = difference(wanted, answer(program, words, cwd=room)) or wrong_folder(room, beside, room / "x", left)
+        yield name, wrong or (None if content(room / "y") == y else "the other input was changed")
+        shutil.rmtree(room)
+
+
+def links(program, folder):
+    """OUT is a link: it stays one, and what it leads to is replaced, or made where it leads to nothing."""
+    run_image, _ = images_of(program, folder)
+    room = folder / "links"
+    (room / "other").mkdir(parents=True)
+    leads_to = {"near": "file", "far": "other/file", "there": room / "other" / "file", "twice": "other/back"}
+    for name, target in leads_to.items():
+        (room / name).symlink_to(target)
+    (room / "other" / "back").symlink_to("../file")
+    for name in leads_to:
+        for stood in (STOOD, None):
+            place = (room / name).resolve()
+            place.unlink(missing_ok=True)
+            if stood is not None:
+                place.write_bytes(stood)
+            wrong = difference(REPORT, answer(program, ["run", SCRIPT, name], cwd=room))
+            wrong = wrong or (None if (room / name).is_symlink() else "the link is gone")
+            yield f"a link {name} to {stood}", wrong or (None if content(place) == run_image else "no image behind the link")
+    (room / "round").symlink_to("round")
+    yield "a link to itself", difference(WRITE_FAULT, answer(program, ["run", SCRIPT, room / "round"]))
+    (room / "null").symlink_to("/dev/null")
+    wrong = difference(REPORT, answer(program, ["run", SCRIPT, room / "null"]))
+    yield "a link to a device", wrong or (None if (room / "null").is_char_device() else "the device is gone")
+
+
+def permissions(program, folder):
+    """A new file has the permissions of the old one; without an old one, those that the user grants to any new file."""
+    out = folder / "out"
+    for mode in (0o600, 0o640, 0o666, 0o755, 0o700):
+        out.write_bytes(STOOD)
+        out.chmod(mode)
+        wrong = difference(REPORT, answer(program, ["run", SCRIPT, out]))
+        yield f"permissions {mode:o}", wrong or wrong_mode(out, mode)
+        out.unlink()
+    for umask in (0o022, 0o077):
+        answer(program, ["run", SCRIPT, out], preexec_fn=lambda: os.umask(umask))
+        yield f"permissions without {umask:o}", wrong_mode(out, 0o666 & ~umask)
+        out.unlink()
+
+
+def wrong_mode(path, mode):
+    came = stat.S_IMODE(path.stat().st_mode)
+    return None if came == mode else f"wanted the permissions {mode:o}, came {came:o}"
+
+
+def guarded(program, folder):
+    """A folder and a file that may not be written: no input is read. A user who may write anything becomes another first."""
+    room, own = folder / "guarded", folder / "program"
+    shutil.copy(program, own)
+    room.mkdir()
+    (room / "out").write_bytes(STOOD)
+    folder.chmod(0o755)
+    another = {"preexec_fn": lambda: os.setuid(65534)} if os.geteuid() == 0 else {}
+    for name, mode_of_folder, mode_of_out in (("a folder", 0o555, 0o666), ("a file", 0o777, 0o444)):
+        (room / "out").chmod(mode_of_out)
+        room.chmod(mode_of_folder)
+        came = answer(own, ["run", "/", room / "out"], cwd="/", **another)
+        room.chmod(0o777)
+        yield f"{name} that may not be written", difference(WRITE_FAULT, came) or wrong_folder(room, {room / "out"}, room / "out", STOOD)
+
+
+def open_files(program, folder):
+    """OUT is an open file of the program, by the name that the system gives it: that file is written itself."""
+    run_image, merged = images_of(program, folder)
+    merge = ["merge", EXAMPLE, EXAMPLE]
+    yield "a pipe as standard output", difference(Answer(merged), answer(program, [*merge, "/dev/stdout"]))
+    yield "the image and the report on a pipe", difference(Answer(run_image + REPORT.output), answer(program, ["run", SCRIPT, "/dev/stdout"]))
+    for name in ("/dev/stdout", "/dev/fd/1", "/proc/self/fd/1"):
+        for file in (open(folder / "lent", "w+b"), tempfile.TemporaryFile()):
+            with file:
+                wrong = difference(Answer(), answer(program, [*merge, name], stdout=file))
+                file.seek(0)
+                yield f"{file.name} as {name}", wrong or (None if file.read() == merged else "another image")
+    (folder / "lent").unlink()
 
 
 def answer_behind_closed_pipe(program, folder):
@@ -257,26 +389,41 @@ def answer_to_short_out(program, words, most):
 
 
 def outputs_of_commands(program, folder):
-    """Outputs of `run` and `merge` that cannot be written: behind a fault of the image no report is begun."""
-    out, image = folder / "out", folder / "image"
+    """Outputs of `run` and `merge` that cannot be written: OUT stays as it was, and no report is begun behind a fault of the image."""
+    out = folder / "out"
     run, merge = ["run", SCRIPT], ["merge", EXAMPLE, EXAMPLE]
-    for words in (run, merge):
+    for words, image in zip((run, merge), images_of(program, folder)):
         yield f"{words[0]} into a full device", difference(WRITE_FAULT, answer(program, [*words, "/dev/full"]))
-        whole = answer(program, [*words, image])
-        yield f"{words[0]} into a file", difference(REPORT if words == run else Answer(), whole)
         for most in (0, 1, 8, 511, 1023):
-            wrong = difference(WRITE_FAULT, answer_to_short_out(program, [*words, out], most))
-            left = out.read_bytes()
-            yield f"{words[0]} into a file of {most} bytes", wrong or (None if left == image.read_bytes()[:most] else f"{len(left)} other bytes")
-        wrong = difference(whole, answer_to_short_out(program, [*words, out], 1024))
-        yield f"{words[0]} into a file of 1024 bytes", wrong or (None if out.read_bytes() == image.read_bytes() else "another image")
+            for stood in (STOOD, None):
+                wrong = wrong_short_out(program, [*words, out], most, stood, WRITE_FAULT, stood)
+                yield f"{words[0]} into a file of {most} bytes", wrong
+        right = REPORT if words == run else Answer()
+        yield f"{words[0]} into a file of 1024 bytes", wrong_short_out(program, [*words, out], 1024, STOOD, right, image)
     yield "run into a closed pipe", difference(WRITE_FAULT, answer_behind_closed_pipe(program, folder))
-    answer(program, [*run, image])
     for name, output in (("a full device", os.open("/dev/full", os.O_WRONLY)), ("a closed pipe", pipe_without_reader())):
-        wrong = difference(WRITE_FAULT, answer(program, [*run, out], stdout=output))
-        yield f"the report of run on {name}", wrong or (None if out.read_bytes() == image.read_bytes() else "another image")
+        for stood in (STOOD, None):
+            beside = prepared(out, stood)
+            wrong = difference(WRITE_FAULT, answer(program, [*run, out], stdout=output))
+            yield f"the report of run on {name}", wrong or wrong_folder(folder, beside, out, stood)
         yield f"merge beside {name}", difference(Answer(), answer(program, [*merge, out], stdout=output))
         os.close(output)
+    out.unlink()
+
+
+def prepared(out, stood):
+    """Puts these bytes into OUT, or removes it; the files that its folder then has."""
+    out.unlink(missing_ok=True)
+    if stood is not None:
+        out.write_bytes(stood)
+    return set(out.parent.iterdir())
+
+
+def wrong_short_out(program, words, most, stood, wanted, left):
+    """What is wrong where files may have so many bytes, or None."""
+    out = words[-1]
+    beside = prepared(out, stood)
+    return difference(wanted, answer_to_short_out(program, words, most)) or wrong_folder(out.parent, beside, out, left)
 
 
 def words(program):
@@ -301,6 +448,6 @@ def cases(program, _options):
         yield from files(program, folder)
         yield from inputs(program, folder)
         yield from outputs(program, folder)
-        yield from inputs_of_commands(program, folder)
-        yield from outputs_of_commands(program, folder)
+        for part in (inputs_of_commands, inputs_as_outputs, outputs_of_commands, links, permissions, guarded, open_files):
+            yield from part(program, folder)
         yield from words(program)

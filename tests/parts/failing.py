@@ -1,4 +1,6 @@
-"""Each read, write, allocation and start of a thread fails in turn: the right fault, and no output where none was begun.
+"""Each read, write, sync, renaming, opening, allocation and start of a thread fails in turn: the right fault, no output where
+none was begun, and OUT and its folder as they were. And the program is killed at each call that makes a file: OUT is the
+old file or the whole new one.
 
 For this the program is traced (tracer.py). Where that is not allowed, nothing is tried, and a line says so.
 """
@@ -6,6 +8,7 @@ For this the program is traced (tracer.py). Where that is not allowed, nothing i
 import errno
 import os
 import pathlib
+import shutil
 import signal
 import tempfile
 
@@ -19,8 +22,9 @@ NO_MEMORY, NO_THREAD = fault("NoMemory", 5), fault("NoThread", 5)
 NOT_LOADED = (127, -signal.SIGSEGV)
 # The C library asks the system for each allocation by itself, and keeps none for threads.
 EACH_BY_ITSELF = {"MALLOC_MMAP_THRESHOLD_": "0", "MALLOC_TOP_PAD_": "0", "MALLOC_ARENA_MAX": "1"}
-# What stands in OUT before each command, and stays there where memory ends before OUT is opened.
+# What stands in OUT before a command; None where there is no OUT.
 STOOD = b"what stood there before"
+BEFORE = (STOOD, None)
 # Of three workers the second alone makes blocks, and each histogram is one worker's: so any run writes the same image.
 SCRIPT = b"""\
 segment,256,64,7
@@ -40,7 +44,7 @@ add,S,7,70000
 
 
 class Command:
-    """A command line with its files, and what it answers where nothing fails."""
+    """A command line with its files, and what it answers where nothing fails. OUT has a folder of its own."""
 
     def __init__(self, program, name, words, inputs=(), out=None):
         self.program = program
@@ -48,45 +52,86 @@ class Command:
         self.words = words
         self.inputs = tuple(str(path) for path in inputs)
         self.out = out
+        self.prepare(None)
         self.right = answer(program, words)
-        self.image = self.written()
+        self.made = self.left()
 
-    def written(self):
-        return self.out.read_bytes() if self.out else b""
-
-    def failing(self, made):
-        """What it answers where calls fail, and what then stands in OUT."""
+    def prepare(self, stood):
+        """Puts OUT into its folder with what stood there, and nothing else."""
         if self.out:
-            self.out.write_bytes(STOOD)
-        settings = {"env": {**os.environ, **EACH_BY_ITSELF}}
-        return tracer.answer(self.program, self.words, made, **settings), self.written()
+            shutil.rmtree(self.out.parent, ignore_errors=True)
+            self.out.parent.mkdir()
+            for name, data in folder_of(stood).items():
+                (self.out.parent / name).write_bytes(data)
 
-    def each(self, **which):
-        """The place of each call that is meant, the answer where it fails, and what then stands in OUT."""
+    def left(self):
+        """What stands in OUT's folder: the bytes of each file by its name."""
+        return {path.name: path.read_bytes() for path in self.out.parent.iterdir()} if self.out else {}
+
+    def failing(self, made, stood=STOOD):
+        """What it answers where calls fail, and what then stands in OUT's folder."""
+        self.prepare(stood)
+        settings = {"env": {**os.environ, **EACH_BY_ITSELF}}
+        return tracer.answer(self.program, self.words, made, **settings), self.left()
+
+    def each(self, stood=STOOD, **which):
+        """The place of each call that is meant, the answer where it fails, and what then stands in OUT's folder."""
         place = 0
         while True:
             made = tracer.Fault(at=place, **which)
-            came, written = self.failing(made)
+            came, left = self.failing(made, stood)
             if made.met <= place:
                 return
-            yield place, came, written
+            yield place, came, left
             place += 1
 
+    def untouched(self, wanted, came, left, stood=STOOD):
+        """What is wrong where a fault was wanted and OUT's folder as it was, or None."""
+        right = folder_of(stood) if self.out else {}
+        return difference(wanted, came) or (None if left == right else f"{told(left)} stand in OUT's folder")
 
-def untouched(wanted, came, written):
-    """What is wrong where a fault was wanted and no output, or None."""
-    return difference(wanted, came) or (None if written in (b"", STOOD) else f"{len(written)} bytes stand in OUT")
+    def is_done(self, came, left):
+        return (came, left) == (self.right, self.made)
 
 
-def wrong_where(command, wanted, what, **fault):
-    """What is wrong where each such call fails in turn, and a fault is wanted and no output; or None."""
-    tried = 0
-    for place, came, written in command.each(**fault):
-        tried += 1
-        wrong = untouched(wanted, came, written)
-        if wrong is not None:
-            return f"{what} {place}: {wrong}"
-    return None if tried else f"no {what} was met"
+def folder_of(stood):
+    return {} if stood is None else {"out": stood}
+
+
+def told(left):
+    return [f"{len(data)} bytes as {name}" for name, data in left.items()] or "no files"
+
+
+def wrong_where(command, wanted, what, before=(STOOD,), **fault):
+    """What is wrong where each such call fails in turn, and a fault is wanted and OUT as it was; or None."""
+    for stood in before:
+        tried = 0
+        for place, came, left in command.each(stood, **fault):
+            tried += 1
+            wrong = command.untouched(wanted, came, left, stood)
+            if wrong is not None:
+                return f"{what} {place}: {wrong}"
+        if not tried:
+            return f"no {what} was met"
+    return None
+
+
+def wrong_where_some(command, faults, what, **fault):
+    """What is wrong where each such call fails in turn, and one of these faults is wanted and OUT as it was, or the right
+    answer; or None. The last of the faults has to come."""
+    for stood in BEFORE:
+        tried = 0
+        for place, came, left in command.each(stood, **fault):
+            if came.status in NOT_LOADED and not tried:
+                continue
+            wanted = next((one for one in faults if one == came), faults[-1])
+            wrong = None if command.is_done(came, left) else command.untouched(wanted, came, left, stood)
+            if wrong is not None:
+                return f"{what} {place}: {wrong}"
+            tried += came == faults[-1]
+        if not tried:
+            return f"the fault of no {what} came"
+    return None
 
 
 def wrong_reads(command):
@@ -94,27 +139,83 @@ def wrong_reads(command):
 
 
 def wrong_image_writes(command):
-    tried = 0
-    for place, came, written in command.each(numbers=(tracer.WRITE,), files=(str(command.out),)):
-        tried += 1
-        wrong = difference(WRITE_FAULT, came)
-        if wrong is None and not (len(written) < len(command.image) and command.image.startswith(written)):
-            wrong = f"{len(written)} bytes stand in OUT, which are no beginning of the image"
-        if wrong is not None:
-            return f"write {place} of the image: {wrong}"
-    return None if tried else "no write was met"
+    files = (str(command.out.parent),)
+    return wrong_where(command, WRITE_FAULT, "write of the image", BEFORE, numbers=(tracer.WRITE,), files=files)
+
+
+def wrong_syncs(command):
+    return wrong_where(command, WRITE_FAULT, "sync", BEFORE, numbers=(tracer.SYNC,))
+
+
+def wrong_modes(command):
+    return wrong_where(command, WRITE_FAULT, "change of permissions", numbers=(tracer.CHANGE_MODE,))
+
+
+def wrong_renames(command):
+    """The renaming comes behind all else, so the report is whole."""
+    wanted = Answer(command.right.output, WRITE_FAULT.error, WRITE_FAULT.status)
+    return wrong_where(command, wanted, "renaming", BEFORE, numbers=tracer.RENAMES)
+
+
+def wrong_openings(command):
+    return wrong_where_some(command, (READ_FAULT, WRITE_FAULT), "opening", numbers=(tracer.OPEN_AT,), error=errno.EACCES)
+
+
+def wrong_random_bytes(command):
+    """Without them the new file has no name."""
+    return wrong_where_some(command, (WRITE_FAULT,), "call for random bytes", numbers=(tracer.RANDOM,))
+
+
+def wrong_clashes(command):
+    """Where the new file's name is taken, another is tried."""
+    for stood in BEFORE:
+        refused, taken = (fatal_openings(command, stood, error) for error in (errno.EACCES, errno.EEXIST))
+        if taken != refused[:-1]:
+            return f"the openings {refused} may not be refused, wanted that the last one finds another name, came {taken}"
+    return wrong_where_some(command, (READ_FAULT, WRITE_FAULT), "clash", numbers=(tracer.OPEN_AT,), error=errno.EEXIST)
+
+
+def fatal_openings(command, stood, error):
+    """The openings behind whose error comes `Write`: that of OUT, and then that of the new file."""
+    tried = command.each(stood, numbers=(tracer.OPEN_AT,), error=error)
+    return [place for place, came, _ in tried if came == WRITE_FAULT]
+
+
+def wrong_kill(command, came, left, stood):
+    """What is wrong where the program was killed, or None. The new file may stand beside OUT as it was."""
+    if came.status != -signal.SIGKILL:
+        return f"wanted a kill, came the status {came.status}"
+    if left == command.made:
+        return None if came.output == command.right.output else "OUT is new before the report"
+    new = {name: data for name, data in left.items() if name != "out"}
+    if left.get("out") != stood or len(new) > 1:
+        return f"{told(left)} stand in OUT's folder"
+    return None
+
+
+def wrong_kills(command):
+    """The program is killed at each call by which it makes a file, and at its end."""
+    numbers = (tracer.OPEN_AT, tracer.WRITE, tracer.SYNC, tracer.CHANGE_MODE, *tracer.RENAMES, tracer.CLOSE, tracer.EXIT)
+    for stood in BEFORE:
+        outs = set()
+        for place, came, left in command.each(stood, numbers=numbers, kills=True):
+            wrong = wrong_kill(command, came, left, stood)
+            if wrong is not None:
+                return f"killed at call {place}: {wrong}"
+            outs.add(left.get("out"))
+        if outs != {stood, command.made["out"]}:
+            return "wanted the old OUT behind some kills and the new one behind others"
+    return None
 
 
 def wrong_report_writes(command):
     tried = 0
-    for place, came, written in command.each(numbers=(tracer.WRITE,), files=(tracer.OUTPUT,)):
+    for place, came, left in command.each(numbers=(tracer.WRITE,), files=(tracer.OUTPUT,)):
         tried += 1
         begun = len(came.output) < len(command.right.output) and command.right.output.startswith(came.output)
-        wrong = difference(Answer(came.output, WRITE_FAULT.error, WRITE_FAULT.status), came)
+        wrong = command.untouched(Answer(came.output, WRITE_FAULT.error, WRITE_FAULT.status), came, left)
         if wrong is None and not begun:
             wrong = f"came {came.output!r}, which is no beginning of the report"
-        if wrong is None and written != command.image:
-            wrong = "the image is not whole"
         if wrong is not None:
             return f"write {place} of the report: {wrong}"
     return None if tried else "no write was met"
@@ -124,11 +225,11 @@ def wrong_growths(command):
     """Each allocation and all behind it are refused."""
     tried = 0
     growths = (tracer.MAP, tracer.BREAK, tracer.REMAP)
-    for place, came, written in command.each(numbers=growths, lasting=True, error=errno.ENOMEM):
+    for place, came, left in command.each(numbers=growths, lasting=True, error=errno.ENOMEM):
         if came.status in NOT_LOADED and not tried:
             continue
         wanted = NO_THREAD if came == NO_THREAD else NO_MEMORY
-        wrong = None if (came, written) == (command.right, command.image) else untouched(wanted, came, written)
+        wrong = None if command.is_done(came, left) else command.untouched(wanted, came, left)
         if wrong is not None:
             return f"allocation {place}: {wrong}"
         tried += came == NO_MEMORY
@@ -141,14 +242,14 @@ def wrong_threads(command):
 
 def wrong_pieces(command):
     """Each read and write moves one byte."""
-    files = (*command.inputs, str(command.out), tracer.OUTPUT)
-    came, written = command.failing(tracer.Fault((tracer.READ, tracer.WRITE), files, most=1))
-    return difference(command.right, came) or (None if written == command.image else "another image was written")
+    files = (*command.inputs, *([str(command.out.parent)] if command.out else []), tracer.OUTPUT)
+    came, left = command.failing(tracer.Fault((tracer.READ, tracer.WRITE), files, most=1))
+    return difference(command.right, came) or (None if left == command.made else "another image was written")
 
 
 def commands(program, folder):
     """The commands that are tried."""
-    script, dead, out = folder / "script", folder / "dead", folder / "out"
+    script, dead, out = folder / "script", folder / "dead", folder / "outs" / "out"
     script.write_bytes(SCRIPT)
     dead.write_bytes(EXAMPLE.read_bytes())
     yield Command(program, "report", ["report", EXAMPLE], [EXAMPLE])
@@ -163,7 +264,8 @@ def checks(command):
     yield wrong_growths
     yield wrong_pieces
     if command.out:
-        yield wrong_image_writes
+        yield from (wrong_image_writes, wrong_syncs, wrong_modes, wrong_renames)
+        yield from (wrong_openings, wrong_random_bytes, wrong_clashes, wrong_kills)
     if command.right.output:
         yield wrong_report_writes
     if "run" in command.words:

@@ -89,8 +89,9 @@ def scripts(program, folder):
         came = answer(program, ["run", script, out, "--workers", str(workers)])
         yield f"the longest script, {workers} workers", difference(wanted, came)
     script.write_bytes(text + b"\n")
+    image = out.read_bytes()
     wrong = difference(fault("TooLong", 3), answer(program, ["run", script, out]))
-    yield "a byte more", wrong or (f"{out.stat().st_size} bytes were written" if out.stat().st_size else None)
+    yield "a byte more", wrong or (None if out.read_bytes() == image else "OUT is not as it was")
 
 
 def cases(program, _options):

@@ -12,7 +12,7 @@ import tempfile
 
 from parts import scripts
 from support import plain_reader, plain_tally, seeded
-from support.program import Answer, answer, difference, fault
+from support.program import Answer, answer, content, difference, fault
 
 PROGRAM = "persist_report"
 NOTHING = Answer()
@@ -110,9 +110,9 @@ def wrong_of(program, seed, folder):
         images.append(image)
     wanted, report = wanted_of(*images)
     wrong = difference(wanted, answer(program, ["merge", *paths]))
-    made = paths[-1].read_bytes()
+    made = content(paths[-1])
     if wrong is None and report is None:
-        wrong = f"came {len(made)} bytes of an image beside the fault" if made else None
+        wrong = None if made is None else f"came {len(made)} bytes of an image beside the fault"
     elif wrong is None:
         wrong = scripts.wrong_image(scripts_of_both[0], made, report) or difference(Answer(report), answer(program, ["report", paths[-1]]))
     return wrong

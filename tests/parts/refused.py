@@ -21,6 +21,8 @@ STEP = 100
 THREAD_STEP = 40
 NO_MEMORY, NO_THREAD = fault("NoMemory", 5), fault("NoThread", 5)
 NOT_LOADED = 127
+# What stands in OUT before each command.
+STOOD = b"what stood there before"
 SCRIPT = b"segment,256,64,7\nhist,A,boolean\nhist,S,sparse\nadd,A,1,2\nadd,S,-5,1\nadd,A,0,1\ndelta,A\nadd,S,7,70000\n"
 EACH_BY_ITSELF = {"MALLOC_MMAP_THRESHOLD_": "0", "MALLOC_TOP_PAD_": "0"}
 COMMAND_LINES = [
@@ -55,17 +57,18 @@ def wrong_of(program, words, data, pages, step, setting, out=None):
     """What is wrong with the answers under limits that grow by `step` from these pages on, or None.
 
     Each has to be NoMemory until it is the one that the program gives with ample memory; and NoMemory has to come. Where
-    there is none to start a worker, it is NoThread. Nothing is written to `out` before.
+    there is none to start a worker, it is NoThread. Before, `out` is as it was, and nothing else is made beside it.
     """
     ample = answer(program, words, data)
     refused = 0
     if out is not None:
-        out.write_bytes(b"")
+        out.write_bytes(STOOD)
+        beside = set(out.parent.iterdir())
     came = answer_within(program, pages, words, data, setting)
     while came in (NO_MEMORY, NO_THREAD) and pages < MOST_PAGES:
         refused += came == NO_MEMORY
-        if out is not None and out.read_bytes():
-            return f"under {pages} pages of data, {out.stat().st_size} bytes were written beside the fault"
+        if out is not None and (out.read_bytes() != STOOD or set(out.parent.iterdir()) != beside):
+            return f"under {pages} pages of data, OUT is not as it was, or a file was left beside it"
         pages += step
         came = answer_within(program, pages, words, data, setting)
     if came != ample:

@@ -110,8 +110,10 @@ MERGES = {
 }
 
 
-def written(out):
-    return f"{len(out.read_bytes())} bytes were written" if out.read_bytes() else None
+def wrong_fault(program, words, wanted, out):
+    """What is wrong with the fault of a command that has no OUT before it, or None."""
+    out.unlink(missing_ok=True)
+    return difference(wanted, answer(program, words)) or ("OUT was made" if out.exists() else None)
 
 
 def runs(program, folder):
@@ -119,12 +121,13 @@ def runs(program, folder):
     for name, (text, wanted) in SCRIPTS.items():
         script.write_bytes(text)
         for workers in (1, 2, 16):
-            wrong = difference(wanted, answer(program, ["run", script, out, "--workers", str(workers)]))
-            if wrong is None and wanted.status != 0:
-                wrong = written(out)
-            yield f"run, {name}, {workers} workers", wrong
+            words = ["run", script, out, "--workers", str(workers)]
+            if wanted.status == 0:
+                yield f"run, {name}, {workers} workers", difference(wanted, answer(program, words))
+            else:
+                yield f"run, {name}, {workers} workers", wrong_fault(program, words, wanted, out)
     script.write_bytes(NO_ROOM_FOR_COUNTS)
-    yield "run, no room for counts", difference(fault("Refused 6 Full", 3), answer(program, ["run", script, out])) or written(out)
+    yield "run, no room for counts", wrong_fault(program, ["run", script, out], fault("Refused 6 Full", 3), out)
     script.write_bytes(THREE_SAMPLES)
     answer(program, ["run", script, out])
     yield "run, three samples, the image", None if out.read_bytes() == image(IN_VERSION_2) else "other words were written"
@@ -133,10 +136,10 @@ def runs(program, folder):
 def wrong_merge(program, folder, wanted, report):
     """What is wrong with the merge of the images in a folder, or None."""
     out = folder / "out"
-    came = answer(program, ["merge", folder / "base", folder / "dead", out])
+    words = ["merge", folder / "base", folder / "dead", out]
     if report is None:
-        return difference(wanted, came) or written(out)
-    wrong = difference(Answer(), came) or difference(Answer(report), answer(program, ["report", out]))
+        return wrong_fault(program, words, wanted, out)
+    wrong = difference(Answer(), answer(program, words)) or difference(Answer(report), answer(program, ["report", out]))
     if wrong is None and wanted is not None and out.read_bytes() != wanted:
         wrong = "other words were written"
     return wrong

@@ -40,6 +40,11 @@ def answer(program, words, data=b"", **settings):
     return Answer(done.stdout or b"", done.stderr or b"", done.returncode)
 
 
+def content(path):
+    """The bytes of a file; None where there is none."""
+    return path.read_bytes() if path.is_file() else None
+
+
 def difference(wanted, came):
     """What was wanted and what came, where two answers differ first; None where they are the same."""
     if came.status != wanted.status:

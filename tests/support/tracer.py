@@ -1,7 +1,7 @@
-"""Runs a program so that chosen calls of it to the system fail (Linux on x86-64).
+"""Runs a program so that chosen calls of it to the system fail, or so that it is killed at one (Linux on x86-64).
 
 The program is traced (ptrace): each call to the system stops it where the call begins and where it ends. A call that is to
-fail is not made, and the program is given an error in its place.
+fail is not made, and the program is given an error in its place. Nor is one made at which the program is killed.
 """
 
 import ctypes
@@ -29,7 +29,9 @@ BEGINS = 1
 RESULT, THIRD, FIRST, NUMBER = 8 * 10, 8 * 12, 8 * 14, 8 * 15
 NO_CALL = 2**64 - 1
 
-READ, WRITE, MAP, BREAK, REMAP, CLONE, CLONE_3 = 0, 1, 9, 12, 25, 56, 435
+READ, WRITE, CLOSE, MAP, BREAK, REMAP, CLONE, CLONE_3, EXIT = 0, 1, 3, 9, 12, 25, 56, 435, 231
+SYNC, CHANGE_MODE, OPEN_AT, RANDOM = 74, 91, 257, 318
+RENAMES = (82, 264, 316)
 OUTPUT = "standard output"
 
 
@@ -48,8 +50,9 @@ class Call(ctypes.Structure):
 
 @dataclasses.dataclass
 class Fault:
-    """Which calls fail: of those with these numbers, on these files alone where any are named, the one at `at`, from 0;
-    and all behind it, where it is `lasting`. With `most`, each read and write of them moves so many bytes at most instead.
+    """Which calls fail: of those with these numbers, on these files and those in these folders alone where any are named,
+    the one at `at`, from 0; and all behind it, where it is `lasting`. With `kills` the program is killed there instead. With
+    `most`, each read and write of them moves so many bytes at most instead.
     """
 
     numbers: tuple
@@ -58,10 +61,14 @@ class Fault:
     lasting: bool = False
     error: int = errno.EIO
     most: int = 0
+    kills: bool = False
     met: int = 0
 
     def is_meant(self, thread, call):
-        return call.number in self.numbers and (not self.files or file_of(thread, call.arguments[0]) in self.files)
+        if call.number not in self.numbers or not self.files:
+            return call.number in self.numbers
+        path = file_of(thread, call.arguments[0])
+        return path is not None and (path in self.files or os.path.dirname(path) in self.files)
 
     def fails_next(self):
         """Counts a call; whether it fails."""
@@ -93,6 +100,9 @@ def begin(thread, call, fault):
         ptrace(POKE_USER, thread, THIRD, min(fault.most, call.arguments[2]))
         return [(THIRD, call.arguments[2])]
     if not fault.fails_next():
+        return []
+    if fault.kills:
+        os.kill(thread, signal.SIGKILL)
         return []
     if call.number == BREAK:
         # It has no error: where it can't move the end of the data it tells where that is, as it does when asked for 0.

@@ -4,7 +4,7 @@ import dataclasses
 import re
 import subprocess
 
-from support.program import ROOT, Answer, difference
+from support.program import ROOT, Answer, content, difference
 
 # The line of a case: how it ended, its status where it did, and whether it wrote what was wanted. Before it stands what it told.
 LINE = re.compile(rb"(.*?)^case=(\S+) run=(\S+)(?: status=(\S+))?(.*?)$\n", re.MULTILINE | re.DOTALL)
@@ -17,7 +17,8 @@ MOST_SIGNS = 500
 
 @dataclasses.dataclass
 class Case:
-    """A command line with its standard input, and what has to come: the answer, and the bytes of the files that it writes."""
+    """A command line with its standard input, and what has to come: the answer, and the bytes of the files that it writes, None of
+    one that it must not make."""
 
     name: str
     words: list
@@ -66,7 +67,7 @@ def wrong_of(case, line, shown):
     else:
         wrong = None
     for path, data in case.written.items():
-        if wrong is None and not (path.is_file() and path.read_bytes() == data):
+        if wrong is None and content(path) != data:
             wrong = f"other bytes than wanted were written into {path.name}"
     return wrong
 

@@ -1,13 +1,15 @@
 //! The commands over files. Each opens its files in the order of its arguments before it reads any of them, and last of
-//! all makes the file that it writes, or empties it.
+//! all the output for the file that it writes. That file is as it was until the command has done all else.
 
 ghost use Rattle.std.specs.Prelude.{◌≡◌, false, IfOk};
 ghost use Rattle.segment_image.specs.Watched.{has_failed};
 
+use crate::output::open_output;
 use crate::workers::Workers;
 use persist_commands::{OpenGate, merge_files, run_script};
 use persist_report_core::{CliFault, report};
 use segment_image::Watched;
+use std::random::RandomSource;
 use std::rt::Files;
 use std::sync::Wait;
 use std::thread::Threads;
@@ -18,14 +20,6 @@ fn open<R: Files>(rt: &R, path: &str) -> Result<Watched<R::File>, CliFault>
     ensures { IfOk result (λ file. has_failed file ≡ false) }
 {
     let file = fs::open(rt, path).map_err(|_| CliFault::Read)?;
-    Ok(Watched::new(file))
-}
-
-// An empty file, to write it.
-fn create<R: Files>(rt: &R, path: &str) -> Result<Watched<R::File>, CliFault>
-    ensures { IfOk result (λ file. has_failed file ≡ false) }
-{
-    let file = fs::create(rt, path).map_err(|_| CliFault::Write)?;
     Ok(Watched::new(file))
 }
 
@@ -41,17 +35,18 @@ pub fn report_file<R: Files + Input + Print + AllocGlobal>(
     }
 }
 
-/// Runs the script in a file, and writes the image to another and its report to standard output.
-pub fn run_file<R: Files + Print + AllocGlobal + Threads + Wait>(
+/// Runs the script in a file, and writes the image to another and its report to standard output. The image takes the other
+/// file's place behind the report.
+pub fn run_file<R: Files + Print + RandomSource + AllocGlobal + Threads + Wait>(
     rt: &R,
     script: &str,
     out: &str,
     workers: Workers,
 ) -> Result<(), CliFault> {
     let mut script = open(rt, script)?;
-    let mut image = create(rt, out)?;
+    let mut image = Watched::new(open_output(rt, out)?);
     let mut report = Watched::new(io::writer(rt));
-    run_script(
+    let outcome = run_script(
         rt,
         rt.alloc(),
         &mut script,
@@ -59,11 +54,12 @@ pub fn run_file<R: Files + Print + AllocGlobal + Threads + Wait>(
         &mut report,
         workers.count(),
         &OpenGate,
-    )
+    );
+    image.into_inner().end(rt, outcome)
 }
 
 /// Merges the images in two files into a new one, and writes it to a third.
-pub fn merge_files_into<R: Files + AllocGlobal>(
+pub fn merge_files_into<R: Files + RandomSource + AllocGlobal>(
     rt: &R,
     base: &str,
     dead: &str,
@@ -71,6 +67,7 @@ pub fn merge_files_into<R: Files + AllocGlobal>(
 ) -> Result<(), CliFault> {
     let mut base = open(rt, base)?;
     let mut dead = open(rt, dead)?;
-    let mut out = create(rt, out)?;
-    merge_files(rt.alloc(), &mut base, &mut dead, &mut out)
+    let mut image = Watched::new(open_output(rt, out)?);
+    let outcome = merge_files(rt.alloc(), &mut base, &mut dead, &mut image);
+    image.into_inner().end(rt, outcome)
 }

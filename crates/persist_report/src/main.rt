@@ -3,6 +3,8 @@
 
 mod failure;
 mod files;
+mod output;
+mod place;
 mod request;
 mod run;
 mod workers;

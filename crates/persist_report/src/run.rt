@@ -7,6 +7,7 @@ use crate::failure::Failure;
 use crate::files::{merge_files_into, report_file, run_file};
 use crate::request::{Request, not_text};
 use persist_report_core::CliFault;
+use std::random::RandomSource;
 use std::rt::{Env, Files};
 use std::sync::Wait;
 use std::thread::Threads;
@@ -16,7 +17,7 @@ use std::{env, io};
 ///
 /// `Usage` where they ask for nothing that the program does; `Fault` where the request failed, `NoMemory` also
 /// where there was none to read the arguments, and `Write` also where a help or version text could not be written.
-pub fn run<R: Env + Files + Input + Print + AllocGlobal + Threads + Wait>(
+pub fn run<R: Env + Files + Input + Print + RandomSource + AllocGlobal + Threads + Wait>(
     rt: &R,
 ) -> Result<(), Failure>
     ensures { IfErr result UsageIsMistake }
@@ -42,7 +43,7 @@ fn words<R: Env + AllocGlobal>(rt: &R) -> Result<Vec<String>, Failure>
     }
 }
 
-fn meet<R: Files + Input + Print + AllocGlobal + Threads + Wait>(
+fn meet<R: Files + Input + Print + RandomSource + AllocGlobal + Threads + Wait>(
     rt: &R,
     request: Request<'_>,
 ) -> Result<(), CliFault> {

@@ -1,0 +1,163 @@
+//! The file that a command writes. OUT is the old file or the whole new one, whatever happens.
+//!
+//! So no byte is written to OUT itself. The bytes go to a new file in its folder, which has them on its device where it is
+//! flushed. It takes OUT's name behind all else that the command does, and is removed where the command has a fault. A kill
+//! may leave it there, and leaves OUT as it was.
+//!
+//! What has no bytes to keep is written itself, as a device or a pipe.
+
+ghost use Rattle.std.specs.Prelude.{◌≡◌, IfErr, OnOk, Err};
+
+use crate::place::{has_name, place_of};
+use persist_report_core::CliFault;
+use std::alloc::AllocError;
+use std::fs::{OpenFile, OpenOptions, Permissions};
+use std::io::{ErrorKind, Write};
+use std::os::unix::fs::OpenOptionsExt;
+use std::path::PathBuf;
+use std::random::RandomSource;
+use std::rt::Files;
+use std::{fs, io};
+
+// How many names are tried for a new file. They are random, so two that clash are hardly met.
+const MOST_NAMES: u32 = 16;
+
+// Who may use a new file that has yet to be given the permissions of the old one.
+const OWNER_ALONE: u32 = 0o600;
+
+/// The file that a command writes.
+#[derive(Drop)]
+pub enum Output<F> {
+    /// A new file at the path `new`, which takes the path `out`.
+    New { file: F, new: PathBuf, out: PathBuf },
+    /// What OUT leads to.
+    Itself(F),
+}
+
+impl<F: Write + OpenFile> Write for Output<F> {
+    fn write(&mut self, buf: &[u8]) -> io::Result<usize> {
+        match self {
+            Output::New { file, .. } | Output::Itself(file) => file.write(buf),
+        }
+    }
+
+    // A new file has its bytes on its device behind this.
+    fn flush(&mut self) -> io::Result<()> {
+        match self {
+            Output::New { file, .. } => file.sync_all(),
+            Output::Itself(file) => file.flush(),
+        }
+    }
+}
+
+impl<F: Drop> Output<F> {
+    /// Ends the output of a command, whose outcome is given. Where the command did its work, a new file takes OUT's name,
+    /// and it is `Write` where it cannot. Else the new file is removed.
+    pub fn end<R: Files>(self, rt: &R, outcome: Result<(), CliFault>) -> Result<(), CliFault>
+        ensures same { IfErr outcome (λ fault. result ≡ Err fault) }
+        ensures write { OnOk outcome (IfErr result (λ fault. fault ≡ CliFault.Write)) }
+    {
+        let Output::New { new, out, .. } = self else {
+            return outcome;
+        };
+        let ended = outcome.and_then(|()| fs::rename(rt, &new, &out).map_err(|_| CliFault::Write));
+        if ended.is_err() {
+            remove(rt, &new);
+        }
+        ended
+    }
+}
+
+/// Opens the output for OUT, and leaves OUT as it is.
+///
+/// `Write` where OUT cannot be written, or no new file can be made in its folder.
+pub fn open_output<R: Files + RandomSource + AllocGlobal>(
+    rt: &R,
+    out: &str,
+) -> Result<Output<R::File>, CliFault> {
+    match OpenOptions::new().write(true).open(rt, out) {
+        Ok(file) => open_for(rt, out, file),
+        Err(error) if error.kind() == ErrorKind::NotFound => match place_of(rt, out)? {
+            Some(place) => create_beside(rt, place, None),
+            None => Err(CliFault::Write),
+        },
+        Err(_) => Err(CliFault::Write),
+    }
+}
+
+// The output where OUT is there, as an open file.
+fn open_for<R: Files + RandomSource + AllocGlobal>(
+    rt: &R,
+    out: &str,
+    file: R::File,
+) -> Result<Output<R::File>, CliFault> {
+    let found = file.metadata().map_err(|_| CliFault::Write)?;
+    if !found.is_file() {
+        return Ok(Output::Itself(file));
+    }
+    match place_of(rt, out)? {
+        Some(place) => create_beside(rt, place, Some(found.permissions())),
+        None => {
+            file.set_len(0).map_err(|_| CliFault::Write)?;
+            Ok(Output::Itself(file))
+        }
+    }
+}
+
+// A new file in the folder of `out`, with the permissions of the old one where there is one.
+fn create_beside<R: Files + RandomSource + AllocGlobal>(
+    rt: &R,
+    out: PathBuf,
+    permissions: Option<Permissions>,
+) -> Result<Output<R::File>, CliFault> {
+    if !has_name(&out) {
+        return Err(CliFault::Write);
+    }
+    let (file, new) = create_new(rt, &out, permissions.is_some())?;
+    let granted = match permissions {
+        Some(permissions) => file.set_permissions(permissions),
+        None => Ok(()),
+    };
+    if granted.is_err() {
+        remove(rt, &new);
+        return Err(CliFault::Write);
+    }
+    Ok(Output::New { file, new, out })
+}
+
+// Removes a new file behind a fault. The fault is told, and nothing is left to do where this fails too.
+fn remove<R: Files>(rt: &R, new: &PathBuf) {
+    let _ = fs::remove_file(rt, new);
+}
+
+// A new file in the folder of `out`, and its path.
+fn create_new<R: Files + RandomSource + AllocGlobal>(
+    rt: &R,
+    out: &PathBuf,
+    is_private: bool,
+) -> Result<(R::File, PathBuf), CliFault> {
+    let mut options = OpenOptions::new();
+    options.write(true).create_new(true);
+    if is_private {
+        options.mode(OWNER_ALONE);
+    }
+    for _ in 0..MOST_NAMES {
+        let name = new_name(rt)?;
+        let new = out.with_file_name(rt.alloc(), name.as_str())?;
+        match options.open(rt, &new) {
+            Ok(file) => return Ok((file, new)),
+            Err(error) if error.kind() == ErrorKind::AlreadyExists => {}
+            Err(_) => return Err(CliFault::Write),
+        }
+    }
+    Err(CliFault::Write)
+}
+
+// A name that hardly any other file has.
+fn new_name<R: RandomSource + AllocGlobal>(rt: &R) -> Result<String, CliFault> {
+    let mut bytes = [0u8; 8];
+    rt.fill_bytes(&mut bytes).map_err(|_| CliFault::Write)?;
+    let number = u64::from_le_bytes(bytes);
+    let name: Result<String, AllocError> = format!(in rt.alloc(); ".persist_report-{number:016x}");
+    Ok(name?)
+}

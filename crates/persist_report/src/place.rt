@@ -1,0 +1,60 @@
+//! Where a path leads, behind links.
+
+use persist_report_core::CliFault;
+use std::fs::Metadata;
+use std::io::ErrorKind;
+use std::os::unix::fs::MetadataExt;
+use std::path::{Path, PathBuf};
+use std::rt::Files;
+use std::{fs, io};
+
+// How many links are followed in a row: as many as the system follows.
+const MOST_LINKS: u32 = 40;
+
+/// The path to which the links lead that begin at a path. None where one of them is no text but stands for an open file, as
+/// `/dev/stdout` leads to one.
+///
+/// `Write` where a link cannot be looked at, or too many follow one another.
+pub fn place_of<R: Files + AllocGlobal>(rt: &R, path: &str) -> Result<Option<PathBuf>, CliFault> {
+    let mut place = PathBuf::from_str(rt.alloc(), path)?;
+    for _ in 0..MOST_LINKS {
+        let link = match fs::symlink_metadata(rt, &place) {
+            Ok(found) if found.is_symlink() => found,
+            Ok(_) => return Ok(Some(place)),
+            Err(error) if error.kind() == ErrorKind::NotFound => return Ok(Some(place)),
+            Err(_) => return Err(CliFault::Write),
+        };
+        if is_open_file(rt, &link) {
+            return Ok(None);
+        }
+        place = target_of(rt, &place)?;
+    }
+    Err(CliFault::Write)
+}
+
+// Whether a link is one of those by which the system shows open files: these alone stand in /proc.
+fn is_open_file<R: Files>(rt: &R, link: &Metadata) -> bool {
+    fs::metadata(rt, "/proc").is_ok_and(|proc| proc.dev() == link.dev())
+}
+
+// The path to which one link leads.
+fn target_of<R: Files + AllocGlobal>(rt: &R, link: &PathBuf) -> Result<PathBuf, CliFault> {
+    let text = fs::read_link(rt, link).map_err(fault_of)?;
+    let folder = link.parent().unwrap_or(Path::new(""));
+    Ok(folder.join(rt.alloc(), text)?)
+}
+
+fn fault_of(error: io::Error) -> CliFault {
+    match error.kind() {
+        ErrorKind::OutOfMemory => CliFault::NoMemory,
+        _ => CliFault::Write,
+    }
+}
+
+/// Whether a path ends with the name of a file, and not with a slash or a dot.
+pub fn has_name(path: &PathBuf) -> bool {
+    match path.file_name() {
+        Some(name) => path.as_str().ends_with(name),
+        None => false,
+    }
+}

@@ -1,62 +1,60 @@
 //! Threads record into one segment, and one of them drops its recorder after half of its calls. The segment is closed all
-//! the same, its image is written and read back, and what the image tells is printed beside what was accepted.
+//! the same, its image is read, and what the image tells is printed beside what was accepted.
 #![tactic(auto)]
 
 ghost use Rattle.std.specs.Prelude.{◌≡◌, ◌<◌, ℕ, length, slice_index_or, IfOk, IfSome, All};
-ghost use Rattle.live_segment.specs.Holders.{IsMadeWith, table_of};
-ghost use Rattle.record_and_stop.specs.Recording.{GivesBack, IsAt, IsJobAt, IsOutcomeAt};
+ghost use Rattle.live_segment.specs.Holders.{IsMadeWith, RecordsInto, SharesSegment};
 
 mod recording;
 
 use anyhow::Result;
 use image_reader::Reading;
-use live_segment::{Opener, Recorder, Segment};
-use recording::{Accepted, Outcome, UNITS, record};
-use segment_calls::Refusal;
-use segment_image::{Watched, read_words, write_words};
+use live_segment::{Opener, Recorder, Refusal, Segment, VERSION_FROZEN};
+use recording::{Accepted, Outcome, Samples, UNITS, record};
 use std::alloc::{AllocError, Global};
 use std::thread;
 use std::thread::Threads;
 
-const THREADS: u32 = 3;
+// How many words the segment has, and how many a page of it.
+const SIZE: u64 = 65_536;
+
+const PAGE: u64 = 4096;
+
+// What stands in the image to tell it from others.
+const ID: u64 = 7;
+
+// No thread reads what the others record.
+const CURSORS: usize = 0;
+
+const THREADS: u8 = 3;
 
 // The thread that stops after half of its calls.
-const STOPS: u32 = 1;
-
-// The image of the words, written and read back.
-fn read_back(alloc: Global, words: &[u64]) -> Result<Reading> {
-    let mut file = Watched::new(Vec::new(alloc));
-    write_words(&mut file, words)?;
-    let bytes = file.into_inner();
-    let words = read_words(alloc, &mut Watched::new(bytes.as_slice()), words.len())?;
-    Ok(image_reader::read(alloc, &words)?)
-}
+const STOPS: u8 = 1;
 
 // A line for each histogram: its name, its samples and their sum as they were accepted, and as they were read.
 fn show(rt: &(impl Print + AllocGlobal), accepted: Accepted, reading: &Reading) -> Result<()> {
     println!(rt; "histogram,accepted,sum,read,sum")?;
     for histogram in reading.hists.iter() {
         let name = str::from_utf8(histogram.name.as_slice())?;
-        let wanted = accepted.of(name);
+        let Samples { count, sum } = accepted.of(name);
         let mut units: u64 = 0;
-        for (_, count) in histogram.counts.iter() {
-            units = units.saturating_add(*count);
+        for (_, units_of_bucket) in histogram.counts.iter() {
+            units = units.saturating_add(*units_of_bucket);
         }
-        let (count, total) = (wanted.count, wanted.sum);
-        println!(rt; "{name},{count},{total},{units},{}", histogram.sum)?;
+        println!(rt; "{name},{count},{sum},{units},{}", histogram.sum)?;
     }
     Ok(())
 }
 
-// A recorder for each of some threads, with the number of its thread.
+// A recorder for each thread, with the number of the thread.
 fn make_recorders<'a>(
     alloc: Global,
     segment: &'a Segment,
     opener: &mut Opener,
-) -> Result<Vec<(u32, Recorder<'a>)>>
+) -> Result<Vec<(u8, Recorder<'a>)>>
     requires made { IsMadeWith segment.now opener.old }
     ensures made { IsMadeWith segment.entry.now opener.new }
-    ensures jobs { IfOk result (λ jobs. All (IsJobAt (table_of segment.entry.now)) jobs.items) }
+    ensures jobs { IfOk result (λ jobs. All (λ job. RecordsInto segment.entry.now job.1) jobs.items) }
 {
     let mut recorders = Vec::new(alloc);
     for thread in 0..THREADS {
@@ -68,11 +66,10 @@ fn make_recorders<'a>(
 // What all threads did, one beside the other, in the order of their recorders.
 fn record_all<'a, R: Threads + Sync>(
     rt: &R,
-    recorders: Vec<(u32, Recorder<'a>)>,
+    recorders: Vec<(u8, Recorder<'a>)>,
 ) -> Result<Vec<Result<Outcome<'a>, Refusal>>, AllocError>
-    requires { All (λ job. job.0 < 16) recorders.items }
     ensures len { IfOk result (λ outcomes. length outcomes.items ≡ length recorders.entry.items) }
-    ensures each { IfOk result (λ outcomes. (k : ℕ) (d : _) (e : _) → k < length recorders.entry.items → GivesBack (slice_index_or recorders.entry.items k d) (slice_index_or outcomes.items k e)) }
+    ensures each { IfOk result (λ outcomes. (k : ℕ) (d : _) (e : _) → k < length recorders.entry.items → IfOk (slice_index_or outcomes.items k e) (λ done. IfSome done.recorder (SharesSegment (slice_index_or recorders.entry.items k d).1))) }
 {
     thread::map_vec(
         rt,
@@ -89,7 +86,7 @@ fn join(
     recorder: Option<Recorder>,
 ) -> Result<()>
     requires made { IsMadeWith segment.now opener.old }
-    requires of { IfSome recorder (IsAt (table_of segment.now)) }
+    requires of { IfSome recorder (RecordsInto segment.now) }
     ensures made { IsMadeWith segment.now opener.new }
 {
     match recorder {
@@ -107,7 +104,7 @@ fn join_all(
     outcomes: Vec<Result<Outcome, Refusal>>,
 ) -> Result<Accepted>
     requires made { IsMadeWith segment.now opener.old }
-    requires of { All (IsOutcomeAt (table_of segment.now)) outcomes.items }
+    requires of { All (λ outcome. IfOk outcome (λ done. IfSome done.recorder (RecordsInto segment.now))) outcomes.items }
     ensures made { IsMadeWith segment.now opener.new }
 {
     let mut accepted = Accepted::none();
@@ -121,10 +118,11 @@ fn join_all(
 
 fn main(rt: HostRuntime) -> Result<()> {
     let alloc = rt.alloc();
-    let (segment, mut opener) = Segment::create(alloc, 65_536, 4096, 7, 0, 2)?;
+    let (segment, mut opener) = Segment::create(alloc, SIZE, PAGE, ID, CURSORS, VERSION_FROZEN)?;
     let recorders = make_recorders(alloc, &segment, &mut opener)?;
     let outcomes = record_all(&rt, recorders)?;
     let accepted = join_all(&rt, &segment, &mut opener, outcomes)?;
     let image = segment.close(opener);
-    show(&rt, accepted, &read_back(alloc, image.words())?)
+    let reading = image_reader::read(alloc, image.words())?;
+    show(&rt, accepted, &reading)
 }

@@ -1,18 +1,15 @@
 //! What one thread records.
 
-ghost use Rattle.std.specs.Prelude.{◌<◌, ◌≤◌, IfOk, IfSome};
-ghost use Rattle.live_segment.specs.Holders.{Knows};
-ghost use Rattle.record_and_stop.specs.Recording.{IsBeside};
+ghost use Rattle.std.specs.Prelude.{IfOk, IfSome};
+ghost use Rattle.live_segment.specs.Holders.{Knows, SharesSegment};
 
-use bucket_ranges::Spec;
-use live_segment::{Hist, Recorder};
-use segment_calls::Refusal;
+use live_segment::{Hist, Recorder, Refusal, Spec};
 
 // How many calls a thread makes.
-const CALLS: u32 = 1000;
+const CALLS: u16 = 1000;
 
 /// How many units a thread needs: two samples of each call.
-pub(crate) const UNITS: u32 = 2 * CALLS;
+pub(crate) const UNITS: u32 = 2 * CALLS as u32;
 
 /// How many samples of a histogram were accepted, and what they add up to.
 #[derive(Clone, Copy)]
@@ -82,16 +79,15 @@ fn make_calls(
     recorder: &mut Recorder,
     latency: Hist,
     failed: Hist,
-    first: u32,
-    calls: u32,
+    first: u8,
+    calls: u16,
 ) -> Result<Accepted, Refusal>
-    requires knows { Knows recorder.old latency × Knows recorder.old failed }
-    requires small { (first < 16) × (calls ≤ 1000) }
-    ensures beside { IsBeside recorder.old recorder.new }
+    requires { Knows recorder.old latency × Knows recorder.old failed }
+    ensures { SharesSegment recorder.old recorder.new }
 {
     let mut samples = Accepted::none();
     for call in 0..calls {
-        let value = (first + call) as i32;
+        let value = (u32::from(first) + u32::from(call)) as i32;
         recorder.add(latency, value, 1)?;
         samples.latency.note(value);
         recorder.add(failed, value % 2, 1)?;
@@ -103,11 +99,10 @@ fn make_calls(
 /// Makes the calls of a thread, or half of them where it stops: then it drops its recorder.
 pub(crate) fn record<'a>(
     mut recorder: Recorder<'a>,
-    thread: u32,
+    thread: u8,
     stops: bool,
 ) -> Result<Outcome<'a>, Refusal>
-    requires few { thread < 16 }
-    ensures beside { IfOk result (λ outcome. IfSome outcome.recorder (IsBeside recorder.entry)) }
+    ensures { IfOk result (λ outcome. IfSome outcome.recorder (SharesSegment recorder.entry)) }
 {
     let latency = recorder.hist(
         b"latency",

@@ -1,12 +1,9 @@
 //! The calls of one thread.
 
 ghost use Rattle.std.specs.Prelude.{◌<◌, IfOk};
-ghost use Rattle.live_segment.specs.Holders.{Knows};
-ghost use Rattle.recording_threads.specs.Holders.{IsBeside};
+ghost use Rattle.live_segment.specs.Holders.{Knows, SharesSegment};
 
-use bucket_ranges::{CustomValues, Spec};
-use live_segment::{Hist, Recorder};
-use segment_calls::{Delta, Refusal, Snapshot};
+use live_segment::{CustomValues, Delta, Hist, Recorder, Refusal, Snapshot, Spec};
 use std::alloc::Global;
 
 /// How many calls a thread makes.
@@ -107,7 +104,7 @@ fn meet_all(
     first: usize,
 ) -> Result<Vec<(&'static str, Hist)>, Refusal>
     requires { first < 4 }
-    ensures { IsBeside recorder.old recorder.new }
+    ensures { SharesSegment recorder.old recorder.new }
 {
     let mut histograms = Vec::new(alloc);
     for i in 0..NAMES.len() {
@@ -150,7 +147,7 @@ fn batch_of(alloc: Global, numbers: &mut Numbers, name: &'static str) -> Result<
 impl<'a> Worker<'a> {
     fn add(&mut self, name: &'static str, histogram: Hist) -> Result<(), Refusal>
         requires { Knows self.old.done.recorder histogram }
-        ensures { IsBeside self.old.done.recorder self.new.done.recorder }
+        ensures { SharesSegment self.old.done.recorder self.new.done.recorder }
     {
         let sample = sample_of(&mut self.numbers, name);
         self.done
@@ -161,7 +158,7 @@ impl<'a> Worker<'a> {
 
     fn batch(&mut self, name: &'static str, histogram: Hist) -> Result<(), Refusal>
         requires { Knows self.old.done.recorder histogram }
-        ensures { IsBeside self.old.done.recorder self.new.done.recorder }
+        ensures { SharesSegment self.old.done.recorder self.new.done.recorder }
     {
         let batch = batch_of(self.alloc, &mut self.numbers, name)?;
         self.done
@@ -173,7 +170,7 @@ impl<'a> Worker<'a> {
 
     fn take(&mut self, name: &'static str, histogram: Hist) -> Result<(), Refusal>
         requires { Knows self.old.done.recorder histogram }
-        ensures { IsBeside self.old.done.recorder self.new.done.recorder }
+        ensures { SharesSegment self.old.done.recorder self.new.done.recorder }
     {
         let delta = self.done.recorder.delta(histogram)?;
         put(&mut self.done.deltas, (name, delta))
@@ -181,7 +178,7 @@ impl<'a> Worker<'a> {
 
     fn look(&mut self, name: &'static str, histogram: Hist) -> Result<(), Refusal>
         requires { Knows self.old.done.recorder histogram }
-        ensures { IsBeside self.old.done.recorder self.new.done.recorder }
+        ensures { SharesSegment self.old.done.recorder self.new.done.recorder }
     {
         let snapshot = self.done.recorder.snapshot(histogram)?;
         put(&mut self.done.snapshots, (name, snapshot))
@@ -189,7 +186,7 @@ impl<'a> Worker<'a> {
 
     // The next call.
     fn call(&mut self) -> Result<(), Refusal>
-        ensures { IsBeside self.old.done.recorder self.new.done.recorder }
+        ensures { SharesSegment self.old.done.recorder self.new.done.recorder }
     {
         let place = self.numbers.below(NAMES.len() as u32) as usize;
         let kind = self.numbers.below(16);
@@ -214,7 +211,7 @@ pub(crate) fn run<'a>(
     mut recorder: Recorder<'a>,
     seed: u32,
 ) -> Result<Done<'a>, Refusal>
-    ensures { IfOk result (λ done. IsBeside recorder.entry done.recorder) }
+    ensures { IfOk result (λ done. SharesSegment recorder.entry done.recorder) }
 {
     let histograms = meet_all(alloc, &mut recorder, seed as usize % NAMES.len())?;
     let mut worker = Worker {

@@ -1,7 +1,7 @@
 //! The lines that a round prints.
 
 use crate::calls::{Batch, Sample};
-use segment_calls::{Delta, Snapshot};
+use live_segment::{Delta, Snapshot};
 use std::io;
 
 // Keys and their units, each behind a comma.

@@ -1,15 +1,13 @@
 //! One round: a segment from its first words to its report.
 
 ghost use Rattle.std.specs.Prelude.{◌≡◌, ◌<◌, ℕ, length, slice_index_or, IfOk, All};
-ghost use Rattle.live_segment.specs.Holders.{IsMadeWith, table_of};
-ghost use Rattle.recording_threads.specs.Holders.{GivesBack, IsBeside, IsDoneAt, IsJobAt};
+ghost use Rattle.live_segment.specs.Holders.{IsMadeWith, RecordsInto, SharesSegment};
 
 use crate::calls::{Done, NAMES, UNITS, run, spec_of};
 use crate::lines::{show_batch, show_delta, show_sample, show_snapshot};
 use anyhow::Result;
-use live_segment::{Opener, Recorder, Segment};
+use live_segment::{Opener, Recorder, Refusal, Segment};
 use persist_report_core::report;
-use segment_calls::Refusal;
 use segment_image::{Watched, write_words};
 use std::alloc::{AllocError, Global};
 use std::thread::Threads;
@@ -36,7 +34,7 @@ fn prepare<'a>(
 ) -> Result<Vec<Job<'a>>>
     requires made { IsMadeWith segment.now opener.old }
     ensures made { IsMadeWith segment.entry.now opener.new }
-    ensures jobs { IfOk result (λ jobs. All (IsJobAt (table_of segment.entry.now)) jobs.items) }
+    ensures jobs { IfOk result (λ jobs. All (λ job. RecordsInto segment.entry.now job.recorder) jobs.items) }
 {
     let mut jobs = Vec::new(alloc);
     for thread in 0..threads {
@@ -54,7 +52,7 @@ fn run_all<'a, R: Threads + Sync>(
     jobs: Vec<Job<'a>>,
 ) -> Result<Vec<Result<Done<'a>, Refusal>>, AllocError>
     ensures len { IfOk result (λ all. length all.items ≡ length jobs.entry.items) }
-    ensures each { IfOk result (λ all. (k : ℕ) (d : _) (e : _) → k < length jobs.entry.items → GivesBack (slice_index_or jobs.entry.items k d) (slice_index_or all.items k e)) }
+    ensures each { IfOk result (λ all. (k : ℕ) (d : _) (e : _) → k < length jobs.entry.items → IfOk (slice_index_or all.items k e) (λ done. SharesSegment (slice_index_or jobs.entry.items k d).recorder done.recorder)) }
 {
     thread::map_vec(
         rt,
@@ -90,7 +88,7 @@ fn show_all(
     all: Vec<Result<Done, Refusal>>,
 ) -> Result<()>
     requires made { IsMadeWith segment.now opener.old }
-    requires of { All (IsDoneAt (table_of segment.now)) all.items }
+    requires of { All (λ done. IfOk done (λ done. RecordsInto segment.now done.recorder)) all.items }
     ensures made { IsMadeWith segment.now opener.new }
 {
     for done in all {
@@ -104,7 +102,7 @@ fn show_all(
 
 // One more delta of a histogram.
 fn show_delta_of(rt: &(impl Print + AllocGlobal), recorder: &mut Recorder, name: &str) -> Result<()>
-    ensures { IsBeside recorder.old recorder.new }
+    ensures { SharesSegment recorder.old recorder.new }
 {
     let histogram = recorder.hist(name.as_bytes(), &spec_of(rt.alloc(), name)?)?;
     let delta = recorder.delta(histogram)?;
@@ -114,7 +112,7 @@ fn show_delta_of(rt: &(impl Print + AllocGlobal), recorder: &mut Recorder, name:
 
 // One more delta of each histogram.
 fn show_deltas(rt: &(impl Print + AllocGlobal), recorder: &mut Recorder) -> Result<()>
-    ensures { IsBeside recorder.old recorder.new }
+    ensures { SharesSegment recorder.old recorder.new }
 {
     for i in 0..NAMES.len() {
         show_delta_of(rt, recorder, NAMES[i])?;

@@ -1,12 +1,10 @@
 //! Threads that share a cursor.
 
 ghost use Rattle.std.specs.Prelude.{◌<◌, IfOk, All};
-ghost use Rattle.live_segment.specs.Holders.{IsMadeWith};
-ghost use Rattle.recording_threads.specs.Holders.{HasCursor, IsBeside};
+ghost use Rattle.live_segment.specs.Holders.{HasCursor, IsMadeWith, SharesSegment};
 
 use anyhow::Result;
-use bucket_ranges::Spec;
-use live_segment::{Opener, Recorder, Segment};
+use live_segment::{Opener, Recorder, Segment, Spec};
 use std::alloc::{AllocError, Global};
 use std::thread;
 use std::thread::Threads;
@@ -17,7 +15,7 @@ const PAGE: u64 = 1024;
 
 // Makes so many records.
 fn make_records(alloc: Global, recorder: &mut Recorder, records: u32) -> Result<()>
-    ensures { IsBeside recorder.old recorder.new }
+    ensures { SharesSegment recorder.old recorder.new }
 {
     for record in 0..records {
         let name = format!(in alloc; "{record}")?;
@@ -35,7 +33,7 @@ fn prepare<'a>(
 ) -> Result<Vec<Recorder<'a>>>
     requires made { IsMadeWith segment.now opener.old }
     requires cursor { 0 < segment.now.setting.cursors }
-    ensures { IfOk result (λ recorders. All HasCursor recorders.items) }
+    ensures { IfOk result (λ recorders. All (λ recorder. HasCursor recorder 0) recorders.items) }
 {
     let mut recorders = Vec::new(alloc);
     for _ in 0..threads {
@@ -46,7 +44,7 @@ fn prepare<'a>(
 
 // The records that a thread is given, up to the end of the list. There are at most so many.
 fn walk(alloc: Global, mut recorder: Recorder, records: u32) -> Result<Vec<u64>, AllocError>
-    requires { HasCursor recorder }
+    requires { HasCursor recorder 0 }
 {
     let mut given = Vec::new(alloc);
     for _ in 0..records {

@@ -1,4 +1,4 @@
-use Rattle.std.proofs.Common.{rules, ◌≡◌, ◌∙◌}
+use Rattle.std.proofs.Common.{◌∙◌}
 use Rattle.live_segment.proofs.Seating.Callers.{knows_same}
 use Rattle.record_and_stop.proofs.recording.make_calls.Goals as goal
 

@@ -1,5 +1,5 @@
-use Rattle.recording_threads.specs.Holders.{IsBeside}
+use Rattle.live_segment.specs.Holders.{SharesSegment}
 use Rattle.recording_threads.proofs.walk.make_records.Given as goal
 
 abbrev pub invariant-loop-record : goal.invariant-loop-record
-invariant-loop-record l = IsBeside l.fn.recorder l.recorder
+invariant-loop-record l = SharesSegment l.fn.recorder l.recorder

@@ -37,6 +37,7 @@ pub record GaveInOrder (chain : List ℕ) (a : Actor) : Type 0 where
 abbrev pub StandsBehind : ℕ → ℕ → Actor → Type 0
 StandsBehind old new a = (chain : List ℕ) × AreNeighbours chain old new × GaveInOrder chain a
 
+-- a step moves a shared cursor on, and what it gave stands in order
 abbrev pub MovesCursor : ℕ → ℕ → ℕ → Sat → ℕ → Sat → Type 0
 MovesCursor word old new me found me' =
     DoesAt (λ cursor. cursor_event (move_cursor cursor old new)) word me found me'
@@ -111,6 +112,7 @@ pub record IsAtEnd (cursor : ℕ) (old new : Actor) : Type 0 where
   pub ends : stands_behind chain ≡ at
   pub met : All (Contains chain) (records_met new)
 
+-- what a call on a shared cursor answers: a record, or none at the end
 abbrev pub AnswersNext : ℕ → Actor → Option ℕ → Actor → Type 0
 AnswersNext cursor old (Some reference) new = IsGivenNext cursor old reference new
 AnswersNext cursor old None new = IsAtEnd cursor old new

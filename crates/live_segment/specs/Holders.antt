@@ -23,6 +23,7 @@ table_of segment = segment.table.shared.table_id
 abbrev pub view_of_opener : Opener → Actor
 view_of_opener opener = opener.seat.me.0
 
+-- what a recorder has done and seen
 abbrev pub view_of_recorder : Recorder → Actor
 view_of_recorder recorder = recorder.seat.me.0
 

@@ -49,6 +49,7 @@ MayGiveUp a = MayEnd a.entries.running
 abbrev pub flags_notes : List EntryProgress → ℕ → List Note
 flags_notes running found = if bit_and found FLAG_CORRUPT == 0 then [] else refusing_notes running
 
+-- a step loads the flags, and notes the refusal where the corrupt one is set
 abbrev pub LoadsFlags : Sat → ℕ → Sat → Type 0
 LoadsFlags me found me' = GhostNoted [] (allocating_event load_flags) (flags_notes me.0.entries.running) me found me'
 

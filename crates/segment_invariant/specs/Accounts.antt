@@ -72,6 +72,7 @@ settled = mounted_pieces 9223372036854775809 0 2 0 3 (1 ∷ 2 ∷ 0 ∷ []) (0 �
 abbrev pub moving : List Piece
 moving = mounted_pieces 9223372036854775809 0 2 0 2 (0 ∷ 0 ∷ 0 ∷ []) (0 ∷ 0 ∷ 0 ∷ [])
 
+-- the ledger of the mounted segment, settled and in transit
 abbrev pub MountedAgrees : Type 0
 MountedAgrees =
     AreOf mounted (mounted_anatomy settled) × Agree letter_a keys settled (mounter (1 ∷ 1 ∷ 0 ∷ []) ∷ [])
@@ -145,6 +146,7 @@ sparse_recorder = with_taken
     (with_log (maker []) (map whole (sample_entry letter_s [] (negsuc 4, 2) ∷ sample_entry letter_s [] (pos 7, 1) ∷ [])))
     (record (taken_at 2 ((negsuc 4, 2) ∷ (pos 7, 1) ∷ []) (negsuc 2)) { name = letter_s } ∷ [])
 
+-- the ledger of the sparse segment
 abbrev pub SparseAgrees : Type 0
 SparseAgrees =
     AreOf sparse_segment sparse_anatomy × Agree letter_s (negsuc 4 ∷ pos 0 ∷ pos 7 ∷ []) sparse_pieces (sparse_recorder ∷ [])

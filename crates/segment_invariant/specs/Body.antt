@@ -146,6 +146,7 @@ pub record Anatomy : Type 0 where
   pub spare : ℕ
   pub records : List Listed
 
+-- the layout that an anatomy says
 abbrev pub layout_of : Anatomy → layout.Layout
 layout_of anatomy = record {
   version = anatomy.version;

@@ -312,6 +312,7 @@ pub record Opening : Type 0 where
   pub words : List ℕ
   pub claims : List Claim
 
+-- What a reader can rest on in a state, in eight parts.
 pub record IsConsistent (opening : Opening) (state : State) : Type 0 where
   -- the chain, which the words alone tell
   pub chain : List ℕ

@@ -31,6 +31,7 @@ PackedThenMounted =
 
 -- ---- stopped in transit
 
+-- two units of the bucket 1 are in transit, and in no count
 abbrev pub StoppedInTransit : Type 0
 StoppedInTransit =
     (map (total_of 1 in_transit 16) (0 ∷ 1 ∷ 2 ∷ []) ≡ 0 ∷ 0 ∷ 0 ∷ [])
@@ -117,6 +118,7 @@ TotalsBreak =
 abbrev pub twice_taker : Actor
 twice_taker = with_taken (maker (1 ∷ 1 ∷ [])) (taken_at 2 ((pos 1, 2) ∷ []) (pos 2) ∷ taken_at 2 ((pos 1, 2) ∷ []) (pos 0) ∷ [])
 
+-- two deltas took the same units
 abbrev pub MarksBreak : Type 0
 MarksBreak = ¬ (MarksAreTaken 1 (packed_segment 4294967298 2 2 2 2) (twice_taker ∷ []) (16 ∷ []))
 
@@ -138,5 +140,6 @@ FlagsBreak =
 abbrev pub saver : Actor
 saver = record (maker (1 ∷ [])) { units = record (maker (1 ∷ [])).units { share = 4294967295 } }
 
+-- a unit was counted that nobody spent
 abbrev pub UnitsBreak : Type 0
 UnitsBreak = ¬ (UnitsAreKept (packed_segment 4294967297 0 1 0 1) (saver ∷ []) (16 ∷ []))

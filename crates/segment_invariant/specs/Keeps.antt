@@ -104,6 +104,7 @@ NoteKeeps note = (shape : Dimensions) (opened : Anatomy) (state : State) (id : �
 abbrev pub NotesKeep : Type 0
 NotesKeep = (note : Note) → NoteKeeps note
 
+-- so does an announcement
 abbrev pub AnnouncementsKeep : Type 0
 AnnouncementsKeep = (shape : Dimensions) (opened : Anatomy) (old new : State) (id : ℕ) → Invariant shape opened old → IsAnnounced old id new
     → Invariant shape opened new
@@ -114,9 +115,11 @@ AnnouncementsKeep = (shape : Dimensions) (opened : Anatomy) (old new : State) (i
 abbrev pub OffersKeep : Type 0
 OffersKeep = (shape : Dimensions) (opened : Anatomy) (old new : State) (id units : ℕ) → Invariant shape opened old → IsOffered old id units new → Invariant shape opened new
 
+-- so does an opener that makes a recorder
 abbrev pub SplitsKeep : Type 0
 SplitsKeep = (shape : Dimensions) (opened : Anatomy) (old new : State) (id : ℕ) → Invariant shape opened old → IsSplit old id new → Invariant shape opened new
 
+-- and one that joins a recorder
 abbrev pub JoinsKeep : Type 0
 JoinsKeep = (shape : Dimensions) (opened : Anatomy) (old new : State) (id other : ℕ) → Invariant shape opened old → IsJoin old id other new → Invariant shape opened new
 
@@ -125,6 +128,7 @@ abbrev pub LendsKeep : Type 0
 LendsKeep = (shape : Dimensions) (opened : Anatomy) (old new : State) (id other units : ℕ) → Invariant shape opened old → IsLent old id other units new
     → Invariant shape opened new
 
+-- and a recorder that gives units back
 abbrev pub ReturnsKeep : Type 0
 ReturnsKeep = (shape : Dimensions) (opened : Anatomy) (old new : State) (id other units : ℕ) → Invariant shape opened old → IsReturned old id other units new
     → Invariant shape opened new
@@ -136,10 +140,12 @@ abbrev pub KeptIsChain : Type 0
 KeptIsChain = (shape : Dimensions) (version id : ℕ) (state : State) → IsShape shape → (kept : Invariant shape (blank version id shape.size) state)
     → ListIsChain (new_opening shape version id).words [] state.words state.cursors state.actors (order_of kept.anatomy)
 
+-- its flags are set where somebody set them
 abbrev pub KeptFlagsAreSet : Type 0
 KeptFlagsAreSet = (shape : Dimensions) (version id : ℕ) (state : State) → IsShape shape → Invariant shape (blank version id shape.size) state
     → FlagsAreSet (new_opening shape version id).words state.words state.actors
 
+-- its units are kept
 abbrev pub KeptUnitsAreKept : Type 0
 KeptUnitsAreKept = (shape : Dimensions) (version id : ℕ) (state : State) → IsShape shape → (kept : Invariant shape (blank version id shape.size) state)
     → UnitsAreKept state.words state.actors (order_of kept.anatomy)

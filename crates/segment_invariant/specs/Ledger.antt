@@ -70,12 +70,14 @@ abbrev pub sum_mark_held : List ℕ → Body → ℤ
 sum_mark_held name (histogram r) = amount_of_name r.name name (cast_signed w64 r.sum_mark)
 sum_mark_held name _ = pos 0
 
+-- the units that a block has noted for a name
 abbrev pub noted_held : List ℕ → Body → ℕ
 noted_held name (histogram r) = of_name r.name name r.noted
 noted_held name _ = 0
 
 -- ---- all blocks together
 
+-- what all blocks hold together
 abbrev pub all_held : (Body → ℕ) → List Piece → ℕ
 all_held holds pieces = sum_by (λ piece. holds piece.body) pieces
 
@@ -92,6 +94,7 @@ abbrev pub moving_at : Actor → List ℕ → ℤ → Place → ℕ
 moving_at a name key (Moving look bucket units) = moving_of name key (known_at a.answers.names look.histogram) bucket units
 moving_at a name key _ = 0
 
+-- the units of a key that all actors have in transit
 abbrev pub all_moving : List ℕ → ℤ → List Actor → ℕ
 all_moving name key actors = sum_by (λ a. moving_at a name key a.hand.place) actors
 

@@ -96,6 +96,7 @@ is_bound _ = false
 abbrev pub units_listed : List (ℤ × ℕ) → ℤ → ℕ
 units_listed counts key = sum_by (λ count. if int_eq count.0 key then count.1 else 0) counts
 
+-- of a key, the units that portions took of a name
 abbrev pub taken_units : List Portion → List ℕ → ℤ → ℕ
 taken_units list name key = sum_by (λ t. if bytes_eq t.name name then units_listed t.counts key else 0) list
 
@@ -129,6 +130,7 @@ looking a = record a { since = record { singles = length a.seen.singles; counts 
 abbrev pub SawSingle : Actor → ℕ → ℕ → Type 0
 SawSingle a at word = Contains (drop a.since.singles a.seen.singles) (record { at = at; word = word })
 
+-- it has seen a count since it last began to look anew
 abbrev pub SawCount : Actor → ℕ → ℕ → Type 0
 SawCount a at word = Contains (drop a.since.counts a.seen.counts) (record { at = at; word = word })
 
@@ -138,6 +140,7 @@ SawCount a at word = Contains (drop a.since.counts a.seen.counts) (record { at =
 abbrev pub cost_of : List Cost → List ℕ → ℕ
 cost_of costs name = sum_by (λ cost. if bytes_eq cost.name name then cost.units else 0) costs
 
+-- what all costs come to
 abbrev pub cost_total : List Cost → ℕ
 cost_total costs = sum_by (λ cost. cost.units) costs
 
@@ -188,24 +191,31 @@ word_seen (seen ∷ rest) at = if seen.at == at then Some seen.word else word_se
 abbrev pub Each : List Actor → (Actor → Type 0) → Type 0
 Each actors holds = (id : ℕ) (a : Actor) → get_elem? actors id ≡ some a → a.hand.place ≢ Spent → holds a
 
+-- the entries of all actors that are counted
 abbrev pub all_counted : List Actor → List Entry
 all_counted actors = flat_map counted_of actors
 
+-- those whose amount is added
 abbrev pub all_summed : List Actor → List Entry
 all_summed actors = flat_map summed_of actors
 
+-- those that are noted in the redundant count
 abbrev pub all_noted : List Actor → List Entry
 all_noted actors = flat_map noted_of actors
 
+-- what the deltas of all actors took
 abbrev pub all_taken : List Actor → List Portion
 all_taken actors = flat_map taken_of actors
 
+-- the records that all actors published
 abbrev pub all_published : List Actor → List Published
 all_published actors = flat_map (λ a. a.done.published) actors
 
+-- the histograms that all actors were answered with
 abbrev pub all_names : List Actor → List Known
 all_names actors = flat_map (λ a. a.answers.names) actors
 
+-- the histograms whose answer an actor owes
 abbrev pub all_owed : List Actor → List Known
 all_owed actors = flat_map (λ a. a.answers.owed) actors
 
@@ -213,6 +223,7 @@ all_owed actors = flat_map (λ a. a.answers.owed) actors
 abbrev pub given_by : ℕ → List Given → List ℕ
 given_by cursor list = map (λ g. g.reference) (filter (λ g. g.cursor == cursor) list)
 
+-- what a shared cursor gave all actors
 abbrev pub all_given : List Actor → ℕ → List ℕ
 all_given actors cursor = flat_map (λ a. given_by cursor a.done.given) actors
 

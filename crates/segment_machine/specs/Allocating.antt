@@ -13,6 +13,7 @@ use Rattle.alloc_core.specs.Event as atomic
 use Rattle.segment_machine.specs.Operation.{Operation, single}
 use Rattle.segment_machine.specs.Calls.{MayTurn, Fills, change_own}
 
+-- the events of an allocation
 pub data AllocatingEvent : Type 0 where
   load_flags : AllocatingEvent
   load_free : AllocatingEvent

@@ -39,6 +39,7 @@ change_last change (x ∷ y ∷ rest) = x ∷ change_last change (y ∷ rest)
 abbrev pub change_next : (EntryProgress → EntryProgress) → List EntryProgress → List EntryProgress
 change_next change list = change_first (λ c. not (has_ended c)) change list
 
+-- the entry that is next is counted
 abbrev pub count_next : List EntryProgress → List EntryProgress
 count_next list = change_next (λ c. record c { counted = true }) list
 
@@ -54,6 +55,7 @@ without at list = filter (λ own. not (own.at == at)) list
 
 -- ---- what it has seen
 
+-- one word more that was seen
 abbrev pub sight : ℕ → ℕ → List Sighting
 sight at word = record { at = at; word = word } ∷ []
 
@@ -115,6 +117,7 @@ abbrev pub LooksOpen : Actor → ℕ → ℕ → Look → Known → Type 0
 LooksOpen a histogram word look known =
     (a.hand.place ≡ Looking look) × (look.histogram ≡ histogram) × (look.single ≡ Some word) × (is_off word ≡ false) × Buckets a histogram known
 
+-- an actor looks at the counts of a known histogram, whose single word it saw to be off
 abbrev pub LooksOff : Actor → Look → Known → Type 0
 LooksOff a look known =
     (a.hand.place ≡ Looking look) × (look.counts ≢ 0) × ((word : ℕ) × (look.single ≡ Some word) × (is_off word ≡ true))

@@ -16,6 +16,7 @@ use Rattle.alloc_core.specs.Event as atomic
 use Rattle.segment_machine.specs.Operation.{Operation, single, add}
 use Rattle.segment_machine.specs.Calls.{MayTurn, IsNext, CountsNext, IsKeyOfBucket, LooksOff, change_next, count_next, sight, sight_counts, look_of, IsUnits, AreCountsOf, CountsStay}
 
+-- the events that count
 pub data CountingEvent : Type 0 where
   load_counts : (histogram : ℕ) → CountingEvent
   add_count : (at units : ℕ) → CountingEvent
@@ -62,6 +63,7 @@ Ready a (add_redundant histogram units) =
 abbrev pub sum_next : List EntryProgress → List EntryProgress
 sum_next list = change_next (λ c. record c { summed = true }) list
 
+-- the entry that is next is noted
 abbrev pub note_next : List EntryProgress → List EntryProgress
 note_next list = change_next (λ c. record c { noted = true }) list
 

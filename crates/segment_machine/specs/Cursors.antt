@@ -8,6 +8,7 @@ use Rattle.alloc_core.specs.Event as atomic
 use Rattle.segment_machine.specs.Operation.{Operation, single}
 use Rattle.segment_machine.specs.Calls.{MayTurn, sight, IsReference}
 
+-- the events on a shared cursor
 pub data CursorEvent : Type 0 where
   load_cursor : (cursor : ℕ) → CursorEvent
   move_cursor : (cursor old new : ℕ) → CursorEvent

@@ -50,6 +50,7 @@ batch_cost items sum = max (units_of items) ((unsigned_abs sum + 2147483647) / 2
 abbrev pub is_counted : EntryProgress → Bool
 is_counted c = c.counted || (c.entry.units == 0)
 
+-- its amount is added, or is 0
 abbrev pub is_summed : EntryProgress → Bool
 is_summed c = c.summed || int_eq c.entry.amount (pos 0)
 
@@ -84,6 +85,7 @@ is_of name entry = bytes_eq entry.name name
 abbrev pub tally_units : List Entry → List ℕ → ℤ → ℕ
 tally_units entries name key = sum_by (λ entry. if is_of name entry && int_eq entry.key key then entry.units else 0) entries
 
+-- what the amounts of a name add up to
 abbrev pub tally_sum : List Entry → List ℕ → ℤ
 tally_sum entries name = fold ◌+ℤ◌ (pos 0) (map (λ entry. if is_of name entry then entry.amount else pos 0) entries)
 

@@ -43,6 +43,7 @@ operation size version (cursor_event event) = cursors.operation size version eve
 abbrev pub spot : ℕ → Event → ℕ
 spot size event = spot_of (operation size 1 event)
 
+-- what an event makes of the word that it found
 abbrev pub change : ℕ → Event → ℕ → ℕ
 change version event found = change_of (operation 0 version event) found
 

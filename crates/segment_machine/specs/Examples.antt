@@ -55,9 +55,11 @@ frozen_segment mark sum sum_mark redundant numbers =
 
 -- ---- actors
 
+-- the shape of the examples
 abbrev pub shape : Dimensions
 shape = record { size = 128; page = 64 }
 
+-- the name `A`
 abbrev pub letter_a : List ℕ
 letter_a = 65 ∷ []
 
@@ -81,9 +83,11 @@ whole entry = record { entry = entry; counted = true; summed = not (int_eq entry
 abbrev pub with_log : Actor → List EntryProgress → Actor
 with_log a log = record a { entries = record a.entries { log = log } }
 
+-- an actor with these deltas
 abbrev pub with_taken : Actor → List Taken → Actor
 with_taken a taken = record a { deltas = record a.deltas { taken = taken } }
 
+-- an actor at a place
 abbrev pub at_place : Actor → Place → Actor
 at_place a place = record a { hand = record a.hand { place = place } }
 
@@ -150,6 +154,7 @@ in_transit = mounted_segment 9223372036854775809 0 2 0 2 (replicate 6 0)
 abbrev pub stopped_frozen : List ℕ
 stopped_frozen = frozen_segment 0 2 0 2 (replicate 6 0)
 
+-- the actor that moves two packed units to their count
 abbrev pub mover : Actor
 mover = record (mounter (1 ∷ 1 ∷ [])) {
   units = record (mounter (1 ∷ 1 ∷ [])).units {
@@ -166,6 +171,7 @@ mover = record (mounter (1 ∷ 1 ∷ [])) {
 abbrev pub marked : List ℕ
 marked = mounted_segment 9223372036854775809 2 2 2 3 (1 ∷ 2 ∷ 0 ∷ 1 ∷ 0 ∷ 0 ∷ [])
 
+-- the same in version 2
 abbrev pub marked_frozen : List ℕ
 marked_frozen = frozen_segment 2 2 2 3 (1 ∷ 0 ∷ 0 ∷ 1 ∷ 0 ∷ 0 ∷ [])
 
@@ -179,6 +185,7 @@ three_deltas = taken_at 2 ((pos 1, 2) ∷ []) (pos 2) ∷ taken_at 3 ((pos 0, 1)
 abbrev pub taken_once : List ℕ
 taken_once = mounted_segment 9223372036854775809 3 3 3 4 (1 ∷ 3 ∷ 0 ∷ 1 ∷ 0 ∷ 0 ∷ [])
 
+-- the same in version 2
 abbrev pub taken_once_frozen : List ℕ
 taken_once_frozen = frozen_segment 3 3 3 4 (1 ∷ 1 ∷ 0 ∷ 1 ∷ 0 ∷ 0 ∷ [])
 
@@ -192,6 +199,7 @@ sampler = next (noted (maker []) (begins letter_a 1 (one 1 ∷ []))) (packing_ev
 abbrev pub sampled : Actor
 sampled = noted (next (next (next sampler (packing_event (pack 16 0 4294967297)) 0) (counting_event (add_sum 16 (pos 1))) 0) (counting_event (add_redundant 16 1)) 0) ends
 
+-- an `add` that packs ends with its entry in the log
 abbrev pub PackedRun : Type 0
 PackedRun =
     Ready sampler (packing_event (pack 16 0 4294967297))
@@ -203,6 +211,7 @@ abbrev pub AreReady : Actor → List (Event × ℕ) → Type 0
 AreReady a [] = Unit {0}
 AreReady a (e ∷ rest) = Ready a e.0 × AreReady (next a e.0 e.1) rest
 
+-- an actor behind events, each with the number that it found
 abbrev pub run : Actor → List (Event × ℕ) → Actor
 run a [] = a
 run a (e ∷ rest) = run (next a e.0 e.1) rest
@@ -219,6 +228,7 @@ mounting =
 abbrev pub mounts : Actor
 mounts = noted (maker (1 ∷ 1 ∷ [])) (begins letter_a 1 (one 0 ∷ []))
 
+-- an `add` that mounts counts may do each event when it comes
 abbrev pub MountingRun : Type 0
 MountingRun =
     AreReady mounts mounting
@@ -236,6 +246,7 @@ abbrev pub took : ℕ → ℕ → ℕ → Actor
 took mark sum sum_mark =
     next (next (next taker (taking_event (raise_single_mark 16 2)) mark) (taking_event (load_sum 16)) sum) (taking_event (swap_sum_mark 16 (pos sum))) sum_mark
 
+-- what a delta takes of a packed word: all of it, or nothing where another delta was first
 abbrev pub TakerRuns : Type 0
 TakerRuns =
     (map (λ t. t.counts) (took 0 2 0).deltas.taken ≡ ((pos 1, 2) ∷ []) ∷ []) × (map (λ t. t.sum) (took 0 2 0).deltas.taken ≡ pos 2 ∷ [])
@@ -245,14 +256,17 @@ TakerRuns =
 abbrev pub taking : List (Event × ℕ)
 taking = (packing_event (load_single 16), 4294967298) ∷ (taking_event (raise_single_mark 16 2), 0) ∷ (taking_event (load_sum 16), 2) ∷ (taking_event (swap_sum_mark 16 (pos 2)), 0) ∷ []
 
+-- an actor whose delta begins
 abbrev pub takes_all : Actor
 takes_all = noted (maker (1 ∷ 1 ∷ [])) (takes letter_a)
 
+-- a delta of a packed histogram took all that it saw
 abbrev pub TakingRun : Type 0
 TakingRun = AreReady takes_all taking × MayNote (run takes_all taking) has_taken
 
 -- ---- sparse samples
 
+-- the name `S`
 abbrev pub letter_s : List ℕ
 letter_s = 83 ∷ []
 

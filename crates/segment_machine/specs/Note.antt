@@ -27,6 +27,7 @@ use Rattle.segment_machine.specs.Actor.{log_of, is_bound, looking, cost_total, b
 use Rattle.segment_machine.specs.Made.{IsFirstNamed, IsFirstSample, SawSample, SawSpec, AreNameWords, SawOtherSpec}
 use Rattle.segment_machine.specs.Calls.{change_last, change_own}
 
+-- what an actor notes
 pub data Note : Type 0 where
   -- a call that counts begins: entries of a histogram, and what it holds for them
   begins : (name : List ℕ) (cost : ℕ) (entries : List Entry) → Note
@@ -135,6 +136,7 @@ TookBucket a known bucket =
     (total : ℕ) × SawBucket a known bucket total
     × ((total ≡ 0) ⊎ ((at mark : ℕ) × IsMarkOf a known bucket at × SawCount a at mark × (total ≤ mark)))
 
+-- a delta took what it saw of a sample
 abbrev pub TookSample : Actor → ℕ → Type 0
 TookSample a sample =
     (count : ℕ) × SawCount a (sample + SAMPLE_COUNT) count × ((count ≡ 0) ⊎ ((mark : ℕ) × SawCount a (sample + SAMPLE_MARK) mark × (count ≤ mark)))

@@ -20,6 +20,7 @@ use Rattle.alloc_core.specs.Event as atomic
 use Rattle.segment_machine.specs.Operation.{Operation, single, add}
 use Rattle.segment_machine.specs.Calls.{MayTurn, IsNext, CountsNext, IsKeyOfBucket, LooksOpen, count_next, change_own, without, sight, sight_counts, look_of, back, form_seen, IsUnits, AreCountsOf, CountsStay}
 
+-- the events on the single word, the counts reference and moved units
 pub data PackingEvent : Type 0 where
   load_single : (histogram : ℕ) → PackingEvent
   pack : (histogram old new : ℕ) → PackingEvent

@@ -18,6 +18,7 @@ use Rattle.list_core.specs.Publish as publish
 use Rattle.segment_machine.specs.Operation.{Operation, single}
 use Rattle.segment_machine.specs.Calls.{MayTurn, Fills, change_own, without, IsReference}
 
+-- the events of a publish
 pub data PublishingEvent : Type 0 where
   store_own_next : (at : ℕ) → PublishingEvent
   load_tail : PublishingEvent

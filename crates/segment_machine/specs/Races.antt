@@ -73,6 +73,7 @@ IsStalled version words =
     × (map (λ t. t.counts) (actor_of state 1).deltas.taken ≡ ((pos 0, 1) ∷ (pos 1, 3) ∷ []) ∷ []) × (map (λ t. t.sum) (actor_of state 1).deltas.taken ≡ pos 3 ∷ [])
     × (map (λ t. t.counts) (actor_of state 2).deltas.taken ≡ [] ∷ []) × (map (λ t. t.sum) (actor_of state 2).deltas.taken ≡ pos 0 ∷ [])
 
+-- two takers of one count, one of which stalls, in both versions
 abbrev pub StalledRun : Type 0
 StalledRun = IsStalled 1 taken_once × IsStalled 2 taken_once_frozen
 
@@ -87,6 +88,7 @@ losing =
     ++ by 2 (packing_event (mount_counts 16 42) ∷ packing_event (purge_block 42) ∷ packing_event (load_single 16) ∷ []) ++ counts_zero 2
     ++ by 1 (packing_event (add_moved 32 1 2) ∷ []) ++ counts_zero 1
 
+-- a counts block that was made too late is purged
 abbrev pub LostRun : Type 0
 LostRun =
     IsState shape 1 7 0 (after 1 losing)
@@ -137,5 +139,6 @@ race_words version =
 abbrev pub IsRaced : ℕ → Type 0
 IsRaced version = IsState shape version 7 0 (after version racing) × ((after version racing).words ≡ race_words version)
 
+-- two actors make the sample of one value, in both versions
 abbrev pub RaceRun : Type 0
 RaceRun = IsRaced 1 × IsRaced 2

@@ -30,6 +30,7 @@ IsAnnounced old id new =
     (a b : Actor) × (notes : List Note) × (get_elem? old.actors id ≡ some a) × (is_opener a.role ≡ false) × Notes a notes b
     × (new ≡ record old { actors = slice_set old.actors id b })
 
+-- an opener says how many units its next recorder gets
 abbrev pub IsOffered : State → ℕ → ℕ → State → Type 0
 IsOffered old id units new =
     (a : Actor) × (get_elem? old.actors id ≡ some a) × MayOffer a units
@@ -41,6 +42,7 @@ IsSplit old id new =
     (a : Actor) × (get_elem? old.actors id ≡ some a) × MaySplit a
     × (new ≡ record old { actors = slice_set old.actors id (parent a) ++ newcomer a ∷ [] })
 
+-- an opener joins a recorder
 abbrev pub IsJoin : State → ℕ → ℕ → State → Type 0
 IsJoin old id other new =
     (a b : Actor) × (id ≢ other) × (get_elem? old.actors id ≡ some a) × (get_elem? old.actors other ≡ some b) × MayJoin a b
@@ -52,6 +54,7 @@ IsLent old id other units new =
     (a b : Actor) × (id ≢ other) × (get_elem? old.actors id ≡ some a) × (get_elem? old.actors other ≡ some b) × MayLend a b units
     × (new ≡ record old { actors = slice_set (slice_set old.actors id (giver a units)) other (getter b units) })
 
+-- a recorder gives units back to its opener
 abbrev pub IsReturned : State → ℕ → ℕ → ℕ → State → Type 0
 IsReturned old id other units new =
     (a b : Actor) × (id ≢ other) × (get_elem? old.actors id ≡ some a) × (get_elem? old.actors other ≡ some b) × MayReturn a b units

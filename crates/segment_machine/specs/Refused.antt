@@ -40,6 +40,7 @@ recorder = record (opener_of shape 1 1) {
 abbrev pub counting : ℤ → Actor
 counting value = record recorder { entries = record recorder.entries { running = fresh (record { name = letter_s; key = value; units = 1; amount = pos 0 }) ∷ [] } }
 
+-- a look at the histogram at 16, with its single word and its counts
 abbrev pub look : ℕ → ℕ → Look
 look single counts = record { histogram = 16; single = Some single; counts = counts }
 
@@ -76,6 +77,7 @@ WordsSince = ¬ (Ready
 abbrev pub swapping : List (Event × ℕ)
 swapping = (taking_event (load_sum 16), 2) ∷ (taking_event (swap_sum_mark 16 (pos 2)), 0) ∷ (taking_event (load_sum 16), 5) ∷ (taking_event (swap_sum_mark 16 (pos 5)), 2) ∷ []
 
+-- a delta that swaps twice took the whole sum
 abbrev pub SwapsAdd : Type 0
 SwapsAdd = map (λ t. t.sum) (run takes_all swapping).deltas.taken ≡ pos 5 ∷ []
 
@@ -132,6 +134,7 @@ WordsOffFirst = ¬ (Ready (record recorder { hand = record recorder.hand { place
 abbrev pub mover : Actor
 mover = next (at_place (counting (negsuc 4)) (Looking (look 4294967298 32))) (packing_event (disable 16 4294967298)) 4294967298
 
+-- who disabled a word adds just its units to their count, before all else
 abbrev pub UnitsRemembered : Type 0
 UnitsRemembered =
     Ready mover (packing_event (add_moved 32 1 2)) × (¬ (Ready mover (packing_event (add_moved 32 1 1))))
@@ -143,6 +146,7 @@ UnitsRemembered =
 abbrev pub packed_sample : Actor
 packed_sample = next sampler (packing_event (pack 16 0 4294967297)) 0
 
+-- a packed sample adds its amount before it is noted, and does not end before
 abbrev pub SumsStay : Type 0
 SumsStay =
     Ready packed_sample (counting_event (add_sum 16 (pos 1))) × (¬ (Ready packed_sample (counting_event (add_redundant 16 1))))
@@ -159,6 +163,7 @@ met_twice = record (counting (negsuc 4)) {
   };
 }
 
+-- of a value that was met twice, the first sample counts
 abbrev pub FirstSamplesCount : Type 0
 FirstSamplesCount = Ready met_twice (counting_event (add_count 62 1)) × (¬ (Ready met_twice (counting_event (add_count 70 1))))
 
@@ -203,6 +208,7 @@ answering counts = record {
   moment = record { log = 0; before = 0; outstanding = 0 };
 }
 
+-- a snapshot answers what was seen, and nothing beside
 abbrev pub HonestAnswers : Type 0
 HonestAnswers =
     AreReady snaps snapping × MayNote (run snaps snapping) (answers (answering ((negsuc 4, 1) ∷ [])))

@@ -49,9 +49,11 @@ opener_of shape version cursors = record (idle shape version cursors HEADER_WORD
 abbrev pub MayOffer : Actor → ℕ → Type 0
 MayOffer a units = (a.hand.place ≡ Idle) × (is_opener a.role ≡ true) × (units ≤ a.units.share) × (outstanding_of a.role < 256)
 
+-- the opener once it has said so
 abbrev pub offering : Actor → ℕ → Actor
 offering a units = record a { role = Opener (made_of a.role) (outstanding_of a.role) units }
 
+-- an opener may make the recorder whose units it offered
 abbrev pub MaySplit : Actor → Type 0
 MaySplit a = (a.hand.place ≡ Idle) × (is_opener a.role ≡ true) × (offered_of a.role ≤ a.units.share) × (outstanding_of a.role < 256)
 
@@ -87,6 +89,7 @@ getter a units = record a { units = record a.units { share = a.units.share + uni
 
 -- ---- a recorder is joined
 
+-- an opener may join a recorder, whose calls have all ended
 abbrev pub MayJoin : Actor → Actor → Type 0
 MayJoin a b = (a.hand.place ≡ Idle) × (is_opener a.role ≡ true) × (1 ≤ outstanding_of a.role) × (is_bound b.hand.place ≡ false)
     × (is_opener b.role ≡ false) × (b.units.held ≡ []) × (b.entries.running ≡ []) × (b.deltas.taking ≡ false) × (b.answers.owed ≡ [])

@@ -66,6 +66,7 @@ pub record Allocates (a : Actor) (allocation : Allocation) : Type 0 where
   pub most : allocation.tag ≤ TYPE_SAMPLE
   pub stands : StandsAt a allocation allocation.stage
 
+-- while an actor agrees with an allocation, the next event is one that it may do, and they agree again
 abbrev pub AllocationsAgree : Type 0
 AllocationsAgree = (size version : ℕ) (a : Actor) (allocation : Allocation) (event : atomic.Event)
     → Allocates a allocation → alloc.next_event allocation ≡ Some event
@@ -102,6 +103,7 @@ PublishesAt a reference made (MoveTail old new false) = (a.hand.place ≡ Beaten
 PublishesAt a reference made Published = (a.hand.place ≡ Idle) × Contains a.done.published (record { reference = reference; made = made })
 PublishesAt a reference made Strayed = ⊥
 
+-- the same of a publish
 abbrev pub PublishesAgree : Type 0
 PublishesAgree = (size version : ℕ) (a : Actor) (made : Made) (p : Publishing) (event : atomic.Event)
     → PublishesAt a p.reference made p.stage → publish.next_event p ≡ Some event
@@ -116,6 +118,7 @@ PublishesAgree = (size version : ℕ) (a : Actor) (made : Made) (p : Publishing)
 abbrev pub Walks : Actor → List ℕ → Type 0
 Walks a given = MayTurn a × IsPrefix given a.seen.chain
 
+-- the same of a walk
 abbrev pub WalksAgree : Type 0
 WalksAgree = (size version : ℕ) (a : Actor) (given : List ℕ) → Walks a given
     → let act = load_next (stands_behind given) in

@@ -19,6 +19,7 @@ use Rattle.alloc_core.specs.Event as atomic
 use Rattle.segment_machine.specs.Operation.{Operation, single, raise, swap}
 use Rattle.segment_machine.specs.Calls.{MayTurn, LooksOpen, LooksOff, change_last, sight, back, form_seen, IsUnits}
 
+-- the events of deltas and snapshots
 pub data TakingEvent : Type 0 where
   load_count : (at : ℕ) → TakingEvent
   raise_mark : (at least : ℕ) → TakingEvent

@@ -14,6 +14,7 @@ use Rattle.alloc_core.specs.Event as atomic
 use Rattle.segment_machine.specs.Operation.{Operation, single}
 use Rattle.segment_machine.specs.Calls.{MayTurn, sight, IsReference}
 
+-- the events of a walk
 pub data WalkingEvent : Type 0 where
   load_next : (at : ℕ) → WalkingEvent
   load_published : (at index : ℕ) → WalkingEvent

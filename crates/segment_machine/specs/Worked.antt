@@ -63,6 +63,7 @@ played version state (deed ∷ rest) = played version (done version state deed) 
 
 -- ---- parts of calls
 
+-- events of one actor, one behind the other
 abbrev pub by : ℕ → List Event → List Deed
 by id events = map (λ event. acts id [] event []) events
 
@@ -190,6 +191,7 @@ sparse_delta id =
 abbrev pub last_delta : List Deed
 last_delta = makes ∷ hist_found 3 16 known_s ++ sparse_delta 3 ++ hist_found 3 12 known_a ++ delta 3 3 5 (pos 5) ++ joins 3 ∷ []
 
+-- the worked run, played in a version
 abbrev pub worked : ℕ → State
 worked version = played version (new_state shape version 7 0) (packing ++ mounting version ++ sampling ++ batching ++ last_delta)
 

@@ -46,6 +46,7 @@ snapshot = record {
   moment = record { log = 2; before = 0; outstanding = 0 };
 }
 
+-- a snapshot owes what its recorder had accepted
 abbrev pub SnapshotOwes : Type 0
 SnapshotOwes =
     AreReady snaps snapping × MayNote (run snaps snapping) (answers snapshot)

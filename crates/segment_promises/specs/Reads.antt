@@ -28,6 +28,7 @@ use Rattle.segment_invariant.specs.Invariant.{Invariant, IsSetBy, IsSetWhereSeen
 abbrev pub units_read : Histogram → ℤ → ℕ
 units_read h key = units_listed h.counts key
 
+-- the mark that a reading has of a key
 abbrev pub mark_read : Histogram → ℤ → ℕ
 mark_read h key = units_listed (zip (map (λ count. count.0) h.counts) h.marks) key
 

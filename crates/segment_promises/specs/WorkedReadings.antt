@@ -60,6 +60,7 @@ read_s reference counts marks sum sum_mark redundant = record {
 abbrev pub mounted_reading : Reading
 mounted_reading = reading_of (read_a ((pos 0, 1) ∷ (pos 1, 2) ∷ (pos 2, 0) ∷ []) (0 ∷ 0 ∷ 0 ∷ []) (pos 2) (pos 0) 3 ∷ [])
 
+-- the mounted segment reads so, in both versions
 abbrev pub MountedReads : Type 0
 MountedReads = ReadsAs mounted mounted_reading × ReadsAs frozen mounted_reading
 
@@ -73,6 +74,7 @@ transit_reading = reading_of (read_a ((pos 0, 0) ∷ (pos 1, 0) ∷ (pos 2, 0) �
 abbrev pub stopped_reading : Reading
 stopped_reading = reading_of (read_a ((pos 0, 0) ∷ (pos 1, 2) ∷ (pos 2, 0) ∷ []) (0 ∷ 0 ∷ 0 ∷ []) (pos 2) (pos 0) 2 ∷ [])
 
+-- stopped in transit, version 1 has lost sight of the two units, and version 2 has them
 abbrev pub StoppedInTransitReads : Type 0
 StoppedInTransitReads = ReadsAs in_transit transit_reading × ReadsAs stopped_frozen stopped_reading
 
@@ -82,6 +84,7 @@ StoppedInTransitReads = ReadsAs in_transit transit_reading × ReadsAs stopped_fr
 abbrev pub marked_reading : Reading
 marked_reading = reading_of (read_a ((pos 0, 1) ∷ (pos 1, 2) ∷ (pos 2, 0) ∷ []) (1 ∷ 2 ∷ 0 ∷ []) (pos 2) (pos 2) 3 ∷ [])
 
+-- with the marks of deltas
 abbrev pub DeltasAndMarksRead : Type 0
 DeltasAndMarksRead = ReadsAs marked marked_reading × ReadsAs marked_frozen marked_reading
 
@@ -91,6 +94,7 @@ DeltasAndMarksRead = ReadsAs marked marked_reading × ReadsAs marked_frozen mark
 abbrev pub taken_reading : Reading
 taken_reading = reading_of (read_a ((pos 0, 1) ∷ (pos 1, 3) ∷ (pos 2, 0) ∷ []) (1 ∷ 3 ∷ 0 ∷ []) (pos 3) (pos 3) 4 ∷ [])
 
+-- behind two takers of a packed word
 abbrev pub TwoTakersRead : Type 0
 TwoTakersRead = ReadsAs taken_once taken_reading × ReadsAs taken_once_frozen taken_reading
 
@@ -100,6 +104,7 @@ TwoTakersRead = ReadsAs taken_once taken_reading × ReadsAs taken_once_frozen ta
 abbrev pub sparse_reading : Reading
 sparse_reading = reading_of (read_s 16 ((negsuc 4, 2) ∷ (pos 7, 1) ∷ []) (2 ∷ 1 ∷ []) (negsuc 2) (negsuc 2) 3 ∷ [])
 
+-- the sparse segment, in both versions
 abbrev pub SparseSamplesRead : Type 0
 SparseSamplesRead = ReadsAs sparse_segment sparse_reading × ReadsAs (slice_set sparse_segment 1 2) sparse_reading
 
@@ -109,6 +114,7 @@ SparseSamplesRead = ReadsAs sparse_segment sparse_reading × ReadsAs (slice_set 
 abbrev pub race_reading : Reading
 race_reading = reading_of (read_s 16 ((negsuc 4, 3) ∷ []) (0 ∷ []) (negsuc 14) (pos 0) 3 ∷ [])
 
+-- behind a race for a value, in both versions
 abbrev pub RaceReads : Type 0
 RaceReads = ReadsAs (race_words 1) race_reading × ReadsAs (race_words 2) race_reading
 
@@ -121,6 +127,7 @@ joined_reading = reading_of (
     ∷ read_s 42 ((negsuc 4, 2) ∷ []) (2 ∷ []) (negsuc 9) (negsuc 9) 2 ∷ []
     )
 
+-- the worked run, all recorders joined, in both versions
 abbrev pub JoinedRunReads : Type 0
 JoinedRunReads = ReadsAs (worked 1).words joined_reading × ReadsAs (worked 2).words joined_reading
 
@@ -186,6 +193,7 @@ records_zero = offers 1 ∷ makes ∷ hist_found 1 12 known_a ++ finds_packed 1 
 abbrev pub recorded_zero : State
 recorded_zero = played 2 adopted_stopped records_zero
 
+-- an adopted image goes on: units, deltas and the reading
 abbrev pub AdoptedRunReads : Type 0
 AdoptedRunReads =
     ((actor_of adopted_mounted 0).units.share ≡ 4294967292) × IsReached 2 adopted_mounted recorded_one × IsJoined recorded_one (actor_of recorded_one 0)

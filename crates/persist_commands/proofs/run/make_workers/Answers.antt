@@ -32,7 +32,7 @@ loop-number-preserved g c =
       number_is = sym at.2;
       workers_are = refl;
       script_is = refl;
-      at = c.in-Ok.recorder.fits ∙ ap (λ s. table_of s.now) theirs.0;
+      at = c.in-Ok.recorder.seated.table ∙ ap (λ s. table_of s.now) theirs.0;
       fresh = fresh_newcomer (offering (view_of_opener c.loop-number.opener) c.units_of.result) (view_of_recorder c.in-Ok.recorder) theirs.1;
     } in
     let many = ap length items ∙ length-append old (x ∷ []) in

@@ -1,5 +1,8 @@
 //! A reader and a writer that fail once in mid-stream: the fault comes, and what was written is the beginning of the answer.
 
+ghost use Rattle.std.specs.Prelude.{◌≡◌, false};
+ghost use Rattle.segment_image.specs.Watched.{has_failed};
+
 use crate::images::THREE_SAMPLES;
 use persist_report_core::{CliFault, report};
 use segment_image::{ReadFault, Watched, WriteFault, read_bytes, read_words, write_words};
@@ -76,7 +79,9 @@ impl Write for Sink {
 }
 
 // A reader of sixteen bytes of which one call fails.
-fn sixteen_bytes(failing: usize) -> Watched<Source<'static>> {
+fn sixteen_bytes(failing: usize) -> Watched<Source<'static>>
+    ensures { has_failed result ≡ false }
+{
     let calls = Calls::new(failing);
     Watched::new(Source {
         bytes: BYTES,

@@ -36,8 +36,6 @@ mod settling;
 mod shared_cursors;
 mod snapshots;
 mod steps;
-#[cfg(test)]
-mod tests;
 
 pub use bucket_ranges::{CustomValues, Spec, SpecFault};
 pub use fault::OpenFault;

@@ -343,20 +343,3 @@ impl<'a> Recorder<'a> {
         self.segment.next_shared(&mut self.seat, cursor)
     }
 }
-
-#[cfg(test)]
-impl<'a> Recorder<'a> {
-    // Its segment, its seat and the histograms that it knows, for a test that takes its steps one by one.
-    pub(crate) fn into_steps(self) -> (&'a Segment, Pass, Vec<KnownHistogram>)
-        ensures seat { (result.1.table_id ≡ result.0.now.table.shared.table_id) × IsOf result.0.now.setting result.1.me.0 × IsAtRest result.1.me.0 }
-        ensures right { All (KnowsRight result.0.now.setting result.1.me.0) result.2.items }
-    {
-        let Recorder {
-            segment,
-            seat,
-            known,
-            ..
-        } = self;
-        (segment, seat, known)
-    }
-}

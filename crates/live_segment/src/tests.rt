@@ -1,3 +1,0 @@
-//! Tests that need private parts: the steps of two recorders by turns.
-
-mod turns;

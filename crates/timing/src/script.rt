@@ -1,0 +1,39 @@
+//! Measures how long a script takes to be read, beside the same bytes read as CSV records alone.
+//!
+//! The script has about BYTES bytes, of `add` records over 1,000 names, in which each record names the histogram STEP
+//! places behind the one before. It prints what the script has, and for each of TURNS turns of both ways the time of each,
+//! in microseconds.
+
+mod reading;
+mod sample;
+
+use anyhow::{Result, bail};
+use std::rt::Clock;
+
+// How large the script is, how far apart its names are, and how often it is read.
+#[derive(Clone, Copy)]
+struct Parameters {
+    bytes: usize,
+    step: usize,
+    turns: u32,
+}
+
+fn read_parameters(words: &[String]) -> Result<Parameters> {
+    let [bytes, step, turns] = words else {
+        bail!("give BYTES STEP TURNS");
+    };
+    Ok(Parameters {
+        bytes: bytes.parse::<usize>()?,
+        step: step.parse::<usize>()?,
+        turns: turns.parse::<u32>()?,
+    })
+}
+
+/// Measures turns, and prints what the script has and the times of each turn.
+pub(crate) fn run<R: Clock + Print + AllocGlobal>(rt: &R, words: &[String]) -> Result<()> {
+    let Parameters { bytes, step, turns } = read_parameters(words)?;
+    let script = sample::script(rt.alloc(), bytes, step)?;
+    reading::show_contents(rt, &script)?;
+    reading::show_times(rt, &script, turns)?;
+    Ok(())
+}

@@ -1,0 +1,45 @@
+//! Measures how long a world takes for its steps, where one actor adds sample after sample.
+//!
+//! The actor adds ADDS samples of count 1 to a histogram whose counts are in use, one event a step, and what it began and
+//! ended grows with each. It prints how many events that takes, and then the least times of TURNS turns, in picoseconds an
+//! add: of all adds, of the first tenth of them, and of the last.
+
+mod adding;
+mod turn;
+
+use anyhow::{Result, bail};
+use std::rt::Clock;
+use turn::Times;
+
+// How many samples are added, and how often.
+#[derive(Clone, Copy)]
+struct Parameters {
+    adds: u32,
+    turns: u32,
+}
+
+fn read_parameters(words: &[String]) -> Result<Parameters> {
+    let [adds, turns] = words else {
+        bail!("give ADDS TURNS");
+    };
+    Ok(Parameters {
+        adds: adds.parse::<u32>()?,
+        turns: turns.parse::<u32>()?,
+    })
+}
+
+/// Measures turns, and prints how many events a turn takes and the least times.
+pub(crate) fn run<R: Clock + Print + AllocGlobal>(rt: &R, words: &[String]) -> Result<()> {
+    let Parameters { adds, turns } = read_parameters(words)?;
+    let events = turn::count_events(rt.alloc(), adds)?;
+    println!(rt; "{adds} adds, {events} events")?;
+    let mut least = Times::MOST;
+    for _ in 0..turns {
+        least = least.least(turn::time(rt, adds)?);
+    }
+    if turns > 0 {
+        let Times { all, first, last } = least;
+        println!(rt; "{all} {first} {last}")?;
+    }
+    Ok(())
+}

@@ -4,6 +4,7 @@ pub mod Apart
 pub mod Beginnings
 pub mod Causes
 pub mod Faults
+pub mod Landing
 pub mod Free
 pub mod Moving
 pub mod NewWorldStates

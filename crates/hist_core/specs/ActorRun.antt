@@ -8,6 +8,7 @@ use Rattle.bucket_ranges.specs.Reading.{is_name}
 use Rattle.bucket_ranges.specs.Tally.{amount_of}
 use Rattle.bucket_ranges.specs.Spec.{spec_fault, buckets_of, SameSpec}
 use Rattle.bucket_ranges.specs.declared.spec.Spec.{Spec}
+use Rattle.bucket_ranges.specs.declared.spec.Spec.TheVariants.{Sparse}
 use Rattle.segment_image.specs.Words.{word_at}
 use Rattle.segment_image.specs.Shape.{Dimensions}
 use Rattle.segment_image.specs.declared.layout.TheConstants.{BLOCK_HEADER, FLAG_CORRUPT, FLAGS_WORD, HEADER_WORDS, HISTOGRAM_NAME}
@@ -22,7 +23,7 @@ use Rattle.segment_machine.specs.Seats.{giver}
 use Rattle.segment_machine.specs.declared.actor.Answered.{Answered}
 use Rattle.segment_machine.specs.declared.actor.Known.{Known as MachineKnown}
 use Rattle.hist_core.specs.StepsBy.{StepsBy, HasMet, IsFree}
-use Rattle.hist_core.specs.Add.{IsAdd, alone, counted_entry, IsStarted}
+use Rattle.hist_core.specs.Add.{HasMetNoCounts, IsAdd, alone, counted_entry, IsStarted}
 use Rattle.hist_core.specs.Batch.{IsBatch, IsSameBatch, counted_entries}
 use Rattle.hist_core.specs.declared.batch.Batch.{Batch as BatchCall}
 use Rattle.hist_core.specs.declared.batch.BatchStep.{BatchStep}
@@ -32,7 +33,7 @@ use Rattle.hist_core.specs.declared.add.AddStep.{AddStep}
 use Rattle.hist_core.specs.declared.add.AddStep.TheVariants as add
 use Rattle.hist_core.specs.Hist.{HasOtherSpec, IsHist, IsBegun}
 use Rattle.hist_core.specs.Making.{IsCause}
-use Rattle.hist_core.specs.SnapshotCall.{IsSnapshotCall, IsStarted as IsSnapshotCallStarted}
+use Rattle.hist_core.specs.SnapshotCall.{IsSnapshotCall, IsStarted as IsSnapshotCallStarted, LooksAnew}
 use Rattle.segment_calls.specs.declared.answer.Snapshot.{Snapshot as SnapshotAnswer}
 use Rattle.hist_core.specs.declared.snapshot_call.SnapshotCall.{SnapshotCall}
 use Rattle.hist_core.specs.declared.snapshot_call.SnapshotCallStep.{SnapshotCallStep}
@@ -254,7 +255,8 @@ looked_by (Some (Delta delta_call fresh)) = delta_call.histogram
 looked_by (Some (Snapshot snapshot_call)) = snapshot_call.histogram
 looked_by running = 0
 
--- A snapshot of the histogram of a record is the last that its actor was answered, and is what the actor saw since it began.
+-- A snapshot of the histogram of a record is the last that its actor was answered, and is what the actor saw since it began. The values of
+-- a sparse histogram ascend, each with units.
 pub record IsAnswer (histogram : ℕ) (snapshot : SnapshotAnswer) (a : Actor) : Type 0 where
   pub known : MachineKnown
   pub knows : Contains a.answers.names known
@@ -267,6 +269,7 @@ pub record IsAnswer (histogram : ℕ) (snapshot : SnapshotAnswer) (a : Actor) : 
   pub sum : answered.sum ≡ snapshot.sum
   pub redundant : answered.redundant ≡ snapshot.redundant
   pub saw : SawAll a known answered
+  pub values : known.spec ≡ Sparse → AreUnits snapshot.counts.items
 
 -- A delta of the histogram of a record is the last of what its actor's deltas took, and took all that the actor saw since it began.
 pub record IsTook (histogram : ℕ) (delta : DeltaAnswer) (a : Actor) : Type 0 where
@@ -289,23 +292,40 @@ IsRefusedBy running cause b =
     IsCause cause b
     ⊎ ((hist : HistCall) × (running ≡ Some (Hist hist)) × (cause ≡ why.OtherSpec) × HasOtherSpec hist.asked.name.items hist.asked.spec b.seen)
 
+-- An actor whose call counts in the histogram of a record has met no counts there.
+abbrev pub LacksCounts : ℕ → Actor → Type 0
+LacksCounts histogram b = (known : MachineKnown) × Contains b.answers.names known × (known.reference ≡ histogram) × HasMetNoCounts known b
+
+-- A call that counts and is refused has met no counts, behind which alone units of another call are moved: so it has moved nothing.
+abbrev pub HasMovedNothing : Option Running → Actor → Type 0
+HasMovedNothing (Some (Add add)) b = LacksCounts add.histogram b
+HasMovedNothing (Some (Batch batch)) b = LacksCounts batch.histogram b
+HasMovedNothing running b = ⊤
+
 -- where its actor lands whose call is refused: it gives the units back that are left of it
 abbrev pub LandsBack : Dimensions → ℕ → ℕ → ActorRun → Actor → Type 0
 LandsBack shape version units new b = (b.hand.place ≢ Spent) × (units ≤ b.units.share) × IsRun shape version new (giver b units)
 
--- Where its actor lands: a call that is refused gives units back, and has a cause; a snapshot is answered with what was seen, and a delta with what it
--- took.
+-- Where its actor lands: a call that is refused gives units back, has a cause, and has moved nothing; a snapshot is answered with what was
+-- seen, and a delta with what it took.
 abbrev pub Lands : Dimensions → ℕ → ActorRun → ActorRun → Stepped → Actor → Type 0
-Lands shape version old new (Done (answer.Refused cause)) b = LandsBack shape version (held_by old.running) new b × IsRefusedBy old.running cause b
+Lands shape version old new (Done (answer.Refused cause)) b =
+    LandsBack shape version (held_by old.running) new b × (IsRefusedBy old.running cause b × HasMovedNothing old.running b)
 Lands shape version old new (Done (answer.BatchRefused refusal)) b =
-    LandsBack shape version (held_by old.running) new b × IsRefusedBy old.running refusal.why b
+    LandsBack shape version (held_by old.running) new b × (IsRefusedBy old.running refusal.why b × HasMovedNothing old.running b)
 Lands shape version old new (Done (answer.Delta delta)) b = IsRun shape version new b × IsTook (looked_by old.running) delta b
 Lands shape version old new (Done (answer.Snapshot snapshot)) b = IsRun shape version new b × IsAnswer (looked_by old.running) snapshot b
 Lands shape version old new said b = IsRun shape version new b
 
+-- since when a running snapshot looks: its first event looks anew, and no other does
+abbrev pub LooksSince : Option Running → Actor → Actor → Type 0
+LooksSince (Some (Snapshot snapshot_call)) a b = LooksAnew snapshot_call.stage a b
+LooksSince running a b = ⊤
+
 -- It goes on by one event, as the actor does for which it stands.
 abbrev pub Advances : Dimensions → ℕ → ActorRun → List ℕ → ActorRun → List ℕ → Stepped → Actor → Type 0
-Advances shape version old words new new_words said a = StepsBy shape.size version a words new_words (Lands shape version old new said)
+Advances shape version old words new new_words said a =
+    StepsBy shape.size version a words new_words (λ b. Lands shape version old new said b × LooksSince old.running a b)
 
 -- it asks for the same histogram as before
 abbrev pub AsksOn : Option Running → Option Running → Type 0
@@ -345,15 +365,21 @@ BatchesOn old new = (batch : BatchCall) → old ≡ Some (Batch batch) → (now 
 abbrev pub IsCounting : Option Running → Type 0
 IsCounting running = ((add : AddCall) × (running ≡ Some (Add add))) ⊎ ((batch : BatchCall) × (running ≡ Some (Batch batch)))
 
--- What its call says, and what it knows then: it goes on; the corrupt flag is set; a `hist` is answered with the histogram that it asked
+-- a call that may be refused in the midst, and is no batch
+abbrev pub MayBeRefused : Option Running → Type 0
+MayBeRefused (Some (Hist hist)) = ⊤
+MayBeRefused (Some (Add add)) = ⊤
+MayBeRefused running = ⊥
+
+-- What its call says, and what it knows then: it goes on; the corrupt flag is set by the one event of its call; a `hist` is answered with the histogram that it asked
 -- for, which is the last that is known; an `add` or a `batch` is accepted; a delta or a snapshot is answered; a batch is refused behind its
--- first items; or it is refused.
+-- first items; or a `hist` or an `add` is refused.
 abbrev pub Tells : ActorRun → List ℕ → ActorRun → List ℕ → Stepped → Type 0
 Tells old words new new_words More =
     (new.known.items ≡ old.known.items) × AsksOn old.running new.running × AddsOn old.running new.running × LooksOn old.running new.running
-    × TakesOn old.running new.running × BatchesOn old.running new.running
+    × TakesOn old.running new.running × BatchesOn old.running new.running × (old.running ≢ Some SetCorrupt)
 Tells old words new new_words (Done answer.Flagged) =
-    (word_at new_words FLAGS_WORD ≡ bit_or (word_at words FLAGS_WORD) FLAG_CORRUPT) × (new.running ≡ None) × (new.known.items ≡ old.known.items)
+    (old.running ≡ Some SetCorrupt) × (word_at new_words FLAGS_WORD ≡ bit_or (word_at words FLAGS_WORD) FLAG_CORRUPT) × (new.running ≡ None) × (new.known.items ≡ old.known.items)
 Tells old words new new_words (Done (answer.Hist reference)) =
     (known : Known) × IsAskedBy old.running known × (known.reference ≡ reference) × (new.known.items ≡ old.known.items ++ known ∷ []) × (new.running ≡ None)
 Tells old words new new_words (Done answer.Added) =
@@ -364,7 +390,7 @@ Tells old words new new_words (Done (answer.Snapshot snapshot)) =
     ((snapshot_call : SnapshotCall) × (old.running ≡ Some (Snapshot snapshot_call))) × (new.running ≡ None) × (new.known.items ≡ old.known.items)
 Tells old words new new_words (Done (answer.BatchRefused refusal)) =
     ((batch : BatchCall) × (old.running ≡ Some (Batch batch)) × (refusal.added ≡ batch.added)) × (new.running ≡ None) × (new.known.items ≡ old.known.items)
-Tells old words new new_words (Done (answer.Refused why)) = (new.running ≡ None) × (new.known.items ≡ old.known.items)
+Tells old words new new_words (Done (answer.Refused why)) = MayBeRefused old.running × (new.running ≡ None) × (new.known.items ≡ old.known.items)
 
 -- of what an actor's deltas took, that of the deltas that have ended
 abbrev pub ended_deltas : Option Running → List Taken → List Taken

@@ -7,7 +7,7 @@ use Rattle.bucket_ranges.specs.Single.{single_of}
 use Rattle.bucket_ranges.specs.Spec.{buckets_of, spec_fault}
 use Rattle.bucket_ranges.specs.Reading.{is_i32}
 use Rattle.bucket_ranges.specs.declared.spec.Spec.TheVariants as spec
-use Rattle.segment_image.specs.declared.layout.TheConstants.{BLOCK_HEADER, BLOCK_LEAST, HEADER_WORDS, HISTOGRAM_NAME, HISTOGRAM_SINGLE, SAMPLE_COUNT, TYPE_COUNTS}
+use Rattle.segment_image.specs.declared.layout.TheConstants.{BLOCK_HEADER, BLOCK_LEAST, HEADER_WORDS, HISTOGRAM_COUNTS, HISTOGRAM_NAME, HISTOGRAM_SINGLE, SAMPLE_COUNT, TYPE_COUNTS}
 use Rattle.segment_image.specs.Shape.{Dimensions}
 use Rattle.alloc_core.specs.Layout.{IsShape}
 use Rattle.alloc_core.specs.Alloc as alloc
@@ -22,7 +22,7 @@ use Rattle.segment_machine.specs.declared.place.Look.{Look}
 use Rattle.segment_machine.specs.declared.actor.Own.{Own}
 use Rattle.segment_machine.specs.declared.place.Place.TheVariants.{Looking, Losing, Moving as PlaceMoving}
 use Rattle.segment_machine.specs.declared.seen.Sighting.{Sighting}
-use Rattle.segment_machine.specs.Actor.{has_buckets, known_at, Sparse}
+use Rattle.segment_machine.specs.Actor.{has_buckets, known_at, word_seen, Sparse}
 use Rattle.segment_machine.specs.Calls.{IsKeyOfBucket, LooksOff, MayTurn}
 use Rattle.segment_machine.specs.Entry.{fresh, has_ended, key_of}
 use Rattle.segment_machine.specs.Form.{is_off, IsPacking}
@@ -135,6 +135,11 @@ HasBlock shape add a at =
     ((own : Own) × Contains a.hand.own own × (own.at ≡ at) × IsBlankCounts own add.buckets)
     × (HEADER_WORDS ≤ at) × (at + (BLOCK_HEADER + 2 * add.buckets) ≤ shape.size)
 
+-- of a histogram with buckets it has met no counts: it has seen no counts reference there but 0
+abbrev pub HasMetNoCounts : Known → Actor → Type 0
+HasMetNoCounts known a =
+    has_buckets known.spec ≡ true → (counts : ℕ) → word_seen a.seen.words (known.reference + HISTOGRAM_COUNTS) ≡ Some counts → counts ≡ 0
+
 -- Where its actor stands, whose units are not counted yet.
 abbrev pub StandsBefore : Dimensions → Known → Add → Actor → Stage → Type 0
 StandsBefore shape known add a LoadingSingle = MayTurn a
@@ -144,7 +149,7 @@ StandsBefore shape known add a LoadingCounts = (word counts : ℕ) × Looks know
 StandsBefore shape known add a SeekingCounts = MayTurn a
 StandsBefore shape known add a (Allocating allocation) =
     Allocates a allocation × (is_some (alloc.next_event allocation) ≡ true) × (allocation.tag ≡ TYPE_COUNTS)
-    × (BLOCK_HEADER + 2 * add.buckets ≤ allocation.size)
+    × (BLOCK_HEADER + 2 * add.buckets ≤ allocation.size) × HasMetNoCounts known a
 StandsBefore shape known add a (Mounting at) = MayTurn a × HasBlock shape add a at
 StandsBefore shape known add a (Purging at counts) =
     AreCounts shape add counts × (a.hand.place ≡ Losing (record { histogram = known.reference; single = None; counts = counts }) at)
@@ -199,12 +204,13 @@ pub record FrameOfAdd (a b : Actor) : Type 0 where
 abbrev pub StaysOpen : Actor → Actor → Type 0
 StaysOpen a b = (b.units ≡ a.units) × (b.entries ≡ record a.entries { running = b.entries.running })
 
--- What a step says: it goes on; all of its entry has happened; or it is refused, and nothing has. Its actor may turn to another entry or
--- another call then.
+-- What a step says: it goes on; all of its entry has happened; or it is refused, and nothing has, and it has met no counts. Its actor may
+-- turn to another entry or another call then.
 abbrev pub AddGives : Dimensions → Known → Amid → Add → AddStep → Actor → Actor → Type 0
 AddGives shape known amid new More a b = FrameOfAdd a b × StaysOpen a b × IsAdd shape known amid new b
 AddGives shape known amid new Done a b = FrameOfAdd a b × StaysOpen a b × IsFree b × HasEnded known amid new b
-AddGives shape known amid new (Refused cause) a b = FrameOfAdd a b × StaysOpen a b × IsFree b × IsCause cause b × HasEntry known amid new b false false
+AddGives shape known amid new (Refused cause) a b =
+    FrameOfAdd a b × StaysOpen a b × IsFree b × IsCause cause b × HasEntry known amid new b false false × HasMetNoCounts known b
 
 -- what a step makes of the words, and of whatever actor stands so
 abbrev pub AddSteps : Add → List ℕ → Add → List ℕ → AddStep → Type 0

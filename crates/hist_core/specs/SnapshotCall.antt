@@ -1,5 +1,5 @@
 -- A snapshot that is going on.
-use Rattle.std.specs.Prelude.{◌≡◌, ◌≢◌, ◌⊎◌, ◌==◌, true, false, nat_lt, ℕ, ◌+◌, ◌-◌, ◌/◌, ◌<◌, ◌≤◌, ℤ, List, [], ◌∷◌, ◌++◌, map, length, if◌then◌else◌, Some, None, vec_capacity}
+use Rattle.std.specs.Prelude.{◌≡◌, ◌≢◌, ◌⊎◌, ◌==◌, true, false, nat_lt, ℕ, ◌+◌, ◌-◌, ◌/◌, ◌<◌, ◌≤◌, ℤ, List, [], ◌∷◌, ◌++◌, map, length, if◌then◌else◌, Some, None, vec_capacity, ⊤}
 use Rattle.std.specs.List.{All, Contains, range_with_len}
 use mathlib.Core.Option.{some}
 use lib.ListN.{get_elem?}
@@ -14,9 +14,9 @@ use Rattle.segment_machine.specs.declared.actor.Actor.{Actor}
 use Rattle.segment_machine.specs.declared.actor.Answered.{Answered}
 use Rattle.segment_machine.specs.declared.actor.Known.{Known}
 use Rattle.segment_machine.specs.declared.place.Place.TheVariants.{SumLoaded}
-use Rattle.segment_machine.specs.Actor.{SawCount, bucket_key, has_buckets, is_opener, known_at}
+use Rattle.segment_machine.specs.Actor.{SawCount, bucket_key, has_buckets, is_opener, known_at, looking}
 use Rattle.segment_promises.specs.Values.{AreSorted, ListsValues, listed_of}
-use Rattle.segment_promises.specs.Calls.{BeganBefore}
+use Rattle.segment_promises.specs.Calls.{AreUnits, BeganBefore}
 use Rattle.segment_promises.specs.Totals.{blank_totals}
 use Rattle.segment_machine.specs.Calls.{MayTurn}
 use Rattle.segment_machine.specs.Form.{is_off, SaysPacked}
@@ -130,10 +130,22 @@ pub record IsStarted (shape : Dimensions) (version : ℕ) (known : Known) (snaps
   pub reference : snapshot_call.histogram ≡ known.reference
   pub opens : OpensWith shape known snapshot_call snapshot_call.stage
 
+-- it has done no event yet
+abbrev pub HasJustBegun : Stage → Type 0
+HasJustBegun LoadingSingle = ⊤
+HasJustBegun (Walking LoadingFirst) = ⊤
+HasJustBegun stage = ⊥
+
 -- ---- what a step makes of its actor
 
--- It has ended: what its actor saw of the histogram since it began is its answer, and the last of its actor's snapshots. Else an event has
--- left all as it was.
+-- Its first event looks anew: what its actor saw before counts no more. No other event of it changes since when it looks.
+abbrev pub LooksAnew : Stage → Actor → Actor → Type 0
+LooksAnew LoadingSingle a b = b.since ≡ (looking a).since
+LooksAnew (Walking LoadingFirst) a b = b.since ≡ (looking a).since
+LooksAnew stage a b = b.since ≡ a.since
+
+-- It has ended: what its actor saw of the histogram since it began is its answer, and the last of its actor's snapshots; the values of a
+-- sparse histogram ascend, each with units. Else an event has left all as it was.
 pub record HasLooked (known : Known) (snapshot_call : SnapshotCall) (sum : ℤ) (redundant : ℕ) (a b : Actor) : Type 0 where
   pub beside : FrameOfStep a (record b { deltas = a.deltas })
   pub answered : Answered
@@ -143,16 +155,17 @@ pub record HasLooked (known : Known) (snapshot_call : SnapshotCall) (sum : ℤ) 
   pub sum_is : answered.sum ≡ sum
   pub redundant_is : answered.redundant ≡ redundant
   pub saw : SawAll b known answered
+  pub values : known.spec ≡ Sparse → AreUnits snapshot_call.totals.items
 
 -- What a step says: it goes on; or it has ended, and its actor may turn to another call.
-abbrev pub SnapshotCallGives : Dimensions → Known → SnapshotCall → SnapshotCallStep → Actor → Actor → Type 0
-SnapshotCallGives shape known new More a b = FrameOfStep a b × IsSnapshotCall shape known new b
-SnapshotCallGives shape known new (Done sum redundant) a b = IsFree b × HasLooked known new sum redundant a b
+abbrev pub SnapshotCallGives : Dimensions → Known → Stage → SnapshotCall → SnapshotCallStep → Actor → Actor → Type 0
+SnapshotCallGives shape known stage new More a b = FrameOfStep a b × LooksAnew stage a b × IsSnapshotCall shape known new b
+SnapshotCallGives shape known stage new (Done sum redundant) a b = IsFree b × LooksAnew stage a b × HasLooked known new sum redundant a b
 
 -- what a step makes of the words, and of whatever actor stands so
 abbrev pub SnapshotCallSteps : SnapshotCall → List ℕ → SnapshotCall → List ℕ → SnapshotCallStep → Type 0
 SnapshotCallSteps old words new new_words said = (shape : Dimensions) (known : Known) (a : Actor) → length words ≡ shape.size
-    → WalksInOrder a → IsSnapshotCall shape known old a → StepsBy shape.size old.version a words new_words (SnapshotCallGives shape known new said a)
+    → WalksInOrder a → IsSnapshotCall shape known old a → StepsBy shape.size old.version a words new_words (SnapshotCallGives shape known old.stage new said a)
 
 -- a snapshot that stands so somewhere, in so many words
 abbrev pub IsSomeSnapshotCall : ℕ → SnapshotCall → Type 0

@@ -13,9 +13,8 @@ use Rattle.hist_core.specs.declared.fault.WorldFault.TheVariants.{BadShape, NoAc
 use Rattle.hist_core.specs.declared.actor_run.ActorRun.{ActorRun}
 use Rattle.hist_core.specs.declared.world_state.WorldState.{WorldState}
 use Rattle.hist_core.specs.ActorRun.{ended_by, begun_by}
-use Rattle.hist_core.specs.WorldState.{HistBegins, AddBegins, DeltaBegins, SnapshotBegins, BatchBegins, IsBusy}
+use Rattle.hist_core.specs.WorldState.{HistBegins, AddBegins, DeltaBegins, SnapshotBegins, BatchBegins, SetCorruptBegins}
 use Rattle.hist_core.specs.declared.call.Begun.{Begun}
-use Rattle.hist_core.specs.declared.call.Begun.TheVariants.{Going, Ended}
 use Rattle.hist_core.specs.declared.call.Call.{Call}
 use Rattle.hist_core.specs.declared.call.Call.TheVariants.{Hist, Add, Delta, Snapshot, Batch, SetCorrupt}
 
@@ -102,8 +101,7 @@ BeginSays actor (Add name value count) old new said = AddBegins actor name.items
 BeginSays actor (Delta name) old new said = DeltaBegins actor name.items old new said
 BeginSays actor (Snapshot name) old new said = SnapshotBegins actor name.items old new said
 BeginSays actor (Batch name items sum) old new said = BatchBegins actor name.items items.items sum old new said
-BeginSays actor call old new Going = IsBusy new actor
-BeginSays actor call old new (Ended answered) = ⊥
+BeginSays actor SetCorrupt old new said = SetCorruptBegins actor new said
 
 -- ---- a step
 

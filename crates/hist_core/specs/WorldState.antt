@@ -38,12 +38,13 @@ use Rattle.hist_core.specs.declared.call.Begun.TheVariants.{Going, Ended}
 use Rattle.hist_core.specs.declared.hist.Known.{Known}
 use Rattle.segment_calls.specs.declared.refusal.Refusal.TheVariants as refusal
 use Rattle.hist_core.specs.declared.actor_run.Running.{Running}
-use Rattle.hist_core.specs.declared.actor_run.Running.TheVariants.{Hist, Add, Delta, Snapshot, Batch}
+use Rattle.hist_core.specs.declared.actor_run.Running.TheVariants.{Hist, Add, Delta, Snapshot, Batch, SetCorrupt}
 use Rattle.segment_calls.specs.Asked.{IsRefusedFor}
-use Rattle.hist_core.specs.ActorRun.{IsFresh, IsRun, IsAsItWas, IsAnswer, IsTook, IsKnownAnswer, IsRefusedBy, NoneHasName, Answers, entry_of, looked_by, pending_by, ended_by, begun_by}
+use Rattle.hist_core.specs.ActorRun.{IsFresh, IsRun, IsAsItWas, IsAnswer, IsTook, HasMovedNothing, IsKnownAnswer, IsRefusedBy, LooksSince, NoneHasName, Answers, entry_of, looked_by, pending_by, ended_by, begun_by}
 use Rattle.segment_machine.specs.Entry.{batch_cost, batch_entries, sample_entry, tally_noted}
 use Rattle.segment_machine.specs.declared.entry.Entry.{Entry as MachineEntry}
 use Rattle.hist_core.specs.Batch.{sample_of}
+use Rattle.hist_core.specs.SnapshotCall.{HasJustBegun}
 use Rattle.segment_calls.specs.declared.refusal.Refusal.{Refusal}
 use Rattle.bucket_ranges.specs.Ranges.{boundaries_of}
 
@@ -138,12 +139,14 @@ IsFlagSet refusal.Full words = bit_and (word_at words FLAGS_WORD) FLAG_FULL ≡ 
 IsFlagSet refusal.Corrupt words = bit_and (word_at words FLAGS_WORD) FLAG_CORRUPT ≡ FLAG_CORRUPT
 IsFlagSet cause words = ⊤
 
--- A running call is refused for what its actor has done or seen; of a full or a corrupt segment the words show it.
+-- A running call is refused for what its actor has done or seen; of a full or a corrupt segment the words show it. One that counts has
+-- moved no units of another call.
 pub record IsDue (actor : ℕ) (running : Option Running) (cause : Refusal) (world_state : WorldState) (state : State) : Type 0 where
   pub recorder : Actor
   pub there : get_elem? state.actors (actor + 1) ≡ some recorder
   pub refused : IsRefusedBy running cause recorder
   pub flagged : IsFlagSet cause world_state.words.items
+  pub moved : HasMovedNothing running recorder
 
 -- what an answer promises of the state behind it, by what the call was to do
 abbrev pub IsPromised : WorldState → ℕ → Stepped → (new : WorldState) (last : State) → IsReachedAs new last → Type 0
@@ -157,12 +160,17 @@ IsPromised old actor (Done (answer.BatchRefused refused)) new last reach =
     (before : ActorRun) → get_elem? old.actor_runs.items actor ≡ some before → IsDue actor before.running refused.why new last
 IsPromised old actor said new last reach = ⊤
 
+-- since when the actor looks whose running call is a snapshot, in a state and behind an event of it
+abbrev pub LooksFrom : WorldState → ℕ → State → State → Type 0
+LooksFrom old actor state last = (before : ActorRun) (a b : Actor) → get_elem? old.actor_runs.items actor ≡ some before
+    → get_elem? state.actors (actor + 1) ≡ some a → get_elem? last.actors (actor + 1) ≡ some b → LooksSince before.running a b
+
 -- One event of the actor leads from a state to another; then the units of a call that is refused come back. What the call says is as it
--- promises, of the state that it leads to.
+-- promises, of the state that it leads to. A snapshot looks since its first event.
 abbrev pub StepsTo : WorldState → ℕ → State → WorldState → Stepped → Type 0
 StepsTo old actor state new said =
     (event : Event) × (then_is : State) × IsStep old.version state (actor + 1) event then_is
-    × ((last : State) × GivesBack actor then_is last × ((reach : IsReachedAs new last) × IsPromised old actor said new last reach))
+    × ((last : State) × GivesBack actor then_is last × ((reach : IsReachedAs new last) × IsPromised old actor said new last reach × LooksFrom old actor state last))
 
 -- the shape and the version stay, and so do all other actors
 pub record OthersStay (actor : ℕ) (old new : WorldState) : Type 0 where
@@ -256,6 +264,10 @@ AddBegins actor name value units old new (Ended answered) = ⊥
 
 -- ---- how a `batch` begins
 
+-- there is nothing to count
+abbrev pub CountsNothing : List (ℤ × ℕ) → ℤ → Type 0
+CountsNothing items sum = (items ≡ []) × (sum ≡ pos 0)
+
 -- a running call counts these items and adds this sum
 abbrev pub CountsItems : List (ℤ × ℕ) → ℤ → Option Running → Type 0
 CountsItems items sum (Some (Batch batch)) = (map sample_of batch.items.items ≡ items) × (batch.sum ≡ sum)
@@ -279,21 +291,22 @@ IsTooMuch old items sum why = ⊥
 -- What the begin of a `batch` says: it goes on; or it counts nothing, and has ended; or it is refused at once, with no item counted. Then all
 -- is as it was.
 abbrev pub BatchBegins : ℕ → List ℕ → List (ℤ × ℕ) → ℤ → WorldState → WorldState → Begun → Type 0
-BatchBegins actor name items sum old new Going = AreSome items × (batch_cost items sum ≤ old.units) × IsBatchBegun actor name items sum old new
-BatchBegins actor name items sum old new (Ended answer.Added) = IsAsBefore old new × (items ≡ []) × (sum ≡ pos 0)
+BatchBegins actor name items sum old new Going =
+    AreSome items × (¬ (CountsNothing items sum)) × (batch_cost items sum ≤ old.units) × IsBatchBegun actor name items sum old new
+BatchBegins actor name items sum old new (Ended answer.Added) = IsAsBefore old new × CountsNothing items sum
 BatchBegins actor name items sum old new (Ended (answer.BatchRefused refused)) =
     IsAsBefore old new × (refused.added ≡ 0) × IsTooMuch old items sum refused.why
 BatchBegins actor name items sum old new (Ended answered) = ⊥
 
 -- ---- how a `delta` and a `snapshot` begin
 
--- a running call takes of the histogram of a record, or looks at it
+-- a running call takes of the histogram of a record, or has just begun to look at it
 abbrev pub TakesOf : ℕ → Option Running → Type 0
 TakesOf reference (Some (Delta delta_call fresh)) = delta_call.histogram ≡ reference
 TakesOf reference running = ⊥
 
 abbrev pub LooksAt : ℕ → Option Running → Type 0
-LooksAt reference (Some (Snapshot snapshot_call)) = snapshot_call.histogram ≡ reference
+LooksAt reference (Some (Snapshot snapshot_call)) = (snapshot_call.histogram ≡ reference) × HasJustBegun snapshot_call.stage
 LooksAt reference running = ⊥
 
 -- It goes on with a histogram of the name that the actor knows. No word has changed, and what the actor's deltas took is shown as before.
@@ -309,6 +322,13 @@ DeltaBegins = GoesWith TakesOf
 
 abbrev pub SnapshotBegins : ℕ → List ℕ → WorldState → WorldState → Begun → Type 0
 SnapshotBegins = GoesWith LooksAt
+
+-- ---- how a call that sets the corrupt flag begins
+
+-- it runs
+abbrev pub SetCorruptBegins : ℕ → WorldState → Begun → Type 0
+SetCorruptBegins actor new Going = (actor_run : ActorRun) × (get_elem? new.actor_runs.items actor ≡ some actor_run) × (actor_run.running ≡ Some SetCorrupt)
+SetCorruptBegins actor new (Ended answered) = ⊥
 
 -- ---- a step
 

@@ -121,7 +121,8 @@ impl World {
     /// that is refused `ZeroCount`, or `NoUnits` where it counts more units than the pool has; a `Batch` that is refused so, with
     /// no item counted, and one of no items and sum 0, which is `Added`. All actors draw on one pool of 4,294,967,295 units: a call
     /// takes its units with its begin, and gives them back where it is refused later. A `Batch` costs the units of its items, and
-    /// no fewer than its sum has times 2^31 in size, rounded up. No word of the segment changes.
+    /// no fewer than its sum has times 2^31 in size, rounded up. A `Snapshot` or a `Delta` is refused here alone, for want of memory,
+    /// and a `SetCorrupt` never. No word of the segment changes.
     pub fn begin(&mut self, actor: usize, call: &Call) -> Result<Begun, WorldFault>
         ensures faults { MatchOption (first_fault (begin_checks self.old.world_state actor call.now)) (IfErr result (λ fault. (fault ≡ WorldFault.NoMemory) × TakesMemory call.now)) (λ fault. result ≡ Err fault) }
         ensures fault { OnErr result (IsAsBefore self.old.world_state self.new.world_state) }
@@ -174,8 +175,12 @@ impl World {
     /// the entries of the items there that are counted, and their units are spent; nothing else changes that. The other units of a
     /// call that is refused come back to the pool. A call is refused `Full` where the full flag is set and an allocation of the actor
     /// has set it, `Corrupt` where the corrupt flag is set and the actor has seen it, and a `Hist` `OtherSpec` where the actor has
-    /// seen that the first record of the name has another spec. A `Snapshot` answers what the actor saw since it began: of each key at least the
-    /// units that it had accepted and those that it had seen before; so does its redundant count.
+    /// seen that the first record of the name has another spec. `Refused` is answered by a `Hist` or an `Add` alone, `BatchRefused` by a
+    /// `Batch`, with 0 where no item is counted. An `Add` or a `Batch` that is refused has met no counts of its histogram, so it has moved
+    /// no units of other calls. A `SetCorrupt` ends with its one event, as `Flagged`, which nothing else answers.
+    ///
+    /// A `Snapshot` answers what the actor saw since its first event: of each key at least the units that it had accepted and those that
+    /// it had seen before; so does its redundant count. Of a sparse histogram the values ascend, each with a count above 0.
     ///
     /// `NoActor` where there is no such actor, then `Idle` where no call of it is going on. It takes no memory.
     pub fn step(&mut self, actor: usize) -> Result<Stepped, WorldFault>

@@ -85,7 +85,8 @@ impl WorldState {
     ghost use Rattle.segment_machine.specs.Entry.{batch_cost as cost_of_batch};
     ghost use Rattle.segment_machine.specs.State.{State};
     ghost use Rattle.hist_core.specs.declared.actor_run.ActorRun.{ActorRun};
-    ghost use Rattle.hist_core.specs.WorldState.{IsNewWorldState, IsReached, IsReachedAs, StepsTo, Rests, IsBusy, IsAsBefore, OthersStay, BeginsFrom, HistBegins, AddBegins, IsAddBegun, IsBatchBegun, BatchBegins, AreSome, DeltaBegins, SnapshotBegins, IsKnownBy, IsPlaceOf, LacksName, Says};
+    ghost use Rattle.hist_core.specs.WorldState.{IsNewWorldState, IsReached, IsReachedAs, StepsTo, Rests, IsBusy, IsAsBefore, OthersStay, BeginsFrom, HistBegins, AddBegins, IsAddBegun, IsBatchBegun, BatchBegins, AreSome, DeltaBegins, SnapshotBegins, SetCorruptBegins, IsKnownBy, IsPlaceOf, LacksName, Says};
+    ghost use Rattle.hist_core.specs.declared.call.Begun.TheVariants.{Going};
     ghost use Rattle.hist_core.specs.declared.hist.Known.{Known};
     ghost use Rattle.segment_machine.specs.Actor.{has_buckets};
 
@@ -115,7 +116,7 @@ impl WorldState {
         requires rests { Rests self.old actor }
         ensures begins { (state : State) → IsReachedAs self.old state → IsReachedAs self.new state }
         ensures others { OthersStay actor self.old self.new }
-        ensures runs { IsBusy self.new actor }
+        ensures runs { SetCorruptBegins actor self.new Going }
     {
         let actor_run = &mut self.actor_runs[actor];
         actor_run.running = Some(Running::SetCorrupt);

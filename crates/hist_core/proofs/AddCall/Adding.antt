@@ -1,6 +1,7 @@
 -- An `add` of an actor goes on: what becomes of its entry and its units.
 use Rattle.std.proofs.Common.{◌≡◌, ℕ, Bool, true, false, not, pos, List, [], ◌∷◌, ◌++◌, map, length, take, drop, All, inl, inr, refl, sym, ap, subst, ◌∙◌, arith}
 use Rattle.std.specs.Prelude.{Option, Some}
+use Rattle.std.specs.List.{Contains}
 use Rattle.std.specs.Ordering.{int_eq}
 use Rattle.std.proofs.lemmas.List.{take-append-drop, take-take, take_all}
 use Rattle.std.proofs.lemmas.List.Elements.{All-nil, All-cons}
@@ -20,14 +21,15 @@ use Rattle.hist_core.specs.declared.call.Stepped.{Stepped}
 use Rattle.hist_core.specs.declared.actor_run.Running.{Running}
 use Rattle.hist_core.specs.declared.actor_run.Running.TheVariants.{Add}
 use Rattle.hist_core.specs.declared.actor_run.ActorRun.{ActorRun}
-use Rattle.hist_core.specs.Add.{Amid, alone, counted_entry, ended_entry, HasEntry, HasEnded, StandsAtStage, IsAdd, IsSomeAdd, AddSteps, AddGives}
+use Rattle.hist_core.specs.Add.{Amid, alone, counted_entry, ended_entry, FrameOfAdd, HasEntry, HasMetNoCounts, HasEnded, StandsAtStage, IsAdd, IsSomeAdd, AddSteps, AddGives}
 use Rattle.hist_core.specs.Batch.{Runs, HaveEnded, IsCutAt}
 use Rattle.hist_core.specs.StepsBy.{StepsBy}
-use Rattle.hist_core.specs.ActorRun.{ended_by, begun_by, pending_by, held_by, IsGhostNoting, IsAdding, StandsIn, IsRun, IsAddAnnounced, LandsBack, Advances, Answers, IsRefusedBy}
+use Rattle.hist_core.proofs.Worlds.Landing.{Landing}
+use Rattle.hist_core.specs.ActorRun.{ended_by, begun_by, pending_by, held_by, IsGhostNoting, IsAdding, StandsIn, IsRun, IsAddAnnounced, HasMovedNothing, LandsBack, MayBeRefused, Answers, IsRefusedBy}
 use Rattle.hist_core.proofs.Worlds.Causes.{refused_still}
 use Rattle.hist_core.proofs.Parts.Allocations.{goes_with}
 use Rattle.hist_core.proofs.AddCall.Entries.{ended_is_over}
-use Rattle.hist_core.proofs.Worlds.Apart.{asks_not, looks_not, batches_not}
+use Rattle.hist_core.proofs.Worlds.Apart.{asks_not, looks_not, batches_not, sets_not}
 use Rattle.hist_core.proofs.Parts.Claims.{goes_noting}
 use Rattle.hist_core.proofs.Worlds.Quiet.{takes_none, takes_not}
 use Rattle.hist_core.proofs.AddCall.GhostNotes.{Counts, goes_from, counts_somewhere, still_counts, has_counted, is_cut}
@@ -104,6 +106,11 @@ module _ (shape : Dimensions) (version : ℕ) (old : ActorRun) (add : AddCall) (
             unsummed = subst (All (λ (c : EntryProgress). c.summed ≡ false)) (sym none) (All-nil (λ (c : EntryProgress). c.summed ≡ false));
           }
 
+      -- it has moved nothing
+      moved_none : (b : Actor) → FrameOfAdd a b → HasMetNoCounts known b → HasMovedNothing old.running (noted b (refused 0))
+      moved_none b aside met = subst (λ running. HasMovedNothing running (noted b (refused 0))) (sym is)
+          (known, subst (λ (l : List MachineKnown). Contains l known) (sym aside.names) counts.counting.knows, counts.counting.counting.reference, met)
+
       its_steps : (words new_words : List ℕ) (said : AddStep) → length words ≡ shape.size → AddSteps add words now new_words said
           → StepsBy shape.size version a words new_words (AddGives shape known (alone add) now said a)
       its_steps words new_words said long steps =
@@ -119,25 +126,28 @@ module _ (shape : Dimensions) (version : ℕ) (old : ActorRun) (add : AddCall) (
     goes = goes_from shape version old its.name add.units (entries its) (standing its) (runs its) (into its) a run (adding a run).1
 
     goes_so : (said : AddStep) (result : Stepped) → AddSteps add words (record add { stage = at }) new_words said
-        → IsAddAnnounced (record old { running = Some (Add (record add { stage = at })) }) said new result → Advances shape version old words new new_words result a
+        → IsAddAnnounced (record old { running = Some (Add (record add { stage = at })) }) said new result → Landing shape version old words new new_words result a
     goes_so More result steps (new_is, result_is) =
-        subst (λ said. Advances shape version old words new new_words said a) (sym result_is) (goes (λ b counts. goes_with (its_steps its at b counts words new_words More long steps)
+        subst (λ said. Landing shape version old words new new_words said a) (sym result_is) (goes (λ b counts. goes_with (its_steps its at b counts words new_words More long steps)
         (λ c gives. subst (λ (r : ActorRun). IsRun shape version r c) (sym new_is) (goes_on its at b counts c gives))))
     goes_so Done result steps (new_is, result_is) =
-        subst (λ said. Advances shape version old words new new_words said a) (sym result_is) (goes (λ b counts. goes_noting (its_steps its at b counts words new_words Done long steps)
+        subst (λ said. Landing shape version old words new new_words said a) (sym result_is) (goes (λ b counts. goes_noting (its_steps its at b counts words new_words Done long steps)
         (λ c (aside, stays, turns, over). subst (λ (r : ActorRun). (notes : List Note) × (d : Actor) × Notes c notes d × IsRun shape version r d) (sym new_is)
         (has_counted shape version old its.name add.units (entries its) (standing its) (runs its) (into its) b counts c aside stays turns counts.counting.rests (ends_so its at b counts c over)))))
     goes_so (Refused why) result steps (new_is, items, result_is) =
-        subst (λ said. Advances shape version old words new new_words said a) (sym result_is) (goes (λ b counts. goes_noting (its_steps its at b counts words new_words (Refused why) long steps)
-        (λ c (aside, stays, turns, cause, has). subst (λ (units : ℕ). (notes : List Note) × (d : Actor) × Notes c notes d
-        × (LandsBack shape version units new d × IsRefusedBy old.running why d)) (sym (ap held_by is))
+        subst (λ said. Landing shape version old words new new_words said a) (sym result_is) (goes (λ b counts. goes_noting (its_steps its at b counts words new_words (Refused why) long steps)
+        (λ c (aside, stays, turns, cause, has, met). subst (λ (units : ℕ). (notes : List Note) × (d : Actor) × Notes c notes d
+        × (LandsBack shape version units new d × (IsRefusedBy old.running why d × HasMovedNothing old.running d))) (sym (ap held_by is))
         (is_cut shape version old its.name add.units (entries its) (standing its) (runs its) (into its) b counts c aside stays turns counts.counting.rests counts.counting.held
         0 add.units (omega arith) (nothing_yet its at b counts c has) (let none : tally_noted (take 0 (entries its)) its.name ≡ 0 = refl in omega (arith, none)) new old.ended (omega arith) new_is items
-        (IsRefusedBy old.running why) (refused_still old.running why c (noted c (refused 0)) refl refl (inl cause))))))
+        (λ d. IsRefusedBy old.running why d × HasMovedNothing old.running d) (
+          refused_still old.running why c (noted c (refused 0)) refl refl (inl cause),
+          moved_none its at b counts c aside met,
+        )))))
 
   pub add_goes : (a : Actor) (run : IsRun shape version old a) (now : AddCall) → now ≡ record add { stage = now.stage } → (words new_words : List ℕ) → length words ≡ shape.size
       → (said : AddStep) (new : ActorRun) (result : Stepped) → AddSteps add words now new_words said → IsAddAnnounced (record old { running = Some (Add now) }) said new result
-      → Advances shape version old words new new_words result a
+      → Landing shape version old words new new_words result a
   add_goes a run now same words new_words long said new result steps is_said =
       goes_so a run now.stage words new_words long new said result (subst (λ (n : AddCall). AddSteps add words n new_words said) same steps)
       (subst (λ (n : AddCall). IsAddAnnounced (record old { running = Some (Add n) }) said new result) same is_said)
@@ -170,6 +180,7 @@ module _ (old : ActorRun) (add now : AddCall) (is : old.running ≡ Some (Add ad
           (λ snapshot_call is_snapshot_call. absurd (subst looks_not (sym is ∙ is_snapshot_call) tt)),
           (λ delta_call fresh is_delta_call. absurd (subst takes_not (sym is ∙ is_delta_call) tt)),
           (λ batch is_batch. absurd (subst batches_not (sym is ∙ is_batch) tt)),
+          (λ sets. absurd (subst sets_not (sym is ∙ sets) tt)),
         ),
         (ap ended_by new_is, ap begun_by new_is ∙ whole, ap pending_by new_is),
         takes_none old new _ (subst takes_not (sym is) tt) (ap (λ (r : ActorRun). r.taken.items) new_is),
@@ -182,7 +193,7 @@ module _ (old : ActorRun) (add now : AddCall) (is : old.running ≡ Some (Add ad
       )
   add_answers (Refused why) new result (new_is, items, result_is) =
       subst (Answers old words new new_words) (sym result_is) (
-        (ap (λ (r : ActorRun). r.running) new_is, ap (λ (r : ActorRun). r.known.items) new_is),
+        (subst MayBeRefused (sym is) tt, ap (λ (r : ActorRun). r.running) new_is, ap (λ (r : ActorRun). r.known.items) new_is),
         (
           ap ended_by new_is ∙ (ap (take old.ended) items ∙ take-take old.ended old.ended old.entries.items (omega arith)),
           ap begun_by new_is ∙ sym (ap ended_by new_is),

@@ -1,7 +1,8 @@
 -- An `add` puts the counts in use: it loads their reference, claims a block for them, and mounts it, or marks it as of no use.
-use Rattle.std.proofs.Common.{◌≡◌, ◌≢◌, ◌≤◌, ℕ, ◌+◌, ◌*◌, ◌==◌, Bool, true, false, List, [], length, refl, sym, ap, subst, ◌∙◌, arith}
+use Rattle.std.proofs.Common.{◌≡◌, ◌≢◌, ◌≤◌, ℕ, ◌+◌, ◌*◌, ◌==◌, Bool, true, false, List, [], length, ◌++◌, refl, sym, ap, subst, ◌∙◌, arith}
 use Rattle.std.specs.Prelude.{None, if◌then◌else◌, is_some, max}
 use lib.Seq.{set-get_or}
+use Rattle.std.proofs.lemmas.List.{append-nil}
 use Rattle.alloc_core.specs.declared.alloc.AllocStep.{AllocStep}
 use Rattle.alloc_core.specs.declared.alloc.AllocStep.TheVariants as said
 use Rattle.alloc_core.specs.declared.alloc.Stage.TheVariants.{Claimed}
@@ -16,9 +17,10 @@ use Rattle.segment_machine.specs.declared.actor.Actor.{Actor}
 use Rattle.segment_machine.specs.declared.actor.Known.{Known}
 use Rattle.segment_machine.specs.declared.actor.Segment.{Segment}
 use Rattle.segment_machine.specs.declared.place.Place.TheVariants.{Looking}
-use Rattle.segment_machine.specs.Actor.{is_bound, Buckets, AreApart}
+use Rattle.segment_machine.specs.declared.seen.Sighting.{Sighting}
+use Rattle.segment_machine.specs.Actor.{is_bound, word_seen, Buckets, AreApart}
 use Rattle.segment_machine.specs.Allocating.{new_own}
-use Rattle.segment_machine.specs.Calls.{look_of, AreCountsOf, back}
+use Rattle.segment_machine.specs.Calls.{look_of, sight_counts, AreCountsOf, CountsStay, back}
 use Rattle.segment_machine.specs.Counting.{load_counts}
 use Rattle.segment_machine.specs.Event.{Event, next, counting_event, packing_event}
 use Rattle.segment_machine.specs.Note.{Note, Notes}
@@ -32,7 +34,7 @@ use Rattle.hist_core.specs.declared.add.Stage.{Stage}
 use Rattle.hist_core.specs.declared.add.Stage.TheVariants.{SeekingCounts, Allocating, Mounting, Purging, LoadingAgain}
 use Rattle.segment_calls.specs.declared.refusal.Refusal.TheVariants as why
 use Rattle.hist_core.specs.StepsBy.{FrameOfStep, StepsBy, is_tied}
-use Rattle.hist_core.specs.Add.{Amid, HasEntry, AreCounts, StandsAtStage, IsAdd, AddGives, BeginsToAllocate, IsAllocated}
+use Rattle.hist_core.specs.Add.{Amid, HasEntry, HasMetNoCounts, AreCounts, StandsAtStage, IsAdd, AddGives, BeginsToAllocate, IsAllocated}
 use Rattle.hist_core.proofs.AddCall.Counts.{counts_in}
 use Rattle.hist_core.proofs.AddCall.Entries.{counting_of}
 use Rattle.hist_core.proofs.AddCall.Going.{acts_on, packs_on, goes_still, aside_counts}
@@ -70,20 +72,20 @@ module _ (shape : Dimensions) (known : Known) (amid : Amid) (add : Add) (a : Act
     looks_loaded : loaded.hand.place ≡ Looking (record { histogram = known.reference; single = (look_of a.hand.place known.reference).single; counts = sought })
     looks_loaded = ap (λ (n : ℕ). Looking (record { histogram = n; single = (look_of a.hand.place known.reference).single; counts = sought })) (looks_there a.hand.place known.reference)
 
-    seeks_on : (stage : Stage) → (AreCountsOf a known.reference sought → StandsAtStage shape known amid (record add { stage = stage }) loaded stage)
+    seeks_on : (stage : Stage) → (AreCountsOf a known.reference sought → CountsStay a.seen known.reference sought → StandsAtStage shape known amid (record add { stage = stage }) loaded stage)
         → StepsBy shape.size add.version a words words (AddGives shape known amid (record add { stage = stage }) More a)
     seeks_on stage stands = acts_on shape known amid add a is stage words words load
         (stood_seeking.2, (known, has_them shape known amid add a words is stood_seeking.0))
         (sym (set-get_or words (known.reference + 8) 0))
         (aside_counts a loaded known.reference sought refl refl refl refl refl refl, (refl, refl))
-        (λ learned. stands learned.0)
+        (λ learned. stands learned.0 learned.1)
 
     -- there are some
     pub seeks_some : word_at words (add.histogram + 8) ≢ 0 → let stage = LoadingAgain (word_at words (add.histogram + 8)) in
         StepsBy shape.size add.version a words words (AddGives shape known amid (record add { stage = stage }) More a)
     seeks_some some =
         subst (λ (r : ℕ). StepsBy shape.size add.version a words words (AddGives shape known amid (record add { stage = LoadingAgain (word_at words (r + 8)) }) More a)) is.counting.reference
-        (seeks_on (LoadingAgain sought) (λ learned. (
+        (seeks_on (LoadingAgain sought) (λ learned stays. (
           stood_seeking.0,
           stood_seeking.1,
           (
@@ -92,10 +94,16 @@ module _ (shape : Dimensions) (known : Known) (amid : Amid) (add : Add) (a : Act
           ),
         )))
 
+    -- where there are none it has met none
+    none_met : sought ≡ 0 → CountsStay a.seen known.reference sought → HasMetNoCounts known loaded
+    none_met none stays bucketed counts seen =
+        let same : loaded.seen.words ≡ a.seen.words = ap (λ (n : ℕ). a.seen.words ++ sight_counts known.reference n) none ∙ append-nil a.seen.words in
+        sym (stays.0 counts (ap (λ (l : List Sighting). word_seen l (known.reference + 8)) (sym same) ∙ seen)) ∙ none
+
     -- there are none: it begins to allocate
-    pub seeks_none : (new : Add) (result : AddStep) → BeginsToAllocate add new result → StepsBy shape.size add.version a words words (AddGives shape known amid new result a)
-    seeks_none new More begins = subst (λ (n : Add). StepsBy shape.size add.version a words words (AddGives shape known amid n More a)) (sym begins)
-        (seeks_on (Allocating (alloc.first_of add.shape (2 * add.buckets) 2)) (λ learned.
+    pub seeks_none : word_at words (add.histogram + 8) ≡ 0 → (new : Add) (result : AddStep) → BeginsToAllocate add new result → StepsBy shape.size add.version a words words (AddGives shape known amid new result a)
+    seeks_none none new More begins = subst (λ (n : Add). StepsBy shape.size add.version a words words (AddGives shape known amid n More a)) (sym begins)
+        (seeks_on (Allocating (alloc.first_of add.shape (2 * add.buckets) 2)) (λ learned stays.
         let some = (is.counting.bucket stood_seeking.0).0 in
         let count : 1 ≤ add.buckets = subst (λ (n : ℕ). 1 ≤ n) (sym is.counting.buckets) (omega (arith, some)) in
         let fits = is.counting.fits in
@@ -118,10 +126,11 @@ module _ (shape : Dimensions) (known : Known) (amid : Amid) (add : Add) (a : Act
             refl,
             refl,
             omega (arith, same),
+            none_met (ap (λ (r : ℕ). word_at words (r + 8)) is.counting.reference ∙ none) stays,
           ),
         )))
-    seeks_none new Done begins = absurd begins
-    seeks_none new (Refused why) begins = absurd begins
+    seeks_none none new Done begins = absurd begins
+    seeks_none none new (Refused why) begins = absurd begins
 
   -- ---- it claims a block
 
@@ -130,15 +139,20 @@ module _ (shape : Dimensions) (known : Known) (amid : Amid) (add : Add) (a : Act
     stood_allocating = subst (StandsAtStage shape known amid add a) allocates is.stands
 
     module _ (long : length words ≡ shape.size) (y : Allocation) (new_words : List ℕ) (says : AllocStep) (step : alloc.IsStep x words y new_words says) where
-      claims : StepsBy shape.size add.version a words new_words (λ b. FrameOfStep a b × AreApart b × Allocates b y)
+      claims : StepsBy shape.size add.version a words new_words (λ b. FrameOfStep a b × AreApart b × Allocates b y × (b.seen.words ≡ a.seen.words))
       claims =
           let size = ap (λ (d : Dimensions). d.size) is.segment in
-          subst (λ (n : ℕ). StepsBy n add.version a words new_words (λ b. FrameOfStep a b × AreApart b × Allocates b y)) size
+          subst (λ (n : ℕ). StepsBy n add.version a words new_words (λ b. FrameOfStep a b × AreApart b × Allocates b y × (b.seen.words ≡ a.seen.words))) size
           (allocates_on add.version a x y words new_words says stood_allocating.2.0 (long ∙ sym size) step)
 
       -- its entry is as it was
       entry_still : (b : Actor) → FrameOfStep a b → HasEntry known amid add b false false
       entry_still b beside = ap (λ e. e.running) beside.entries ∙ stood_allocating.1
+
+      -- it has met no counts still
+      none_still : (b : Actor) → b.seen.words ≡ a.seen.words → HasMetNoCounts known b
+      none_still b same bucketed counts seen =
+          stood_allocating.2.4 bucketed counts (ap (λ (l : List Sighting). word_seen l (known.reference + 8)) (sym same) ∙ seen)
 
       still : (b : Actor) → FrameOfStep a b → (stage : Stage) → StandsAtStage shape known amid (record add { stage = stage }) b stage
           → AddGives shape known amid (record add { stage = stage }) More a b
@@ -146,7 +160,7 @@ module _ (shape : Dimensions) (known : Known) (amid : Amid) (add : Add) (a : Act
 
       -- it goes on
       still_claims : is_some (alloc.next_event y) ≡ true → StepsBy shape.size add.version a words new_words (AddGives shape known amid (record add { stage = Allocating y }) More a)
-      still_claims more = goes_noting claims (λ b (beside, apart, goes). (
+      still_claims more = goes_noting claims (λ b (beside, apart, goes, same). (
         [],
         b,
         refl,
@@ -158,13 +172,14 @@ module _ (shape : Dimensions) (known : Known) (amid : Amid) (add : Add) (a : Act
             more,
             ap (λ (z : Allocation). z.tag) step.new_is ∙ stood_allocating.2.2,
             subst (λ (n : ℕ). 4 + 2 * add.buckets ≤ n) (sym (ap (λ (z : Allocation). z.size) step.new_is)) stood_allocating.2.3,
+            none_still b same,
           ),
         ),
       ))
 
       -- it has a block, which it mounts
       has_claimed : (at : ℕ) → says ≡ said.Done at → StepsBy shape.size add.version a words new_words (AddGives shape known amid (record add { stage = Mounting at }) More a)
-      has_claimed at done = goes_noting claims (λ b (beside, apart, goes). claimed b beside goes (claimed_of y.stage at (sym done ∙ step.answers)))
+      has_claimed at done = goes_noting claims (λ b (beside, apart, goes, same). claimed b beside goes (claimed_of y.stage at (sym done ∙ step.answers)))
         where
           claimed : (b : Actor) → FrameOfStep a b → Allocates b y → (size : ℕ) × (y.stage ≡ Claimed at size)
               → (notes : List Note) × (c : Actor) × Notes b notes c × AddGives shape known amid (record add { stage = Mounting at }) More a c
@@ -204,13 +219,13 @@ module _ (shape : Dimensions) (known : Known) (amid : Amid) (add : Add) (a : Act
         (has_claimed long y new_words (said.Done at) step at refl)
     allocates_so long y new_words said.Full new result step more (new_is, result_is) =
         subst (λ (r : AddStep). StepsBy shape.size add.version a words new_words (AddGives shape known amid new r a)) (sym result_is)
-        (goes_with (claims long y new_words said.Full step) (λ b (beside, apart, goes).
-        refuses shape known amid add new a stood_allocating.1 b beside why.Full (ap (λ (n : Add). counting_of known n false false) new_is)
+        (goes_with (claims long y new_words said.Full step) (λ b (beside, apart, goes, same).
+        refuses shape known amid add new a stood_allocating.1 b beside (none_still long y new_words said.Full step b same) why.Full (ap (λ (n : Add). counting_of known n false false) new_is)
         (ap is_tied (rests_at b y y.stage (λ e. cc (step.answers ∙ e)) goes.stands)) (ended_so b y said.Full step.answers goes.stands)))
     allocates_so long y new_words said.Corrupt new result step more (new_is, result_is) =
         subst (λ (r : AddStep). StepsBy shape.size add.version a words new_words (AddGives shape known amid new r a)) (sym result_is)
-        (goes_with (claims long y new_words said.Corrupt step) (λ b (beside, apart, goes).
-        refuses shape known amid add new a stood_allocating.1 b beside why.Corrupt (ap (λ (n : Add). counting_of known n false false) new_is)
+        (goes_with (claims long y new_words said.Corrupt step) (λ b (beside, apart, goes, same).
+        refuses shape known amid add new a stood_allocating.1 b beside (none_still long y new_words said.Corrupt step b same) why.Corrupt (ap (λ (n : Add). counting_of known n false false) new_is)
         (ap is_tied (rests_at b y y.stage (λ e. cc (step.answers ∙ e)) goes.stands)) (ended_so b y said.Corrupt step.answers goes.stands)))
 
     -- what the step of its allocation asks for

@@ -6,6 +6,7 @@ use Rattle.alloc_core.specs.Layout.{IsShape}
 use Rattle.list_core.specs.Chain.{is_reference}
 use Rattle.segment_machine.specs.declared.actor.Actor.{Actor}
 use Rattle.segment_machine.specs.declared.actor.Known.{Known}
+use Rattle.segment_machine.specs.Actor.{has_buckets}
 use Rattle.segment_machine.specs.Made.{IsFirstSample}
 use Rattle.hist_core.specs.declared.add.Add.{Add}
 use Rattle.hist_core.specs.declared.add.AddStep.{AddStep}
@@ -100,4 +101,4 @@ module _ (shape : Dimensions) (known : Known) (amid : Amid) (add : Add) (a : Act
   samples_so x same new_words (found.Refused cause) new result goes (new_is, result_is) =
       subst (λ (r : AddStep). StepsBy shape.size add.version a words new_words (AddGives shape known amid new r a)) (sym result_is)
       (goes_with goes (λ b (beside, free, is_cause).
-      refuses shape known amid add new a stood_sampling.0 b beside cause (ap (λ (n : Add). counting_of known n false false) new_is) free is_cause))
+      refuses shape known amid add new a stood_sampling.0 b beside (λ bucketed. absurd (true≢false (sym bucketed ∙ ap has_buckets stood_sampling.1))) cause (ap (λ (n : Add). counting_of known n false false) new_is) free is_cause))

@@ -24,7 +24,7 @@ use Rattle.hist_core.specs.declared.batch.Batch.{Batch}
 use Rattle.hist_core.specs.declared.batch.BatchStep.{BatchStep}
 use Rattle.hist_core.specs.declared.batch.BatchStep.TheVariants.{More, Done, Refused}
 use Rattle.segment_calls.specs.declared.refusal.Refusal.{Refusal}
-use Rattle.hist_core.specs.Add.{IsAdd, FrameOfAdd, StaysOpen, HasEntry, HasEnded, AddSteps, AddGives, counted_entry, ended_entry}
+use Rattle.hist_core.specs.Add.{IsAdd, FrameOfAdd, HasMetNoCounts, StaysOpen, HasEntry, HasEnded, AddSteps, AddGives, counted_entry, ended_entry}
 use Rattle.hist_core.specs.Making.{IsCause}
 use Rattle.hist_core.specs.Batch.{IsBatch, IsItem, CountsItem, SumsUp, HaveEnded, BatchGives, IsItemSaid, Waits, amid_of, counted_entries, sum_entries, units_among}
 use Rattle.hist_core.specs.StepsBy.{StepsBy, IsFree}
@@ -246,9 +246,9 @@ module _ (shape : Dimensions) (known : Known) (batch : Batch) (a : Actor) (is : 
     others = counting_of known item false false ∷ map fresh (map (counted_entry known) c.rest ++ sum_entries known.name batch.sum)
 
     -- it is refused
-    pub refused_so : (why : Refusal) → IsFree b → IsCause why b → HasEntry known (amid_of known batch c.done c.rest) item b false false
+    pub refused_so : (why : Refusal) → IsFree b → IsCause why b → HasEntry known (amid_of known batch c.done c.rest) item b false false → HasMetNoCounts known b
         → BatchGives shape known now (Refused (record { added = batch.added; why = why })) a b
-    refused_so why turns cause has = (
+    refused_so why turns cause has met = (
       aside,
       stays,
       turns,
@@ -265,6 +265,7 @@ module _ (shape : Dimensions) (known : Known) (batch : Batch) (a : Actor) (is : 
       },
       (let whole = ap length there ∙ length-append c.done (item ∷ c.rest) in let added = c.added in omega (arith, whole, added)),
       ap (λ (l : List Add). batch.left + units_among l) (ap (take batch.added) there ∙ (ap (λ n. take n (c.done ++ item ∷ c.rest)) c.added ∙ front_is c.done (item ∷ c.rest))) ∙ c.left,
+      met,
     )
       where
         long : batch.added ≡ length (map (ended_entry known) c.done)
@@ -292,5 +293,5 @@ module _ (shape : Dimensions) (known : Known) (batch : Batch) (a : Actor) (is : 
           subst (λ (p : Batch × BatchStep). BatchGives shape known p.0 p.1 a b) (λ i. (sym new_is i, sym result_is i)) (still_counted b aside stays counting))
       by said.Done go (new_is, result_is) = goes_with go (λ b (aside, stays, turns, over).
           subst (λ (n : Batch). BatchGives shape known n result a b) (sym new_is) (counted_so b aside stays turns over result result_is))
-      by (said.Refused why) go (new_is, result_is) = goes_with go (λ b (aside, stays, turns, cause, has).
-          subst (λ (p : Batch × BatchStep). BatchGives shape known p.0 p.1 a b) (λ i. (sym new_is i, sym result_is i)) (refused_so b aside stays why turns cause has))
+      by (said.Refused why) go (new_is, result_is) = goes_with go (λ b (aside, stays, turns, cause, has, met).
+          subst (λ (p : Batch × BatchStep). BatchGives shape known p.0 p.1 a b) (λ i. (sym new_is i, sym result_is i)) (refused_so b aside stays why turns cause has met))

@@ -44,10 +44,11 @@ use Rattle.hist_core.specs.StepsBy.{StepsBy, IsFree, WalksInOrder}
 use Rattle.hist_core.specs.declared.walk.Walk.{Walk}
 use Rattle.hist_core.specs.declared.walk.Walk.TheVariants.{LoadingFirst, LoadingType, LoadingHistogram, LoadingValue, LoadingNext}
 use Rattle.hist_core.specs.Walk.{HasSetOut}
-use Rattle.hist_core.specs.ActorRun.{Advances, Answers, AreShown, BeginsDelta, Becomes, Fits, HasDraft, HasPlace, HasRoom, IsDeltaAnnounced, IsDraft, IsDrawing, IsKnown, IsLast, IsQuiet, IsRun, IsShown, IsSomeRun, IsTimely, IsTook, StandsIn, TakenGoes, apart_from_delta, begun_by, ended_by, ended_deltas, known_of, looked_by, pending_by}
+use Rattle.hist_core.proofs.Worlds.Landing.{Landing}
+use Rattle.hist_core.specs.ActorRun.{Answers, AreShown, BeginsDelta, Becomes, Fits, HasDraft, HasPlace, HasRoom, IsDeltaAnnounced, IsDraft, IsDrawing, IsKnown, IsLast, IsQuiet, IsRun, IsShown, IsSomeRun, IsTimely, IsTook, StandsIn, TakenGoes, apart_from_delta, begun_by, ended_by, ended_deltas, known_of, looked_by, pending_by}
 use Rattle.hist_core.specs.DeltaCall.{HasBegun, HasEnded, IsFirst, IsSomeDeltaCall, IsDeltaCall, IsUnderWay, Lists, OpensWith, StandsAtStage, DeltaCallGives, DeltaCallSteps, TakesAlong, FrameOfDelta, insert_by_key, place_of}
 use Rattle.hist_core.proofs.Parts.Allocations.{goes_with}
-use Rattle.hist_core.proofs.Worlds.Apart.{asks_not, adds_not, looks_not, batches_not}
+use Rattle.hist_core.proofs.Worlds.Apart.{asks_not, adds_not, looks_not, batches_not, sets_not}
 use Rattle.hist_core.proofs.Worlds.WorldStates.{each_runs, is_there}
 use Rattle.hist_core.proofs.Worlds.Free.{free_apart, free_turns}
 use Rattle.hist_core.proofs.Worlds.Quiet.{begun_there, met_on, met_split}
@@ -318,23 +319,23 @@ module _ (shape : Dimensions) (version : ℕ) (old : ActorRun) (a : Actor) (run 
 
   -- what the machine's actor does, and what becomes of that at run time
   pub delta_goes : (said : DeltaCallStep) (new : ActorRun) (result : Stepped) → DeltaCallSteps delta_call words now new_words said → Lists delta_call now said
-      → IsDeltaAnnounced now fresh (record old { running = Some (Delta now fresh) }) said new result → Advances shape version old words new new_words result a
+      → IsDeltaAnnounced now fresh (record old { running = Some (Delta now fresh) }) said new result → Landing shape version old words new new_words result a
   delta_goes More new result steps lists ((before, last, then_is, shown, taken, becomes), new_is, result_is) =
       let draft = drafted old delta_call fresh has_draft before last shown in
       let on = draft_on delta_call now More last then_is draft lists room becomes in
-      subst (λ said. Advances shape version old words new new_words said a) (sym result_is) (goes_with (its_steps More steps) (λ b (aside, its).
+      subst (λ said. Landing shape version old words new new_words said a) (sym result_is) (goes_with (its_steps More steps) (λ b (aside, its).
       goes_on b aside new before last then_is shown taken on.0 on.1 new_is its
       (ap (λ (t : Taken). vec_capacity t.counts) becomes ∙ (draft.1 ∙ sym room)) (ap (λ (t : Taken). t.sum) becomes ∙ draft.2)))
   delta_goes (Took key units) new result steps lists ((before, last, then_is, shown, taken, becomes), new_is, result_is) =
       let draft = drafted old delta_call fresh has_draft before last shown in
       let on = draft_on delta_call now (Took key units) last then_is draft lists room becomes in
-      subst (λ said. Advances shape version old words new new_words said a) (sym result_is) (goes_with (its_steps (Took key units) steps) (λ b (aside, its).
+      subst (λ said. Landing shape version old words new new_words said a) (sym result_is) (goes_with (its_steps (Took key units) steps) (λ b (aside, its).
       goes_on b aside new before last then_is shown taken on.0 on.1 new_is its
       (becomes.2 ∙ (draft.1 ∙ sym room)) (ap (λ (t : Taken). t.sum) becomes.0 ∙ draft.2)))
   delta_goes (Done sum) new result steps lists ((before, last, then_is, shown, taken, becomes), new_is, result_is) =
       let draft = drafted old delta_call fresh has_draft before last shown in
       let on = draft_on delta_call now (Done sum) last then_is draft lists room becomes in
-      subst (λ said. Advances shape version old words new new_words said a) (sym result_is) (goes_with (its_steps (Done sum) steps) (λ b (aside, turns, ended). (
+      subst (λ said. Landing shape version old words new new_words said a) (sym result_is) (goes_with (its_steps (Done sum) steps) (λ b (aside, turns, ended). (
         ends b aside new before last then_is shown taken on.0 on.1 sum new_is turns ended (ap (λ (t : Taken). t.sum) becomes),
         is_took b aside sum ended,
       )))
@@ -424,6 +425,7 @@ module _ (old : ActorRun) (delta_call now : DeltaCall) (fresh : Option Taken) (i
       (λ snapshot_call is_snapshot_call. absurd (subst looks_not (sym is ∙ is_snapshot_call) tt)),
       (λ other its is_other. (now, ap (λ (r : ActorRun). r.running) new_is, same ∙ ap (λ (x : DeltaCall). x.histogram) (ap (taken_by delta_call) (sym is ∙ is_other)))),
       (λ batch is_batch. absurd (subst batches_not (sym is ∙ is_batch) tt)),
+      (λ sets. absurd (subst sets_not (sym is ∙ sets) tt)),
     ),
     (ap ended_by new_is, ap begun_by new_is ∙ begun_there old all unbegun, ap pending_by new_is),
     subst (λ running. TakenGoes running old.taken.items new.taken.items stepped.More) (sym is)

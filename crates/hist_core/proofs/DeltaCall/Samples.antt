@@ -160,7 +160,7 @@ module _ (shape : Dimensions) (known : Known) (earlier : List Taken) (delta_call
         → StepsBy shape.size delta_call.version a words words (DeltaCallGives shape known earlier (behind met) More a)
     further walk way stands room set_out meets =
         goes_with (walks_so shape delta_call.version known (ListsTaken known delta_call) (taken_along known delta_call) a words is.segment is.turns walk stands
-        (began_before shape known (ListsTaken known delta_call) walk a set_out stands) met meets) (λ b (beside, turns, comes).
+        (began_before shape known (ListsTaken known delta_call) walk a set_out stands) met meets) (λ b (beside, since, turns, comes).
         goes_behind b (aside_of a b refl refl refl beside) turns (way_beside known earlier delta_call a b beside.deltas way) room comes)
 
     -- with its first event it begins to take
@@ -186,7 +186,7 @@ module _ (shape : Dimensions) (known : Known) (earlier : List Taken) (delta_call
         )
         (goes_with (walks_so shape delta_call.version known (ListsTaken known delta_call) (taken_along known delta_call) begun words is.segment is.turns LoadingFirst
         (record { sparse = stands.1.0.sparse; apart = stands.1.0.apart; met = stands.1.0.met }, stands.1.1)
-        (record { singles = omega arith; counts = omega arith }) met meets) (λ b (beside, turns, comes).
+        (record { singles = omega arith; counts = omega arith }) met meets) (λ b (beside, since, turns, comes).
         goes_behind b (aside_of begun b refl refl refl beside) turns (way_beside known earlier delta_call begun b beside.deltas way) stands.2 comes))
 
     pub walks_further : (walk : Walk) → delta_call.stage ≡ Walking walk → Meets walk delta_call.histogram (word_at words (spot_of delta_call.histogram walk)) met

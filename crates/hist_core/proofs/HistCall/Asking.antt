@@ -33,14 +33,15 @@ use Rattle.hist_core.specs.declared.actor_run.Running.{Running}
 use Rattle.hist_core.specs.declared.actor_run.Running.TheVariants.{Hist}
 use Rattle.hist_core.specs.declared.entry.Entry.{Entry}
 use Rattle.hist_core.proofs.Parts.Allocations.{goes_with}
-use Rattle.hist_core.proofs.Worlds.Apart.{adds_not, looks_not, batches_not}
+use Rattle.hist_core.proofs.Worlds.Apart.{adds_not, looks_not, batches_not, sets_not}
 use Rattle.hist_core.proofs.Worlds.Free.{free_turns}
 use Rattle.hist_core.proofs.Worlds.Quiet.{met_on, quiet_on, gives_none, begun_there, takes_none, takes_not}
 use Rattle.hist_core.specs.declared.actor_run.ActorRun.{ActorRun}
 use Rattle.hist_core.specs.StepsBy.{FrameOfStep, StepsBy, IsFree}
 use Rattle.hist_core.specs.Hist.{HasOtherSpec, IsCause, IsSomeHist, HistSteps, asked_of}
 use Rattle.segment_calls.specs.declared.refusal.Refusal.{Refusal}
-use Rattle.hist_core.specs.ActorRun.{known_of, AreShown, HasDraft, IsKnown, NoneHasName, HaveOwnNames, StandsIn, HasRoom, IsRun, IsSomeRun, IsHistAnnounced, IsRefusedBy, BeginsHist, IsAsItWas, IsQuiet, Advances, Answers, held_by, entry_of, ended_by, begun_by, pending_by}
+use Rattle.hist_core.proofs.Worlds.Landing.{Landing}
+use Rattle.hist_core.specs.ActorRun.{known_of, AreShown, HasDraft, IsKnown, NoneHasName, HaveOwnNames, StandsIn, HasRoom, IsRun, IsSomeRun, IsHistAnnounced, HasMovedNothing, IsRefusedBy, MayBeRefused, BeginsHist, IsAsItWas, IsQuiet, Answers, held_by, entry_of, ended_by, begun_by, pending_by}
 
 -- ---- a note more
 
@@ -168,26 +169,26 @@ module _ (shape : Dimensions) (version : ℕ) (old : ActorRun) (a : Actor) (run 
 
   -- what the machine's actor does, and what becomes of that at run time
   pub hist_goes : (said : HistStep) (new : ActorRun) (result : Stepped) → HistSteps h words now new_words said
-      → IsHistAnnounced (record old { running = Some (Hist now) }) said new result → Advances shape version old words new new_words result a
+      → IsHistAnnounced (record old { running = Some (Hist now) }) said new result → Landing shape version old words new new_words result a
   hist_goes More new result steps (new_is, result_is) =
-      subst (λ said. Advances shape version old words new new_words said a) (sym result_is) (goes_with (steps shape version a long stands.0) (λ b (beside, is_hist).
+      subst (λ said. Landing shape version old words new new_words said a) (sym result_is) (goes_with (steps shape version a long stands.0) (λ b (beside, is_hist).
       subst (λ (r : ActorRun). IsRun shape version r b) (sym new_is)
       (runs_on shape version old a run b (Some (Hist now)) beside (is_hist, still_quiet b beside, none) room tt)))
   hist_goes Done new result steps (asked, is_asked, new_is, items, result_is) =
       let here : asked ≡ now = sym (ap (asked_by now) is_asked) in
       let then_items : new.known.items ≡ old.known.items ++ (let k = now.asked in record k { reference = now.reference }) ∷ [] =
       items ∙ ap (λ (x : HistCall). old.known.items ++ (let k = x.asked in record k { reference = x.reference }) ∷ []) here in
-      subst (λ said. Advances shape version old words new new_words said a) (sym result_is) (goes_noting (steps shape version a long stands.0) (λ b (beside, may, may_note, asking, within). (
+      subst (λ said. Landing shape version old words new new_words said a) (sym result_is) (goes_noting (steps shape version a long stands.0) (λ b (beside, may, may_note, asking, within). (
         knows (asked_of now),
         may_note,
         knows_more shape version old a run b new (let k = now.asked in record k { reference = now.reference }) beside may (still_quiet b beside) (met_first b (asked_of now) may_note) new_is then_items
             (record { name = asking.name; lawful = asking.lawful; ranges = asking.ranges; fits = asking.fits; within = within }) none,
       )))
   hist_goes (Refused why) new result steps (new_is, result_is) =
-      subst (λ said. Advances shape version old words new new_words said a) (sym result_is) (goes_with (steps shape version a long stands.0) (λ b (beside, may, cause). (
+      subst (λ said. Landing shape version old words new new_words said a) (sym result_is) (goes_with (steps shape version a long stands.0) (λ b (beside, may, cause). (
         gives_none shape version new b (held_by old.running) (ap held_by is) (free_turns b.hand.place may) (subst (λ (r : ActorRun). IsRun shape version r b) (sym new_is)
             (runs_on shape version old a run b None beside (may, still_quiet b beside) tt tt)),
-        refused_by why b cause,
+        (refused_by why b cause, subst (λ running. HasMovedNothing running b) (sym is) tt),
       )))
 
 -- what is answered
@@ -210,6 +211,7 @@ module _ (old : ActorRun) (h now : HistCall) (is : old.running ≡ Some (Hist h)
           (λ snapshot_call is_snapshot_call. absurd (subst looks_not (sym is ∙ is_snapshot_call) tt)),
           (λ delta_call fresh is_delta_call. absurd (subst takes_not (sym is ∙ is_delta_call) tt)),
           (λ batch is_batch. absurd (subst batches_not (sym is ∙ is_batch) tt)),
+          (λ sets. absurd (subst sets_not (sym is ∙ sets) tt)),
         ),
         (
           ap ended_by new_is,
@@ -233,7 +235,7 @@ module _ (old : ActorRun) (h now : HistCall) (is : old.running ≡ Some (Hist h)
       )
   hist_answers (Refused why) new result (new_is, result_is) =
       subst (Answers old words new new_words) (sym result_is) (
-        (ap (λ (r : ActorRun). r.running) new_is, ap (λ (r : ActorRun). r.known.items) new_is),
+        (subst MayBeRefused (sym is) tt, ap (λ (r : ActorRun). r.running) new_is, ap (λ (r : ActorRun). r.known.items) new_is),
         (ap ended_by new_is, begun_on new (ap (λ (r : ActorRun). r.entries) new_is) (ap (λ (r : ActorRun). r.ended) new_is) (ap (λ (r : ActorRun). r.begun) new_is)),
         takes_none old new (stepped.Done (answer.Refused why)) (subst takes_not (sym is) tt) (ap (λ (r : ActorRun). r.taken.items) new_is),
       )

@@ -36,15 +36,15 @@ module _ (shape : Dimensions) (version : ℕ) (wanted : Wanted) (m : Making) (a 
   stands = subst (StandsAtStage shape wanted a) allocates is.stands
 
   module _ (y : Allocation) (new_words : List ℕ) (says : AllocStep) (step : alloc.IsStep x words y new_words says) where
-    claims : StepsBy shape.size version a words new_words (λ b. FrameOfStep a b × AreApart b × Allocates b y)
+    claims : StepsBy shape.size version a words new_words (λ b. FrameOfStep a b × AreApart b × Allocates b y × (b.seen.words ≡ a.seen.words))
     claims =
         let size = ap (λ (d : Dimensions). d.size) is.segment in
-        subst (λ (n : ℕ). StepsBy n version a words new_words (λ b. FrameOfStep a b × AreApart b × Allocates b y)) size
+        subst (λ (n : ℕ). StepsBy n version a words new_words (λ b. FrameOfStep a b × AreApart b × Allocates b y × (b.seen.words ≡ a.seen.words))) size
         (allocates_on version a x y words new_words says stands.0 (long ∙ sym size) step)
 
     -- it goes on
     still_claims : is_some (alloc.next_event y) ≡ true → StepsBy shape.size version a words new_words (MakingGives shape wanted (record { stage = Allocating y }) More a)
-    still_claims more = goes_with claims (λ b (beside, apart, goes). (
+    still_claims more = goes_with claims (λ b (beside, apart, goes, words_same). (
       beside,
       record {
         segment = ap (λ s. s.shape) beside.segment ∙ is.segment;
@@ -62,11 +62,11 @@ module _ (shape : Dimensions) (version : ℕ) (wanted : Wanted) (m : Making) (a 
     -- it is refused
     is_refused : (why : Refusal) (new : Making) → ((b : Actor) → Allocates b y → b.hand.place ≡ Idle) → ((b : Actor) → Allocates b y → IsCause why b)
         → StepsBy shape.size version a words new_words (MakingGives shape wanted new (Refused why) a)
-    is_refused why new idle cause = goes_with claims (λ b (beside, apart, goes). (beside, ap is_tied (idle b goes), cause b goes))
+    is_refused why new idle cause = goes_with claims (λ b (beside, apart, goes, words_same). (beside, ap is_tied (idle b goes), cause b goes))
 
     -- it has a block, which is to be the record: it stores the payload there
     has_claimed : (at : ℕ) → says ≡ said.Done at → StepsBy shape.size version a words new_words (MakingGives shape wanted (record { stage = Filling at 0 }) More a)
-    has_claimed at done = goes_noting claims (λ b (beside, apart, goes). claimed b beside apart goes (claimed_of y.stage at (sym done ∙ step.answers)))
+    has_claimed at done = goes_noting claims (λ b (beside, apart, goes, words_same). claimed b beside apart goes (claimed_of y.stage at (sym done ∙ step.answers)))
       where
         claimed : (b : Actor) → FrameOfStep a b → AreApart b → Allocates b y → (size : ℕ) × (y.stage ≡ Claimed at size)
             → (notes : List Note) × (c : Actor) × Notes b notes c × MakingGives shape wanted (record { stage = Filling at 0 }) More a c

@@ -24,7 +24,7 @@ use Rattle.segment_machine.specs.Stages.{Allocates, PublishesAt, Walks}
 use Rattle.segment_machine.proofs.Stages.Allocations.{allocations_agree}
 use Rattle.segment_machine.proofs.Stages.Publishes.{publishes_agree}
 use Rattle.segment_machine.proofs.Stages.Walks.{walks_agree}
-use Rattle.hist_core.proofs.Parts.Alone.{acts_there, makes_so, allocating_beside, publishing_beside}
+use Rattle.hist_core.proofs.Parts.Alone.{acts_there, makes_so, allocating_beside, allocating_words, publishing_beside}
 use Rattle.segment_promises.specs.Onward.{StaysApart}
 use Rattle.segment_promises.proofs.Calls.Places.{behind_apart}
 use Rattle.hist_core.specs.StepsBy.{FrameOfStep, StepsBy, IsFree}
@@ -67,7 +67,7 @@ allocating_alike (set_flag flag) size version = refl
 
 pub allocates_on : (version : ℕ) (a : Actor) (old new : Allocation) (words new_words : List ℕ) (said : AllocStep) → Allocates a old
     → length words ≡ a.segment.shape.size → alloc.IsStep old words new new_words said
-    → StepsBy a.segment.shape.size version a words new_words (λ b. FrameOfStep a b × AreApart b × Allocates b new)
+    → StepsBy a.segment.shape.size version a words new_words (λ b. FrameOfStep a b × AreApart b × Allocates b new × (b.seen.words ≡ a.seen.words))
 allocates_on version a old new words new_words said goes long step =
     let size : ℕ = a.segment.shape.size in
     let agrees = allocations_agree size 1 a old step.event goes step.next in
@@ -92,6 +92,7 @@ allocates_on version a old new words new_words said goes long step =
           apart,
           subst (Allocates (next a (allocating_event act) found))
               (ap (λ (n : ℕ). alloc.moved old (word_at words n)) there ∙ sym step.new_is) (agrees.4 found learned),
+          allocating_words a act found,
         ),
       );
     }

@@ -68,6 +68,27 @@ allocating_beside a (set_flag flag) found =
     (seen_alike a (record a { hand = record a.hand { place = Idle }; done = record a.done { spoiled = true } }) refl refl refl refl refl refl refl refl)
     (seen_alike a (record a { hand = record a.hand { place = Idle }; done = record a.done { filled = true } }) refl refl refl refl refl refl refl refl)
 
+-- an allocation sees no word of a record
+freed_words : (b : Bool) (a : Actor) (old new found : ℕ) → (after_free b a old new found).seen.words ≡ a.seen.words
+freed_words true a old new found = refl
+freed_words false a old new found = refl
+
+flagged_words : (b : Bool) (a x y : Actor) → x.seen.words ≡ a.seen.words → y.seen.words ≡ a.seen.words → (if b then x else y).seen.words ≡ a.seen.words
+flagged_words true a x y one other = one
+flagged_words false a x y one other = other
+
+pub allocating_words : (a : Actor) (act : AllocatingEvent) (found : ℕ) → (next a (allocating_event act) found).seen.words ≡ a.seen.words
+allocating_words a load_flags found = refl
+allocating_words a load_free found = refl
+allocating_words a (exchange_free old new) found = freed_words (found == old) a old new found
+allocating_words a (store_size at size) found = refl
+allocating_words a (store_cookie at cookie) found = refl
+allocating_words a (store_type at tag) found = refl
+allocating_words a (store_payload at index value) found = refl
+allocating_words a (set_flag flag) found =
+    flagged_words (flag == 1) a (record a { hand = record a.hand { place = Idle }; done = record a.done { spoiled = true } })
+    (record a { hand = record a.hand { place = Idle }; done = record a.done { filled = true } }) refl refl
+
 linked : (b : Bool) (a : Actor) (tail at found : ℕ) → FrameOfStep a (after_link b a tail at found)
 linked true a tail at found = seen_alike a (after_link true a tail at found) refl refl refl refl refl refl refl refl
 linked false a tail at found = seen_alike a (after_link false a tail at found) refl refl refl refl refl refl refl refl

@@ -38,7 +38,7 @@ use Rattle.hist_core.specs.declared.snapshot_call.Stage.{Stage}
 use Rattle.hist_core.specs.declared.snapshot_call.Stage.TheVariants.{LoadingSingle, LoadingCounts, LoadingCount, Walking, LoadingSample, LoadingSum, LoadingRedundant}
 use Rattle.hist_core.specs.declared.mounted.Mounted.{Mounted}
 use Rattle.hist_core.specs.StepsBy.{FrameOfStep, StepsBy, IsInOrder, WalksInOrder, is_tied}
-use Rattle.hist_core.specs.SnapshotCall.{HasKeys, IsBehindSingle, IsSnapshotCall, IsPut, IsSomeSnapshotCall, SnapshotCallGives, SawBefore, SawTotalsOf, StandsAtStage, behind_bucket}
+use Rattle.hist_core.specs.SnapshotCall.{HasKeys, IsBehindSingle, IsSnapshotCall, IsPut, IsSomeSnapshotCall, LooksAnew, SnapshotCallGives, SawBefore, SawTotalsOf, StandsAtStage, behind_bucket}
 use Rattle.hist_core.specs.Mounted.{AreMounted, HasWord, total_at}
 use Rattle.segment_machine.specs.Form.{SaysPacked}
 use Rattle.segment_promises.specs.Calls.{SeesMore}
@@ -47,7 +47,7 @@ use Rattle.segment_promises.proofs.Calls.Places.{looks_there}
 use Rattle.hist_core.proofs.Worlds.Quiet.{not_spent}
 use Rattle.hist_core.proofs.DeltaCall.Counts.{are_mounted, count_placed, may_load, saw_total, still_mounted, total_is}
 use Rattle.hist_core.proofs.DeltaCall.Going.{taking_sees}
-use Rattle.hist_core.proofs.Walks.Passing.{all_still, are_all, are_first, are_once}
+use Rattle.hist_core.proofs.Walks.Passing.{all_still, are_all, are_first, are_once, are_units}
 use Rattle.hist_core.proofs.DeltaCall.Singles.{none_packed}
 
 -- it looks at the same histogram, with a total beside each key
@@ -196,7 +196,7 @@ module _ (shape : Dimensions) (known : Known) (snapshot_call : SnapshotCall) (a 
       stands_behind (LoadingSample at value) none = absurd none
 
     pub loads_single : (new : SnapshotCall) → IsBehindSingle snapshot_call (word_at words (snapshot_call.histogram + 9)) new new.stage
-        → StepsBy shape.size snapshot_call.version a words words (SnapshotCallGives shape known new More a)
+        → StepsBy shape.size snapshot_call.version a words words (SnapshotCallGives shape known snapshot_call.stage new More a)
     loads_single new behind = record {
       before = looks ∷ [];
       at = noted a looks;
@@ -207,7 +207,7 @@ module _ (shape : Dimensions) (known : Known) (snapshot_call : SnapshotCall) (a 
       goes = λ learned apart.
           let there : IsBehindSingle snapshot_call found new new.stage = subst (λ (h : ℕ). IsBehindSingle snapshot_call (word_at words (h + 9)) new new.stage) (sym is.reference) behind in
           let same = same_behind learned new new.stage there in
-          ([], acted, refl, (beside, goes_still new acted same.version same.histogram beside refl (stands_behind learned new new.stage there)));
+          ([], acted, refl, (beside, subst (λ (stage : Stage). LooksAnew stage a acted) (sym loads) refl, goes_still new acted same.version same.histogram beside refl (stands_behind learned new new.stage there)));
     }
 
   -- ---- the counts reference is loaded
@@ -228,7 +228,7 @@ module _ (shape : Dimensions) (known : Known) (snapshot_call : SnapshotCall) (a 
 
     pub loads_counts : (counts : ℕ) → counts ≡ word_at words (snapshot_call.histogram + 8)
         → let new : SnapshotCall = record snapshot_call { stage = LoadingCount (record { counts = counts; packed = packed; kept = kept }) 0 } in
-        StepsBy shape.size snapshot_call.version a words words (SnapshotCallGives shape known new More a)
+        StepsBy shape.size snapshot_call.version a words words (SnapshotCallGives shape known snapshot_call.stage new More a)
     loads_counts counts is_counts =
         let found : ℕ = word_at words (known.reference + 8) in
         let same : found ≡ counts = ap (λ (h : ℕ). word_at words (h + 8)) is.reference ∙ sym is_counts in
@@ -248,6 +248,7 @@ module _ (shape : Dimensions) (known : Known) (snapshot_call : SnapshotCall) (a 
             refl,
             (
               beside,
+              subst (λ (stage : Stage). LooksAnew stage a acted) (sym loads) refl,
               goes_still new acted refl refl beside refl (
                 keys_still known snapshot_call new (record { version = refl; histogram = refl; keys = refl; long = refl }) has_counts,
                 (λ i total lt there. absurd (omega (arith, lt))),
@@ -333,7 +334,7 @@ module _ (shape : Dimensions) (known : Known) (snapshot_call : SnapshotCall) (a 
             began_still a counted (taking_sees a (load_count at) count) are.began,
           )
 
-      pub puts_count : StepsBy shape.size snapshot_call.version a words words (SnapshotCallGives shape known new More a)
+      pub puts_count : StepsBy shape.size snapshot_call.version a words words (SnapshotCallGives shape known snapshot_call.stage new More a)
       puts_count =
           let beside : FrameOfStep a counted = seen_alike a counted refl refl refl refl refl refl refl refl in record {
             before = [];
@@ -348,6 +349,7 @@ module _ (shape : Dimensions) (known : Known) (snapshot_call : SnapshotCall) (a 
               refl,
               (
                 beside,
+                subst (λ (stage : Stage). LooksAnew stage a counted) (sym loads) refl,
                 goes_still new counted same.version same.histogram beside (ap is_bound (count_placed known mounted word a are bucket stands.2 count))
                     (subst (StandsAtStage shape known new counted) (sym (ap (λ (l : SnapshotCall). l.stage) put.same)) (stands_then learned.0)),
               ),
@@ -360,7 +362,7 @@ module _ (shape : Dimensions) (known : Known) (snapshot_call : SnapshotCall) (a 
     before_sum = subst (StandsAtStage shape known snapshot_call a) loads is.stands
 
     pub loads_sum : (sum : ℤ) → sum ≡ cast_signed w64 (word_at words (snapshot_call.histogram + 11))
-        → StepsBy shape.size snapshot_call.version a words words (SnapshotCallGives shape known (record snapshot_call { stage = LoadingRedundant sum }) More a)
+        → StepsBy shape.size snapshot_call.version a words words (SnapshotCallGives shape known snapshot_call.stage (record snapshot_call { stage = LoadingRedundant sum }) More a)
     loads_sum sum is_sum =
         let found : ℕ = word_at words (known.reference + 11) in
         let event : Event = taking_event (load_sum known.reference) in
@@ -378,6 +380,7 @@ module _ (shape : Dimensions) (known : Known) (snapshot_call : SnapshotCall) (a 
             refl,
             (
               beside,
+              subst (λ (stage : Stage). LooksAnew stage a acted) (sym loads) refl,
               goes_still (record snapshot_call { stage = LoadingRedundant sum }) acted refl refl beside refl (
                 ⊎_elim (λ (has, totals). inl (keys_still known snapshot_call (record snapshot_call { stage = LoadingRedundant sum }) (record { version = refl; histogram = refl; keys = refl; long = refl }) has, totals))
                     (λ all. inr (all_still known a acted (taking_sees a (load_sum known.reference) found) snapshot_call.totals.items refl refl all)) before_sum.0,
@@ -443,7 +446,7 @@ module _ (shape : Dimensions) (known : Known) (snapshot_call : SnapshotCall) (a 
       );
     }
 
-    pub answers_so : WalksInOrder a → StepsBy shape.size snapshot_call.version a words words (SnapshotCallGives shape known snapshot_call (Done sum redundant) a)
+    pub answers_so : WalksInOrder a → StepsBy shape.size snapshot_call.version a words words (SnapshotCallGives shape known snapshot_call.stage snapshot_call (Done sum redundant) a)
     answers_so order = let saw = saw_all (order (not_spent a.hand.place is.turns)) in record {
       before = [];
       at = a;
@@ -457,6 +460,7 @@ module _ (shape : Dimensions) (known : Known) (snapshot_call : SnapshotCall) (a 
         ((known, is.knows, refl, saw, refl), refl),
         (
           ap is_tied before_last.2,
+          subst (λ (stage : Stage). LooksAnew stage a (noted loaded (answers answered))) (sym loads) refl,
           record {
             beside = record {
               role = refl;
@@ -482,6 +486,9 @@ module _ (shape : Dimensions) (known : Known) (snapshot_call : SnapshotCall) (a 
               sum = saw.sum;
               redundant = saw.redundant;
             };
+            values = λ sparse.
+                ⊎_elim (λ (has, totals). absurd (true≢false (sym has.bucketed ∙ ap has_buckets sparse)))
+                (λ all. are_units known snapshot_call.totals.items a (order (not_spent a.hand.place is.turns)) all) before_last.0;
           },
         ),
       );

@@ -28,13 +28,14 @@ use Rattle.segment_promises.proofs.Calls.Sights.{seen_here}
 use Rattle.hist_core.proofs.Parts.Alone.{seen_alike}
 use Rattle.hist_core.specs.declared.snapshot_call.SnapshotCall.{SnapshotCall}
 use Rattle.hist_core.specs.declared.snapshot_call.SnapshotCallStep.TheVariants.{More}
+use Rattle.hist_core.specs.declared.snapshot_call.Stage.{Stage}
 use Rattle.hist_core.specs.declared.snapshot_call.Stage.TheVariants.{Walking, LoadingSample}
 use Rattle.hist_core.specs.StepsBy.{FrameOfStep, StepsBy, IsInOrder, WalksInOrder}
 use Rattle.hist_core.specs.declared.walk.Met.{Met}
 use Rattle.hist_core.specs.declared.walk.Met.TheVariants.{Nothing, Sample, End}
 use Rattle.hist_core.specs.declared.walk.Walk.{Walk}
 use Rattle.hist_core.specs.declared.walk.Walk.TheVariants.{LoadingFirst, LoadingType, LoadingHistogram, LoadingValue, LoadingNext}
-use Rattle.hist_core.specs.SnapshotCall.{HasListed, HasRoom, HasSeenValues, HasTotal, IsBehindWalk, IsListed, IsSnapshotCall, IsSomeSnapshotCall, ListsSeen, SnapshotCallGives, StandsAtStage}
+use Rattle.hist_core.specs.SnapshotCall.{HasListed, HasRoom, HasSeenValues, HasTotal, IsBehindWalk, IsListed, IsSnapshotCall, IsSomeSnapshotCall, ListsSeen, LooksAnew, SnapshotCallGives, StandsAtStage}
 use Rattle.hist_core.specs.Walk.{HasComeTo, HasSetOut, IsWalkProgress, Meets, MetSample, WalksAt, spot_of}
 use Rattle.hist_core.proofs.Parts.Allocations.{goes_with}
 use Rattle.hist_core.proofs.AddCall.GhostNotes.{goes_after}
@@ -87,22 +88,22 @@ module _ (shape : Dimensions) (known : Known) (snapshot_call : SnapshotCall) (a 
 
   module _ (met : Met) (new : SnapshotCall) (behind : IsBehindWalk snapshot_call met new) where
     -- behind its first event
-    further : (walk : Walk) → StandsAtStage shape known snapshot_call a (Walking walk) → HasSetOut walk → Meets walk known.reference (word_at words (spot_of known.reference walk)) met
-        → StepsBy shape.size snapshot_call.version a words words (SnapshotCallGives shape known new More a)
-    further walk stands set_out meets =
+    further : (walk : Walk) → ((b : Actor) → b.since ≡ a.since → LooksAnew (Walking walk) a b) → StandsAtStage shape known snapshot_call a (Walking walk) → HasSetOut walk → Meets walk known.reference (word_at words (spot_of known.reference walk)) met
+        → StepsBy shape.size snapshot_call.version a words words (SnapshotCallGives shape known (Walking walk) new More a)
+    further walk anew stands set_out meets =
         goes_with (walks_so shape snapshot_call.version known (ListsSeen known snapshot_call) (lists_along known snapshot_call) a words is.segment is.turns walk stands.1
-        (began_before shape known (ListsSeen known snapshot_call) walk a set_out stands.1) met meets) (λ b (beside, turns, comes).
+        (began_before shape known (ListsSeen known snapshot_call) walk a set_out stands.1) met meets) (λ b (beside, since, turns, comes).
         let then_is = stands_behind met new b stands.0 behind comes in
-        (beside, goes_still shape known snapshot_call a words is new b then_is.0 then_is.1 beside turns then_is.2))
+        (beside, anew b since, goes_still shape known snapshot_call a words is new b then_is.0 then_is.1 beside turns then_is.2))
 
     -- with its first event it begins to look
     sets_out : StandsAtStage shape known snapshot_call a (Walking LoadingFirst) → Meets LoadingFirst known.reference (word_at words (known.reference + 3)) met
-        → StepsBy shape.size snapshot_call.version a words words (SnapshotCallGives shape known new More a)
+        → StepsBy shape.size snapshot_call.version a words words (SnapshotCallGives shape known (Walking LoadingFirst) new More a)
     sets_out stands meets =
         goes_after looks (λ e. true≢false (sym (ap is_bound e) ∙ is.turns), is.recorder, is.counts_nothing, is.takes_nothing)
         (goes_with (walks_so shape snapshot_call.version known (ListsSeen known snapshot_call) (lists_along known snapshot_call) (noted a looks) words is.segment is.turns LoadingFirst
         (record { sparse = stands.1.0.sparse; apart = stands.1.0.apart; met = stands.1.0.met }, stands.1.1)
-        (record { singles = omega arith; counts = omega arith }) met meets) (λ b (beside, turns, comes).
+        (record { singles = omega arith; counts = omega arith }) met meets) (λ b (beside, since, turns, comes).
         let then_is = stands_behind met new b stands.0 behind comes in
         let aside : FrameOfStep a b = record {
           role = beside.role;
@@ -114,20 +115,21 @@ module _ (shape : Dimensions) (known : Known) (snapshot_call : SnapshotCall) (a 
           chain = beside.chain;
           words = beside.words;
         } in
-        (aside, goes_still shape known snapshot_call a words is new b then_is.0 then_is.1 aside turns then_is.2)))
+        (aside, since, goes_still shape known snapshot_call a words is new b then_is.0 then_is.1 aside turns then_is.2)))
 
     pub walks_further : (walk : Walk) → snapshot_call.stage ≡ Walking walk → Meets walk snapshot_call.histogram (word_at words (spot_of snapshot_call.histogram walk)) met
-        → StepsBy shape.size snapshot_call.version a words words (SnapshotCallGives shape known new More a)
-    walks_further walk loads meets = by walk (subst (StandsAtStage shape known snapshot_call a) loads is.stands)
-        (subst (λ (h : ℕ). Meets walk h (word_at words (spot_of h walk)) met) (sym is.reference) meets)
+        → StepsBy shape.size snapshot_call.version a words words (SnapshotCallGives shape known snapshot_call.stage new More a)
+    walks_further walk loads meets = subst (λ (stage : Stage). StepsBy shape.size snapshot_call.version a words words (SnapshotCallGives shape known stage new More a)) (sym loads)
+        (by walk (subst (StandsAtStage shape known snapshot_call a) loads is.stands)
+        (subst (λ (h : ℕ). Meets walk h (word_at words (spot_of h walk)) met) (sym is.reference) meets))
       where
         by : (walk : Walk) → StandsAtStage shape known snapshot_call a (Walking walk) → Meets walk known.reference (word_at words (spot_of known.reference walk)) met
-            → StepsBy shape.size snapshot_call.version a words words (SnapshotCallGives shape known new More a)
+            → StepsBy shape.size snapshot_call.version a words words (SnapshotCallGives shape known (Walking walk) new More a)
         by LoadingFirst stands meets = sets_out stands meets
-        by (LoadingType at) stands meets = further (LoadingType at) stands tt meets
-        by (LoadingHistogram at) stands meets = further (LoadingHistogram at) stands tt meets
-        by (LoadingValue at of) stands meets = further (LoadingValue at of) stands tt meets
-        by (LoadingNext at) stands meets = further (LoadingNext at) stands tt meets
+        by (LoadingType at) stands meets = further (LoadingType at) (λ b since. since) stands tt meets
+        by (LoadingHistogram at) stands meets = further (LoadingHistogram at) (λ b since. since) stands tt meets
+        by (LoadingValue at of) stands meets = further (LoadingValue at of) (λ b since. since) stands tt meets
+        by (LoadingNext at) stands meets = further (LoadingNext at) (λ b since. since) stands tt meets
 
   -- its count
   module _ (at : ℕ) (value : ℤ) (loads : snapshot_call.stage ≡ LoadingSample at value) where
@@ -205,7 +207,7 @@ module _ (shape : Dimensions) (known : Known) (snapshot_call : SnapshotCall) (a 
           met_count.2 (λ later. some (learned.1 at refl later)))
 
     pub loads_sample : (new : SnapshotCall) → IsListed value count (record snapshot_call { stage = Walking (LoadingNext at) }) new → WalksInOrder a
-        → StepsBy shape.size snapshot_call.version a words words (SnapshotCallGives shape known new More a)
+        → StepsBy shape.size snapshot_call.version a words words (SnapshotCallGives shape known snapshot_call.stage new More a)
     loads_sample new listed order = record {
       before = [];
       at = a;
@@ -219,6 +221,7 @@ module _ (shape : Dimensions) (known : Known) (snapshot_call : SnapshotCall) (a 
         refl,
         (
           counted_beside,
+          subst (λ (stage : Stage). LooksAnew stage a counted) (sym loads) refl,
           goes_still shape known snapshot_call a words is new counted (ap (λ (l : SnapshotCall). l.version) listed.same) (ap (λ (l : SnapshotCall). l.histogram) listed.same) counted_beside
               (at_sample a.hand.place (at + 6) count its_way.apart).1
               (subst (StandsAtStage shape known new counted) (sym (ap (λ (l : SnapshotCall). l.stage) listed.same)) (

@@ -16,8 +16,8 @@ use Rattle.hist_core.specs.declared.actor_run.Running.{Running}
 use Rattle.hist_core.specs.declared.actor_run.Running.TheVariants.{Snapshot}
 use Rattle.hist_core.specs.declared.actor_run.ActorRun.{ActorRun}
 use Rattle.hist_core.specs.StepsBy.{StepsBy, IsFree, WalksInOrder}
-use Rattle.hist_core.specs.SnapshotCall.{HasLooked, IsSnapshotCall, IsSomeSnapshotCall, SnapshotCallGives, SnapshotCallSteps}
-use Rattle.hist_core.specs.ActorRun.{Advances, Answers, AreShown, BeginsSnapshot, IsKnown, known_of, IsAnswer, IsQuiet, IsRun, IsSnapshotAnnounced, IsSomeRun, StandsIn, begun_by, ended_by, looked_by, pending_by}
+use Rattle.hist_core.specs.SnapshotCall.{HasJustBegun, HasLooked, IsSnapshotCall, IsSomeSnapshotCall, LooksAnew, SnapshotCallGives, SnapshotCallSteps}
+use Rattle.hist_core.specs.ActorRun.{Advances, Answers, AreShown, BeginsSnapshot, IsKnown, known_of, IsAnswer, IsQuiet, IsRun, IsSnapshotAnnounced, IsSomeRun, LooksSince, StandsIn, begun_by, ended_by, looked_by, pending_by}
 use Rattle.std.specs.List.{range_with_len}
 use mathlib.Core.Option.{some}
 use lib.ListN.{get_elem?}
@@ -43,7 +43,7 @@ use Rattle.hist_core.proofs.Parts.Allocations.{goes_with}
 use Rattle.hist_core.proofs.HistCall.Asking.{place_below, runs_on}
 use Rattle.hist_core.proofs.Worlds.WorldStates.{same_there}
 use Rattle.hist_core.proofs.AddCall.Opening.{alone_there}
-use Rattle.hist_core.proofs.Worlds.Apart.{asks_not, adds_not, batches_not}
+use Rattle.hist_core.proofs.Worlds.Apart.{asks_not, adds_not, batches_not, sets_not}
 use Rattle.hist_core.proofs.Worlds.Free.{free_apart, free_turns}
 use Rattle.hist_core.proofs.Worlds.Quiet.{begun_there, met_split, not_spent, quiet_on, takes_none, takes_not}
 
@@ -111,25 +111,31 @@ module _ (shape : Dimensions) (version : ℕ) (old : ActorRun) (a : Actor) (run 
     sum = looked.sum_is;
     redundant = looked.redundant_is;
     saw = looked.saw;
+    values = looked.values;
   }
 
-  its_steps : (said : SnapshotCallStep) → SnapshotCallSteps snapshot_call words now new_words said → StepsBy shape.size version a words new_words (SnapshotCallGives shape known now said a)
-  its_steps said steps = subst (λ (v : ℕ). StepsBy shape.size v a words new_words (SnapshotCallGives shape known now said a)) one_version (steps shape known a long order looks)
+  its_steps : (said : SnapshotCallStep) → SnapshotCallSteps snapshot_call words now new_words said → StepsBy shape.size version a words new_words (SnapshotCallGives shape known snapshot_call.stage now said a)
+  its_steps said steps = subst (λ (v : ℕ). StepsBy shape.size v a words new_words (SnapshotCallGives shape known snapshot_call.stage now said a)) one_version (steps shape known a long order looks)
+
+  looks_since : (b : Actor) → LooksAnew snapshot_call.stage a b → LooksSince old.running a b
+  looks_since b anew = subst (λ running. LooksSince running a b) (sym is) anew
 
   -- what the machine's actor does, and what becomes of that at run time
   pub snapshot_goes : (said : SnapshotCallStep) (new : ActorRun) (result : Stepped) → SnapshotCallSteps snapshot_call words now new_words said
       → IsSnapshotAnnounced (record old { running = Some (Snapshot now) }) said new result → Advances shape version old words new new_words result a
   snapshot_goes More new result steps (new_is, result_is) =
-      subst (λ said. Advances shape version old words new new_words said a) (sym result_is) (goes_with (its_steps More steps) (λ b (beside, looks_on).
-      subst (λ (r : ActorRun). IsRun shape version r b) (sym new_is)
-      (runs_on shape version old a run b (Some (Snapshot now)) beside (quiet_on (pending_by old) a b beside.units beside.entries beside.deltas stands.0, (known, looks_on)) tt tt)))
+      subst (λ said. Advances shape version old words new new_words said a) (sym result_is) (goes_with (its_steps More steps) (λ b (beside, anew, looks_on). (
+        subst (λ (r : ActorRun). IsRun shape version r b) (sym new_is)
+            (runs_on shape version old a run b (Some (Snapshot now)) beside (quiet_on (pending_by old) a b beside.units beside.entries beside.deltas stands.0, (known, looks_on)) tt tt),
+        looks_since b anew,
+      )))
   snapshot_goes (Done sum redundant) new result steps (other, is_other, new_is, result_is) =
       let here : other ≡ now = sym (ap (looks_by now) is_other) in
       let said_is : result ≡ stepped.Done (answer.Snapshot (record { counts = now.totals; sum = sum; redundant = redundant })) =
       result_is ∙ ap (λ (x : SnapshotCall). stepped.Done (answer.Snapshot (record { counts = x.totals; sum = sum; redundant = redundant }))) here in
-      subst (λ said. Advances shape version old words new new_words said a) (sym said_is) (goes_with (its_steps (Done sum redundant) steps) (λ b (turns, looked). (
-        subst (λ (r : ActorRun). IsRun shape version r b) (sym new_is) (rests_then b sum redundant turns looked),
-        is_answer b sum redundant looked,
+      subst (λ said. Advances shape version old words new new_words said a) (sym said_is) (goes_with (its_steps (Done sum redundant) steps) (λ b (turns, anew, looked). (
+        (subst (λ (r : ActorRun). IsRun shape version r b) (sym new_is) (rests_then b sum redundant turns looked), is_answer b sum redundant looked),
+        looks_since b anew,
       )))
 
 -- ---- what is answered
@@ -147,6 +153,7 @@ module _ (old : ActorRun) (snapshot_call now : SnapshotCall) (is : old.running �
           (λ other is_other. (now, ap (λ (r : ActorRun). r.running) new_is, same ∙ ap (λ (x : SnapshotCall). x.histogram) (ap (looks_by snapshot_call) (sym is ∙ is_other)))),
           (λ delta_call fresh is_delta_call. absurd (subst takes_not (sym is ∙ is_delta_call) tt)),
           (λ batch is_batch. absurd (subst batches_not (sym is ∙ is_batch) tt)),
+          (λ sets. absurd (subst sets_not (sym is ∙ sets) tt)),
         ),
         (ap ended_by new_is, ap begun_by new_is ∙ begun_there old all unbegun, ap pending_by new_is),
         takes_none old new stepped.More (subst takes_not (sym is) tt) (ap (λ (r : ActorRun). r.taken.items) new_is),
@@ -276,11 +283,25 @@ call_begun IsOf actor_runs actor r now here place known at same taken is name na
   (known, subst (λ (l : List Known). Contains l known) (sym same) (contains_at r.known.items place known at), named, is),
 )
 
+-- it has done no event yet
+just_begun : (shape : Dimensions) (known : MachineKnown) (snapshot_call : SnapshotCall) (stage : Stage) → OpensWith shape known snapshot_call stage → HasJustBegun stage
+just_begun shape k d LoadingSingle opens = tt
+just_begun shape k d (Walking LoadingFirst) opens = tt
+just_begun shape k d (Walking (LoadingType at)) none = absurd none
+just_begun shape k d (Walking (LoadingHistogram at)) none = absurd none
+just_begun shape k d (Walking (LoadingValue at of)) none = absurd none
+just_begun shape k d (Walking (LoadingNext at)) none = absurd none
+just_begun shape k d (LoadingCounts packed kept) none = absurd none
+just_begun shape k d (LoadingCount mounted bucket) none = absurd none
+just_begun shape k d (LoadingSample at value) none = absurd none
+just_begun shape k d LoadingSum none = absurd none
+just_begun shape k d (LoadingRedundant sum) none = absurd none
+
 pub snapshot_begun : {shape : Dimensions} {version : ℕ} (actor_runs : List ActorRun) (actor : ℕ) (r now : ActorRun) → get_elem? actor_runs actor ≡ some r → (place : ℕ) (known : Known)
     → get_elem? r.known.items place ≡ some known → BeginsSnapshot shape version known r now → (name : List ℕ) → known.name.items ≡ name
     → (before behind : ActorRun) × (get_elem? actor_runs actor ≡ some before) × (get_elem? (set actor_runs actor now) actor ≡ some behind)
     × (behind.taken.items ≡ before.taken.items)
     × ((k : Known) × Contains behind.known.items k × (k.name.items ≡ name) × LooksAt k.reference behind.running)
-snapshot_begun actor_runs actor r now here place known at starts =
+snapshot_begun {shape = shape} actor_runs actor r now here place known at starts =
     call_begun LooksAt actor_runs actor r now here place known at (ap (λ (x : ActorRun). x.known.items) starts.2) (ap (λ (x : ActorRun). x.taken.items) starts.2)
-    (subst (LooksAt known.reference) (sym (ap (λ (x : ActorRun). x.running) starts.2)) starts.1.reference)
+    (subst (LooksAt known.reference) (sym (ap (λ (x : ActorRun). x.running) starts.2)) (starts.1.reference, just_begun shape (known_of known) starts.0 starts.0.stage starts.1.opens))

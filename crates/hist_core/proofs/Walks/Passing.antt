@@ -19,7 +19,7 @@ use Rattle.segment_machine.proofs.Values.{value_word}
 use Rattle.segment_promises.specs.Values.{ComesTo}
 use Rattle.segment_promises.proofs.ListedValues.{lists_still}
 use Rattle.segment_promises.proofs.SortedKeys.{one_place, once_still}
-use Rattle.segment_promises.specs.Calls.{BeganBefore, SeesMore}
+use Rattle.segment_promises.specs.Calls.{AreUnits, BeganBefore, SeesMore}
 use Rattle.segment_promises.proofs.Calls.SampleLists.{all_passed, did_with}
 use Rattle.segment_promises.proofs.Calls.Sights.{began_still, saw_count}
 use Rattle.hist_core.specs.StepsBy.{IsInOrder}
@@ -122,3 +122,10 @@ module _ (known : Known) (totals : List (ℤ × ℕ)) (a : Actor) (order : IsInO
             (Contains-permutation (map (λ (c : ℤ × ℕ). c.0) all.listed) (map (λ (c : ℤ × ℕ). c.0) totals) v
             (IsPermutation-map (λ (c : ℤ × ℕ). c.0) all.listed totals all.sorted.moved) has))) either,
       )
+
+  -- its values ascend, each with units
+  pub are_units : AreUnits totals
+  are_units = record {
+    ascending = all.sorted.ascending all.lists.once;
+    some = All-permutation (λ (count : ℤ × ℕ). 1 ≤ count.1) all.listed totals all.sorted.moved (λ k d low. (all.lists.firsts k d low).2.1);
+  }

@@ -10,7 +10,8 @@ use Rattle.segment_machine.specs.Event.{allocating_event, next}
 use Rattle.segment_machine.specs.Allocating.{set_flag}
 use Rattle.hist_core.specs.declared.actor_run.Running.TheVariants.{SetCorrupt}
 use Rattle.hist_core.specs.declared.actor_run.ActorRun.{ActorRun}
-use Rattle.hist_core.specs.ActorRun.{IsRun, StandsIn, Advances, pending_by}
+use Rattle.hist_core.proofs.Worlds.Landing.{Landing}
+use Rattle.hist_core.specs.ActorRun.{IsRun, StandsIn, pending_by}
 use Rattle.hist_core.specs.declared.call.Answer.TheVariants.{Flagged}
 use Rattle.hist_core.specs.declared.call.Stepped.TheVariants.{Done}
 use Rattle.hist_core.proofs.Worlds.Free.{free_turns}
@@ -19,7 +20,7 @@ use Rattle.hist_core.proofs.Worlds.Quiet.{quiet_on}
 -- the one event of `set_corrupt`
 pub sets_corrupt : (shape : Dimensions) (version : ℕ) (a : Actor) (old : ActorRun) (words new_words : List ℕ) → HEADER_WORDS ≤ shape.size
     → IsRun shape version old a → old.running ≡ Some SetCorrupt → new_words ≡ atomic.after (atomic.set_flag 1) words
-    → Advances shape version old words (record old { running = None }) new_words (Done Flagged) a
+    → Landing shape version old words (record old { running = None }) new_words (Done Flagged) a
 sets_corrupt shape version a old words new_words long run is stored =
     let stands = subst (λ running. StandsIn shape old.known.items (pending_by old) running a) is run.stands in
     record {

@@ -50,15 +50,16 @@ use Rattle.hist_core.specs.declared.call.Stepped.{Stepped}
 use Rattle.hist_core.specs.declared.call.Stepped.TheVariants.{More, Done}
 use Rattle.hist_core.specs.declared.call.Answer.TheVariants as answer
 use Rattle.hist_core.specs.StepsBy.{StepsBy, WalksInOrder}
-use Rattle.hist_core.specs.ActorRun.{IsAnswer, IsTook, IsKnown, IsRun, IsSomeRun, Lands, Advances, held_by, looked_by, returned_by, StandsIn, known_of, pending_by, IsRefusedBy}
-use Rattle.hist_core.specs.WorldState.{AreRun, IsReachedAs, IsReached, IsConsistentAs, IsReadAs, AreKnownFirst, HasSeen, HasTaken, IsPromised, StepsTo, BeginsFrom, IsDue}
+use Rattle.hist_core.specs.ActorRun.{HasMovedNothing, IsAnswer, IsTook, IsKnown, IsRun, IsSomeRun, Lands, Advances, held_by, looked_by, returned_by, LooksSince, StandsIn, known_of, pending_by, IsRefusedBy}
+use Rattle.hist_core.specs.WorldState.{AreRun, IsReachedAs, IsReached, IsConsistentAs, IsReadAs, AreKnownFirst, HasSeen, HasTaken, IsPromised, StepsTo, BeginsFrom, IsDue, LooksFrom}
 use Rattle.bucket_ranges.specs.Ranges.{boundaries_of}
 use Rattle.bucket_ranges.specs.Spec.{spec_fault}
 use Rattle.std.specs.Prelude.{None, Ok}
 use Rattle.hist_core.specs.World.{of_actor}
 use Rattle.hist_core.proofs.Walks.Orders.{walks_in_order}
 use Rattle.hist_core.proofs.Worlds.Free.{free_turns}
-use Rattle.hist_core.proofs.Worlds.Causes.{is_due, refused_still}
+use Rattle.hist_core.proofs.Worlds.Landing.{looks_still}
+use Rattle.hist_core.proofs.Worlds.Causes.{is_due, moved_still, refused_still}
 use Rattle.segment_calls.specs.declared.refusal.Refusal.{Refusal}
 use Rattle.hist_core.proofs.Worlds.Quiet.{not_spent, counts_none, some_quiet}
 
@@ -232,11 +233,26 @@ module _ (old : WorldState) (state : State) (reach : IsReachedAs old state) (siz
       };
     }
 
+    -- since when it looks
+    looks_from : (last : State) (b : Actor) → get_elem? last.actors (actor + 1) ≡ some b → LooksSince r.running its.0 b → LooksFrom old actor state last
+    looks_from last b is_last looks before a c was is_a is_c =
+        subst (λ (p : ActorRun × Actor × Actor). LooksSince p.0.running p.1 p.2)
+        (λ i. (some-injective r before (sym at ∙ was) i, some-injective its.0 a (sym there ∙ is_a) i, some-injective b c (sym is_last ∙ is_c) i)) looks
+
     -- it lands there, where no units come back
     lands : (event : Event) (b : Actor) (step : IsStep old.version state (actor + 1) event (changed b)) (pooled : new.units ≡ old.units)
-        (run : IsRun old.shape old.version r' b) (said : Stepped) → IsPromised old actor said new (changed b) (reached_so event b step pooled run)
-        → StepsTo old actor state new said
-    lands event b step pooled run said promised = (event, changed b, step, (changed b, inl refl, (reached_so event b step pooled run, promised)))
+        (run : IsRun old.shape old.version r' b) → LooksSince r.running its.0 b → (said : Stepped)
+        → IsPromised old actor said new (changed b) (reached_so event b step pooled run) → StepsTo old actor state new said
+    lands event b step pooled run looks said promised = (
+      event,
+      changed b,
+      step,
+      (
+        changed b,
+        inl refl,
+        (reached_so event b step pooled run, promised, looks_from (changed b) b (set_at state.actors (actor + 1) its.0 b there) looks),
+      ),
+    )
 
     -- the opener and its actor, once one has given the other units
     abbrev traded : Actor → Actor → Actor → State
@@ -254,11 +270,18 @@ module _ (old : WorldState) (state : State) (reach : IsReachedAs old state) (siz
     not_first : 0 ≢ actor + 1
     not_first same = omega (arith, same)
 
+    -- its actor is last there
+    mine_last : (b : Actor) (units : ℕ) → get_elem? (traded b (getter reach.shows.opener units) (giver b units)).actors (actor + 1) ≡ some (giver b units)
+    mine_last b units =
+        let opener : Actor = getter reach.shows.opener units in
+        let mine = set_else (set state.actors (actor + 1) b) 0 (actor + 1) opener (λ same. not_first (sym same)) ∙ set_at state.actors (actor + 1) its.0 b there in
+        set_at (set (set state.actors (actor + 1) b) 0 opener) (actor + 1) b (giver b units) mine
+
     -- it lands there once its units have come back
     lands_back : (event : Event) (b : Actor) (units : ℕ) → IsStep old.version state (actor + 1) event (changed b) → new.units ≡ old.units + units
-        → b.hand.place ≢ Spent → is_opener b.role ≡ false → units ≤ b.units.share → IsRun old.shape old.version r' (giver b units) → (said : Stepped)
+        → b.hand.place ≢ Spent → is_opener b.role ≡ false → units ≤ b.units.share → IsRun old.shape old.version r' (giver b units) → LooksSince r.running its.0 b → (said : Stepped)
         → ((there : IsReachedAs new (traded b (getter reach.shows.opener units) (giver b units))) → IsPromised old actor said new _ there) → StepsTo old actor state new said
-    lands_back event b units step pooled living recorder fits run said promised =
+    lands_back event b units step pooled living recorder fits run looks said promised =
         let opener : Actor = reach.shows.opener in
         let last : State = traded b (getter opener units) (giver b units) in
         let back : IsReturned (changed b) 0 (actor + 1) units last =
@@ -282,42 +305,45 @@ module _ (old : WorldState) (state : State) (reach : IsReachedAs old state) (siz
           event,
           changed b,
           step,
-          (last, inr (units, back), (there, promised there)),
+          (
+            last,
+            inr (units, back),
+            (there, promised there, looks_from last (giver b units) (mine_last b units) (looks_still r.running its.0 b (giver b units) refl looks)),
+          ),
         )
 
     -- why it was refused shows there
-    due_back : (b : Actor) (units : ℕ) (cause : Refusal) → b.hand.place ≢ Spent → IsRefusedBy r.running cause b
+    due_back : (b : Actor) (units : ℕ) (cause : Refusal) → b.hand.place ≢ Spent → IsRefusedBy r.running cause b → HasMovedNothing r.running b
         → (there : IsReachedAs new (traded b (getter reach.shows.opener units) (giver b units))) (before : ActorRun) → get_elem? old.actor_runs.items actor ≡ some before
         → IsDue actor before.running cause new (traded b (getter reach.shows.opener units) (giver b units))
-    due_back b units cause living is reaches_it before was =
+    due_back b units cause living is moved reaches_it before was =
         let last : State = traded b (getter reach.shows.opener units) (giver b units) in
-        let opener : Actor = getter reach.shows.opener units in
-        let mine = set_else (set state.actors (actor + 1) b) 0 (actor + 1) opener (λ same. not_first (sym same)) ∙ set_at state.actors (actor + 1) its.0 b there in
         subst (λ (x : ActorRun). IsDue actor x.running cause new last) (some-injective r before (sym at ∙ was))
-        (is_due new last reaches_it actor (giver b units) (set_at (set (set state.actors (actor + 1) b) 0 opener) (actor + 1) b (giver b units) mine) living r.running cause (refused_still r.running cause b (giver b units) refl refl is))
+        (is_due new last reaches_it actor (giver b units) (mine_last b units) living r.running cause (refused_still r.running cause b (giver b units) refl refl is)
+        (moved_still r.running b (giver b units) refl refl moved))
 
     -- where its actor lands by what its call says
     lands_so : (event : Event) (b : Actor) → IsStep old.version state (actor + 1) event (changed b) → (said : Stepped)
-        → new.units ≡ old.units + returned_by said (held_by r.running) → Lands old.shape old.version r r' said b → StepsTo old actor state new said
-    lands_so event b step More pooled run = lands event b step (omega (arith, pooled)) run More tt
-    lands_so event b step (Done answer.Added) pooled run = lands event b step (omega (arith, pooled)) run (Done answer.Added) tt
-    lands_so event b step (Done answer.Flagged) pooled run = lands event b step (omega (arith, pooled)) run (Done answer.Flagged) tt
-    lands_so event b step (Done (answer.Hist reference)) pooled run = lands event b step (omega (arith, pooled)) run (Done (answer.Hist reference)) tt
-    lands_so event b step (Done (answer.Delta delta)) pooled (run, is) =
+        → new.units ≡ old.units + returned_by said (held_by r.running) → Lands old.shape old.version r r' said b → LooksSince r.running its.0 b → StepsTo old actor state new said
+    lands_so event b step More pooled run looks = lands event b step (omega (arith, pooled)) run looks More tt
+    lands_so event b step (Done answer.Added) pooled run looks = lands event b step (omega (arith, pooled)) run looks (Done answer.Added) tt
+    lands_so event b step (Done answer.Flagged) pooled run looks = lands event b step (omega (arith, pooled)) run looks (Done answer.Flagged) tt
+    lands_so event b step (Done (answer.Hist reference)) pooled run looks = lands event b step (omega (arith, pooled)) run looks (Done (answer.Hist reference)) tt
+    lands_so event b step (Done (answer.Delta delta)) pooled (run, is) looks =
         let same : new.units ≡ old.units = omega (arith, pooled) in
-        lands event b step same run (Done (answer.Delta delta)) (λ before was.
+        lands event b step same run looks (Done (answer.Delta delta)) (λ before was.
         subst (λ (x : ActorRun). HasTaken actor (looked_by x.running) delta new (changed b) (reached_so event b step same run)) (some-injective r before (sym at ∙ was))
         (has_taken new (changed b) (reached_so event b step same run) actor b (set_at state.actors (actor + 1) its.0 b there) run.records (looked_by r.running) delta is))
-    lands_so event b step (Done (answer.Snapshot snapshot)) pooled (run, is) =
+    lands_so event b step (Done (answer.Snapshot snapshot)) pooled (run, is) looks =
         let same : new.units ≡ old.units = omega (arith, pooled) in
-        lands event b step same run (Done (answer.Snapshot snapshot)) (λ before was.
+        lands event b step same run looks (Done (answer.Snapshot snapshot)) (λ before was.
         subst (λ (x : ActorRun). HasSeen actor (looked_by x.running) snapshot new (changed b) (reached_so event b step same run)) (some-injective r before (sym at ∙ was))
         (has_seen new (changed b) (reached_so event b step same run) actor b (set_at state.actors (actor + 1) its.0 b there) run.records (looked_by r.running) snapshot is))
-    lands_so event b step (Done (answer.BatchRefused refused)) pooled ((living, fits, run), cause) =
-        lands_back event b (held_by r.running) step pooled living run.records fits run (Done (answer.BatchRefused refused))
-        (due_back b (held_by r.running) refused.why living cause)
-    lands_so event b step (Done (answer.Refused why)) pooled ((living, fits, run), cause) =
-        lands_back event b (held_by r.running) step pooled living run.records fits run (Done (answer.Refused why)) (due_back b (held_by r.running) why living cause)
+    lands_so event b step (Done (answer.BatchRefused refused)) pooled ((living, fits, run), (cause, moved)) looks =
+        lands_back event b (held_by r.running) step pooled living run.records fits run looks (Done (answer.BatchRefused refused))
+        (due_back b (held_by r.running) refused.why living cause moved)
+    lands_so event b step (Done (answer.Refused why)) pooled ((living, fits, run), (cause, moved)) looks =
+        lands_back event b (held_by r.running) step pooled living run.records fits run looks (Done (answer.Refused why)) (due_back b (held_by r.running) why living cause moved)
 
     -- an actor that goes on by an event leads to the next state
     pub steps : (said : Stepped) → ((a : Actor) → WalksInOrder a → IsRun old.shape old.version r a → Advances old.shape old.version r words r' new.words.items said a)
@@ -325,7 +351,7 @@ module _ (old : WorldState) (state : State) (reach : IsReachedAs old state) (siz
     steps said advances pooled =
         let kept = states_are_kept old.shape old.version reach.id 0 state reach.reached in
         let order = walks_in_order old.shape (blank old.version reach.id old.shape.size) state kept (actor + 1) its.0 there in
-        let did = does_step (advances its.0 order its.2) in lands_so did.0 did.1 did.2 said pooled did.3
+        let did = does_step (advances its.0 order its.2) in lands_so did.0 did.1 did.2 said pooled did.3.0 did.3.1
 
     -- its actor is lent units, and may begin a call with them
     pub lends : (units : ℕ) → new.words.items ≡ old.words.items → new.units + units ≡ old.units

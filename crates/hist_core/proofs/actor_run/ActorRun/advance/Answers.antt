@@ -2,6 +2,8 @@ use Rattle.std.proofs.Common.{◌≤◌, ◌<◌, ◌+◌, take, length, ap, sym
 use Rattle.std.specs.Prelude.{Some, None, vec_capacity}
 use Rattle.std.proofs.Props.{props}
 use Rattle.std.proofs.Math.Logic.{∥∥₁_elim}
+use Rattle.hist_core.specs.declared.call.Answer.TheVariants.{Flagged}
+use Rattle.hist_core.specs.declared.call.Stepped.TheVariants.{Done}
 use Rattle.hist_core.specs.ActorRun.{HasRoom}
 use Rattle.hist_core.proofs.AddCall.Adding.{add_goes, add_answers, some_add}
 use Rattle.hist_core.proofs.BatchCall.Batched.{batch_goes, batch_answers, some_batch, pending_there, added_few}
@@ -10,6 +12,8 @@ use Rattle.hist_core.proofs.Worlds.Quiet.{counts_none, some_quiet, some_within, 
 use Rattle.hist_core.proofs.DeltaCall.Deltas.{delta_answers, delta_goes, has_place, some_draft, some_delta_call}
 use Rattle.hist_core.proofs.Worlds.ActorRuns.{sets_corrupt}
 use Rattle.hist_core.proofs.SnapshotCall.Viewing.{snapshot_answers, snapshot_goes, some_snapshot_call}
+use Rattle.hist_core.proofs.Worlds.Apart.{looks_not}
+use Rattle.hist_core.proofs.Worlds.Landing.{lands_apart}
 use Rattle.hist_core.proofs.actor_run.ActorRun.advance.Goals as goal
 
 pub set_bits-requires : goal.set_bits-requires
@@ -18,9 +22,11 @@ set_bits-requires c =
 
 pub returns-in-Some-SetCorrupt-clause-advances : goal.returns-in-Some-SetCorrupt-clause-advances
 returns-in-Some-SetCorrupt-clause-advances c = λ shape version a size order run.
-    sets_corrupt shape version a c.args.self.now c.args.words.now c.set_bits.new.words
+    lands_apart shape version c.args.self.now c.args.words.now (record c.args.self.now { running = None }) c.set_bits.new.words (Done Flagged) a
+    (subst looks_not (sym (c.in-Some-SetCorrupt.is ∙ ap Some c.in-Some-SetCorrupt.field-0-is)) tt)
+    (sets_corrupt shape version a c.args.self.now c.args.words.now c.set_bits.new.words
     (subst (λ n. 16 ≤ n) (sym size) (∥∥₁_elim c.requires.stands (hlevel props) (λ some. some_words (length c.args.words.now) c.args.self.now some)))
-    run (c.in-Some-SetCorrupt.is ∙ ap Some c.in-Some-SetCorrupt.field-0-is) c.set_bits.ensures.words
+    run (c.in-Some-SetCorrupt.is ∙ ap Some c.in-Some-SetCorrupt.field-0-is) c.set_bits.ensures.words)
 
 pub returns-in-Some-SetCorrupt-clause-answers : goal.returns-in-Some-SetCorrupt-clause-answers
 returns-in-Some-SetCorrupt-clause-answers c =
@@ -29,7 +35,7 @@ returns-in-Some-SetCorrupt-clause-answers c =
     let unbegun = ∥∥₁_elim c.requires.stands (hlevel props) (λ some.
     some_quiet (length c.args.words.now) c.args.self.now (subst counts_none (sym (c.in-Some-SetCorrupt.is ∙ ap Some c.in-Some-SetCorrupt.field-0-is)) tt) some) in
     let its = c.in-Some-SetCorrupt.is ∙ ap Some c.in-Some-SetCorrupt.field-0-is in (
-      (search rules, refl, refl),
+      (its, search rules, refl, refl),
       (refl, λ i. take (unbegun.1 i) c.args.self.now.entries.items),
       takes_none c.args.self.now (record c.args.self.now { running = None }) _ (subst takes_not (sym its) tt) refl,
     )
@@ -50,8 +56,10 @@ hist_said-requires c = record {
 
 pub returns-in-Some-Hist-clause-advances : goal.returns-in-Some-Hist-clause-advances
 returns-in-Some-Hist-clause-advances c = λ shape version a size order run.
-    hist_goes shape version c.args.self.now a run c.in-Some-Hist.hist c.step-said.new.self (c.in-Some-Hist.is ∙ ap Some c.in-Some-Hist.field-0-is) c.step-said.ensures.asks
-    c.args.words.now c.step-said.new.words (sym size) c.step-said.result c.hist_said.new.self c.hist_said.result c.step-said.ensures.steps c.hist_said.ensures
+    lands_apart shape version c.args.self.now c.args.words.now c.hist_said.new.self c.step-said.new.words c.hist_said.result a
+    (subst looks_not (sym (c.in-Some-Hist.is ∙ ap Some c.in-Some-Hist.field-0-is)) tt)
+    (hist_goes shape version c.args.self.now a run c.in-Some-Hist.hist c.step-said.new.self (c.in-Some-Hist.is ∙ ap Some c.in-Some-Hist.field-0-is) c.step-said.ensures.asks
+    c.args.words.now c.step-said.new.words (sym size) c.step-said.result c.hist_said.new.self c.hist_said.result c.step-said.ensures.steps c.hist_said.ensures)
 
 pub returns-in-Some-Hist-clause-answers : goal.returns-in-Some-Hist-clause-answers
 returns-in-Some-Hist-clause-answers c =
@@ -71,8 +79,10 @@ add_said-requires c = record { within = ∥∥₁_elim c.requires.stands (hlevel
 
 pub returns-in-Some-Add-clause-advances : goal.returns-in-Some-Add-clause-advances
 returns-in-Some-Add-clause-advances c = λ shape version a size order run.
-    add_goes shape version c.args.self.now c.in-Some-Add.add (c.in-Some-Add.is ∙ ap Some c.in-Some-Add.field-0-is) a run c.step-said-in-Some-Add.new.self c.step-said-in-Some-Add.ensures.same
-    c.args.words.now c.step-said-in-Some-Add.new.words (sym size) c.step-said-in-Some-Add.result c.add_said.new.self c.add_said.result c.step-said-in-Some-Add.ensures.steps c.add_said.ensures
+    lands_apart shape version c.args.self.now c.args.words.now c.add_said.new.self c.step-said-in-Some-Add.new.words c.add_said.result a
+    (subst looks_not (sym (c.in-Some-Add.is ∙ ap Some c.in-Some-Add.field-0-is)) tt)
+    (add_goes shape version c.args.self.now c.in-Some-Add.add (c.in-Some-Add.is ∙ ap Some c.in-Some-Add.field-0-is) a run c.step-said-in-Some-Add.new.self c.step-said-in-Some-Add.ensures.same
+    c.args.words.now c.step-said-in-Some-Add.new.words (sym size) c.step-said-in-Some-Add.result c.add_said.new.self c.add_said.result c.step-said-in-Some-Add.ensures.steps c.add_said.ensures)
 
 pub returns-in-Some-Add-clause-answers : goal.returns-in-Some-Add-clause-answers
 returns-in-Some-Add-clause-answers c =
@@ -112,10 +122,12 @@ delta_said-requires c = record {
 
 pub returns-in-Some-Delta-clause-advances : goal.returns-in-Some-Delta-clause-advances
 returns-in-Some-Delta-clause-advances c = λ shape version a size order run.
-    delta_goes shape version c.args.self.now a run c.in-Some-Delta.delta_call c.step-said-in-Some-Delta.new.self c.in-Some-Delta.field-0-1 (c.in-Some-Delta.is ∙ ap Some c.in-Some-Delta.field-0-is)
+    lands_apart shape version c.args.self.now c.args.words.now c.delta_said.new.self c.step-said-in-Some-Delta.new.words c.delta_said.result a
+    (subst looks_not (sym (c.in-Some-Delta.is ∙ ap Some c.in-Some-Delta.field-0-is)) tt)
+    (delta_goes shape version c.args.self.now a run c.in-Some-Delta.delta_call c.step-said-in-Some-Delta.new.self c.in-Some-Delta.field-0-1 (c.in-Some-Delta.is ∙ ap Some c.in-Some-Delta.field-0-is)
     c.args.words.now c.step-said-in-Some-Delta.new.words (sym size) c.step-said-in-Some-Delta.ensures.begun c.step-said-in-Some-Delta.ensures.room order
     c.step-said-in-Some-Delta.result c.delta_said.new.self c.delta_said.result c.step-said-in-Some-Delta.ensures.steps c.step-said-in-Some-Delta.ensures.lists
-    (c.delta_said.ensures c.step-said-in-Some-Delta.new.self c.in-Some-Delta.field-0-1 refl)
+    (c.delta_said.ensures c.step-said-in-Some-Delta.new.self c.in-Some-Delta.field-0-1 refl))
 
 pub returns-in-Some-Delta-clause-answers : goal.returns-in-Some-Delta-clause-answers
 returns-in-Some-Delta-clause-answers c =
@@ -144,9 +156,11 @@ batch_said-requires c = record {
 
 pub returns-in-Some-Batch-clause-advances : goal.returns-in-Some-Batch-clause-advances
 returns-in-Some-Batch-clause-advances c = λ shape version a size order run.
-    batch_goes shape version c.args.self.now c.in-Some-Batch.batch (c.in-Some-Batch.is ∙ ap Some c.in-Some-Batch.field-0-is) a run c.step-said-in-Some-Batch.new.self
+    lands_apart shape version c.args.self.now c.args.words.now c.batch_said.new.self c.step-said-in-Some-Batch.new.words c.batch_said.result a
+    (subst looks_not (sym (c.in-Some-Batch.is ∙ ap Some c.in-Some-Batch.field-0-is)) tt)
+    (batch_goes shape version c.args.self.now c.in-Some-Batch.batch (c.in-Some-Batch.is ∙ ap Some c.in-Some-Batch.field-0-is) a run c.step-said-in-Some-Batch.new.self
     c.step-said-in-Some-Batch.ensures.same c.args.words.now c.step-said-in-Some-Batch.new.words (sym size) c.batch_said.new.self c.step-said-in-Some-Batch.result c.batch_said.result
-    c.step-said-in-Some-Batch.ensures.steps c.step-said-in-Some-Batch.ensures.refused c.batch_said.ensures
+    c.step-said-in-Some-Batch.ensures.steps c.step-said-in-Some-Batch.ensures.refused c.batch_said.ensures)
 
 pub returns-in-Some-Batch-clause-answers : goal.returns-in-Some-Batch-clause-answers
 returns-in-Some-Batch-clause-answers c =

@@ -26,7 +26,7 @@ begin_allocating-requires-clause-one_page c = ∥∥₁_elim c.requires.stands (
 
 pub returns-then-counts-eq0-clause-steps : goal.returns-then-counts-eq0-clause-steps
 returns-then-counts-eq0-clause-steps c = λ shape known amid a long is.
-    seeks_none shape known amid c.args.self.now a c.args.words.now is c.requires.seeks c.begin_allocating.new.self c.begin_allocating.result c.begin_allocating.ensures
+    seeks_none shape known amid c.args.self.now a c.args.words.now is c.requires.seeks c.if-counts-eq0.true c.begin_allocating.new.self c.begin_allocating.result c.begin_allocating.ensures
 
 pub returns-clause-steps : goal.returns-clause-steps
 returns-clause-steps c = λ shape known amid a long is. seeks_some shape known amid c.args.self.now a c.args.words.now is c.requires.seeks c.if-counts-eq0.false

@@ -21,5 +21,5 @@ returns-clause-steps c = λ shape known a long order is.
     let snapshot_call = c.args.self.now in
     let words = c.args.words.now in
     let whole : cast_signed w64 (cast_unsigned w64 c.args.sum) ≡ c.args.sum = search rules in
-    subst (λ (sum : ℤ). StepsBy shape.size snapshot_call.version a words words (SnapshotCallGives shape known snapshot_call (Done sum (word_at words (snapshot_call.histogram + 13))) a)) (sym whole)
+    subst (λ (sum : ℤ). StepsBy shape.size snapshot_call.version a words words (SnapshotCallGives shape known snapshot_call.stage snapshot_call (Done sum (word_at words (snapshot_call.histogram + 13))) a)) (sym whole)
     (answers_so shape known snapshot_call a words is c.args.sum c.requires.loads _ refl order)

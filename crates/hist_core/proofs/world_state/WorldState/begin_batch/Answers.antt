@@ -32,7 +32,7 @@ returns-then-cost-eq0-clause-says c = λ name place.
     let held = ap (λ (n : ℤ). min (batch_cost items n) 18446744073709551615) (to_z-of_z w64 c.args.sum c.ranges.sum) in
     let cost = c.batch_cost-cost.ensures in let none = c.if-cost-eq0.true in
     let nothing = counts_nothing items c.args.sum (all_some items (sym c.are_some.ensures ∙ some)) (omega (arith, none, cost, held)) in
-    (as_it_was c.args.self.now, nothing.0, nothing.1)
+    (as_it_was c.args.self.now, nothing)
 
 pub overflow_cast-cost : goal.overflow_cast-cost
 overflow_cast-cost c =
@@ -53,6 +53,9 @@ returns-clause-says c = λ name place.
     let few = c.if-cost-self.false in let pool = pool_fits c.args.self.now c.requires.reached in let cost = c.batch_cost-cost.ensures in
     let whole = ap (λ (n : ℤ). min (batch_cost items n) 18446744073709551615) held in (
       all_some items (sym c.are_some.ensures ∙ some),
+      (λ nothing.
+          let none : batch_cost items c.args.sum ≡ 0 = λ i. batch_cost (nothing.0 i) (nothing.1 i) in
+          let least = c.if-cost-eq0.false in omega (arith, none, cost, whole, least)),
       omega (arith, few, pool, cost, whole),
       subst (λ (n : ℤ). IsBatchBegun c.args.actor name items n c.args.self.now c.start_batch.new.self) held (c.in_ok-start_batch.ensures.says name place),
     )

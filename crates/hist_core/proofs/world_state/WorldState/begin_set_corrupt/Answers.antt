@@ -1,6 +1,5 @@
-use Rattle.std.proofs.Common.{refl, sym, subst, ◌∙◌, arith, vec_len}
-use Rattle.std.specs.Prelude.{IsSome, Some}
-use mathlib.Core.Option.{some-injective}
+use Rattle.std.proofs.Common.{refl, arith, vec_len}
+use Rattle.std.specs.Prelude.{Some}
 use Rattle.atomic_table.proofs.Lists.{set_else, set_here}
 use Rattle.hist_core.specs.declared.actor_run.Running.TheVariants.{SetCorrupt}
 use Rattle.hist_core.specs.declared.actor_run.ActorRun.{ActorRun}
@@ -20,7 +19,6 @@ returns-clause-others c =
     record { shape = refl; version = refl; count = refl; others = λ other apart. set_else c.args.self.now.actor_runs.items c.args.actor other _ apart }
 
 pub returns-clause-runs : goal.returns-clause-runs
-returns-clause-runs c = λ actor_run is.
+returns-clause-runs c =
     let actor_runs = c.args.self.now.actor_runs in let r : ActorRun = record c.index_mut-actor_run.result.now { running = Some SetCorrupt } in
-    subst (λ (x : ActorRun). IsSome x.running)
-    (some-injective r actor_run (sym (set_here actor_runs.items c.args.actor r (let ok = actor_runs.ok.0 in omega (arith, ok, c.requires.near))) ∙ is)) refl
+    (r, set_here actor_runs.items c.args.actor r (let ok = actor_runs.ok.0 in omega (arith, ok, c.requires.near)), refl)

@@ -6,7 +6,8 @@ independent implementation.
 
 Worked examples are stopped at every event. Others come of a seed and are stopped at events of the seed. Then the words are those
 that the lines lead to, the report is that of a plain reader and has no fault, and each bucket has no more units than were begun,
-and no fewer than calls that ended have counted.
+and no fewer than calls that ended have counted. In version 1, units are added that are on their way from the single word to the
+counts.
 """
 
 import collections
@@ -47,18 +48,21 @@ def wrong_known(program, case):
     return next(filter(None, wrongs), None)
 
 
-def keys_on_their_way(words, references, done):
-    """The buckets of which units may be on their way from the single word to the counts, in version 1 alone."""
+def units_on_their_way(words, references, done):
+    """The units of each bucket that are on their way from the single word to the counts, in version 1 alone: from the event that
+    disables the word to the next of the same actor."""
+    moving = collections.Counter()
     if done.schedule.version == 2:
-        return
-    for at in references:
-        if words[at + 2] == 1 and words[at + 9] >= plain_reader.TOP:
-            seen = collections.Counter()
-            name = plain_reader.name_of(words, at, seen)
+        return moving
+    for single, old in done.disabled.values():
+        at = single - 9
+        if at in references and words[at + 2] == 1:
+            name = plain_reader.name_of(words, at, collections.Counter())
             boundaries = plain_reader.boundaries_of(words, at, name)
-            bucket = plain_reader.disabled_bucket(words[at + 9], len(boundaries) - 1)
-            if bucket is not None and done.counts_in(name.decode()):
-                yield name.decode(), boundaries[bucket]
+            bucket = plain_reader.disabled_bucket(words[single], len(boundaries) - 1)
+            if bucket is not None:
+                moving[name.decode(), boundaries[bucket]] += old % 2**32
+    return moving
 
 
 def wrong_units(words, done):
@@ -69,12 +73,12 @@ def wrong_units(words, done):
     if stopped or bad:
         return f"the list is stopped by {stopped}, and bad are {bad}"
     read = {(name.decode(), low): units for name, one in histograms.items() for low, (_, units) in one["buckets"].items()}
-    begun, ended, moving = done.begun(), done.ended(), set(keys_on_their_way(words, references, done))
-    for key in {*read, *begun, *ended}:
-        units = read.get(key, 0)
+    begun, ended, moving = done.begun(), done.ended(), units_on_their_way(words, references, done)
+    for key in {*read, *begun, *ended, *moving}:
+        units = read.get(key, 0) + moving[key]
         if units > begun[key]:
             return f"{key} has {units} units, and begun are {begun[key]}"
-        if units < ended[key] and key not in moving:
+        if units < ended[key]:
             return f"{key} has {units} units, and ended are {ended[key]}"
     return None
 

@@ -30,6 +30,8 @@ SCRIPTS = {
     "one unit too many": (SEGMENT + b"hist,A,boolean\nadd,A,1,4294967295\nadd,A,1,1\n", fault("Refused 4 NoUnits", 3)),
     "all units": (SEGMENT + b"hist,A,boolean\nadd,A,1,4294967295\n", Answer(b"A,boolean,1,2,4294967295\nA,total,4294967295,4294967295\n")),
     "too few buckets": (SEGMENT + b"hist,a!,linear,1,10,2\n", fault("Refused 2 BadSpec TooFew", 3)),
+    "a custom value that is too great": (SEGMENT + b"hist,A,custom,2147483647\n", fault("Refused 2 BadSpec BadRange", 3)),
+    "the custom value 0 alone": (SEGMENT + b"hist,A,custom,0\n", fault("Refused 2 BadSpec Empty", 3)),
     "an unlawful name": (SEGMENT + b"hist,!x,boolean\n", fault("Refused 2 BadName", 3)),
     "another spec": (SEGMENT + b"hist,A,boolean\nhist,A,linear,1,2,3\n", fault("Refused 3 OtherSpec", 3)),
     "a record longer than a page": (SEGMENT + b"hist,A,linear,1,100,31\n", fault("Refused 2 TooLarge", 3)),

@@ -6,7 +6,7 @@ know which calls have ended. So no record of it is a fault.
 
 import collections
 
-from support.plain_reader import GREATEST, SEGMENT_COOKIE
+from support.plain_reader import GREATEST, SEGMENT_COOKIE, TOP
 from support.plain_tally import Histogram
 
 LEAST_VALUE = -(2**31)
@@ -63,6 +63,8 @@ class Done:
         self.running = {}
         self.known = collections.defaultdict(dict)
         self.counted = collections.Counter()
+        # By actor, the word that its last event disabled, and what it was before.
+        self.disabled = {}
         last = None
         for line in lines:
             number, actor, what, *rest = line.decode().rstrip("\n").split(",")
@@ -79,10 +81,13 @@ class Done:
 
     def step(self, _, actor, change):
         self.running[actor].events += 1
+        self.disabled.pop(actor, None)
         if change:
             at, old, new = map(int, change)
             assert self.words[at] == old != new, f"word {at} is {self.words[at]}, and {change} changes it"
             self.words[at] = new
+            if old < TOP <= new:
+                self.disabled[actor] = at, old
 
     def answer(self, number, actor, said):
         # A call that needs no event is answered at once.
@@ -118,10 +123,6 @@ class Done:
             if call.events:
                 units.update(self.entries(actor, call.record))
         return units
-
-    def counts_in(self, name):
-        """Whether a call runs that counts in the histogram of a name."""
-        return any(call.record[0] in COUNTING and call.record[2] == name for call in self.running.values())
 
 
 def item_of(chance):

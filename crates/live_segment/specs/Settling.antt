@@ -48,18 +48,21 @@ abbrev pub OwesAs : Asked → Refusal → Actor → Type 0
 OwesAs asked OtherSpec a = Owes asked a
 OwesAs asked why a = a.answers.owed ≡ []
 
--- before it says so
+-- before it says so; the full flag is as it was where there is one
 abbrev pub LooksUp : Asked → Actor → Result ℕ Refusal → Actor → Type 0
-LooksUp asked old (Ok reference) new = LooksAround old new × Owes asked new × IsFound asked reference new
+LooksUp asked old (Ok reference) new =
+    LooksAround old new × Owes asked new × IsFound asked reference new × (new.done.filled ≡ old.done.filled)
 LooksUp asked old (Err why) new = LooksAround old new × OwesAs asked why new × IsRefusedBy asked why new
 
--- it knows what it asked for from then on, behind what it knew, and looks at histograms anew
+-- It knows what it asked for from then on, behind what it knew, and looks at histograms anew. No allocation was refused: it has not set the
+-- full flag.
 pub record ComesToKnow (asked : Asked) (reference : ℕ) (old new : Actor) : Type 0 where
   pub last : Actor
   pub looks : LooksAround old last
   pub found : IsFound asked reference last
   pub view : new ≡ record (looking last) { answers = record { names = old.answers.names ++ asked_at asked reference ∷ []; owed = [] } }
   pub alone : HaveOneName (asked_at asked reference) old
+  pub filled : new.done.filled ≡ old.done.filled
 
 -- once it has said so
 abbrev pub Settles : Asked → Actor → Result ℕ Refusal → Actor → Type 0

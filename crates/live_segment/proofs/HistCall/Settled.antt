@@ -223,7 +223,8 @@ owes_one asked a b c none made searched = inr (
 -- a search that met the first record of the name ends the call
 pub met_first : (asked : Asked) (a b : Actor) (reference : ℕ) → a.answers.owed ≡ [] → HasSearched a b → Searches asked (search.Met reference) b
     → LooksUp asked a (Ok reference) b
-met_first asked a b reference none searched (free, known, met, room) = (searched_around a b free searched, owes_not asked a b searched none, (known, met, room))
+met_first asked a b reference none searched (free, known, met, room) =
+    (searched_around a b free searched, owes_not asked a b searched none, (known, met, room), ap (λ (x : Actor). x.done.filled) searched.view)
 
 pub met_another : (asked : Asked) (a b : Actor) → a.answers.owed ≡ [] → HasSearched a b → Searches asked search.OtherSpec b → LooksUp asked a (Err why.OtherSpec) b
 met_another asked a b none searched (free, other) = (searched_around a b free searched, owes_not asked a b searched none, other)
@@ -237,7 +238,13 @@ module _ (asked : Asked) (a b c d : Actor) (none : a.answers.owed ≡ []) (first
   still_none = ap (λ (x : Actor). x.answers.owed) first.view ∙ none
 
   pub met_then : (reference : ℕ) → Searches asked (search.Met reference) d → LooksUp asked a (Ok reference) d
-  met_then reference (free, known, met, room) = (around free, owes_one asked b c d still_none made second, (known, met, room))
+  met_then reference (free, known, met, room) = (
+    around free,
+    owes_one asked b c d still_none made second,
+    (known, met, room),
+    ap (λ (x : Actor). x.done.filled) second.view
+        ∙ (ap (λ (x : Actor). x.done.filled) made.view ∙ ap (λ (x : Actor). x.done.filled) first.view),
+  )
 
   pub met_another_then : Searches asked search.OtherSpec d → LooksUp asked a (Err why.OtherSpec) d
   met_another_then (free, other) = (around free, owes_one asked b c d still_none made second, other)
@@ -357,10 +364,11 @@ known_one asked reference b (inr (at, one)) =
 
 pub known_so : (asked : Asked) (reference : ℕ) (a b c : Actor) → LooksUp asked a (Ok reference) b → c ≡ noted b (knows (asked_at asked reference))
     → HaveOneName (asked_at asked reference) b → Settles asked a (Ok reference) c
-known_so asked reference a b c (looks, owes, found) is one = record {
+known_so asked reference a b c (looks, owes, found, unfilled) is one = record {
   last = b;
   looks = looks;
   found = found;
   view = is ∙ (λ i. record (looking b) { answers = record { names = ap (λ (x : Actor). x.answers.names) looks.same i ++ asked_at asked reference ∷ []; owed = known_one asked reference b owes i } });
   alone = subst (λ (l : List Known). All (λ (known : Known). known.reference ≡ reference → known.name ≡ asked.name.items) l) (ap (λ (x : Actor). x.answers.names) looks.same) one;
+  filled = ap (λ (x : Actor). x.done.filled) is ∙ unfilled;
 }

@@ -8,7 +8,7 @@ use Rattle.live_segment.proofs.segment.Segment.settle.Goals as goal
 
 pub know-requires-clause-may : goal.know-requires-clause-may
 know-requires-clause-may c =
-    let (looks, owes, found) = c.in-Ok.ensures.outcome in record {
+    let (looks, owes, found, unfilled) = c.in-Ok.ensures.outcome in record {
       recorder = ap (λ (a : Actor). is_opener a.role) looks.same ∙ c.requires.seat.recorder;
       free = looks.free;
       known = asked_at c.args.asked.now c.in-Ok.reference;

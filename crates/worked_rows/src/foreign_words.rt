@@ -26,17 +26,26 @@ fn free_pointer_of_no_segment(rt: HostRuntime) -> Result<(), Fail> {
     Ok(())
 }
 
+// The header and the last four words are no place of a record.
 #[test]
 fn references_of_no_record(rt: HostRuntime) -> Result<(), Fail> {
-    let mut words = blank(rt.alloc())?;
-    words[TAIL_WORD] = 13;
-    let mut publish = Publish::start(16);
-    assert_eq!(rt; publish.step(&mut words), PubStep::More);
-    assert_eq!(rt; publish.step(&mut words), PubStep::Stray);
-    words[QUEUE as usize + BLOCK_NEXT] = 124;
-    let mut walk = Walk::from_start();
-    assert_eq!(rt; walk.step(&words), WalkStep::Stray);
-    words[QUEUE as usize + BLOCK_NEXT] = 123;
-    assert_eq!(rt; walk.step(&words), WalkStep::Record(123));
+    let next = QUEUE as usize + BLOCK_NEXT;
+    for stray in [13, 124] {
+        let mut words = blank(rt.alloc())?;
+        words[TAIL_WORD] = stray;
+        let mut publish = Publish::start(16);
+        assert_eq!(rt; publish.step(&mut words), PubStep::More);
+        assert_eq!(rt; publish.step(&mut words), PubStep::Stray);
+        words[TAIL_WORD] = QUEUE;
+        words[next] = stray;
+        let mut publish = Publish::start(16);
+        assert_eq!(rt; publish.step(&mut words), PubStep::More);
+        assert_eq!(rt; publish.step(&mut words), PubStep::More);
+        assert_eq!(rt; publish.step(&mut words), PubStep::Stray);
+        let mut walk = Walk::from_start();
+        assert_eq!(rt; walk.step(&words), WalkStep::Stray);
+        words[next] = 123;
+        assert_eq!(rt; walk.step(&words), WalkStep::Record(123));
+    }
     Ok(())
 }

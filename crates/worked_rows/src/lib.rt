@@ -9,6 +9,8 @@ mod adding;
 #[cfg(test)]
 mod deltas;
 #[cfg(test)]
+mod failing_commands;
+#[cfg(test)]
 mod fault_texts;
 #[cfg(test)]
 mod foreign_words;

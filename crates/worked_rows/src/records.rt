@@ -31,14 +31,16 @@ fn refusals(rt: HostRuntime) -> Result<(), Fail> {
     }
     let (segment, mut opener) = Segment::create(rt.alloc(), 64, 64, 7, 8, 2)?;
     let mut first = opener.recorder(&segment, 0)?;
-    let mut second = opener.recorder(&segment, 0)?;
+    let mut second = opener.recorder(&segment, 2)?;
     first.hist(b"A", &Spec::Boolean)?;
     first.set_corrupt();
-    assert!(rt; second.hist(b"A", &Spec::Boolean).is_ok());
+    let known = second.hist(b"A", &Spec::Boolean)?;
     assert_eq!(rt;
         second.hist(b"B", &Spec::Boolean).err(),
         Some(Refusal::Corrupt)
     );
+    assert!(rt; second.add(known, 1, 1).is_ok() && second.units() == 1);
+    assert_eq!(rt; second.add(known, 0, 1).err(), Some(Refusal::Corrupt));
     assert_eq!(rt;
         second.hist(b"A", &Spec::Sparse).err(),
         Some(Refusal::OtherSpec)

@@ -17,21 +17,21 @@ const WORDS: [u64; 2] = [(1 << 32) + 2, (1 << 63) + 1];
 
 const REPORT: &[u8] = b"A,boolean,0,1,1\nA,boolean,1,2,2\nA,total,3,2\n";
 
-// Counts calls: that of one number, from 0, fails, and later ones pass.
+/// Counts calls: that of one number, from 0, fails, and later ones pass.
 #[derive(Drop)]
-struct Calls {
-    made: usize,
-    failing: usize,
+pub(crate) struct FailAt {
+    pub(crate) made: usize,
+    place: usize,
 }
 
-impl Calls {
-    // None has been made yet.
-    fn new(failing: usize) -> Calls {
-        Calls { made: 0, failing }
+impl FailAt {
+    /// None has been made yet.
+    pub(crate) fn new(place: usize) -> FailAt {
+        FailAt { made: 0, place }
     }
 
     fn count(&mut self) -> io::Result<()> {
-        let fails = self.made == self.failing;
+        let fails = self.made == self.place;
         self.made = self.made.saturating_add(1);
         if fails {
             return Err(io::ErrorKind::Other.into());
@@ -40,30 +40,27 @@ impl Calls {
     }
 }
 
-// Gives one byte a call.
+/// Gives at most so many bytes a call.
 #[derive(Drop)]
-struct Source<'a> {
-    bytes: &'a [u8],
-    calls: Calls,
+pub(crate) struct Source<'a> {
+    pub(crate) bytes: &'a [u8],
+    pub(crate) most: usize,
+    pub(crate) calls: FailAt,
 }
 
 impl Read for Source<'_> {
     fn read(&mut self, buf: &mut [u8]) -> io::Result<usize> {
         self.calls.count()?;
-        if self.bytes.is_empty() || buf.is_empty() {
-            return Ok(0);
-        }
-        buf[0] = self.bytes[0];
-        self.bytes = &self.bytes[1..];
-        Ok(1)
+        let most = buf.len().min(self.most);
+        self.bytes.read(&mut buf[..most])
     }
 }
 
-// Takes at most 16 bytes a call.
+/// Takes at most 16 bytes a call.
 #[derive(Drop)]
-struct Sink {
-    text: Vec<u8>,
-    calls: Calls,
+pub(crate) struct Sink {
+    pub(crate) text: Vec<u8>,
+    pub(crate) calls: FailAt,
 }
 
 impl Write for Sink {
@@ -82,9 +79,10 @@ impl Write for Sink {
 fn sixteen_bytes(failing: usize) -> Watched<Source<'static>>
     ensures { has_failed result ≡ false }
 {
-    let calls = Calls::new(failing);
+    let calls = FailAt::new(failing);
     Watched::new(Source {
         bytes: BYTES,
+        most: 1,
         calls,
     })
 }
@@ -105,8 +103,23 @@ fn failing_reads(rt: HostRuntime) -> Result<(), Fail> {
     Ok(())
 }
 
-// The bytes of an image of three samples.
-fn image(alloc: Global) -> Result<Vec<u8>, Fail> {
+#[test]
+fn limit_of_two_words(rt: HostRuntime) -> Result<(), Fail> {
+    let bytes = [1; 24];
+    for (len, fault) in [
+        (15, Some(ReadFault::NotWords)),
+        (16, None),
+        (17, Some(ReadFault::TooLong)),
+        (24, Some(ReadFault::TooLong)),
+    ] {
+        let read = read_words(rt.alloc(), &mut Watched::new(&bytes[..len]), 2);
+        assert_eq!(rt; read.err(), fault, "{len}");
+    }
+    Ok(())
+}
+
+/// The bytes of an image of three samples.
+pub(crate) fn image(alloc: Global) -> Result<Vec<u8>, Fail> {
     let mut bytes = Watched::new(Vec::new(alloc));
     write_words(&mut bytes, &THREE_SAMPLES)?;
     write_words(&mut bytes, &[0; 90])?;
@@ -115,7 +128,7 @@ fn image(alloc: Global) -> Result<Vec<u8>, Fail> {
 
 // Writes the report of an image to a writer of which one call fails: the fault, the calls, and what went out.
 fn report_to(alloc: Global, image: &[u8], failing: usize) -> (Option<CliFault>, usize, Vec<u8>) {
-    let calls = Calls::new(failing);
+    let calls = FailAt::new(failing);
     let text = Vec::new(alloc);
     let mut sink = Watched::new(Sink { text, calls });
     let fault = report(alloc, &mut Watched::new(image), &mut sink).err();
@@ -137,7 +150,7 @@ fn failing_writes(rt: HostRuntime) -> Result<(), Fail> {
         assert!(rt; REPORT.starts_with(text.as_slice()), "{failing}");
     }
     let text = Vec::new(rt.alloc());
-    let calls = Calls::new(1);
+    let calls = FailAt::new(1);
     let mut sink = Watched::new(Sink { text, calls });
     let written = write_words(&mut sink, &THREE_SAMPLES);
     assert_eq!(rt; written.err(), Some(WriteFault::Device));

@@ -4,4 +4,5 @@ pub mod Filled
 pub mod Owned
 pub mod Published
 pub mod Recorded
+pub mod Rooms
 pub mod Tries

@@ -61,16 +61,17 @@ pub record NeedsBlock (known : Known) (value : ℤ) (count : ℕ) (old new : Act
   pub values : known.spec ≡ spec.Sparse
       → (front behind : List ℕ) × (new.seen.chain ≡ front ++ known.reference ∷ behind) × All (SawOther new.seen known.reference value) behind
 
--- Why a block could not be claimed: so many words pass the end of the segment from the free pointer that was loaded last, and the full
--- flag is set; or the recorder has loaded flags with the corrupt one.
-abbrev pub HasNoRoom : Refusal → ℕ → Actor → Type 0
-HasNoRoom Full words a = (a.done.filled ≡ true) × (a.segment.shape.size < a.seen.free + words)
-HasNoRoom Corrupt words a = a.seen.corrupt ≡ true
-HasNoRoom _ words a = ⊥
+-- Why a block could not be claimed: so many words pass the end of the segment from the free pointer that the call loaded last, and for that
+-- it has set the full flag; or the call has loaded flags with the corrupt one. It has done nothing else: it has claimed and published nothing.
+abbrev pub HasNoRoom : Refusal → ℕ → Actor → Actor → Type 0
+HasNoRoom Full words old new =
+    (new.done ≡ record old.done { filled = true; lacked = old.done.lacked ++ new.seen.free ∷ [] }) × (new.segment.shape.size < new.seen.free + words)
+HasNoRoom Corrupt words old new = (new.done ≡ old.done) × (new.seen.corrupt ≡ true) × (old.seen.warned < new.seen.warned)
+HasNoRoom _ words old new = ⊥
 
 -- a block was needed, and could not be claimed
 abbrev pub LacksBlock : Refusal → Known → ℤ → ℕ → Actor → Actor → Type 0
-LacksBlock why known value count old new = NeedsBlock known value count old new × HasNoRoom why (block_words known) new
+LacksBlock why known value count old new = NeedsBlock known value count old new × HasNoRoom why (block_words known) old new
 
 -- ---- how a sample is answered
 

@@ -14,13 +14,13 @@ use Rattle.live_segment.specs.Refusing.{given_up}
 abbrev pub saw_free : Actor → Place → ℕ → Actor
 saw_free a place free = record a { hand = record a.hand { place = place }; seen = record a.seen { free = free } }
 
--- it has seen the corrupt flag
+-- it has loaded flags with the corrupt one
 abbrev pub noticed : Actor → Actor
-noticed a = record a { seen = record a.seen { corrupt = true } }
+noticed a = record a { seen = record a.seen { corrupt = true; warned = a.seen.warned + 1 } }
 
--- it has set the full flag
+-- it has set the full flag, since too many words were wanted from the free pointer that it saw last
 abbrev pub filled : Actor → Actor
-filled a = record a { done = record a.done { filled = true } }
+filled a = record a { done = record a.done { filled = true; lacked = a.done.lacked ++ a.seen.free ∷ [] } }
 
 -- it has set the corrupt flag
 abbrev pub spoiled : Actor → Actor

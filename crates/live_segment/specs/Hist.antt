@@ -66,5 +66,5 @@ abbrev pub IsRefusedWith : List ℕ → Spec → Refusal → Actor → Actor →
 IsRefusedWith name spec why old new =
     (IsRefusedFor old.segment.shape name spec why × (new ≡ old))
     ⊎ ((why ≡ OtherSpec) × ((index : ℕ) × (known : Known) × KnowsNamed name old index known × (¬ (SameSpec known.spec spec))) × (new ≡ old))
-    ⊎ (KnowsNone name old × ((asked : Asked) × IsAskedFor old.segment.shape name spec asked × IsRefusedBy asked why new) × LooksAround old new
+    ⊎ (KnowsNone name old × ((asked : Asked) × IsAskedFor old.segment.shape name spec asked × IsRefusedBy asked why old new) × LooksAround old new
     × (new.answers.owed ≡ old.answers.owed))

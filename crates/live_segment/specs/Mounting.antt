@@ -64,7 +64,7 @@ pub record HasNotMounted (why : Refusal) (known : Known) (old new : Actor) : Typ
   pub ends : new ≡ given_up last
   pub idle : new.hand.place ≡ Idle
   pub none : word_seen new.seen.words (known.reference + HISTOGRAM_COUNTS) ≡ None
-  pub room : HasNoRoom why (block_words known) new
+  pub room : HasNoRoom why (block_words known) old new
 
 -- ---- in use
 

@@ -1,14 +1,14 @@
 -- How a call that counts ends where it is refused: the step that refused it notes so.
 use Rattle.std.specs.Prelude.{◌≡◌, true, false, ◌==◌, ℕ, ◌+◌, ℤ, if◌then◌else◌, List, [], ◌∷◌, take, drop, length, bit_and, None}
 use Rattle.std.specs.List.{All, filter}
-use Rattle.segment_image.specs.declared.layout.TheConstants.{FLAG_CORRUPT, FLAG_FULL, HISTOGRAM_COUNTS}
+use Rattle.segment_image.specs.declared.layout.TheConstants.{FLAG_CORRUPT, HISTOGRAM_COUNTS}
 use Rattle.segment_calls.specs.declared.refusal.Refusal.{Refusal}
 use Rattle.segment_machine.specs.declared.entry.EntryProgress.{EntryProgress}
 use Rattle.segment_machine.specs.declared.actor.Actor.{Actor}
 use Rattle.segment_machine.specs.declared.actor.Known.{Known}
 use Rattle.segment_machine.specs.declared.place.Place.TheVariants.{Idle}
 use Rattle.segment_machine.specs.Actor.{word_seen}
-use Rattle.segment_machine.specs.Allocating.{load_flags, set_flag}
+use Rattle.segment_machine.specs.Allocating.{load_flags, set_full}
 use Rattle.segment_machine.specs.Entry.{has_ended}
 use Rattle.segment_machine.specs.Event.{allocating_event}
 use Rattle.segment_machine.specs.Note.{Note, refused, is_untouched}
@@ -53,9 +53,9 @@ flags_notes running found = if bit_and found FLAG_CORRUPT == 0 then [] else refu
 abbrev pub LoadsFlags : Sat → ℕ → Sat → Type 0
 LoadsFlags me found me' = GhostNoted [] (allocating_event load_flags) (flags_notes me.0.entries.running) me found me'
 
--- the full flag is set, and refuses
+-- The full flag is set, and refuses. What becomes of its recorder is the same however many words it wanted.
 abbrev pub SetsFull : Sat → ℕ → Sat → Type 0
-SetsFull me found me' = GhostNoted [] (allocating_event (set_flag FLAG_FULL)) (λ found. refusing_notes me.0.entries.running) me found me'
+SetsFull me found me' = GhostNoted [] (allocating_event (set_full 0)) (λ found. refusing_notes me.0.entries.running) me found me'
 
 -- ---- a call that is turned away
 
@@ -69,7 +69,7 @@ pub record IsTurnedAway (why : Refusal) (known : Known) (bucket units : ℕ) (ol
   pub idle : new.hand.place ≡ Idle
   pub cannot : CannotPack known bucket units old new
   pub none : word_seen new.seen.words (known.reference + HISTOGRAM_COUNTS) ≡ None
-  pub room : HasNoRoom why (block_words known) new
+  pub room : HasNoRoom why (block_words known) old new
 
 -- Units of a value were not counted: a block was needed for them, and could not be claimed. The call has come to no count, and has ended.
 pub record IsNotCounted (why : Refusal) (known : Known) (value : ℤ) (units : ℕ) (old new : Actor) : Type 0 where

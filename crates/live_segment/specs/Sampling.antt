@@ -62,10 +62,10 @@ pub record HasMadeSample (histogram : ℕ) (value : ℤ) (old new : Actor) : Typ
 pub record HasNotMadeSample (why : Refusal) (old new : Actor) : Type 0 where
   pub last : Actor
   pub looks : LooksOn old last
-  pub seen : last.seen ≡ record old.seen { free = last.seen.free; corrupt = last.seen.corrupt }
+  pub seen : last.seen ≡ record old.seen { free = last.seen.free; corrupt = last.seen.corrupt; warned = last.seen.warned }
   pub ends : new ≡ given_up last
   pub idle : new.hand.place ≡ Idle
-  pub room : HasNoRoom why SAMPLE_LEAST new
+  pub room : HasNoRoom why SAMPLE_LEAST old new
 
 -- ---- one that is found or made
 
@@ -85,4 +85,4 @@ pub record LacksSampleOf (why : Refusal) (known : Known) (value : ℤ) (old new 
   pub ends : new ≡ given_up last
   pub idle : new.hand.place ≡ Idle
   pub none : SawNone known.reference value new
-  pub room : HasNoRoom why SAMPLE_LEAST new
+  pub room : HasNoRoom why SAMPLE_LEAST old new

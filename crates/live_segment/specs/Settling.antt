@@ -38,10 +38,10 @@ IsFound asked reference a =
 
 -- Why there is none for the caller: the first record of the name has another spec; or no record had the name to the end of the list, and
 -- no block could be claimed for one.
-abbrev pub IsRefusedBy : Asked → Refusal → Actor → Type 0
-IsRefusedBy asked OtherSpec a = SawOther asked a
-IsRefusedBy asked why a =
-    All (SawOtherName a.seen asked.name.items) a.seen.chain × HasNoRoom why (BLOCK_HEADER + length asked.payload.items) a
+abbrev pub IsRefusedBy : Asked → Refusal → Actor → Actor → Type 0
+IsRefusedBy asked OtherSpec old new = SawOther asked new
+IsRefusedBy asked why old new =
+    All (SawOtherName new.seen asked.name.items) new.seen.chain × HasNoRoom why (BLOCK_HEADER + length asked.payload.items) old new
 
 -- then the refusal is owed to records that it made, where the cause is another spec alone
 abbrev pub OwesAs : Asked → Refusal → Actor → Type 0
@@ -52,7 +52,7 @@ OwesAs asked why a = a.answers.owed ≡ []
 abbrev pub LooksUp : Asked → Actor → Result ℕ Refusal → Actor → Type 0
 LooksUp asked old (Ok reference) new =
     LooksAround old new × Owes asked new × IsFound asked reference new × (new.done.filled ≡ old.done.filled)
-LooksUp asked old (Err why) new = LooksAround old new × OwesAs asked why new × IsRefusedBy asked why new
+LooksUp asked old (Err why) new = LooksAround old new × OwesAs asked why new × IsRefusedBy asked why old new
 
 -- It knows what it asked for from then on, behind what it knew, and looks at histograms anew. No allocation was refused: it has not set the
 -- full flag.
@@ -67,7 +67,7 @@ pub record ComesToKnow (asked : Asked) (reference : ℕ) (old new : Actor) : Typ
 -- once it has said so
 abbrev pub Settles : Asked → Actor → Result ℕ Refusal → Actor → Type 0
 Settles asked old (Ok reference) new = ComesToKnow asked reference old new
-Settles asked old (Err why) new = LooksAround old new × (new.answers.owed ≡ []) × IsRefusedBy asked why new
+Settles asked old (Err why) new = LooksAround old new × (new.answers.owed ≡ []) × IsRefusedBy asked why old new
 
 -- what it asked for, as the record that was found
 pub record IsKnownAs (asked : Asked) (known : KnownHistogram) : Type 0 where

@@ -16,7 +16,7 @@ use crate::rule::Pass;
 use crate::segment::Segment;
 use bucket_ranges::{Ranges, Spec};
 use segment_calls::{Asked, BatchRefusal, Delta, Refusal, Snapshot};
-use segment_image::layout::{BLOCK_LEAST, FLAG_CORRUPT, HEADER_WORDS};
+use segment_image::layout::{BLOCK_LEAST, HEADER_WORDS};
 use std::alloc::{AllocError, Global};
 
 /// A histogram that a recorder knows: its place in the list of those.
@@ -298,7 +298,7 @@ impl<'a> Recorder<'a> {
         ensures same { IsSameRecorder self.old self.new }
         ensures flag { view_of_recorder self.new ≡ spoiled (view_of_recorder self.old) }
     {
-        self.segment.set_flag(&mut self.seat, FLAG_CORRUPT);
+        self.segment.set_corrupt(&mut self.seat);
     }
 
     /// The references of all records of the list in its order, each once: those that it had seen there come first, and each

@@ -32,10 +32,10 @@ use Rattle.persist_commands.specs.MergeFiles.{IsStopOf, MayStop, fault_of_stop}
 -- behind others that are merged
 module _ (page units : ℕ) (front : List Histogram) (h : Histogram) where
   -- no block could be claimed
-  no_room : (why : Refusal) (words : ℕ) (a : Actor) → HasNoRoom why words a → MayStop page units front h why
-  no_room refusal.Full words a has = tt
-  no_room refusal.Corrupt words a has = tt
-  no_room why words a has = absurd has
+  no_room : (why : Refusal) (words : ℕ) (old a : Actor) → HasNoRoom why words old a → MayStop page units front h why
+  no_room refusal.Full words old a has = tt
+  no_room refusal.Corrupt words old a has = tt
+  no_room why words old a has = absurd has
 
   -- it may not be asked for
   not_asked : (shape : Dimensions) (why : Refusal) → shape.page ≡ page → why ≢ refusal.NoMemory → IsRefusedFor shape h.name h.spec why
@@ -47,18 +47,18 @@ module _ (page units : ℕ) (front : List Histogram) (h : Histogram) where
   not_asked shape why same other is = absurd is
 
   -- it was looked for
-  not_found : (asked : Asked) (why : Refusal) (a : Actor) → IsRefusedBy asked why a → MayStop page units front h why
-  not_found asked refusal.OtherSpec a is = tt
-  not_found asked refusal.Full a is = tt
-  not_found asked refusal.Corrupt a is = tt
-  not_found asked why a is = absurd is.1
+  not_found : (asked : Asked) (why : Refusal) (old a : Actor) → IsRefusedBy asked why old a → MayStop page units front h why
+  not_found asked refusal.OtherSpec old a is = tt
+  not_found asked refusal.Full old a is = tt
+  not_found asked refusal.Corrupt old a is = tt
+  not_found asked why old a is = absurd is.1
 
   -- its `hist` is refused
   unfound : (why : Refusal) (old new : Actor) → old.segment.shape.page ≡ page → why ≢ refusal.NoMemory → IsRefusedWith h.name h.spec why old new
       → MayStop page units front h why
   unfound why old new same other (inl (is, unmoved)) = not_asked old.segment.shape why same other is
   unfound why old new same other (inr (inl (is, known, unmoved))) = let P : Refusal → Type 0 = MayStop page units front h in subst P (sym is) tt
-  unfound why old new same other (inr (inr (none, (asked, is, by), looks, owed))) = not_found asked why new by
+  unfound why old new same other (inr (inr (none, (asked, is, by), looks, owed))) = not_found asked why old new by
 
   -- its merge stops
   caused : (items : ℕ) (why : Refusal) (old new : Actor) → old.segment.shape.page ≡ page → old.units.share + sum_by cost_left front ≡ units
@@ -72,7 +72,7 @@ module _ (page units : ℕ) (front : List Histogram) (h : Histogram) where
       let all : sum_by cost_left (front ++ h ∷ []) ≡ sum_by cost_left front + sum_by cost_left (h ∷ []) = sum_by-append cost_left front (h ∷ []) in
       let above : units < sum_by cost_left (front ++ h ∷ []) = omega (arith, left, paid, none, share, short, all) in
       subst P (sym is) above
-  caused items why old new same left other paid (inr (found, known, has, inr cut)) = no_room why (block_words known) new cut.lacks.1
+  caused items why old new same left other paid (inr (found, known, has, inr cut)) = no_room why (block_words known) _ new cut.lacks.1
 
 -- ---- among others
 

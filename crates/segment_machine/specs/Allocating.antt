@@ -22,7 +22,8 @@ pub data AllocatingEvent : Type 0 where
   store_cookie : (at cookie : ℕ) → AllocatingEvent
   store_type : (at tag : ℕ) → AllocatingEvent
   store_payload : (at index value : ℕ) → AllocatingEvent
-  set_flag : (flag : ℕ) → AllocatingEvent
+  set_corrupt : AllocatingEvent
+  set_full : (wanted : ℕ) → AllocatingEvent
 
 -- ---- what they act on
 
@@ -34,7 +35,8 @@ operation size version (store_size at words) = single (atomic.store_size at word
 operation size version (store_cookie at cookie) = single (atomic.store_cookie at cookie)
 operation size version (store_type at tag) = single (atomic.store_type at tag)
 operation size version (store_payload at index value) = single (atomic.store_payload at index value)
-operation size version (set_flag flag) = single (atomic.set_flag flag)
+operation size version set_corrupt = single (atomic.set_flag FLAG_CORRUPT)
+operation size version (set_full wanted) = single (atomic.set_flag FLAG_FULL)
 
 -- ---- when they are ready
 
@@ -49,7 +51,9 @@ Ready a (store_cookie at cookie) =
 Ready a (store_type at tag) = ((size : ℕ) × (a.hand.place ≡ Marked at size)) × (TYPE_HISTOGRAM ≤ tag) × (tag ≤ TYPE_SAMPLE)
 Ready a (store_payload at index value) =
     (own : Own) × Fills a own × (own.at ≡ at) × (length own.payload ≤ index) × (BLOCK_HEADER + index < own.size)
-Ready a (set_flag flag) = MayTurn a × ((flag ≡ FLAG_CORRUPT) ⊎ ((flag ≡ FLAG_FULL) × ((free : ℕ) × (a.hand.place ≡ FreeLoaded free))))
+Ready a set_corrupt = MayTurn a
+Ready a (set_full wanted) =
+    (free : ℕ) × (a.hand.place ≡ FreeLoaded free) × (wanted ≤ a.segment.shape.page) × (a.segment.shape.size < free + wanted)
 
 -- ---- what becomes of the actor
 
@@ -59,6 +63,11 @@ size_at (Raised at size) = size
 size_at (Sized at size) = size
 size_at (Marked at size) = size
 size_at _ = 0
+
+-- the free pointer that an allocation has loaded
+abbrev pub free_at : Place → ℕ
+free_at (FreeLoaded free) = free
+free_at _ = 0
 
 -- a block whose header has just been completed
 abbrev pub new_own : ℕ → ℕ → ℕ → Own
@@ -76,7 +85,10 @@ after_free false a old new found = record a { hand = record a.hand { place = Idl
 abbrev pub next : Actor → AllocatingEvent → ℕ → Actor
 next a load_flags found = record a {
   hand = record a.hand { place = if bit_and found FLAG_CORRUPT == 0 then FlagsLoaded else Idle };
-  seen = record a.seen { corrupt = if bit_and found FLAG_CORRUPT == 0 then a.seen.corrupt else true };
+  seen = record a.seen {
+    corrupt = if bit_and found FLAG_CORRUPT == 0 then a.seen.corrupt else true;
+    warned = if bit_and found FLAG_CORRUPT == 0 then a.seen.warned else a.seen.warned + 1;
+  };
 }
 next a load_free found = record a { hand = record a.hand { place = FreeLoaded found }; seen = record a.seen { free = found } }
 next a (exchange_free old new) found = after_free (found == old) a old new found
@@ -89,8 +101,11 @@ next a (store_type at tag) found = record a {
 }
 next a (store_payload at index value) found =
     record a { hand = record a.hand { own = change_own at (λ own. record own { payload = stored own.payload index value }) a.hand.own } }
-next a (set_flag flag) found =
-    if flag == FLAG_CORRUPT then record a { hand = record a.hand { place = Idle }; done = record a.done { spoiled = true } } else record a { hand = record a.hand { place = Idle }; done = record a.done { filled = true } }
+next a set_corrupt found = record a { hand = record a.hand { place = Idle }; done = record a.done { spoiled = true } }
+next a (set_full wanted) found = record a {
+  hand = record a.hand { place = Idle };
+  done = record a.done { filled = true; lacked = a.done.lacked ++ free_at a.hand.place ∷ [] };
+}
 
 -- ---- what it learns
 

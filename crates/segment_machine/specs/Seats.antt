@@ -14,7 +14,7 @@ use Rattle.segment_machine.specs.declared.actor.Role.TheVariants.{Opener, Record
 
 -- nothing that was seen
 abbrev pub nothing_seen : Seen
-nothing_seen = record { free = 0; corrupt = false; chain = []; tails = []; singles = []; counts = []; words = []; cursors = [] }
+nothing_seen = record { free = 0; corrupt = false; warned = 0; chain = []; tails = []; singles = []; counts = []; words = []; cursors = [] }
 
 -- an actor that has done nothing, and has seen this free pointer
 abbrev pub idle : Dimensions → ℕ → ℕ → ℕ → ℕ → Actor
@@ -28,6 +28,7 @@ idle shape version cursors free share = record {
     published = [];
     spoiled = false;
     filled = false;
+    lacked = [];
     beaten = 0;
     lost = replicate cursors 0;
     given = [];
@@ -113,6 +114,7 @@ abbrev pub both_seen : Seen → Seen → Seen
 both_seen a b = record {
   free = max a.free b.free;
   corrupt = a.corrupt || b.corrupt;
+  warned = a.warned + b.warned;
   chain = longer a.chain b.chain;
   tails = a.tails ++ b.tails;
   singles = a.singles ++ b.singles;
@@ -133,6 +135,7 @@ joined a b = record a {
     published = a.done.published ++ b.done.published;
     spoiled = a.done.spoiled || b.done.spoiled;
     filled = a.done.filled || b.done.filled;
+    lacked = a.done.lacked ++ b.done.lacked;
     given = a.done.given ++ b.done.given;
   };
   seen = both_seen a.seen b.seen;

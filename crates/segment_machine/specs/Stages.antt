@@ -2,7 +2,7 @@
 -- two agree, the event that is next is one that the actor may do, and behind it they agree again.
 use Rattle.std.specs.Prelude.{◌≡◌, true, false, ℕ, ◌+◌, ◌≤◌, List, Option, Some, None}
 use Rattle.std.specs.List.{Contains}
-use Rattle.segment_image.specs.declared.layout.TheConstants.{BLOCK_NEXT, FLAG_FULL, QUEUE, TYPE_HISTOGRAM, TYPE_SAMPLE}
+use Rattle.segment_image.specs.declared.layout.TheConstants.{BLOCK_NEXT, QUEUE, TYPE_HISTOGRAM, TYPE_SAMPLE}
 use Rattle.alloc_core.specs.declared.alloc.Stage.{Stage as AllocStage}
 use Rattle.alloc_core.specs.declared.alloc.Stage.TheVariants.{LoadFlags, LoadFree, ExchangeFree, StoreSize, StoreCookie, StoreType, SetFull, Claimed, Full, Corrupt}
 use Rattle.alloc_core.specs.Alloc.{Allocation, cookie_of, IsLawful}
@@ -21,7 +21,7 @@ use Rattle.segment_machine.specs.declared.place.Place.TheVariants.{Idle, FlagsLo
 use Rattle.segment_machine.specs.Operation.{single}
 use Rattle.segment_machine.specs.Calls.{MayTurn}
 use Rattle.segment_machine.specs.Made.{IsPayload}
-use Rattle.segment_machine.specs.Allocating.{AllocatingEvent, load_flags, load_free, exchange_free, store_size, store_cookie, store_type, set_flag, new_own}
+use Rattle.segment_machine.specs.Allocating.{AllocatingEvent, load_flags, load_free, exchange_free, store_size, store_cookie, store_type, set_full, new_own}
 use Rattle.segment_machine.specs.Allocating as allocating
 use Rattle.segment_machine.specs.Publishing.{PublishingEvent, store_own_next, load_tail, link, move_tail, own_at, MayPublish}
 use Rattle.segment_machine.specs.Publishing as publishing
@@ -38,7 +38,7 @@ allocates allocation (ExchangeFree next purpose) = Some (exchange_free allocatio
 allocates allocation (StoreSize at size purpose) = Some (store_size at size)
 allocates allocation (StoreCookie at size purpose) = Some (store_cookie at (cookie_of purpose))
 allocates allocation (StoreType at size) = Some (store_type at allocation.tag)
-allocates allocation SetFull = Some (set_flag FLAG_FULL)
+allocates allocation SetFull = Some (set_full allocation.size)
 allocates allocation (Claimed at size) = None
 allocates allocation Full = None
 allocates allocation Corrupt = None

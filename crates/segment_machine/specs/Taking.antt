@@ -90,7 +90,8 @@ Ready a (raise_mark at least) = MayRaise a at least
 Ready a (raise_single_mark histogram least) = MayRaiseSingle a histogram least
 Ready a (load_sum histogram) = MayTurn a × ((known : Known) × Contains a.answers.names known × (known.reference ≡ histogram))
 Ready a (swap_sum_mark histogram sum) = (known : Known) × Takes a histogram known × (a.hand.place ≡ SumLoaded histogram sum)
-Ready a (load_redundant histogram) = MayTurn a × ((known : Known) × Contains a.answers.names known × (known.reference ≡ histogram))
+Ready a (load_redundant histogram) =
+    ((sum : ℤ) × (a.hand.place ≡ SumLoaded histogram sum)) × ((known : Known) × Contains a.answers.names known × (known.reference ≡ histogram))
 
 -- ---- what becomes of the actor
 

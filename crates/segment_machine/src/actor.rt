@@ -155,6 +155,8 @@ pub struct Done {
     pub spoiled: bool,
     /// Whether an allocation of it has set the full flag.
     pub filled: bool,
+    /// The free pointers that it had loaded, each time that it set the full flag: too many words were wanted from there.
+    pub lacked: LinkedList<u64>,
     /// The records that shared cursors gave it, in order.
     pub given: LinkedList<Given>,
     /// How often its link found another record behind the tail.

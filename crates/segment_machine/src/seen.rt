@@ -14,6 +14,8 @@ pub struct Seen {
     pub free: u64,
     /// Whether it has seen the corrupt flag, which is never taken back.
     pub corrupt: bool,
+    /// How often it loaded flags with the corrupt one.
+    pub warned: u64,
     /// The chain, so far as it has walked along it.
     pub chain: LinkedList<u64>,
     /// The tails that it saw.

@@ -22,7 +22,7 @@ use Rattle.segment_machine.specs.declared.actor.Made.{Made}
 use Rattle.segment_machine.specs.declared.place.Place.TheVariants.{Idle, Linked}
 use Rattle.segment_machine.specs.Actor.{all_published, is_opener}
 use Rattle.segment_machine.specs.Event.{Event, Ready, after, next, allocating_event, publishing_event, walking_event, counting_event, taking_event, packing_event, cursor_event}
-use Rattle.segment_machine.specs.Allocating.{load_flags, load_free, exchange_free, store_size, store_cookie, store_type, store_payload, set_flag, after_free}
+use Rattle.segment_machine.specs.Allocating.{load_flags, load_free, exchange_free, store_size, store_cookie, store_type, store_payload, set_corrupt, set_full, after_free}
 use Rattle.segment_machine.specs.Publishing.{store_own_next, load_tail, link, move_tail, own_at, published_as, after_link}
 use Rattle.segment_machine.specs.Walking.{load_next, load_published}
 use Rattle.segment_machine.specs.Counting.{load_counts, add_count, add_sum, add_redundant}
@@ -72,10 +72,6 @@ module _ (a : Actor) where
   freed true old new found = same
   freed false old new found = same
 
-  flagged : (b : Bool) → Grows (if b then record a { hand = record a.hand { place = Idle }; done = record a.done { spoiled = true } } else record a { hand = record a.hand { place = Idle }; done = record a.done { filled = true } }) []
-  flagged true = same
-  flagged false = same
-
   linked : (b : Bool) (tail at found : ℕ) → Grows (after_link b a tail at found) (if b then at ∷ [] else [])
   linked true tail at found =
       let one = one_at_most (own_at a.hand.own at) at in
@@ -107,7 +103,8 @@ module _ (a : Actor) where
   publishes (allocating_event (store_cookie at cookie)) found = same
   publishes (allocating_event (store_type at tag)) found = same
   publishes (allocating_event (store_payload at index value)) found = same
-  publishes (allocating_event (set_flag flag)) found = flagged (flag == 1)
+  publishes (allocating_event set_corrupt) found = same
+  publishes (allocating_event (set_full wanted)) found = same
   publishes (publishing_event (store_own_next at)) found = same
   publishes (publishing_event load_tail) found = same
   publishes (publishing_event (link tail at)) found = linked (found == 12) tail at found

@@ -10,7 +10,7 @@ use Rattle.segment_image.specs.Shape.{Dimensions}
 use Rattle.segment_machine.specs.declared.actor.Actor.{Actor}
 use Rattle.segment_machine.specs.declared.place.Place.TheVariants.{Idle}
 use Rattle.segment_machine.specs.Event.{Event, Ready, Learned, allocating_event, publishing_event, walking_event, counting_event, taking_event, packing_event, cursor_event, after, next}
-use Rattle.segment_machine.specs.Allocating.{load_flags, load_free, exchange_free, store_size, store_cookie, store_type, store_payload, set_flag, after_free}
+use Rattle.segment_machine.specs.Allocating.{load_flags, load_free, exchange_free, store_size, store_cookie, store_type, store_payload, set_corrupt, set_full, after_free}
 use Rattle.segment_machine.specs.Publishing.{store_own_next, load_tail, link, move_tail, after_link}
 use Rattle.segment_machine.specs.Walking.{load_next, load_published}
 use Rattle.segment_machine.specs.Counting.{load_counts, add_count, add_sum, add_redundant}
@@ -34,10 +34,6 @@ module _ (a : Actor) where
   freed : (b : Bool) (old new found : ℕ) → is_opener (after_free b a old new found).role ≡ is_opener a.role
   freed true old new found = refl
   freed false old new found = refl
-
-  flagged : (b : Bool) → is_opener (if b then record a { hand = record a.hand { place = Idle }; done = record a.done { spoiled = true } } else record a { hand = record a.hand { place = Idle }; done = record a.done { filled = true } }).role ≡ is_opener a.role
-  flagged true = refl
-  flagged false = refl
 
   linked : (b : Bool) (tail at found : ℕ) → is_opener (after_link b a tail at found).role ≡ is_opener a.role
   linked true tail at found = refl
@@ -68,7 +64,8 @@ acts_on a (allocating_event (store_size at size)) found = refl
 acts_on a (allocating_event (store_cookie at cookie)) found = refl
 acts_on a (allocating_event (store_type at tag)) found = refl
 acts_on a (allocating_event (store_payload at index value)) found = refl
-acts_on a (allocating_event (set_flag flag)) found = flagged a (eqb flag 1)
+acts_on a (allocating_event set_corrupt) found = refl
+acts_on a (allocating_event (set_full wanted)) found = refl
 acts_on a (publishing_event (store_own_next at)) found = refl
 acts_on a (publishing_event load_tail) found = refl
 acts_on a (publishing_event (link tail at)) found = linked a (eqb found 12) tail at found

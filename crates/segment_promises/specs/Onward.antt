@@ -17,6 +17,7 @@ StaysApart old new = is_looking old.hand.place ≡ false → is_looking new.hand
 pub record SeesOn (old new : Seen) : Type 0 where
   pub free : old.free ≤ new.free
   pub corrupt : old.corrupt ≡ true → new.corrupt ≡ true
+  pub warned : old.warned ≤ new.warned
   pub chain : Grows old.chain new.chain
   pub tails : Grows old.tails new.tails
   pub singles : Grows old.singles new.singles
@@ -26,10 +27,11 @@ pub record SeesOn (old new : Seen) : Type 0 where
 
 -- it may have claimed and published more, and set the full flag; once it has set the corrupt flag, it claims nothing
 pub record DoesOn (old new : Done) : Type 0 where
-  pub same : new ≡ record old { claimed = new.claimed; published = new.published; filled = new.filled; beaten = new.beaten }
+  pub same : new ≡ record old { claimed = new.claimed; published = new.published; filled = new.filled; lacked = new.lacked; beaten = new.beaten }
   pub claimed : Grows old.claimed new.claimed
   pub published : Grows old.published new.published
   pub filled : old.filled ≡ true → new.filled ≡ true
+  pub lacked : Grows old.lacked new.lacked
   pub spoiled : old.spoiled ≡ true → new.claimed ≡ old.claimed
 
 -- A recorder goes on with a call that counts: what it is, what its calls were answered, took and were given, and the entries before its

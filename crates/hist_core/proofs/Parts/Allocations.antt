@@ -18,7 +18,7 @@ use Rattle.segment_machine.specs.declared.actor.Actor.{Actor}
 use Rattle.segment_machine.specs.declared.actor.Made.{Made}
 use Rattle.segment_machine.specs.Event.{operation, spot, next, allocating_event, publishing_event, walking_event}
 use Rattle.segment_machine.specs.Walking.{load_next, extended}
-use Rattle.segment_machine.specs.Allocating.{AllocatingEvent, load_flags, load_free, exchange_free, store_size, store_cookie, store_type, store_payload, set_flag}
+use Rattle.segment_machine.specs.Allocating.{AllocatingEvent, load_flags, load_free, exchange_free, store_size, store_cookie, store_type, store_payload, set_corrupt, set_full}
 use Rattle.segment_machine.specs.Publishing.{PublishingEvent, store_own_next, load_tail, link, move_tail}
 use Rattle.segment_machine.specs.Stages.{Allocates, PublishesAt, Walks}
 use Rattle.segment_machine.proofs.Stages.Allocations.{allocations_agree}
@@ -63,7 +63,8 @@ allocating_alike (store_size at words) size version = refl
 allocating_alike (store_cookie at cookie) size version = refl
 allocating_alike (store_type at tag) size version = refl
 allocating_alike (store_payload at index value) size version = refl
-allocating_alike (set_flag flag) size version = refl
+allocating_alike set_corrupt size version = refl
+allocating_alike (set_full wanted) size version = refl
 
 pub allocates_on : (version : ℕ) (a : Actor) (old new : Allocation) (words new_words : List ℕ) (said : AllocStep) → Allocates a old
     → length words ≡ a.segment.shape.size → alloc.IsStep old words new new_words said

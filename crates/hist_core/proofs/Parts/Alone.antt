@@ -10,7 +10,7 @@ use Rattle.segment_machine.specs.declared.seen.Sighting.{Sighting}
 use Rattle.segment_machine.specs.Operation.{single, spot_of, change_of}
 use Rattle.hist_core.specs.StepsBy.{FrameOfStep}
 use Rattle.segment_machine.specs.Event.{Event, operation, spot, after, next, allocating_event, publishing_event}
-use Rattle.segment_machine.specs.Allocating.{AllocatingEvent, load_flags, load_free, exchange_free, store_size, store_cookie, store_type, store_payload, set_flag, after_free}
+use Rattle.segment_machine.specs.Allocating.{AllocatingEvent, load_flags, load_free, exchange_free, store_size, store_cookie, store_type, store_payload, set_corrupt, set_full, after_free}
 use Rattle.segment_machine.specs.Publishing.{PublishingEvent, store_own_next, load_tail, link, move_tail, after_link}
 
 -- ---- in the words
@@ -62,11 +62,8 @@ allocating_beside a (store_size at size) found = seen_alike a (next a (allocatin
 allocating_beside a (store_cookie at cookie) found = seen_alike a (next a (allocating_event (store_cookie at cookie)) found) refl refl refl refl refl refl refl refl
 allocating_beside a (store_type at tag) found = seen_alike a (next a (allocating_event (store_type at tag)) found) refl refl refl refl refl refl refl refl
 allocating_beside a (store_payload at index value) found = seen_alike a (next a (allocating_event (store_payload at index value)) found) refl refl refl refl refl refl refl refl
-allocating_beside a (set_flag flag) found =
-    either_way (flag == 1) a (record a { hand = record a.hand { place = Idle }; done = record a.done { spoiled = true } })
-    (record a { hand = record a.hand { place = Idle }; done = record a.done { filled = true } })
-    (seen_alike a (record a { hand = record a.hand { place = Idle }; done = record a.done { spoiled = true } }) refl refl refl refl refl refl refl refl)
-    (seen_alike a (record a { hand = record a.hand { place = Idle }; done = record a.done { filled = true } }) refl refl refl refl refl refl refl refl)
+allocating_beside a set_corrupt found = seen_alike a (next a (allocating_event set_corrupt) found) refl refl refl refl refl refl refl refl
+allocating_beside a (set_full wanted) found = seen_alike a (next a (allocating_event (set_full wanted)) found) refl refl refl refl refl refl refl refl
 
 -- an allocation sees no word of a record
 freed_words : (b : Bool) (a : Actor) (old new found : ℕ) → (after_free b a old new found).seen.words ≡ a.seen.words

@@ -452,7 +452,7 @@ module _ (shape : Dimensions) (known : Known) (snapshot_call : SnapshotCall) (a 
       at = a;
       told = refl;
       event = loading;
-      ready = (is.turns, (known, is.knows, refl));
+      ready = ((sum, before_last.2), (known, is.knows, refl));
       words_are = sym (set-get_or words (known.reference + 13) 0);
       goes = λ learned apart. (
         answers answered ∷ [],

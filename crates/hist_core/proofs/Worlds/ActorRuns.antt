@@ -7,7 +7,7 @@ use Rattle.segment_image.specs.declared.layout.TheConstants.{HEADER_WORDS}
 use Rattle.alloc_core.specs.Event as atomic
 use Rattle.segment_machine.specs.declared.actor.Actor.{Actor}
 use Rattle.segment_machine.specs.Event.{allocating_event, next}
-use Rattle.segment_machine.specs.Allocating.{set_flag}
+use Rattle.segment_machine.specs.Allocating.{set_corrupt}
 use Rattle.hist_core.specs.declared.actor_run.Running.TheVariants.{SetCorrupt}
 use Rattle.hist_core.specs.declared.actor_run.ActorRun.{ActorRun}
 use Rattle.hist_core.proofs.Worlds.Landing.{Landing}
@@ -27,12 +27,12 @@ sets_corrupt shape version a old words new_words long run is stored =
       before = [];
       at = a;
       told = refl;
-      event = allocating_event (set_flag 1);
-      ready = (free_turns a.hand.place stands.0, inl refl);
+      event = allocating_event set_corrupt;
+      ready = free_turns a.hand.place stands.0;
       words_are = stored;
       goes = λ learned apart. (
         [],
-        next a (allocating_event (set_flag 1)) (word_at words 6),
+        next a (allocating_event set_corrupt) (word_at words 6),
         refl,
         record {
           records = run.records;
@@ -46,7 +46,7 @@ sets_corrupt shape version a old words new_words long run is stored =
           lawful = run.lawful;
           once = run.once;
           met = run.met;
-          stands = (refl, quiet_on (pending_by old) a (next a (allocating_event (set_flag 1)) (word_at words 6)) refl refl refl stands.1);
+          stands = (refl, quiet_on (pending_by old) a (next a (allocating_event set_corrupt) (word_at words 6)) refl refl refl stands.1);
           room = tt;
           draft = tt;
         },

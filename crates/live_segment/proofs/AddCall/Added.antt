@@ -156,6 +156,7 @@ module _ (known : Known) (value : ℤ) (units : ℕ) (old mid : Actor) (rest : I
           seen = subst (SeesOn old.seen) (sym seen) (record {
             free = was.free;
             corrupt = was.corrupt;
+            warned = was.warned;
             chain = was.chain;
             tails = was.tails;
             singles = was.singles;

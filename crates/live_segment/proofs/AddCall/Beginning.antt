@@ -51,6 +51,7 @@ pub sees_single : (a : Seen) (more : List Sighting) → SeesOn a (record a { sin
 sees_single a more = record {
   free = omega arith;
   corrupt = λ saw. saw;
+  warned = omega arith;
   chain = grows_not a.chain;
   tails = grows_not a.tails;
   singles = grows_by a.singles more;

@@ -35,6 +35,8 @@ use Rattle.live_segment.proofs.AddCall.Ended.{next_behind, none_open}
 use Rattle.live_segment.proofs.AddCall.CountsAlone.{counted_at, counts_next, goes, may_give_up}
 use Rattle.live_segment.proofs.AddCall.Mounted.{with_words}
 use Rattle.live_segment.proofs.AddCall.Refusing.{only_given_up}
+use Rattle.live_segment.proofs.NewRecords.Rooms.{lacked_since}
+use Rattle.live_segment.specs.Adding.{block_words}
 
 -- ---- what a call may do that may count units of a bucket
 
@@ -236,5 +238,5 @@ module _ (known : Known) (bucket units : ℕ) (old mid : Pass) (may : MayCount o
             none,
           );
           none = refuses.none;
-          room = refuses.room;
+          room = lacked_since why (block_words known) old.me.0 mid.me.0 new.me.0 tried.1 looks_passed.proceeds.seen.warned refuses.room;
         }

@@ -227,6 +227,7 @@ module _ {segment : Segment} {known : Known} {counts : ℕ} {first old : Pass} (
                     seen = record {
                       free = omega arith;
                       corrupt = λ saw. saw;
+                      warned = omega arith;
                       chain = grows_not b.seen.chain;
                       tails = grows_not b.seen.tails;
                       singles = grows_by b.seen.singles (sight (known.reference + 9) off);

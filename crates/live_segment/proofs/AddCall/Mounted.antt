@@ -37,7 +37,7 @@ use Rattle.live_segment.specs.Allocation.{Allocates, filled, noticed, saw_free}
 use Rattle.live_segment.specs.Refusing.{given_up}
 use Rattle.live_segment.specs.Holders.{table_of, MayStep}
 use Rattle.live_segment.specs.Mounting.{SawNoNone, LoadsCounts, MayMount, HasBlank, HasMounted, HasNotMounted}
-use Rattle.segment_promises.specs.Onward.{SeesOn}
+use Rattle.segment_promises.specs.Onward.{Grows, SeesOn}
 use Rattle.live_segment.specs.Rule.{opened_of, Runs}
 use Rattle.live_segment.specs.Steps.{Pass, Sat, Stepped}
 use Rattle.live_segment.specs.Working.{CountsWithin, LooksOn}
@@ -47,6 +47,7 @@ use Rattle.live_segment.proofs.Seating.Proceeding.{does_not, looks_on}
 use Rattle.segment_promises.proofs.Growing.{grows_by, grows_not}
 use Rattle.segment_promises.proofs.Calls.Places.{looks_there}
 use Rattle.live_segment.proofs.AddCall.Refusing.{only_given_up}
+use Rattle.live_segment.proofs.NewRecords.Rooms.{lacked_since, lacks_room}
 
 -- ---- the counts reference
 
@@ -91,6 +92,7 @@ sees_words : (a : Seen) (more : List Sighting) → SeesOn a (record a { words = 
 sees_words a more = record {
   free = omega arith;
   corrupt = λ saw. saw;
+  warned = omega arith;
   chain = grows_not a.chain;
   tails = grows_not a.tails;
   singles = grows_not a.singles;
@@ -266,17 +268,18 @@ module _ (segment : Segment) (known : Known) (old : Pass) (table : old.table_id 
           by (Some counts) is = absurd (saw counts is (sym (step.learned.1.0 counts is) ∙ none))
 
       -- what was refused there
-      module _ (last : Actor) (free : ℕ) (filled corrupt : Bool)
+      module _ (last : Actor) (free : ℕ) (filled corrupt : Bool) (lacked : List ℕ) (warned : ℕ)
           (is : last ≡ record seat.me.0 {
             hand = record seat.me.0.hand { place = Idle };
-            done = record seat.me.0.done { filled = filled };
-            seen = record seat.me.0.seen { free = free; corrupt = corrupt };
+            done = record seat.me.0.done { filled = filled; lacked = lacked };
+            seen = record seat.me.0.seen { free = free; corrupt = corrupt; warned = warned };
           })
-          (later : seat.me.0.seen.free ≤ free) (still : seat.me.0.done.filled ≡ true → filled ≡ true) (noticing : seat.me.0.seen.corrupt ≡ true → corrupt ≡ true) where
+          (later : seat.me.0.seen.free ≤ free) (still : seat.me.0.done.filled ≡ true → filled ≡ true) (noticing : seat.me.0.seen.corrupt ≡ true → corrupt ≡ true)
+          (longer : Grows seat.me.0.done.lacked lacked) (more : seat.me.0.seen.warned ≤ warned) where
         looks_last : LooksOn first last
-        looks_last = looks_on first seat.me.0 last looks_loaded (looks_refused seat.me.0 last free filled corrupt is later still noticing)
+        looks_last = looks_on first seat.me.0 last looks_loaded (looks_refused seat.me.0 last free filled corrupt lacked warned is later still noticing longer more)
 
-        turned : (why : Refusal) (new : Actor) → new ≡ given_up last → HasNoRoom why (block_words known) new → HasNotMounted why known first new
+        turned : (why : Refusal) (new : Actor) → new ≡ given_up last → HasNoRoom why (block_words known) seat.me.0 new → HasNotMounted why known first new
         turned why new ends room =
             let seen : new.seen ≡ last.seen = ap (λ (b : Actor). b.seen) (ends ∙ only_given_up last) in record {
               last = last;
@@ -286,20 +289,17 @@ module _ (segment : Segment) (known : Known) (old : Pass) (table : old.table_id 
               idle = ap (λ (b : Actor). b.hand.place) (ends ∙ only_given_up last) ∙ ap (λ (b : Actor). b.hand.place) is;
               none = ap (λ (s : Seen). word_seen s.words (known.reference + 8)) seen
                   ∙ (ap (λ (b : Actor). word_seen b.seen.words (known.reference + 8)) is ∙ none_seen);
-              room = room;
+              room = lacked_since why (block_words known) first seat.me.0 new (ap (λ (b : Actor). b.done) step.view) looks_loaded.proceeds.seen.warned room;
             }
 
       pub refused_block : (why : Refusal) (size : ℕ) (new : Pass) → size ≡ block_words known → Allocates size 2 seat.me.0 (Err why) new.me.0
           → HasNotMounted why known first new.me.0
       refused_block Full size new words (free, view, later, passes) =
           let last = filled (saw_free seat.me.0 Idle free) in
-          let only = view ∙ only_given_up last in
-          turned last free true seat.me.0.seen.corrupt refl later (λ e. refl) (λ e. e) Full new.me.0 view (
-            ap (λ (b : Actor). b.done.filled) only,
-            subst (λ (b : Actor). b.segment.shape.size < b.seen.free + block_words known) (sym only) (subst (λ (n : ℕ). seat.me.0.segment.shape.size < free + n) words passes),
-          )
+          turned last free true seat.me.0.seen.corrupt last.done.lacked seat.me.0.seen.warned refl later (λ e. refl) (λ e. e) (grows_by seat.me.0.done.lacked _) (omega arith) Full new.me.0 view
+          (subst (λ (n : ℕ). HasNoRoom Full n seat.me.0 new.me.0) words (lacks_room Full size 2 seat.me.0 new.me.0 (free, view, later, passes)))
       refused_block Corrupt size new words (free, view, later) =
           let last = noticed (saw_free seat.me.0 Idle free) in
-          turned last free seat.me.0.done.filled true refl later (λ e. e) (λ e. refl) Corrupt new.me.0 view
-          (ap (λ (b : Actor). b.seen.corrupt) (view ∙ only_given_up last))
+          turned last free seat.me.0.done.filled true seat.me.0.done.lacked last.seen.warned refl later (λ e. e) (λ e. refl) (grows_not seat.me.0.done.lacked) (omega arith) Corrupt new.me.0 view
+          (subst (λ (n : ℕ). HasNoRoom Corrupt n seat.me.0 new.me.0) words (lacks_room Corrupt size 2 seat.me.0 new.me.0 (free, view, later)))
       refused_block _ size new words none_there = absurd none_there

@@ -6,7 +6,7 @@ use Rattle.segment_machine.specs.declared.entry.EntryProgress.{EntryProgress}
 use Rattle.segment_machine.specs.declared.actor.Actor.{Actor}
 use Rattle.segment_machine.specs.declared.place.Place.TheVariants.{FlagsLoaded, Idle}
 use Rattle.segment_machine.specs.Actor.{is_bound, is_opener}
-use Rattle.segment_machine.specs.Allocating.{load_flags, set_flag}
+use Rattle.segment_machine.specs.Allocating.{load_flags, set_full}
 use Rattle.segment_machine.specs.Entry.{has_ended}
 use Rattle.segment_machine.specs.Event.{allocating_event, next, Ready, spot, change}
 use Rattle.segment_machine.specs.Note.{is_untouched}
@@ -76,7 +76,7 @@ clear old new found noted none = record {
 abbrev pub flags_seen : Actor → Bool → Actor
 flags_seen a clear = record a {
   hand = record a.hand { place = if clear then FlagsLoaded else Idle };
-  seen = record a.seen { corrupt = if clear then a.seen.corrupt else true };
+  seen = record a.seen { corrupt = if clear then a.seen.corrupt else true; warned = if clear then a.seen.warned else a.seen.warned + 1 };
 }
 
 module _ (setting : Setting) (slots id : ℕ) (me : Sat) (word : ℕ) (records : is_opener me.0.role ≡ false) (may : MayGiveUp me.0) where
@@ -96,8 +96,8 @@ module _ (setting : Setting) (slots id : ℕ) (me : Sat) (word : ℕ) (records :
           by true = refl
           by false = may_end (flags_seen me.0 false) me.0.entries.running may refl refl
 
-  pub sets_full : word ≡ spot setting.shape.size (allocating_event (set_flag 2)) + 1 → Ready me.0 (allocating_event (set_flag 2))
-      → Allows (Runs setting) slots id me word (change setting.version (allocating_event (set_flag 2))) (SetsFull me)
-  sets_full at ready =
-      tables_follow Announcement setting.shape (opened_of setting) [] (allocating_event (set_flag 2)) (λ found. refusing_notes me.0.entries.running) slots id me word at
-      records refl ready (λ found learned. may_end (next me.0 (allocating_event (set_flag 2)) found) me.0.entries.running may refl refl)
+  pub sets_full : (wanted : ℕ) → word ≡ spot setting.shape.size (allocating_event (set_full wanted)) + 1 → Ready me.0 (allocating_event (set_full wanted))
+      → Allows (Runs setting) slots id me word (change setting.version (allocating_event (set_full wanted))) (SetsFull me)
+  sets_full wanted at ready =
+      tables_follow Announcement setting.shape (opened_of setting) [] (allocating_event (set_full wanted)) (λ found. refusing_notes me.0.entries.running) slots id me word at
+      records refl ready (λ found learned. may_end (next me.0 (allocating_event (set_full wanted)) found) me.0.entries.running may refl refl)

@@ -24,7 +24,7 @@ use Rattle.live_segment.specs.declared.segment.Segment.{Segment}
 use Rattle.live_segment.specs.Adding.{HasNoRoom}
 use Rattle.live_segment.specs.Allocation.{Allocates, claimed, filled, noticed, saw_free}
 use Rattle.live_segment.specs.Holders.{table_of, MayStep}
-use Rattle.segment_promises.specs.Onward.{DoesOn, SeesOn}
+use Rattle.segment_promises.specs.Onward.{DoesOn, Grows, SeesOn}
 use Rattle.live_segment.specs.Publishing.{HasPublished, IsFilledAs}
 use Rattle.live_segment.specs.Refusing.{given_up}
 use Rattle.live_segment.specs.Sampling.{HasMadeSample, HasNotMadeSample}
@@ -33,8 +33,9 @@ use Rattle.live_segment.specs.Working.{LooksOn}
 use Rattle.live_segment.proofs.NewRecords.Claimed.{looks_claimed, looks_refused}
 use Rattle.live_segment.proofs.NewRecords.Filled.{Apart, changed_there, found_there}
 use Rattle.live_segment.proofs.Seating.Proceeding.{does_not, looks_on, sees_not}
-use Rattle.segment_promises.proofs.Growing.{grows_same}
+use Rattle.segment_promises.proofs.Growing.{grows_by, grows_not, grows_same}
 use Rattle.live_segment.proofs.AddCall.Refusing.{only_given_up}
+use Rattle.live_segment.proofs.NewRecords.Rooms.{lacks_room}
 
 -- ---- its words
 
@@ -181,16 +182,19 @@ looks_published at histogram value a b has = record {
             claimed = sym (ap (λ (x : Actor). x.done.claimed) has.view) i;
             published = sym (ap (λ (x : Actor). x.done.published) has.view) i;
             filled = sym (ap (λ (x : Actor). x.done.filled) has.view) i;
+            lacked = sym (ap (λ (x : Actor). x.done.lacked) has.view) i;
             beaten = b.done.beaten;
           });
       claimed = grows_same a.done.claimed b.done.claimed (ap (λ (x : Actor). x.done.claimed) has.view);
       published = (_, ap (λ (x : Actor). x.done.published) has.view);
       filled = λ set. ap (λ (x : Actor). x.done.filled) has.view ∙ set;
+      lacked = grows_same a.done.lacked b.done.lacked (ap (λ (x : Actor). x.done.lacked) has.view);
       spoiled = λ set. ap (λ (x : Actor). x.done.claimed) has.view;
     };
     seen = record {
       free = let e = ap (λ (x : Actor). x.seen.free) has.view in omega (arith, e);
       corrupt = λ saw. ap (λ (x : Actor). x.seen.corrupt) has.view ∙ saw;
+      warned = let e = ap (λ (x : Actor). x.seen.warned) has.view in omega (arith, e);
       chain = grows_same a.seen.chain b.seen.chain (ap (λ (x : Actor). x.seen.chain) has.view);
       tails = has.tails;
       singles = grows_same a.seen.singles b.seen.singles (ap (λ (x : Actor). x.seen.singles) has.view);
@@ -223,13 +227,14 @@ module _ (at histogram : ℕ) (value : ℤ) (old mid now new : Actor) (unspoiled
 
 -- ---- refused
 
-not_made : (why : Refusal) (old last new : Actor) (free : ℕ) (full corrupt : Bool)
-    → last ≡ record old { hand = record old.hand { place = Idle }; done = record old.done { filled = full }; seen = record old.seen { free = free; corrupt = corrupt } }
-    → old.seen.free ≤ free → (old.done.filled ≡ true → full ≡ true) → (old.seen.corrupt ≡ true → corrupt ≡ true) → new ≡ given_up last → HasNoRoom why 8 new → HasNotMadeSample why old new
-not_made why old last new free full corrupt is later still saw ends room = record {
+not_made : (why : Refusal) (old last new : Actor) (free : ℕ) (full corrupt : Bool) (lacked : List ℕ) (warned : ℕ)
+    → last ≡ record old { hand = record old.hand { place = Idle }; done = record old.done { filled = full; lacked = lacked }; seen = record old.seen { free = free; corrupt = corrupt; warned = warned } }
+    → old.seen.free ≤ free → (old.done.filled ≡ true → full ≡ true) → (old.seen.corrupt ≡ true → corrupt ≡ true) → Grows old.done.lacked lacked → old.seen.warned ≤ warned
+    → new ≡ given_up last → HasNoRoom why 8 old new → HasNotMadeSample why old new
+not_made why old last new free full corrupt lacked warned is later still saw longer more ends room = record {
   last = last;
-  looks = looks_refused old last free full corrupt is later still saw;
-  seen = ap (λ (x : Actor). x.seen) is ∙ (λ i. record old.seen { free = sym (ap (λ (x : Actor). x.seen.free) is) i; corrupt = sym (ap (λ (x : Actor). x.seen.corrupt) is) i });
+  looks = looks_refused old last free full corrupt lacked warned is later still saw longer more;
+  seen = ap (λ (x : Actor). x.seen) is ∙ (λ i. record old.seen { free = sym (ap (λ (x : Actor). x.seen.free) is) i; corrupt = sym (ap (λ (x : Actor). x.seen.corrupt) is) i; warned = sym (ap (λ (x : Actor). x.seen.warned) is) i });
   ends = ends;
   idle = ap (λ (x : Actor). x.hand.place) (ends ∙ only_given_up last) ∙ ap (λ (x : Actor). x.hand.place) is;
   room = room;
@@ -238,10 +243,10 @@ not_made why old last new free full corrupt is later still saw ends room = recor
 pub refused_sample : (why : Refusal) (old new : Actor) → Allocates 8 3 old (Err why) new → HasNotMadeSample why old new
 refused_sample Full old new (free, view, later, passes) =
     let last = filled (saw_free old Idle free) in
-    let only = view ∙ only_given_up last in
-    not_made Full old last new free true old.seen.corrupt refl later (λ e. refl) (λ e. e) view
-    (ap (λ (x : Actor). x.done.filled) only, subst (λ (x : Actor). x.segment.shape.size < x.seen.free + 8) (sym only) passes)
+    not_made Full old last new free true old.seen.corrupt last.done.lacked old.seen.warned refl later (λ e. refl) (λ e. e) (grows_by old.done.lacked _) (omega arith) view
+    (lacks_room Full 8 3 old new (free, view, later, passes))
 refused_sample Corrupt old new (free, view, later) =
     let last = noticed (saw_free old Idle free) in
-    not_made Corrupt old last new free old.done.filled true refl later (λ e. e) (λ e. refl) view (ap (λ (x : Actor). x.seen.corrupt) (view ∙ only_given_up last))
+    not_made Corrupt old last new free old.done.filled true old.done.lacked last.seen.warned refl later (λ e. e) (λ e. refl) (grows_not old.done.lacked) (omega arith) view
+    (lacks_room Corrupt 8 3 old new (free, view, later))
 refused_sample _ old new none = absurd none

@@ -29,6 +29,7 @@ use Rattle.live_segment.proofs.AddCall.Beginning.{known_there}
 use Rattle.live_segment.proofs.Seating.Proceeding.{does_not, looks_on}
 use Rattle.segment_promises.proofs.Growing.{grows_same, others_still}
 use Rattle.live_segment.proofs.AddCall.Refusing.{only_given_up}
+use Rattle.live_segment.proofs.NewRecords.Rooms.{lacked_since}
 
 -- ---- a walk begins
 
@@ -83,6 +84,7 @@ looks_searched a b free searched = record {
     seen = record {
       free = let e = ap (λ (x : Actor). x.seen.free) searched.view in omega (arith, e);
       corrupt = λ saw. ap (λ (x : Actor). x.seen.corrupt) searched.view ∙ saw;
+      warned = let e = ap (λ (x : Actor). x.seen.warned) searched.view in omega (arith, e);
       chain = searched.chain;
       tails = grows_same a.seen.tails b.seen.tails (ap (λ (x : Actor). x.seen.tails) searched.view);
       singles = grows_same a.seen.singles b.seen.singles (ap (λ (x : Actor). x.seen.singles) searched.view);
@@ -167,12 +169,12 @@ module _ (known : Known) (value : ℤ) (a b : Actor) (searched : HasSearched a b
     ends = refused.ends;
     idle = refused.idle;
     none =
-        let seen : c.seen ≡ record b.seen { free = refused.last.seen.free; corrupt = refused.last.seen.corrupt } = ap (λ (x : Actor). x.seen) (refused.ends ∙ only_given_up refused.last) ∙ refused.seen in
+        let seen : c.seen ≡ record b.seen { free = refused.last.seen.free; corrupt = refused.last.seen.corrupt; warned = refused.last.seen.warned } = ap (λ (x : Actor). x.seen) (refused.ends ∙ only_given_up refused.last) ∙ refused.seen in
         let (front, behind, parts, others) = none in (
           front,
           behind,
           ap (λ (s : Seen). s.chain) seen ∙ parts,
           others_still b.seen c.seen (grows_same b.seen.words c.seen.words (ap (λ (s : Seen). s.words) seen)) known.reference value behind others,
         );
-    room = refused.room;
+    room = lacked_since why 8 a b c (ap (λ (x : Actor). x.done) searched.view) (looks_searched a b free searched).proceeds.seen.warned refused.room;
   }

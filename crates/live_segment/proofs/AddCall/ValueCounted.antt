@@ -114,6 +114,6 @@ value_lacks why known value units old new sparse lacks = record {
       buckets = λ bucketed. absurd (true≢false (sym bucketed ∙ ap has_buckets sparse));
       values = λ is. lacks.none;
     },
-    subst (λ (spec : Spec). HasNoRoom why (if has_buckets spec then 4 + 2 * buckets_of spec else 8) new) (sym sparse) lacks.room,
+    subst (λ (spec : Spec). HasNoRoom why (if has_buckets spec then 4 + 2 * buckets_of spec else 8) old new) (sym sparse) lacks.room,
   );
 }

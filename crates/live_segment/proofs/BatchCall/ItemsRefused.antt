@@ -23,7 +23,6 @@ use Rattle.segment_machine.specs.Entry.{fresh, tally_noted}
 use Rattle.segment_machine.specs.Note.{refused, units_running}
 use Rattle.segment_machine.specs.Taking.{is_looking}
 use Rattle.segment_promises.specs.Follows.{noted_by}
-use Rattle.live_segment.specs.Adding.{LacksBlock}
 use Rattle.live_segment.specs.Batching.{HasItems, StopsAt, ended_item, holding}
 use Rattle.live_segment.specs.Finishing.{item_of}
 use Rattle.segment_promises.specs.Onward.{DoesOn, GoesOn, Grows, SeesOn}
@@ -151,13 +150,6 @@ module _ (known : Known) (item : ℤ × ℕ) (old a last new : Actor) (rest : Is
 
 -- ---- the batch stops there
 
--- what was seen since is seen since an earlier moment
-later : (was more seen : List Sighting) (x : Sighting) → Contains (drop (length (was ++ more)) seen) x → Grows (was ++ more) seen → Contains (drop (length was) seen) x
-later was more seen x inside (rest, is) =
-    let behind : drop (length (was ++ more)) seen ≡ rest = ap (drop (length (was ++ more))) is ∙ drop-append_seam (was ++ more) rest in
-    let all : drop (length was) seen ≡ more ++ rest = ap (drop (length was)) (is ∙ append_assoc was more rest) ∙ drop-append_seam was (more ++ rest) in
-    subst (λ (l : List Sighting). Contains l x) (sym all) (Contains-append_right more rest x (subst (λ (l : List Sighting). Contains l x) behind inside))
-
 module _ (known : Known) (all : List (ℤ × ℕ)) (k : ℕ) (d : ℤ × ℕ) (old a new : Actor) (why : Refusal) (below : k < length all) (rest : IsAtRest old)
     (has : HasItems known (take k all) old a) (one : 1 ≤ (get_or all k d).1) (enough : units_of (take k all) + (get_or all k d).1 ≤ old.units.share)
     (not : IsNotCounted why known (get_or all k d).0 (get_or all k d).1 a new) where
@@ -202,30 +194,6 @@ module _ (known : Known) (all : List (ℤ × ℕ)) (k : ℕ) (d : ℤ × ℕ) (o
     owes = ap (λ (x : Actor). x.answers.owed) kept ∙ rest.owes;
   }
 
-  lacks_since : LacksBlock why known (get_or all k d).0 (get_or all k d).1 old new
-  lacks_since =
-      let (needs, room) = not.lacks in (
-        record {
-          buckets = λ bucketed.
-              let ((word, saw, is_on, none), counts) = needs.buckets bucketed in
-              let (more, grown) = has.proceeds.seen.singles in
-              let (rest, longer) = not.looks.proceeds.seen.singles in
-              let seen = ap (λ (x : Actor). x.seen.singles) is_back.else_as_last in
-              let x : Sighting = record { at = known.reference + 9; word = word } in (
-                (
-                  word,
-                  later old.seen.singles more new.seen.singles x (subst (λ (l : List Sighting). Contains (drop (length l) new.seen.singles) x) grown saw)
-                      (rest, seen ∙ (longer ∙ ap (λ (l : List Sighting). l ++ rest) grown)),
-                  is_on,
-                  none,
-                ),
-                counts,
-              );
-          values = needs.values;
-        },
-        room,
-      )
-
   pub stops_at : StopsAt known all (record { added = k; why = why }) old new
   stops_at = (
     record {
@@ -237,7 +205,9 @@ module _ (known : Known) (all : List (ℤ × ℕ)) (k : ℕ) (d : ℤ × ℕ) (o
           ∙ ap (λ (l : List Entry). map (λ (c : EntryProgress). c.entry) old.entries.log ++ l) (entries_ended known items))
           ∙ sym (append_assoc old.entries.first (map (λ (c : EntryProgress). c.entry) old.entries.log) (entries known.name (boundaries_of known.spec) items)));
       pays = record { share = is_back.share; spent = is_back.costs };
-      lacks = lacks_since;
+      at = a;
+      counted = (has.proceeds.done, has.proceeds.seen);
+      lacks = not.lacks;
       onward = stops_onward;
     },
     stops_rests,

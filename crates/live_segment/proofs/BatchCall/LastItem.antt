@@ -119,6 +119,7 @@ module _ (known : Known) (front : List (ℤ × ℕ)) (item : ℤ × ℕ) (old a 
           seen = subst (SeesOn old.seen) (sym seen) (record {
             free = on.seen.free;
             corrupt = on.seen.corrupt;
+            warned = on.seen.warned;
             chain = on.seen.chain;
             tails = on.seen.tails;
             singles = on.seen.singles;

@@ -40,6 +40,8 @@ cut_before known front behind refusal old new cut =
       there = at_longer front behind refusal.added cut.item cut.there;
       logged = subst (λ (l : List (ℤ × ℕ)). log_of new ≡ log_of old ++ map (item_entry known.name (boundaries_of known.spec)) l) (sym same) cut.logged;
       pays = subst (λ (l : List (ℤ × ℕ)). Pays known.name (units_of l) old new) (sym same) cut.pays;
+      at = cut.at;
+      counted = cut.counted;
       lacks = cut.lacks;
       onward = cut.onward;
     }

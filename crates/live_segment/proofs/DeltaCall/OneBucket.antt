@@ -81,6 +81,7 @@ pub sees_count : (a : Seen) (more : List Sighting) → SeesOn a (record a { coun
 sees_count a more = record {
   free = omega arith;
   corrupt = λ saw. saw;
+  warned = omega arith;
   chain = grows_not a.chain;
   tails = grows_not a.tails;
   singles = grows_not a.singles;

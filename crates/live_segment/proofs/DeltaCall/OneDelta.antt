@@ -165,6 +165,7 @@ module _ (segment : Segment) (known : Known) (word : ℕ) (old : Pass) (takes : 
     sees = record {
       free = omega arith;
       corrupt = λ saw. saw;
+      warned = omega arith;
       chain = grows_not old.me.0.seen.chain;
       tails = grows_not old.me.0.seen.tails;
       singles = grows_not old.me.0.seen.singles;

@@ -25,6 +25,7 @@ module _ (segment : Segment) (known : Known) (at : ℕ) (old mid : Pass) (takes 
   sees_on_sample = record {
     free = omega arith;
     corrupt = λ saw. saw;
+    warned = omega arith;
     chain = grows_not old.me.0.seen.chain;
     tails = grows_not old.me.0.seen.tails;
     singles = grows_not old.me.0.seen.singles;

@@ -102,6 +102,7 @@ module _ {segment : Segment} (known : Known) {first : Pass} (seated : IsSeated s
     sees = record {
       free = omega arith;
       corrupt = λ saw. saw;
+      warned = omega arith;
       chain = extended_grows first.me.0.seen.chain known.reference found;
       tails = grows_not first.me.0.seen.tails;
       singles = grows_not first.me.0.seen.singles;

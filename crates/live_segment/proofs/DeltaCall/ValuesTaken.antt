@@ -90,6 +90,7 @@ module _ (segment : Segment) (known : Known) (passed : List ℕ) (at : ℕ) (tak
       sees = record {
         free = omega arith;
         corrupt = λ saw. saw;
+        warned = omega arith;
         chain = extended_grows mid.me.0.seen.chain at found;
         tails = grows_not mid.me.0.seen.tails;
         singles = grows_not mid.me.0.seen.singles;

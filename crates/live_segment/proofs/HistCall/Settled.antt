@@ -30,8 +30,9 @@ use Rattle.live_segment.specs.Settling.{IsRefusedBy, LooksAround, LooksUp, Owes,
 use Rattle.segment_promises.specs.Onward.{DoesOn}
 use Rattle.live_segment.specs.Searching.{HasMadeNone, HasSearched, Searches, WalksAt, asked_at}
 use Rattle.live_segment.proofs.NewRecords.Claimed.{sees_header}
+use Rattle.live_segment.proofs.NewRecords.Rooms.{lacked_since, lacks_room}
 use Rattle.live_segment.proofs.Seating.Proceeding.{does_not, does_on, sees_on}
-use Rattle.segment_promises.proofs.Growing.{grows_not, grows_same}
+use Rattle.segment_promises.proofs.Growing.{grows_by, grows_not, grows_same}
 use Rattle.live_segment.proofs.AddCall.Refusing.{at_rest}
 use Rattle.live_segment.proofs.HistCall.Searching.{others_still}
 
@@ -65,6 +66,7 @@ searched_around a b free searched = record {
   seen = record {
     free = let e = ap (λ (x : Actor). x.seen.free) searched.view in omega (arith, e);
     corrupt = λ saw. ap (λ (x : Actor). x.seen.corrupt) searched.view ∙ saw;
+    warned = let e = ap (λ (x : Actor). x.seen.warned) searched.view in omega (arith, e);
     chain = searched.chain;
     tails = grows_same a.seen.tails b.seen.tails (ap (λ (x : Actor). x.seen.tails) searched.view);
     singles = grows_same a.seen.singles b.seen.singles (ap (λ (x : Actor). x.seen.singles) searched.view);
@@ -91,16 +93,19 @@ made_around asked a b made = record {
       claimed = b.done.claimed;
       published = sym (ap (λ (x : Actor). x.done.published) made.view) i;
       filled = sym (ap (λ (x : Actor). x.done.filled) made.view) i;
+      lacked = sym (ap (λ (x : Actor). x.done.lacked) made.view) i;
       beaten = b.done.beaten;
     });
     claimed = made.claimed;
     published = (record { reference = made.at; made = Histogram asked.name.items asked.spec } ∷ [], ap (λ (x : Actor). x.done.published) made.view);
     filled = λ set. ap (λ (x : Actor). x.done.filled) made.view ∙ set;
+    lacked = grows_same a.done.lacked b.done.lacked (ap (λ (x : Actor). x.done.lacked) made.view);
     spoiled = λ set. absurd (cc (sym made.unspoiled ∙ set));
   };
   seen = record {
     free = made.later;
     corrupt = λ saw. ap (λ (x : Actor). x.seen.corrupt) made.view ∙ saw;
+    warned = let e = ap (λ (x : Actor). x.seen.warned) made.view in omega (arith, e);
     chain = grows_same a.seen.chain b.seen.chain (ap (λ (x : Actor). x.seen.chain) made.view);
     tails = made.tails;
     singles = grows_same a.seen.singles b.seen.singles (ap (λ (x : Actor). x.seen.singles) made.view);
@@ -112,14 +117,14 @@ made_around asked a b made = record {
 }
 
 -- an allocation that is refused, to a call that counts nothing
-saw_around : (a : Actor) (free : ℕ) (corrupt : Bool) → a.seen.free ≤ free → (a.seen.corrupt ≡ true → corrupt ≡ true)
-    → LooksAround a (record a { hand = record a.hand { place = Idle }; seen = record a.seen { free = free; corrupt = corrupt } })
-saw_around a free corrupt later saw = record {
+saw_around : (a : Actor) (free : ℕ) (corrupt : Bool) (warned : ℕ) → a.seen.free ≤ free → (a.seen.corrupt ≡ true → corrupt ≡ true) → a.seen.warned ≤ warned
+    → LooksAround a (record a { hand = record a.hand { place = Idle }; seen = record a.seen { free = free; corrupt = corrupt; warned = warned } })
+saw_around a free corrupt warned later saw more = record {
   same = refl;
   free = refl;
   apart = λ was. refl;
   done = does_not a.done;
-  seen = sees_header a.seen free corrupt later saw;
+  seen = sees_header a.seen free corrupt warned later saw more;
   untouched = (refl, refl);
 }
 
@@ -133,11 +138,13 @@ filled_around a free = record {
     claimed = grows_not a.done.claimed;
     published = grows_not a.done.published;
     filled = λ set. refl;
+    lacked = grows_by a.done.lacked _;
     spoiled = λ set. refl;
   };
   seen = record {
     free = omega arith;
     corrupt = λ saw. saw;
+    warned = omega arith;
     chain = grows_not a.seen.chain;
     tails = grows_not a.seen.tails;
     singles = grows_not a.seen.singles;
@@ -149,12 +156,12 @@ filled_around a free = record {
 }
 
 pub refused_around : (size : ℕ) (a b : Actor) (cause : Refusal) → a.entries.running ≡ [] → Allocates size 1 a (Err cause) b
-    → LooksAround a b × HasNoRoom cause size b × (b.seen.chain ≡ a.seen.chain) × (b.seen.words ≡ a.seen.words) × (b.answers.owed ≡ a.answers.owed) × (cause ≢ why.OtherSpec)
+    → LooksAround a b × HasNoRoom cause size a b × (b.seen.chain ≡ a.seen.chain) × (b.seen.words ≡ a.seen.words) × (b.answers.owed ≡ a.answers.owed) × (cause ≢ why.OtherSpec)
 refused_around size a b why.Full none (free, view, later, beyond) =
     let is : b ≡ filled (saw_free a Idle free) = view ∙ at_rest (filled (saw_free a Idle free)) none in
-    let around = around_on a (saw_free a Idle free) (filled (saw_free a Idle free)) (saw_around a free a.seen.corrupt later (λ saw. saw)) (filled_around (saw_free a Idle free) refl) in (
+    let around = around_on a (saw_free a Idle free) (filled (saw_free a Idle free)) (saw_around a free a.seen.corrupt a.seen.warned later (λ saw. saw) (omega arith)) (filled_around (saw_free a Idle free) refl) in (
       subst (LooksAround a) (sym is) around,
-      (ap (λ (x : Actor). x.done.filled) is, subst (λ (x : Actor). x.segment.shape.size < x.seen.free + size) (sym is) beyond),
+      lacks_room why.Full size 1 a b (free, view, later, beyond),
       ap (λ (x : Actor). x.seen.chain) is,
       ap (λ (x : Actor). x.seen.words) is,
       ap (λ (x : Actor). x.answers.owed) is,
@@ -162,8 +169,8 @@ refused_around size a b why.Full none (free, view, later, beyond) =
     )
 refused_around size a b why.Corrupt none (free, view, later) =
     let is : b ≡ noticed (saw_free a Idle free) = view ∙ at_rest (noticed (saw_free a Idle free)) none in (
-      subst (LooksAround a) (sym is) (saw_around a free true later (λ saw. refl)),
-      ap (λ (x : Actor). x.seen.corrupt) is,
+      subst (LooksAround a) (sym is) (saw_around a free true (a.seen.warned + 1) later (λ saw. refl) (omega arith)),
+      lacks_room why.Corrupt size 1 a b (free, view, later),
       ap (λ (x : Actor). x.seen.chain) is,
       ap (λ (x : Actor). x.seen.words) is,
       ap (λ (x : Actor). x.answers.owed) is,
@@ -258,9 +265,10 @@ not_made asked at a b c cause none rests searched (walks, others, made_none) all
     let looked = around_on a b c (searched_around a b walks.free searched) looks in
     let still = others_still b.seen c.seen (grows_same b.seen.words c.seen.words words) asked.name.items b.seen.chain others in
     let nothing : c.answers.owed ≡ [] = owed ∙ (ap (λ (x : Actor). x.answers.owed) searched.view ∙ none) in
-    by cause room (subst (All (SawOtherName c.seen asked.name.items)) (sym chain) still) nothing looked not_other
+    let began = searched_around a b walks.free searched in
+    by cause (lacked_since cause (4 + length asked.payload.items) a b c (ap (λ (x : Actor). x.done) searched.view) began.seen.warned room) (subst (All (SawOtherName c.seen asked.name.items)) (sym chain) still) nothing looked not_other
   where
-    by : (cause : Refusal) → HasNoRoom cause (4 + length asked.payload.items) c → All (SawOtherName c.seen asked.name.items) c.seen.chain → c.answers.owed ≡ []
+    by : (cause : Refusal) → HasNoRoom cause (4 + length asked.payload.items) a c → All (SawOtherName c.seen asked.name.items) c.seen.chain → c.answers.owed ≡ []
         → LooksAround a c → cause ≢ why.OtherSpec → LooksUp asked a (Err cause) c
     by why.Full room others nothing looked not_other = (looked, nothing, (others, room))
     by why.Corrupt room others nothing looked not_other = (looked, nothing, (others, room))
@@ -276,20 +284,20 @@ not_made asked at a b c cause none rests searched (walks, others, made_none) all
 -- ---- what is said of it
 
 -- a call that owes answers may refuse them, where the first record of the name has another spec
-pub may_decline : (asked : Asked) (cause : Refusal) (a : Actor) → OwesAs asked cause a → IsRefusedBy asked cause a → MayNoteAll a (map declines a.answers.owed)
-may_decline asked why.OtherSpec a (inl none) other = subst (λ (l : List Known). MayNoteAll a (map declines l)) (sym none) refl
-may_decline asked why.OtherSpec a (inr (at, one)) other =
+pub may_decline : (asked : Asked) (cause : Refusal) (old a : Actor) → OwesAs asked cause a → IsRefusedBy asked cause old a → MayNoteAll a (map declines a.answers.owed)
+may_decline asked why.OtherSpec old a (inl none) other = subst (λ (l : List Known). MayNoteAll a (map declines l)) (sym none) refl
+may_decline asked why.OtherSpec old a (inr (at, one)) other =
     subst (λ (l : List Known). MayNoteAll a (map declines l)) (sym one)
     ((subst (λ (l : List Known). Contains l (asked_at asked at)) (sym one) (0, omega arith, refl), other), refl)
-may_decline asked why.Full a none cause = subst (λ (l : List Known). MayNoteAll a (map declines l)) (sym none) refl
-may_decline asked why.Corrupt a none cause = subst (λ (l : List Known). MayNoteAll a (map declines l)) (sym none) refl
-may_decline asked why.BadName a none cause = absurd cause.1
-may_decline asked (why.BadSpec fault) a none cause = absurd cause.1
-may_decline asked why.ZeroCount a none cause = absurd cause.1
-may_decline asked why.NoUnits a none cause = absurd cause.1
-may_decline asked why.TooMany a none cause = absurd cause.1
-may_decline asked why.NoMemory a none cause = absurd cause.1
-may_decline asked why.TooLarge a none cause = absurd cause.1
+may_decline asked why.Full old a none cause = subst (λ (l : List Known). MayNoteAll a (map declines l)) (sym none) refl
+may_decline asked why.Corrupt old a none cause = subst (λ (l : List Known). MayNoteAll a (map declines l)) (sym none) refl
+may_decline asked why.BadName old a none cause = absurd cause.1
+may_decline asked (why.BadSpec fault) old a none cause = absurd cause.1
+may_decline asked why.ZeroCount old a none cause = absurd cause.1
+may_decline asked why.NoUnits old a none cause = absurd cause.1
+may_decline asked why.TooMany old a none cause = absurd cause.1
+may_decline asked why.NoMemory old a none cause = absurd cause.1
+may_decline asked why.TooLarge old a none cause = absurd cause.1
 
 -- the same name and the same record
 same_known : (k : Known) → (not (bytes_eq k.name k.name && (k.reference == k.reference))) ≡ false
@@ -310,33 +318,33 @@ declined_none : (a : Actor) → a.answers.owed ≡ [] → noted_by a (map declin
 declined_none a none =
     ap (λ (l : List Known). noted_by a (map declines l)) none ∙ (λ i. record a { answers = record a.answers { owed = none i } })
 
-declined_all : (asked : Asked) (cause : Refusal) (a : Actor) → OwesAs asked cause a → IsRefusedBy asked cause a
+declined_all : (asked : Asked) (cause : Refusal) (old a : Actor) → OwesAs asked cause a → IsRefusedBy asked cause old a
     → noted_by a (map declines a.answers.owed) ≡ record a { answers = record a.answers { owed = [] } }
-declined_all asked why.OtherSpec a (inl none) other = declined_none a none
-declined_all asked why.OtherSpec a (inr (at, one)) other = declined_one a (asked_at asked at) one
-declined_all asked why.Full a none cause = declined_none a none
-declined_all asked why.Corrupt a none cause = declined_none a none
-declined_all asked why.BadName a none cause = absurd cause.1
-declined_all asked (why.BadSpec fault) a none cause = absurd cause.1
-declined_all asked why.ZeroCount a none cause = absurd cause.1
-declined_all asked why.NoUnits a none cause = absurd cause.1
-declined_all asked why.TooMany a none cause = absurd cause.1
-declined_all asked why.NoMemory a none cause = absurd cause.1
-declined_all asked why.TooLarge a none cause = absurd cause.1
+declined_all asked why.OtherSpec old a (inl none) other = declined_none a none
+declined_all asked why.OtherSpec old a (inr (at, one)) other = declined_one a (asked_at asked at) one
+declined_all asked why.Full old a none cause = declined_none a none
+declined_all asked why.Corrupt old a none cause = declined_none a none
+declined_all asked why.BadName old a none cause = absurd cause.1
+declined_all asked (why.BadSpec fault) old a none cause = absurd cause.1
+declined_all asked why.ZeroCount old a none cause = absurd cause.1
+declined_all asked why.NoUnits old a none cause = absurd cause.1
+declined_all asked why.TooMany old a none cause = absurd cause.1
+declined_all asked why.NoMemory old a none cause = absurd cause.1
+declined_all asked why.TooLarge old a none cause = absurd cause.1
 
 -- the cause lies in what it has seen and done
-cause_of : (asked : Asked) (cause : Refusal) (a : Actor) (owed : List Known) → IsRefusedBy asked cause a
-    → IsRefusedBy asked cause (record a { answers = record a.answers { owed = owed } })
-cause_of asked why.OtherSpec a owed other = other
-cause_of asked why.Full a owed cause = cause
-cause_of asked why.Corrupt a owed cause = cause
-cause_of asked why.BadName a owed cause = absurd cause.1
-cause_of asked (why.BadSpec fault) a owed cause = absurd cause.1
-cause_of asked why.ZeroCount a owed cause = absurd cause.1
-cause_of asked why.NoUnits a owed cause = absurd cause.1
-cause_of asked why.TooMany a owed cause = absurd cause.1
-cause_of asked why.NoMemory a owed cause = absurd cause.1
-cause_of asked why.TooLarge a owed cause = absurd cause.1
+cause_of : (asked : Asked) (cause : Refusal) (old a : Actor) (owed : List Known) → IsRefusedBy asked cause old a
+    → IsRefusedBy asked cause old (record a { answers = record a.answers { owed = owed } })
+cause_of asked why.OtherSpec old a owed other = other
+cause_of asked why.Full old a owed cause = cause
+cause_of asked why.Corrupt old a owed cause = cause
+cause_of asked why.BadName old a owed cause = absurd cause.1
+cause_of asked (why.BadSpec fault) old a owed cause = absurd cause.1
+cause_of asked why.ZeroCount old a owed cause = absurd cause.1
+cause_of asked why.NoUnits old a owed cause = absurd cause.1
+cause_of asked why.TooMany old a owed cause = absurd cause.1
+cause_of asked why.NoMemory old a owed cause = absurd cause.1
+cause_of asked why.TooLarge old a owed cause = absurd cause.1
 
 around_unowed : (a b : Actor) → LooksAround a b → LooksAround a (record b { answers = record b.answers { owed = [] } })
 around_unowed a b looks = record {
@@ -351,8 +359,8 @@ around_unowed a b looks = record {
 pub refused_so : (asked : Asked) (a b c : Actor) (cause : Refusal) → LooksUp asked a (Err cause) b → c ≡ noted_by b (map declines b.answers.owed)
     → Settles asked a (Err cause) c
 refused_so asked a b c cause (looks, owes, why_is) is =
-    let all : c ≡ record b { answers = record b.answers { owed = [] } } = is ∙ declined_all asked cause b owes why_is in
-    subst (Settles asked a (Err cause)) (sym all) (around_unowed a b looks, refl, cause_of asked cause b [] why_is)
+    let all : c ≡ record b { answers = record b.answers { owed = [] } } = is ∙ declined_all asked cause a b owes why_is in
+    subst (Settles asked a (Err cause)) (sym all) (around_unowed a b looks, refl, cause_of asked cause a b [] why_is)
 
 -- the answer that it owes is given
 known_one : (asked : Asked) (reference : ℕ) (b : Actor) → Owes asked b

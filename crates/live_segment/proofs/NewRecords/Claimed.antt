@@ -1,19 +1,21 @@
 -- A call that claims a block, or is refused one, has looked: what that leaves as it was.
-use Rattle.std.proofs.Common.{◌≡◌, ◌∙◌, ℕ, ◌≤◌, Bool, true, false, true≢false, refl, sym, subst, arith}
+use Rattle.std.proofs.Common.{◌≡◌, ◌∙◌, ℕ, ◌≤◌, Bool, true, false, List, true≢false, refl, sym, subst, arith}
 use Rattle.std.specs.Prelude.{Ok}
 use Rattle.segment_machine.specs.declared.actor.Actor.{Actor}
 use Rattle.segment_machine.specs.declared.place.Place.TheVariants.{Idle}
 use Rattle.segment_machine.specs.declared.seen.Seen.{Seen}
 use Rattle.live_segment.specs.Allocation.{Allocates}
-use Rattle.segment_promises.specs.Onward.{SeesOn}
+use Rattle.segment_promises.specs.Onward.{Grows, SeesOn}
 use Rattle.live_segment.specs.Working.{LooksOn}
 use Rattle.segment_promises.proofs.Growing.{grows_by, grows_not}
 
 -- it has seen a free pointer that is no earlier, and flags
-pub sees_header : (a : Seen) (free : ℕ) (corrupt : Bool) → a.free ≤ free → (a.corrupt ≡ true → corrupt ≡ true) → SeesOn a (record a { free = free; corrupt = corrupt })
-sees_header a free corrupt later saw = record {
+pub sees_header : (a : Seen) (free : ℕ) (corrupt : Bool) (warned : ℕ) → a.free ≤ free → (a.corrupt ≡ true → corrupt ≡ true) → a.warned ≤ warned
+    → SeesOn a (record a { free = free; corrupt = corrupt; warned = warned })
+sees_header a free corrupt warned later saw more = record {
   free = later;
   corrupt = saw;
+  warned = more;
   chain = grows_not a.chain;
   tails = grows_not a.tails;
   singles = grows_not a.singles;
@@ -34,19 +36,20 @@ looks_claimed size tag at old new unspoiled (behind, view, later, enough, few, p
           claimed = grows_by old.done.claimed _;
           published = grows_not old.done.published;
           filled = λ e. e;
+          lacked = grows_not old.done.lacked;
           spoiled = λ e. absurd (true≢false (sym e ∙ unspoiled));
         };
-        seen = sees_header old.seen behind old.seen.corrupt (omega (arith, later, enough)) (λ saw. saw);
+        seen = sees_header old.seen behind old.seen.corrupt old.seen.warned (omega (arith, later, enough)) (λ saw. saw) (omega arith);
       };
       units = refl;
       entries = refl;
     })
 
 -- none is; the corrupt flag may have been seen, or the full flag set
-pub looks_refused : (old last : Actor) (free : ℕ) (filled corrupt : Bool)
-    → last ≡ record old { hand = record old.hand { place = Idle }; done = record old.done { filled = filled }; seen = record old.seen { free = free; corrupt = corrupt } }
-    → old.seen.free ≤ free → (old.done.filled ≡ true → filled ≡ true) → (old.seen.corrupt ≡ true → corrupt ≡ true) → LooksOn old last
-looks_refused old last free filled corrupt is later still saw =
+pub looks_refused : (old last : Actor) (free : ℕ) (filled corrupt : Bool) (lacked : List ℕ) (warned : ℕ)
+    → last ≡ record old { hand = record old.hand { place = Idle }; done = record old.done { filled = filled; lacked = lacked }; seen = record old.seen { free = free; corrupt = corrupt; warned = warned } }
+    → old.seen.free ≤ free → (old.done.filled ≡ true → filled ≡ true) → (old.seen.corrupt ≡ true → corrupt ≡ true) → Grows old.done.lacked lacked → old.seen.warned ≤ warned → LooksOn old last
+looks_refused old last free filled corrupt lacked warned is later still saw longer more =
     subst (LooksOn old) (sym is) (record {
       proceeds = record {
         same = refl;
@@ -56,9 +59,10 @@ looks_refused old last free filled corrupt is later still saw =
           claimed = grows_not old.done.claimed;
           published = grows_not old.done.published;
           filled = still;
+          lacked = longer;
           spoiled = λ e. refl;
         };
-        seen = sees_header old.seen free corrupt later saw;
+        seen = sees_header old.seen free corrupt warned later saw more;
       };
       units = refl;
       entries = refl;

@@ -1,9 +1,9 @@
 -- A try of an allocation: what a recorder knows once it has loaded a free pointer, and where the exchange of it may go.
-use Rattle.std.proofs.Common.{◌≡◌, ℕ, ◌+◌, ◌-◌, ◌<◌, ◌≤◌, Bool, true, false, if◌then◌else◌, sym, ap, subst, ◌∙◌, ⊎_elim, eq-eqb, arith}
-use Rattle.std.specs.Prelude.{bit_and}
+use Rattle.std.proofs.Common.{◌≡◌, ◌≢◌, ℕ, [], ne_eqb, ◌+◌, ◌-◌, ◌<◌, ◌≤◌, Bool, true, false, if◌then◌else◌, sym, ap, subst, ◌∙◌, ⊎_elim, eq-eqb, arith}
+use Rattle.std.specs.Prelude.{bit_and, Err}
 use Rattle.segment_image.specs.Shape.{Dimensions}
 use Rattle.alloc_core.specs.declared.planned.Planned.{Planned}
-use Rattle.alloc_core.specs.declared.planned.Planned.TheVariants.{Claim, Waste}
+use Rattle.alloc_core.specs.declared.planned.Planned.TheVariants.{Claim, Full, Waste}
 use Rattle.alloc_core.specs.declared.alloc.Stage.{Stage}
 use Rattle.alloc_core.specs.declared.alloc.Stage.TheVariants.{LoadFree, Corrupt}
 use Rattle.alloc_core.specs.Layout.{IsShape}
@@ -14,12 +14,15 @@ use Rattle.segment_machine.specs.declared.actor.Actor.{Actor}
 use Rattle.segment_machine.specs.declared.place.Place.TheVariants.{FlagsLoaded, FreeLoaded}
 use Rattle.segment_machine.specs.Actor.{is_opener}
 use Rattle.segment_machine.specs.Event.{allocating_event, next}
-use Rattle.segment_machine.specs.Allocating.{load_flags, load_free, exchange_free}
+use Rattle.segment_machine.specs.Allocating.{load_flags, load_free, exchange_free, set_full}
 use Rattle.live_segment.specs.declared.segment.Segment.{Segment}
 use Rattle.live_segment.specs.Rule.{IsOf}
 use Rattle.live_segment.specs.Steps.{Pass, IsSame, Stepped}
 use Rattle.live_segment.specs.Holders.{table_of, MayStep}
-use Rattle.live_segment.specs.Allocation.{saw_free, claimed}
+use Rattle.live_segment.specs.Allocation.{Allocates, saw_free, claimed}
+use Rattle.live_segment.specs.Refusing.{flags_notes, refusing_notes}
+use Rattle.segment_promises.specs.Follows.{noted_by}
+use Rattle.segment_calls.specs.declared.refusal.Refusal.TheVariants as refusal
 use Rattle.live_segment.proofs.AddCall.Refusing.{flags_seen}
 
 -- what a plan aims at from a lawful free pointer
@@ -81,6 +84,30 @@ module _ (segment : Segment) (first seat : Pass) (size free : ℕ) (has : HasLoa
       → MayStep segment seat (allocating_event (exchange_free free (free + room)))
   may_waste room is = rises (free + room) (plan_aims segment.setting.shape size free (Waste room) segment.shaped least most has.pointer is).1
 
+  -- the full flag may be set where the plan says so
+  pub may_fill : Full ≡ planned free size segment.setting.shape → MayStep segment seat (allocating_event (set_full size))
+  may_fill is =
+      let shape : seat.me.0.segment.shape ≡ segment.setting.shape = ap (λ (a : Actor). a.segment.shape) has.view ∙ of.shape in record {
+        table = has.table;
+        recorder = ap (λ (a : Actor). is_opener a.role) has.view ∙ records;
+        ready = (
+          free,
+          ap (λ (a : Actor). a.hand.place) has.view,
+          subst (λ (s : Dimensions). size ≤ s.page) (sym shape) most,
+          subst (λ (s : Dimensions). s.size < free + size) (sym shape) (plan_aims segment.setting.shape size free Full segment.shaped least most has.pointer is),
+        );
+      }
+
+  -- the full flag is set, and the call is refused
+  pub fills : (tag found : ℕ) (b : Actor) → Full ≡ planned free size segment.setting.shape
+      → b ≡ noted_by (next seat.me.0 (allocating_event (set_full 0)) found) (refusing_notes seat.me.0.entries.running) → Allocates size tag first.me.0 (Err refusal.Full) b
+  fills tag found b is view = (
+    free,
+    view ∙ ap (λ (a : Actor). noted_by (next a (allocating_event (set_full 0)) found) (refusing_notes a.entries.running)) has.view,
+    has.behind,
+    subst (λ (s : Dimensions). s.size < free + size) (sym of.shape) (plan_aims segment.setting.shape size free Full segment.shaped least most has.pointer is),
+  )
+
   -- the block that it then claims
   pub claims : (words to tag : ℕ) (b : Actor) → Claim words to ≡ planned free size segment.setting.shape → b ≡ claimed seat.me.0 free to tag
       → (b ≡ claimed first.me.0 free to tag) × (first.me.0.seen.free ≤ free) × (free + size ≤ to) × (to < free + size + 5)
@@ -100,3 +127,14 @@ module _ (segment : Segment) (first seat : Pass) (size free : ℕ) (has : HasLoa
         omega arith,
         subst (λ (s : Dimensions). IsPlace s free (to - free)) (sym of.shape) place,
       )
+
+-- flags with the corrupt one were loaded, and the call is refused
+pub warned : (size tag found : ℕ) (first old b : Actor) → old ≡ saw_free first old.hand.place old.seen.free → first.seen.free ≤ old.seen.free → bit_and found 1 ≢ 0
+    → b ≡ noted_by (next old (allocating_event load_flags) found) (flags_notes old.entries.running found) → Allocates size tag first (Err refusal.Corrupt) b
+warned size tag found first old b was behind set view = (
+  old.seen.free,
+  view
+      ∙ (ap (λ (clear : Bool). noted_by (flags_seen old clear) (if clear then [] else refusing_notes old.entries.running)) (ne_eqb (bit_and found 1) 0 set)
+      ∙ ap (λ (a : Actor). noted_by (flags_seen a false) (refusing_notes a.entries.running)) was),
+  behind,
+)

@@ -10,12 +10,13 @@ use Rattle.live_segment.specs.Working.{FrameOfCall, LooksOn}
 -- ---- what is done and seen
 
 pub does_not : (a : Done) → DoesOn a a
-does_not a = record { same = refl; claimed = grows_not a.claimed; published = grows_not a.published; filled = λ e. e; spoiled = λ e. refl }
+does_not a = record { same = refl; claimed = grows_not a.claimed; published = grows_not a.published; filled = λ e. e; lacked = grows_not a.lacked; spoiled = λ e. refl }
 
 pub sees_not : (a : Seen) → SeesOn a a
 sees_not a = record {
   free = omega arith;
   corrupt = λ saw. saw;
+  warned = omega arith;
   chain = grows_not a.chain;
   tails = grows_not a.tails;
   singles = grows_not a.singles;
@@ -26,10 +27,11 @@ sees_not a = record {
 
 pub does_on : (a b c : Done) → DoesOn a b → DoesOn b c → DoesOn a c
 does_on a b c first second = record {
-  same = second.same ∙ ap (λ (d : Done). record d { claimed = c.claimed; published = c.published; filled = c.filled; beaten = c.beaten }) first.same;
+  same = second.same ∙ ap (λ (d : Done). record d { claimed = c.claimed; published = c.published; filled = c.filled; lacked = c.lacked; beaten = c.beaten }) first.same;
   claimed = grows_on a.claimed b.claimed c.claimed first.claimed second.claimed;
   published = grows_on a.published b.published c.published first.published second.published;
   filled = λ e. second.filled (first.filled e);
+  lacked = grows_on a.lacked b.lacked c.lacked first.lacked second.lacked;
   spoiled = λ e. second.spoiled (ap (λ (d : Done). d.spoiled) first.same ∙ e) ∙ first.spoiled e;
 }
 
@@ -37,6 +39,7 @@ pub sees_on : (a b c : Seen) → SeesOn a b → SeesOn b c → SeesOn a c
 sees_on a b c first second = record {
   free = let x = first.free in let y = second.free in omega (arith, x, y);
   corrupt = λ saw. second.corrupt (first.corrupt saw);
+  warned = let x = first.warned in let y = second.warned in omega (arith, x, y);
   chain = grows_on a.chain b.chain c.chain first.chain second.chain;
   tails = grows_on a.tails b.tails c.tails first.tails second.tails;
   singles = grows_on a.singles b.singles c.singles first.singles second.singles;

@@ -84,6 +84,7 @@ module _ (known : Known) (a b : Actor) (looked : HasLooked a b) (snapshot : Snap
   sees = record {
     free = omega arith;
     corrupt = λ saw. saw;
+    warned = omega arith;
     chain = grows_not b.seen.chain;
     tails = grows_not b.seen.tails;
     singles = grows_not b.seen.singles;

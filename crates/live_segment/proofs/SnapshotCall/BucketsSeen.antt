@@ -179,6 +179,7 @@ module _ {segment : Segment} (known : Known) {first : Pass} (seated : IsSeated s
         sees = record {
           free = omega arith;
           corrupt = λ saw. saw;
+          warned = omega arith;
           chain = grows_not a.seen.chain;
           tails = grows_not a.seen.tails;
           singles = grows_by a.seen.singles (sight (known.reference + 9) word);

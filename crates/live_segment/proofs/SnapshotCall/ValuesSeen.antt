@@ -116,6 +116,7 @@ module _ (segment : Segment) (known : Known) (passed : List ℕ) (at : ℕ) (lis
     more = more_by old.me.0 mid.me.0 (record old.me.0.seen { words = mid.me.0.seen.words; counts = mid.me.0.seen.counts }) sees.view (record {
       free = omega arith;
       corrupt = λ saw. saw;
+      warned = omega arith;
       chain = grows_not old.me.0.seen.chain;
       tails = grows_not old.me.0.seen.tails;
       singles = grows_not old.me.0.seen.singles;
@@ -185,6 +186,7 @@ module _ (segment : Segment) (known : Known) (passed : List ℕ) (at : ℕ) (lis
           })) (record {
             free = omega arith;
             corrupt = λ saw. saw;
+            warned = omega arith;
             chain = extended_grows mid.me.0.seen.chain at found;
             tails = grows_not mid.me.0.seen.tails;
             singles = grows_not mid.me.0.seen.singles;
@@ -276,6 +278,7 @@ module _ {segment : Segment} (known : Known) {first : Pass} (seated : IsSeated s
       seen = sees_on first.me.0.seen one.me.0.seen two.me.0.seen (subst (λ (a : Actor). SeesOn first.me.0.seen a.seen) (sym view) (record {
         free = omega arith;
         corrupt = λ saw. saw;
+        warned = omega arith;
         chain = extended_grows first.me.0.seen.chain known.reference found;
         tails = grows_not first.me.0.seen.tails;
         singles = grows_not first.me.0.seen.singles;

@@ -1,8 +1,8 @@
 //! The steps that claim a block, store into it, and set flags.
 
-ghost use Rattle.std.specs.Prelude.{◌+◌, ◌≤◌};
+ghost use Rattle.std.specs.Prelude.{ℕ, ◌+◌, ◌≤◌};
 ghost use Rattle.segment_machine.specs.Event.{allocating_event};
-ghost use Rattle.segment_machine.specs.Allocating.{load_flags, load_free, exchange_free, store_size, store_cookie, store_type, set_flag};
+ghost use Rattle.segment_machine.specs.Allocating.{load_flags, load_free, exchange_free, store_size, store_cookie, store_type, set_corrupt, set_full};
 ghost use Rattle.live_segment.specs.Steps.{Does, DoesAt};
 ghost use Rattle.live_segment.specs.Refusing.{LoadsFlags, SetsFull};
 
@@ -11,7 +11,7 @@ use crate::segment::Segment;
 use crate::steps::FIRST;
 use atomic_table::Play;
 use segment_image::layout::{
-    BLOCK_COOKIE, BLOCK_SIZE, BLOCK_TYPE, FLAG_FULL, FLAGS_WORD, FREE_WORD,
+    BLOCK_COOKIE, BLOCK_SIZE, BLOCK_TYPE, FLAG_CORRUPT, FLAG_FULL, FLAGS_WORD, FREE_WORD,
 };
 use segment_machine::Actor;
 
@@ -51,10 +51,10 @@ impl Play<Announcement, Actor> for StoreType {
     ghost then = { λ st. DoesAt (λ at. allocating_event (store_type at st.first)) st.word };
 }
 
-pub(crate) struct SetFlag;
+pub(crate) struct SetCorrupt;
 
-impl Play<Announcement, Actor> for SetFlag {
-    ghost then = { λ st. Does (allocating_event (set_flag st.first)) };
+impl Play<Announcement, Actor> for SetCorrupt {
+    ghost then = { λ st. Does (allocating_event set_corrupt) };
 }
 
 pub(crate) struct SetFull;
@@ -127,20 +127,20 @@ impl Segment {
             .store::<StoreType>(seat, FIRST + at as usize + BLOCK_TYPE, tag);
     }
 
-    pub(crate) fn set_flag(&self, seat: &mut Pass, flag: u64) -> u64
-        requires { MayStep self.now seat.old (allocating_event (set_flag flag)) }
-        ensures { Stepped seat.old (allocating_event (set_flag flag)) result seat.new }
+    pub(crate) fn set_corrupt(&self, seat: &mut Pass) -> u64
+        requires { MayStep self.now seat.old (allocating_event set_corrupt) }
+        ensures { Stepped seat.old (allocating_event set_corrupt) result seat.new }
     {
         self.table
             .shared
-            .fetch_or::<SetFlag>(seat, FIRST + FLAGS_WORD, flag)
+            .fetch_or::<SetCorrupt>(seat, FIRST + FLAGS_WORD, FLAG_CORRUPT)
     }
 
-    // The full flag is set, and a call that counts is refused.
+    // The full flag is set, since too many words are wanted, and a call that counts is refused.
     pub(crate) fn set_full(&self, seat: &mut Pass) -> u64
-        requires may { MayStep self.now seat.old (allocating_event (set_flag FLAG_FULL)) }
+        requires may { (wanted : ℕ) × MayStep self.now seat.old (allocating_event (set_full wanted)) }
         requires closes { MayGiveUp seat.old.me.0 }
-        ensures { Noted seat.old [] (allocating_event (set_flag FLAG_FULL)) (refusing_notes seat.old.me.0.entries.running) result seat.new }
+        ensures { Noted seat.old [] (allocating_event (set_full 0)) (refusing_notes seat.old.me.0.entries.running) result seat.new }
     {
         self.table
             .shared

@@ -217,15 +217,15 @@ module _ (shape : Dimensions) (opened : Anatomy) (state : State) (kept : Invaria
 
   -- ---- a flag is set
 
-  pub flags_set : (corrupt full : Bool) (v : ℕ) (place : Place) (spoiled filled : Bool) → TurnsTo a place → KeepsUp a.hand.place place
+  pub flags_set : (corrupt full : Bool) (v : ℕ) (place : Place) (spoiled filled : Bool) (lacked : List ℕ) → TurnsTo a place → KeepsUp a.hand.place place
       → IsShown shape (set state.words 6 v) (layout_of (record anatomy { corrupt = corrupt; full = full }))
-      → IsSetBy corrupt opened.corrupt (map (λ a. a.done.spoiled) (set state.actors id (record a { hand = record a.hand { place = place }; done = record a.done { spoiled = spoiled; filled = filled } })))
-      → IsSetBy full opened.full (map (λ a. a.done.filled) (set state.actors id (record a { hand = record a.hand { place = place }; done = record a.done { spoiled = spoiled; filled = filled } })))
+      → IsSetBy corrupt opened.corrupt (map (λ a. a.done.spoiled) (set state.actors id (record a { hand = record a.hand { place = place }; done = record a.done { spoiled = spoiled; filled = filled; lacked = lacked } })))
+      → IsSetBy full opened.full (map (λ a. a.done.filled) (set state.actors id (record a { hand = record a.hand { place = place }; done = record a.done { spoiled = spoiled; filled = filled; lacked = lacked } })))
       → (anatomy.corrupt ≡ true → corrupt ≡ true)
-      → StandsRight shape (record anatomy { corrupt = corrupt; full = full }) id (record a { hand = record a.hand { place = place }; done = record a.done { spoiled = spoiled; filled = filled } }) place
-      → GoesTo (set state.words 6 v) (record (doing_of a) { place = place; spoiled = spoiled; filled = filled })
-  flags_set corrupt full v place spoiled filled turns up shown is_corrupt is_full flagged stands =
-      let d : Doing = record (doing_of a) { place = place; spoiled = spoiled; filled = filled } in
+      → StandsRight shape (record anatomy { corrupt = corrupt; full = full }) id (record a { hand = record a.hand { place = place }; done = record a.done { spoiled = spoiled; filled = filled; lacked = lacked } }) place
+      → GoesTo (set state.words 6 v) (record (doing_of a) { place = place; spoiled = spoiled; filled = filled; lacked = lacked })
+  flags_set corrupt full v place spoiled filled lacked turns up shown is_corrupt is_full flagged stands =
+      let d : Doing = record (doing_of a) { place = place; spoiled = spoiled; filled = filled; lacked = lacked } in
       let fits = kept.each id a mine turns.lived in
       acts_on shape opened state kept id a mine records d turns up anatomy.pieces anatomy.spare corrupt full (set state.words 6 v)
       (record {

@@ -1,5 +1,5 @@
 -- Each event that allocates a block or sets a flag keeps what holds, and its actor learns of the free pointer.
-use Rattle.std.proofs.Common.{◌≡◌, ◌≢◌, ℕ, ◌-◌, ◌==◌, Bool, true, false, List, map, length, set, inl, inr, refl, sym, ap, ◌∙◌, subst, eq-eqb, ne_eqb, le-leb, arith}
+use Rattle.std.proofs.Common.{◌≡◌, ◌≢◌, ℕ, ◌+◌, ◌-◌, ◌==◌, Bool, true, false, List, [], ◌∷◌, ◌++◌, map, length, set, inl, inr, refl, sym, ap, ◌∙◌, subst, eq-eqb, ne_eqb, le-leb, arith}
 use Rattle.std.proofs.Math.Bool.{or-true}
 use Rattle.std.specs.Prelude.{bit_and, bit_or, not, nat_le, ◌&&◌, ◌||◌, fold, if◌then◌else◌}
 use Rattle.std.proofs.lemmas.Bool.{and_from}
@@ -22,7 +22,7 @@ use Rattle.segment_machine.specs.declared.place.Place.TheVariants.{Spent, Idle, 
 use Rattle.segment_machine.specs.Actor.{is_bound, is_opener}
 use Rattle.segment_machine.specs.State.{State}
 use Rattle.segment_machine.specs.Event.{Event, allocating_event, spot, Ready, Learned}
-use Rattle.segment_machine.specs.Allocating.{load_flags, load_free, exchange_free, set_flag, after_free}
+use Rattle.segment_machine.specs.Allocating.{load_flags, load_free, exchange_free, set_corrupt, set_full, after_free, free_at}
 use Rattle.alloc_core.proofs.Flags.{corrupt_bit, corrupt_read}
 use Rattle.segment_invariant.proofs.Frames.Ahead.{ahead_at, unbound_unbeaten}
 use Rattle.segment_invariant.proofs.Frames.Anew.{looks_anew_at}
@@ -82,7 +82,7 @@ module _ (shape : Dimensions) (opened : Anatomy) (state : State) (kept : Invaria
         cursors = state.cursors;
         actors = set state.actors id (record a {
           hand = record a.hand { place = if clear then FlagsLoaded else Idle };
-          seen = record a.seen { corrupt = if clear then a.seen.corrupt else true };
+          seen = record a.seen { corrupt = if clear then a.seen.corrupt else true; warned = if clear then a.seen.warned else a.seen.warned + 1 };
         });
       })
   flags_at true found turn =
@@ -91,7 +91,7 @@ module _ (shape : Dimensions) (opened : Anatomy) (state : State) (kept : Invaria
   flags_at false found turn =
       let turns = turns_unbound a Idle turn refl in
       let fits = kept.each id a mine turns.lived in
-      let seen : Seen = record a.seen { corrupt = true } in
+      let seen : Seen = record a.seen { corrupt = true; warned = a.seen.warned + 1 } in
       sees_more shape opened state kept id a mine records Idle seen a.done.given a.done.lost turns.lived turns.lives turns.moves state.cursors
       (later_itself (order_of anatomy) state.cursors)
       (near_on shape opened state kept id a mine records Idle seen a.done.given a.done.lost turns.lived turns.lives turns.moves turns.sums)
@@ -182,10 +182,10 @@ module _ (shape : Dimensions) (opened : Anatomy) (state : State) (kept : Invaria
       )
 
   -- a flag is set: the corrupt one, and the full one
-  pub corrupt_set : is_bound a.hand.place ≡ false → Keeps (allocating_event (set_flag 1))
+  pub corrupt_set : is_bound a.hand.place ≡ false → Keeps (allocating_event set_corrupt)
   corrupt_set turn =
       let b : Actor = record a { hand = record a.hand { place = Idle }; done = record a.done { spoiled = true } } in (
-        flags_set shape opened state kept id a mine records true anatomy.full (bit_or (word_at state.words 6) 1) Idle true a.done.filled
+        flags_set shape opened state kept id a mine records true anatomy.full (bit_or (word_at state.words 6) 1) Idle true a.done.filled a.done.lacked
             (turns_unbound a Idle turn refl) (λ no. unbound_unbeaten a.hand.place turn) (shown_corrupt shape state.words (layout_of anatomy) kept.shown)
             (set_now opened.corrupt state.actors id a b (λ (x : Actor). x.done.spoiled) mine refl)
             (kept.full ∙ ap (λ set. opened.full || fold ◌||◌ false set) (sym (column (λ (x : Actor). x.done.filled) state.actors id a b mine refl)))
@@ -193,16 +193,14 @@ module _ (shape : Dimensions) (opened : Anatomy) (state : State) (kept : Invaria
         tt,
       )
 
-  pub full_set : is_bound a.hand.place ≡ false → Keeps (allocating_event (set_flag 2))
-  full_set turn =
-      let b : Actor = record a { hand = record a.hand { place = Idle }; done = record a.done { filled = true } } in (
-        flags_set shape opened state kept id a mine records anatomy.corrupt true (bit_or (word_at state.words 6) 2) Idle a.done.spoiled true
+  pub full_set : (wanted : ℕ) → Ready a (allocating_event (set_full wanted)) → Keeps (allocating_event (set_full wanted))
+  full_set wanted (free, stands, fits, beyond) =
+      let turn : is_bound a.hand.place ≡ false = ap is_bound stands in
+      let lacked : List ℕ = a.done.lacked ++ free_at a.hand.place ∷ [] in
+      let b : Actor = record a { hand = record a.hand { place = Idle }; done = record a.done { filled = true; lacked = lacked } } in (
+        flags_set shape opened state kept id a mine records anatomy.corrupt true (bit_or (word_at state.words 6) 2) Idle a.done.spoiled true lacked
             (turns_unbound a Idle turn refl) (λ no. unbound_unbeaten a.hand.place turn) (shown_full shape state.words (layout_of anatomy) kept.shown)
             (kept.corrupt ∙ ap (λ set. opened.corrupt || fold ◌||◌ false set) (sym (column (λ (x : Actor). x.done.spoiled) state.actors id a b mine refl)))
             (set_now opened.full state.actors id a b (λ (x : Actor). x.done.filled) mine refl) (λ set. set) tt,
         tt,
       )
-
-  pub flag_set : (flag : ℕ) → Ready a (allocating_event (set_flag flag)) → Keeps (allocating_event (set_flag flag))
-  flag_set flag (turn, inl corrupt) = subst (λ n. Keeps (allocating_event (set_flag n))) (sym corrupt) (corrupt_set turn)
-  flag_set flag (turn, inr (full, loaded)) = subst (λ n. Keeps (allocating_event (set_flag n))) (sym full) (full_set turn)

@@ -7,14 +7,14 @@ use Rattle.segment_image.specs.Shape.{Dimensions}
 use Rattle.segment_machine.specs.declared.actor.Actor.{Actor}
 use Rattle.segment_machine.specs.State.{State}
 use Rattle.segment_machine.specs.Event.{Event, allocating_event, spot, Learned, Ready}
-use Rattle.segment_machine.specs.Allocating.{load_flags, load_free, exchange_free, store_size, store_cookie, store_type, store_payload, set_flag}
+use Rattle.segment_machine.specs.Allocating.{load_flags, load_free, exchange_free, store_size, store_cookie, store_type, store_payload, set_corrupt, set_full}
 use Rattle.segment_invariant.specs.Body.{Anatomy}
 use Rattle.segment_invariant.specs.Invariant.{StandsRight, HoldsOwn, Invariant}
 use Rattle.segment_invariant.specs.Keeps.{found_at, happened, AllocatingKeeps}
 use Rattle.segment_invariant.proofs.Lists.Elements.{at_from, all_at}
 use Rattle.segment_invariant.proofs.Blocks.Pieces.{free_least, free_within}
 use Rattle.segment_invariant.proofs.Frames.GoesOn.{happens}
-use Rattle.segment_invariant.proofs.Allocating.Events.{Keeps, words_long, flags_loaded, free_loaded, free_exchanged, flag_set}
+use Rattle.segment_invariant.proofs.Allocating.Events.{Keeps, words_long, flags_loaded, free_loaded, free_exchanged, corrupt_set, full_set}
 use Rattle.segment_invariant.proofs.Allocating.Headers.{size_kept, cookie_kept, type_kept}
 use Rattle.segment_invariant.proofs.Allocating.Payloads.{has_lived, payload_kept}
 use Rattle.segment_machine.specs.Actor.{is_opener}
@@ -77,6 +77,9 @@ allocating_keeps (store_payload at index value) shape opened state id a kept min
     at_word shape opened state id a kept mine records (allocating_event (store_payload at index value))
     (payload_within shape opened state id a kept mine records at index value ready)
     (payload_kept shape opened state kept id a mine records at index value ready)
-allocating_keeps (set_flag flag) shape opened state id a kept mine records ready =
-    at_word shape opened state id a kept mine records (allocating_event (set_flag flag)) (header_within shape opened state id a kept mine records 6 (omega arith))
-    (flag_set shape opened state kept id a mine records flag ready)
+allocating_keeps set_corrupt shape opened state id a kept mine records ready =
+    at_word shape opened state id a kept mine records (allocating_event set_corrupt) (header_within shape opened state id a kept mine records 6 (omega arith))
+    (corrupt_set shape opened state kept id a mine records ready)
+allocating_keeps (set_full wanted) shape opened state id a kept mine records ready =
+    at_word shape opened state id a kept mine records (allocating_event (set_full wanted)) (header_within shape opened state id a kept mine records 6 (omega arith))
+    (full_set shape opened state kept id a mine records wanted ready)

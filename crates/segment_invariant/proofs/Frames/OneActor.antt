@@ -27,7 +27,7 @@ use Rattle.segment_invariant.proofs.Frames.Roles.{AllStood, SameRole, stood_set,
 
 -- ---- one actor
 
--- what changes of an actor that goes on so: where it stands, its blocks, the flags that it set, how often its link came too late, and what it saw of the free pointer,
+-- what changes of an actor that goes on so: where it stands, its blocks, the flags that it set and the words that it lacked, how often its link came too late, and what it saw of the free pointer,
 -- the list and words that stay
 pub record Doing : Type 0 where
   pub place : Place
@@ -37,6 +37,7 @@ pub record Doing : Type 0 where
   pub owed : List Known
   pub spoiled : Bool
   pub filled : Bool
+  pub lacked : List ℕ
   pub beaten : ℕ
   pub seen_free : ℕ
   pub seen_chain : List ℕ
@@ -52,6 +53,7 @@ doing a d = record a {
     published = d.published;
     spoiled = d.spoiled;
     filled = d.filled;
+    lacked = d.lacked;
     beaten = d.beaten;
   };
   answers = record a.answers { owed = d.owed };
@@ -68,6 +70,7 @@ doing_of a = record {
   owed = a.answers.owed;
   spoiled = a.done.spoiled;
   filled = a.done.filled;
+  lacked = a.done.lacked;
   beaten = a.done.beaten;
   seen_free = a.seen.free;
   seen_chain = a.seen.chain;

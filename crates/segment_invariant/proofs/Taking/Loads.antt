@@ -112,8 +112,9 @@ module _ (shape : Dimensions) (opened : Anatomy) (state : State) (kept : Invaria
   -- ---- a redundant count
 
   pub redundant_loaded : (h : ℕ) → Ready a (taking_event (load_redundant h)) → Goes shape opened state kept id a mine records (taking_event (load_redundant h))
-  redundant_loaded h (unbound, (known, has, refers)) =
+  redundant_loaded h ((sum, stood), (known, has, refers)) =
       let at : ℕ = h + 13 in
+      let unbound : is_bound a.hand.place ≡ false = ap is_bound stood in
       let found : ℕ = word_at state.words at in
       let (r, first, there, named, many, keys) = knows_of shape opened state kept id a mine records (lives_unbound unbound) known has in
       let stands : HasRecord kept.anatomy.pieces h r = subst (λ (n : ℕ). HasRecord kept.anatomy.pieces n r) refers there in

@@ -18,7 +18,7 @@ use Rattle.segment_machine.specs.declared.place.Place.{Place}
 use Rattle.segment_machine.specs.declared.place.Place.TheVariants.{FlagsLoaded, FreeLoaded, Raised, Sized, Marked, TailLoaded, Beaten, Linked, CursorLoaded, BehindCursor}
 use Rattle.segment_machine.specs.Actor.{is_bound, Sparse, word_seen}
 use Rattle.segment_machine.specs.Made.{AreNameWords, IsPayload}
-use Rattle.segment_machine.specs.Allocating.{AllocatingEvent, load_flags, load_free, exchange_free, store_size, store_cookie, store_type, store_payload, set_flag}
+use Rattle.segment_machine.specs.Allocating.{AllocatingEvent, load_flags, load_free, exchange_free, store_size, store_cookie, store_type, store_payload, set_corrupt, set_full}
 use Rattle.segment_machine.specs.Allocating as allocating
 use Rattle.segment_machine.specs.Publishing.{PublishingEvent, store_own_next, load_tail, link, move_tail, MayPublish}
 use Rattle.segment_machine.specs.Publishing as publishing
@@ -37,6 +37,10 @@ flags_loaded _ = None
 abbrev free_loaded : (place : Place) (free : ℕ) → Option (place ≡ FreeLoaded free)
 free_loaded (FreeLoaded found) free = then (same found free) (λ e. Some (ap FreeLoaded e))
 free_loaded _ free = None
+
+abbrev any_free_loaded : (place : Place) → Option ((free : ℕ) × (place ≡ FreeLoaded free))
+any_free_loaded (FreeLoaded free) = Some (free, refl)
+any_free_loaded _ = None
 
 abbrev raised : (place : Place) (at size : ℕ) → Option (place ≡ Raised at size)
 raised (Raised i n) at size = then (same i at) (λ e. then (same n size) (λ f. Some (λ k. Raised (e k) (f k))))
@@ -93,7 +97,9 @@ may_allocate a (store_type at tag) =
 may_allocate a (store_payload at index value) =
     then (own_at a at) (λ t. then (same t.0.next 0) (λ fills. then (at_most (length t.0.payload) index) (λ new. then (below (4 + index) t.0.size) (λ within.
     Some (t.0, (t.1, fills), t.2, new, within)))))
-may_allocate a (set_flag flag) = None
+may_allocate a set_corrupt = is_false (is_bound a.hand.place)
+may_allocate a (set_full wanted) =
+    then (any_free_loaded a.hand.place) (λ t. then (at_most wanted a.segment.shape.page) (λ fits. then (below a.segment.shape.size (t.0 + wanted)) (λ beyond. Some (t.0, t.1, fits, beyond))))
 
 -- ---- publishing
 

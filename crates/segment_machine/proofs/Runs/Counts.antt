@@ -51,6 +51,10 @@ abbrev pub sum_loaded : (place : Place) (histogram : ℕ) (sum : ℤ) → Option
 sum_loaded (SumLoaded h s) histogram sum = then (same h histogram) (λ e. then (same_integer s sum) (λ f. Some (λ k. SumLoaded (e k) (f k))))
 sum_loaded _ histogram sum = None
 
+abbrev any_sum_loaded : (place : Place) (histogram : ℕ) → Option ((sum : ℤ) × (place ≡ SumLoaded histogram sum))
+any_sum_loaded (SumLoaded h sum) histogram = then (same h histogram) (λ e. Some (sum, ap (λ n. SumLoaded n sum) e))
+any_sum_loaded _ histogram = None
+
 -- ---- what it knows
 
 abbrev buckets_at : (a : Actor) (histogram : ℕ) → Option ((known : Known) × Buckets a histogram known)
@@ -255,4 +259,4 @@ may_take a (raise_single_mark histogram least) =
 may_take a (load_sum histogram) = then (is_false (is_bound a.hand.place)) (λ turns. then (known_at a histogram) (λ k. Some (turns, (k.0, k.1, k.2))))
 may_take a (swap_sum_mark histogram sum) =
     then (takes_at a histogram) (λ k. then (sum_loaded a.hand.place histogram sum) (λ stands. Some (k.0, k.1, stands)))
-may_take a (load_redundant histogram) = then (is_false (is_bound a.hand.place)) (λ turns. then (known_at a histogram) (λ k. Some (turns, (k.0, k.1, k.2))))
+may_take a (load_redundant histogram) = then (any_sum_loaded a.hand.place histogram) (λ stands. then (known_at a histogram) (λ k. Some (stands, (k.0, k.1, k.2))))

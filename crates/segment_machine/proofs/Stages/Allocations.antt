@@ -1,5 +1,5 @@
 -- An actor goes along with an allocation.
-use Rattle.std.proofs.Common.{◌≡◌, ℕ, ◌-◌, ◌≤◌, ◌==◌, Bool, true, false, ◌++◌, [], ◌∷◌, inl, inr, refl, sym, ap, ◌∙◌, subst, true≢false, eqb-true, Some}
+use Rattle.std.proofs.Common.{◌≡◌, ℕ, ◌+◌, ◌-◌, ◌<◌, ◌≤◌, ◌==◌, Bool, true, false, ◌++◌, [], ◌∷◌, inl, inr, refl, sym, ap, ◌∙◌, subst, true≢false, eqb-true, Some}
 use Rattle.std.specs.Prelude.{bit_and, if◌then◌else◌}
 use Rattle.std.specs.List.{Contains}
 use Rattle.std.proofs.lemmas.List.Elements.{Contains-push}
@@ -19,18 +19,13 @@ use Rattle.segment_machine.specs.declared.place.Place.{Place}
 use Rattle.segment_machine.specs.declared.place.Place.TheVariants.{Idle, FlagsLoaded, FreeLoaded, Raised, Sized, Marked}
 use Rattle.segment_machine.specs.Operation.{single}
 use Rattle.segment_machine.specs.Actor.{is_bound}
-use Rattle.segment_machine.specs.Allocating.{AllocatingEvent, load_flags, load_free, exchange_free, store_size, store_cookie, store_type, store_payload, set_flag, operation, Ready, next, Learned, after_free, new_own, size_at}
+use Rattle.segment_machine.specs.Allocating.{AllocatingEvent, load_flags, load_free, exchange_free, store_size, store_cookie, store_type, store_payload, set_corrupt, set_full, operation, Ready, next, Learned, after_free, new_own, size_at}
 use Rattle.segment_machine.specs.Stages.{allocates, StandsAt, AllocationsAgree}
 
 -- an actor stays in its segment
 shape_exchanged : (hit : Bool) (a : Actor) (old new found : ℕ) → (after_free hit a old new found).segment.shape ≡ a.segment.shape
 shape_exchanged true a old new found = refl
 shape_exchanged false a old new found = refl
-
-shape_set : (corrupt : Bool) (a : Actor)
-    → (if corrupt then record a { hand = record a.hand { place = Idle }; done = record a.done { spoiled = true } } else record a { hand = record a.hand { place = Idle }; done = record a.done { filled = true } }).segment.shape ≡ a.segment.shape
-shape_set true a = refl
-shape_set false a = refl
 
 shape_stays : (a : Actor) (act : AllocatingEvent) (found : ℕ) → (next a act found).segment.shape ≡ a.segment.shape
 shape_stays a load_flags found = refl
@@ -40,15 +35,17 @@ shape_stays a (store_size at size) found = refl
 shape_stays a (store_cookie at cookie) found = refl
 shape_stays a (store_type at tag) found = refl
 shape_stays a (store_payload at index value) found = refl
-shape_stays a (set_flag flag) found = shape_set (flag == 1) a
+shape_stays a set_corrupt found = refl
+shape_stays a (set_full wanted) found = refl
 
-module _ (a : Actor) (allocation : Allocation) (same : allocation.shape ≡ a.segment.shape) (least : 1 ≤ allocation.tag) (most : allocation.tag ≤ 3) where
+module _ (a : Actor) (allocation : Allocation) (same : allocation.shape ≡ a.segment.shape) (least : 1 ≤ allocation.tag) (most : allocation.tag ≤ 3)
+    (most_words : allocation.size ≤ allocation.shape.page) where
   -- the allocation behind an event at a stage that found a number
   abbrev behind : ℕ → Stage → Allocation
   behind found stage = record allocation { seen = seen_after allocation found stage; stage = stage_after allocation found stage }
 
   flags_loaded : (clear : Bool) (now : Allocation)
-      → StandsAt (record a { hand = record a.hand { place = if clear then FlagsLoaded else Idle }; seen = record a.seen { corrupt = if clear then a.seen.corrupt else true } })
+      → StandsAt (record a { hand = record a.hand { place = if clear then FlagsLoaded else Idle }; seen = record a.seen { corrupt = if clear then a.seen.corrupt else true; warned = if clear then a.seen.warned else a.seen.warned + 1 } })
       now (if clear then LoadFree else Corrupt)
   flags_loaded true now = refl
   flags_loaded false now = (refl, refl)
@@ -68,9 +65,6 @@ module _ (a : Actor) (allocation : Allocation) (same : allocation.shape ≡ a.se
       → StandsAt (after_free hit a allocation.seen end found) now (if hit then StoreSize found (end - found) way else LoadFlags)
   exchanged end found way now true e = ap (λ (at : ℕ). Raised at (end - at)) (sym (eqb-true found allocation.seen e))
   exchanged end found way now false e = refl
-
-  unbound : (place : Place) → a.hand.place ≡ place → is_bound place ≡ false → is_bound a.hand.place ≡ false
-  unbound place stands free = ap is_bound stands ∙ free
 
   cookie_stored : (at size found : ℕ) (way : Purpose) (now : Allocation) → a.hand.place ≡ Sized at size
       → Ready a (store_cookie at (cookie_of way)) × StandsAt (next a (store_cookie at (cookie_of way)) found) now (stage_of_cookie at size way)
@@ -117,10 +111,10 @@ module _ (a : Actor) (allocation : Allocation) (same : allocation.shape ≡ a.se
     ),
   )
   goes size version event SetFull aimed stands is = (
-    set_flag 2,
+    set_full allocation.size,
     refl,
     cc is,
-    (unbound (FreeLoaded allocation.seen) stands refl, inr (refl, (allocation.seen, stands))),
+    (allocation.seen, stands, subst (λ (shape : Dimensions). allocation.size ≤ shape.page) same most_words, subst (λ (shape : Dimensions). shape.size < allocation.seen + allocation.size) same aimed),
     λ found learned. (refl, refl),
   )
   goes size version event (Claimed at words) aimed stands is = cc is
@@ -129,7 +123,7 @@ module _ (a : Actor) (allocation : Allocation) (same : allocation.shape ≡ a.se
 
 pub allocations_agree : AllocationsAgree
 allocations_agree size version a allocation event goes_along is =
-    let (act, acts, acted, ready, stands) = goes a allocation goes_along.shape goes_along.least goes_along.most size version event allocation.stage
+    let (act, acts, acted, ready, stands) = goes a allocation goes_along.shape goes_along.least goes_along.most goes_along.lawful.most size version event allocation.stage
     goes_along.lawful.aimed goes_along.stands is in (
       act,
       acts,

@@ -69,7 +69,7 @@ pub returns : goal.returns
 returns c = (
   (
     inr (known_s, 56, negsuc 4, ((1, omega arith, refl), refl, refl), (2, omega arith, refl), (refl, refl, refl, refl), refl, refl, refl),
-    ((refl, (known_s, (1, omega arith, refl), refl)), ((refl, (known_s, (1, omega arith, refl), refl)), tt)),
+    ((refl, (known_s, (1, omega arith, refl), refl)), (((negsuc 4, refl), (known_s, (1, omega arith, refl), refl)), tt)),
   ),
   (known_s, (1, omega arith, refl), refl, saw_all, refl),
   λ t.

@@ -1,4 +1,4 @@
-use Rattle.std.proofs.Common.{◌≡◌, ℕ, ℤ, zero, suc, [], inl, refl, sym, subst, arith}
+use Rattle.std.proofs.Common.{pos, ◌≡◌, ℕ, ℤ, zero, suc, [], inl, refl, sym, subst, arith}
 use mathlib.Core.Option.{some, some-injective, some-ne-none}
 use lib.ListN.{get_elem?}
 use Rattle.segment_machine.specs.declared.actor.Actor.{Actor}
@@ -40,7 +40,7 @@ saw_all = record {
 
 pub returns : goal.returns
 returns c = (
-  ((refl, (known_a, knows)), ((refl, (known_a, (0, omega arith, refl), refl)), ((refl, (known_a, (0, omega arith, refl), refl)), tt))),
+  ((refl, (known_a, knows)), ((refl, (known_a, (0, omega arith, refl), refl)), (((pos 2, refl), (known_a, (0, omega arith, refl), refl)), tt))),
   (known_a, (0, omega arith, refl), refl, saw_all, refl),
   refl,
   refl,

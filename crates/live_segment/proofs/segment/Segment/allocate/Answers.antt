@@ -1,6 +1,6 @@
 use Rattle.std.proofs.Common.{◌∙◌, sym}
 use Rattle.live_segment.proofs.AddCall.Refusing.{clear}
-use Rattle.live_segment.proofs.NewRecords.Tries.{loaded, may_claim, may_waste, claims}
+use Rattle.live_segment.proofs.NewRecords.Tries.{loaded, may_claim, may_fill, may_waste, claims}
 use Rattle.live_segment.proofs.segment.Segment.allocate.Goals as goal
 
 pub claim-requires-clause-may : goal.claim-requires-clause-may
@@ -22,3 +22,9 @@ waste-requires-clause-may c =
     let was = c.loop-size.invariant in let asked = c.requires.seat in
     let has = loaded c.args.self.now c.args.seat.now _ _ _ _ _ asked.table asked.of was.same was.view was.behind c.if-load_flags-ne0.false (clear _ _ _ c.load_flags.ensures c.if-load_flags-ne0.false) c.load_free-free.ensures in
     may_waste _ _ _ c.args.size _ has asked.of asked.recorder c.requires.size.0 c.requires.size.1 c.in-Waste.room (sym c.in-Waste.is ∙ c.plan.ensures)
+
+pub set_full-requires-clause-may : goal.set_full-requires-clause-may
+set_full-requires-clause-may c =
+    let was = c.loop-size.invariant in let asked = c.requires.seat in
+    let has = loaded c.args.self.now c.args.seat.now _ _ _ _ _ asked.table asked.of was.same was.view was.behind c.if-load_flags-ne0.false (clear _ _ _ c.load_flags.ensures c.if-load_flags-ne0.false) c.load_free-free.ensures in
+    (c.args.size, may_fill _ _ _ c.args.size _ has asked.of asked.recorder c.requires.size.0 c.requires.size.1 (sym c.in-Full.is ∙ c.plan.ensures))

@@ -28,7 +28,7 @@ returns-in-Ok-clause-outcome c =
 
 pub decline-requires-clause-may : goal.decline-requires-clause-may
 decline-requires-clause-may c =
-    let (looks, owes, why_is) = c.in-Err.ensures.outcome in may_decline c.args.asked.now c.in-Err.why c.first_named.new.seat.me.0 owes why_is
+    let (looks, owes, why_is) = c.in-Err.ensures.outcome in may_decline c.args.asked.now c.in-Err.why _ c.first_named.new.seat.me.0 owes why_is
 
 pub returns-in-Err-clause-outcome : goal.returns-in-Err-clause-outcome
 returns-in-Err-clause-outcome c =

@@ -1,11 +1,10 @@
 -- An event of a part of a call: what it is in the words, and what of its actor it leaves as it was.
 use Rattle.std.proofs.Common.{◌≡◌, ◌==◌, ℕ, Bool, true, false, List, [], ◌++◌, refl, sym, ap, ◌∙◌}
-use Rattle.std.specs.Prelude.{if◌then◌else◌, slice_set}
+use Rattle.std.specs.Prelude.{slice_set}
 use Rattle.std.proofs.lemmas.List.{append-nil}
 use Rattle.segment_image.specs.Words.{word_at}
 use Rattle.alloc_core.specs.Event as atomic
 use Rattle.segment_machine.specs.declared.actor.Actor.{Actor}
-use Rattle.segment_machine.specs.declared.place.Place.TheVariants.{Idle}
 use Rattle.segment_machine.specs.declared.seen.Sighting.{Sighting}
 use Rattle.segment_machine.specs.Operation.{single, spot_of, change_of}
 use Rattle.hist_core.specs.StepsBy.{FrameOfStep}
@@ -45,11 +44,6 @@ pub seen_alike : (a b : Actor) → b.role ≡ a.role → b.segment ≡ a.segment
 seen_alike a b role segment units entries deltas names chain words =
     seen_words a b [] role segment units entries deltas names chain (words ∙ sym (append-nil a.seen.words))
 
--- one of two actors, beside both of which the rest is as it was
-pub either_way : (b : Bool) (a x y : Actor) → FrameOfStep a x → FrameOfStep a y → FrameOfStep a (if b then x else y)
-either_way true a x y one other = one
-either_way false a x y one other = other
-
 freed : (b : Bool) (a : Actor) (old new found : ℕ) → FrameOfStep a (after_free b a old new found)
 freed true a old new found = seen_alike a (after_free true a old new found) refl refl refl refl refl refl refl refl
 freed false a old new found = seen_alike a (after_free false a old new found) refl refl refl refl refl refl refl refl
@@ -70,10 +64,6 @@ freed_words : (b : Bool) (a : Actor) (old new found : ℕ) → (after_free b a o
 freed_words true a old new found = refl
 freed_words false a old new found = refl
 
-flagged_words : (b : Bool) (a x y : Actor) → x.seen.words ≡ a.seen.words → y.seen.words ≡ a.seen.words → (if b then x else y).seen.words ≡ a.seen.words
-flagged_words true a x y one other = one
-flagged_words false a x y one other = other
-
 pub allocating_words : (a : Actor) (act : AllocatingEvent) (found : ℕ) → (next a (allocating_event act) found).seen.words ≡ a.seen.words
 allocating_words a load_flags found = refl
 allocating_words a load_free found = refl
@@ -82,9 +72,8 @@ allocating_words a (store_size at size) found = refl
 allocating_words a (store_cookie at cookie) found = refl
 allocating_words a (store_type at tag) found = refl
 allocating_words a (store_payload at index value) found = refl
-allocating_words a (set_flag flag) found =
-    flagged_words (flag == 1) a (record a { hand = record a.hand { place = Idle }; done = record a.done { spoiled = true } })
-    (record a { hand = record a.hand { place = Idle }; done = record a.done { filled = true } }) refl refl
+allocating_words a set_corrupt found = refl
+allocating_words a (set_full wanted) found = refl
 
 linked : (b : Bool) (a : Actor) (tail at found : ℕ) → FrameOfStep a (after_link b a tail at found)
 linked true a tail at found = seen_alike a (after_link true a tail at found) refl refl refl refl refl refl refl refl

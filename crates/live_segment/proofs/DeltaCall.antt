@@ -8,6 +8,7 @@ pub mod OneBucket
 pub mod OneDelta
 pub mod OneSample
 pub mod OneValue
+pub mod Owed
 pub mod SampleCounts
 pub mod SamplesBehind
 pub mod ValuesDelta

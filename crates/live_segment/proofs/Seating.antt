@@ -4,3 +4,4 @@ pub mod Callers
 pub mod GhostNoted
 pub mod Proceeding
 pub mod Seated
+pub mod Standing

@@ -42,3 +42,4 @@ pub mod Deltas
 pub mod Values
 pub mod Mounting
 pub mod Finishing
+pub mod Owed

@@ -36,6 +36,7 @@ impl Segment {
     ghost use Rattle.live_segment.specs.declared.rule.Setting.{Setting};
     ghost use Rattle.live_segment.specs.Seated.{IsSeated};
     ghost use Rattle.live_segment.specs.Steps.{IsAtRest, IsSame};
+    ghost use Rattle.live_segment.specs.Owed.{Standing};
 
     // The units of a bucket that the delta takes: its count is loaded, and where that is not 0, the mark is raised to it. The packed bucket
     // has the single mark, and its total is the count with what the single word keeps.
@@ -151,6 +152,7 @@ impl Segment {
         requires room { histogram.now.reference + 15 ≤ self.now.setting.shape.size }
         ensures same { IsSame seat.old seat.new }
         ensures taken { HasTakenSum (known_view histogram.now) result seat.old.me.0 seat.new.me.0 }
+        ensures stands { Standing seat.new.me.0 }
     {
         let sum = self.load_sum(seat, histogram.reference).cast_signed();
         let mark = self
@@ -173,6 +175,7 @@ impl Segment {
         requires room { (taken.old.items ≡ []) × (buckets_of histogram.now.spec ≤ vec_capacity taken.old) }
         ensures same { IsSame seat.old seat.new }
         ensures taken { HasTaken (known_view histogram.now) taken.new.items result seat.old.me.0 seat.new.me.0 }
+        ensures stands { Standing seat.new.me.0 }
     {
         let word = self.take_single(seat, histogram.reference);
         self.take_units(seat, histogram, word, taken);
@@ -241,6 +244,7 @@ impl Segment {
         requires room { (taken.old.items ≡ []) × ((self.now.setting.shape.size - 16) / 5 ≤ vec_capacity taken.old) }
         ensures same { IsSame seat.old seat.new }
         ensures taken { HasTaken (known_view histogram.now) taken.new.items result seat.old.me.0 seat.new.me.0 }
+        ensures stands { Standing seat.new.me.0 }
     {
         let first = self.take_next(seat, histogram.reference);
         self.take_values(seat, histogram, first, taken);
@@ -273,6 +277,7 @@ impl Segment {
         requires room { (taken.old.items ≡ []) × HoldsKeys self.now (known_view histogram.now) (vec_capacity taken.old) }
         ensures same { IsSame seat.old seat.new }
         ensures taken { HasTaken (known_view histogram.now) taken.new.items result seat.old.me.0 seat.new.me.0 }
+        ensures stands { Standing seat.new.me.0 }
     {
         if histogram.ranges.len() == 0 {
             self.delta_of_values(seat, histogram, taken)

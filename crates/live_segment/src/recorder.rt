@@ -83,6 +83,7 @@ impl<'a> Recorder<'a> {
     ghost use Rattle.bucket_ranges.specs.declared.spec.Spec.TheVariants.{Sparse};
     ghost use Rattle.live_segment.specs.Deltas.{AreUnits, HasTaken};
     ghost use Rattle.live_segment.specs.Snapshots.{HasSnapshot};
+    ghost use Rattle.live_segment.specs.Owed.{HasEnough, TookEnough};
     ghost use Rattle.live_segment.specs.Values.{HoldsKeys, OpensWith};
     ghost use Rattle.std.specs.Prelude.{◌↔◌, IsTrue, Err, ◌<◌, ◌++◌, length, IfOk, MatchOption, MatchResult};
     ghost use Rattle.segment_image.specs.Checks.{first_fault};
@@ -160,7 +161,7 @@ impl<'a> Recorder<'a> {
     /// name that it knows needs no event, and is the same each time.
     ///
     /// `BadName`, then `BadSpec`, then `TooLarge` where its record or its counts do not fit in a page, and `NoMemory` where there
-    /// is none, before anything has happened. Then `OtherSpec` where the histogram of the name has another spec, and a record that
+    /// is none, before anything has happened, also where it knows the name. Then `OtherSpec` where the histogram of the name has another spec, and a record that
     /// was made for this one stays on the list unused; or `Corrupt` or `Full` where the list has no record of the name and no
     /// block could be claimed for one. After a refusal it knows the same histograms as before. On `Ok` it has not set the full flag.
     pub fn hist(&mut self, name: &[u8], spec: &Spec) -> Result<Hist, Refusal>
@@ -254,11 +255,15 @@ impl<'a> Recorder<'a> {
     /// Takes a delta of a histogram that it knows: of each of its keys the units that no delta has taken yet, the keys with such units
     /// alone and in ascending order, and what is new of the sum. What it takes stands behind what its deltas took before.
     ///
+    /// All deltas of all recorders together have then taken of each key at least what the recorder had accepted, or seen, before. In
+    /// version 1 one bucket may be excepted, whose units are being moved out of the single word.
+    ///
     /// `NoMemory` where there is none for as many keys as the histogram may have; then nothing has changed.
     pub fn delta(&mut self, histogram: Hist) -> Result<Delta, Refusal>
         requires { Knows self.old histogram }
         ensures same { IsSameRecorder self.old self.new }
         ensures taken { MatchResult result (λ delta. (known : Known) → Means self.old histogram known → HasTaken known delta.counts.items delta.sum (view_of_recorder self.old) (view_of_recorder self.new)) (λ why. (why ≡ NoMemory) × (self.new ≡ self.old)) }
+        ensures owed { IfOk result (λ delta. (known : Known) → Means self.old histogram known → TookEnough known (view_of_recorder self.old) (view_of_recorder self.new)) }
     {
         let mut counts = Vec::with_capacity(self.alloc, self.room_for(histogram))?;
         let sum = self
@@ -279,11 +284,15 @@ impl<'a> Recorder<'a> {
     /// What a histogram that it knows has: the units of all of its buckets in order, or of a sparse one those of the values that have
     /// some, ascending; its sum; and its redundant count, which is loaded last. It stands behind what its snapshots answered before.
     ///
+    /// Of each key it has at least what the recorder had accepted, or seen, before, with the same exception as for [`Recorder::delta`]; and
+    /// the redundant count is at least the units that it had accepted.
+    ///
     /// `NoMemory` where there is none for as many keys as the histogram may have; then nothing has changed.
     pub fn snapshot(&mut self, histogram: Hist) -> Result<Snapshot, Refusal>
         requires { Knows self.old histogram }
         ensures same { IsSameRecorder self.old self.new }
         ensures answer { MatchResult result (λ snapshot. (known : Known) → Means self.old histogram known → HasSnapshot known (view_of_recorder self.old) snapshot (view_of_recorder self.new)) (λ why. (why ≡ NoMemory) × (self.new ≡ self.old)) }
+        ensures owed { IfOk result (λ snapshot. (known : Known) → Means self.old histogram known → HasEnough known (view_of_recorder self.old) snapshot (view_of_recorder self.new)) }
         ensures values { IfOk result (λ snapshot. (known : Known) → Means self.old histogram known → known.spec ≡ Sparse → AreUnits snapshot.counts.items) }
     {
         let totals = self.totals_for(histogram)?;

@@ -66,6 +66,7 @@ impl Segment {
     ghost use Rattle.live_segment.specs.Snapshots.{HasSeenBuckets, HasSnapshot, saw_sum};
     ghost use Rattle.live_segment.specs.Taking.{answered_as};
     ghost use Rattle.live_segment.specs.GhostNotes.{KnowsAlone};
+    ghost use Rattle.live_segment.specs.Owed.{Standing};
 
     // The units of all buckets of a histogram stand beside their keys.
     fn look_at_buckets(
@@ -120,6 +121,7 @@ impl Segment {
         ensures same { IsSame seat.old seat.new }
         ensures answer { result ≡ snapshot }
         ensures view { seat.new.me.0 ≡ noted seat.old.me.0 (answers (answered_as seat.old.me.0 (known_view histogram.now) snapshot)) }
+        ensures stands { Standing seat.new.me.0 }
     {
         let said = Announcement::Answer {
             histogram: histogram.reference,
@@ -143,6 +145,7 @@ impl Segment {
         requires blank { totals.items ≡ blank_totals histogram.now.ranges }
         ensures same { IsSame seat.old seat.new }
         ensures answer { HasSnapshot (known_view histogram.now) seat.old.me.0 result seat.new.me.0 }
+        ensures stands { Standing seat.new.me.0 }
     {
         self.look_at_buckets(seat, histogram, totals.as_mut_slice());
         let (sum, redundant) = self.look_at_sum(seat, histogram.reference);
@@ -191,6 +194,7 @@ impl Segment {
         requires room { (totals.items ≡ []) × ((self.now.setting.shape.size - 16) / 5 ≤ vec_capacity totals) }
         ensures same { IsSame seat.old seat.new }
         ensures answer { HasSnapshot (known_view histogram.now) seat.old.me.0 result seat.new.me.0 }
+        ensures stands { Standing seat.new.me.0 }
         ensures units { AreUnits result.counts.items }
     {
         let first = self.look_next(seat, histogram.reference);
@@ -233,6 +237,7 @@ impl Segment {
         requires totals { OpensWith self.now histogram.now totals }
         ensures same { IsSame seat.old seat.new }
         ensures answer { HasSnapshot (known_view histogram.now) seat.old.me.0 result seat.new.me.0 }
+        ensures stands { Standing seat.new.me.0 }
         ensures units { histogram.now.spec ≡ Sparse → AreUnits result.counts.items }
     {
         if histogram.ranges.len() == 0 {

@@ -57,7 +57,7 @@ module _ (page units : ℕ) (front : List Histogram) (h : Histogram) where
   unfound : (why : Refusal) (old new : Actor) → old.segment.shape.page ≡ page → why ≢ refusal.NoMemory → IsRefusedWith h.name h.spec why old new
       → MayStop page units front h why
   unfound why old new same other (inl (is, unmoved)) = not_asked old.segment.shape why same other is
-  unfound why old new same other (inr (inl (is, known, unmoved))) = let P : Refusal → Type 0 = MayStop page units front h in subst P (sym is) tt
+  unfound why old new same other (inr (inl (is, known, may, unmoved))) = let P : Refusal → Type 0 = MayStop page units front h in subst P (sym is) tt
   unfound why old new same other (inr (inr (none, (asked, is, by), looks, owed))) = not_found asked why old new by
 
   -- its merge stops

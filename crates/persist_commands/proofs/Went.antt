@@ -54,7 +54,7 @@ went_handing hists n old new hands = record {
 -- it was answered with the histogram of a `hist` record
 pub went_asking : (hists : List HistRecord) (hist : HistRecord) (histogram : Hist) (old new : Actor) → Contains hists hist
     → IsAnsweredWith hist.name hist.spec histogram old new → WentOn hists [] old new
-went_asking hists hist histogram old new has (inl knew) = let (known, named, same, still) = knew in went_nowhere hists old new still
+went_asking hists hist histogram old new has (inl knew) = let (known, named, same, may, still) = knew in went_nowhere hists old new still
 went_asking hists hist histogram old new has (inr comes_to) =
     let (none, at, rest) = comes_to in
     let (asked, reference, is_asked, comes) = rest in

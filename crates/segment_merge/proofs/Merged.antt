@@ -205,7 +205,7 @@ comes_on h asked reference a b name spec comes =
 
 -- it is answered with: nothing is counted yet
 found_only : (h : Histogram) (histogram : Hist) (a b : Actor) → IsAnsweredWith h.name h.spec histogram a b → IsFoundOnly h a b
-found_only h histogram a b (inl (known, named, same, view)) =
+found_only h histogram a b (inl (known, named, same, may, view)) =
     subst (IsFoundOnly h a) (sym view) (record { logged = refl; units_are = refl; onward = with_one h a a (goes_nowhere a) })
 found_only h histogram a b (inr (none, index, (asked, reference, is, comes))) =
     let looks = comes.looks in record {
@@ -266,7 +266,7 @@ stops_unfound h why a b refused =
     let looked : (log_of b ≡ log_of a) × (b.units ≡ a.units) × GoesOnWith (h ∷ []) a b = elim refused [
       | inl early ↦ unmoved h a b early.1
       | inr later ↦ elim later [
-        | inl other ↦ unmoved h a b other.2
+        | inl other ↦ unmoved h a b other.2.1
         | inr around ↦ let looks = around.2 in (ap (λ (m : Actor). log_of m) looks.same, ap (λ (m : Actor). m.units) looks.same, with_one h a b (looks_on a b looks))
       ]
     ] in record {

@@ -1,5 +1,5 @@
 -- What a `hist` leaves of its recorder: what it knows is right still, and what it has come to know is.
-use Rattle.std.proofs.Common.{◌≡◌, ◌≢◌, ℕ, zero, suc, ◌+◌, ◌<◌, ◌≤◌, Bool, true, false, List, [], ◌∷◌, ◌++◌, length, map, ◌==◌, if◌then◌else◌, eq-eqb, ne_eqb, All, refl, sym, ap, subst, ◌∙◌, arith, length-append}
+use Rattle.std.proofs.Common.{◌≡◌, ◌≢◌, ℕ, zero, suc, ◌+◌, ◌<◌, ◌≤◌, Bool, true, false, List, [], ◌∷◌, ◌++◌, length, map, ◌==◌, if◌then◌else◌, eq-eqb, ne_eqb, All, ⊎_elim, refl, sym, ap, subst, ◌∙◌, arith, length-append}
 use Rattle.std.specs.Prelude.{Some, None, ◌||◌, slice_index_or}
 use Rattle.std.specs.List.{list_any}
 use Rattle.std.proofs.lemmas.List.{length-map, map-append}
@@ -17,13 +17,14 @@ use Rattle.segment_machine.specs.declared.actor.Known.{Known}
 use Rattle.segment_machine.specs.Actor.{is_bound, is_opener, known_at}
 use Rattle.segment_machine.specs.Taking.{is_looking}
 use Rattle.segment_invariant.proofs.Lists.Elements.{below_length, index_at, from_map}
+use Rattle.segment_invariant.proofs.Walking.Words.{letters_long}
 use Rattle.segment_promises.proofs.Adopting.Opened.Blocks.{test_there}
 use Rattle.segment_calls.specs.declared.asked.Asked.{Asked}
 use Rattle.segment_calls.specs.Asked.{IsAskedFor}
 use Rattle.live_segment.specs.declared.recorder.KnownHistogram.{KnownHistogram}
 use Rattle.live_segment.specs.declared.rule.Setting.{Setting}
 use Rattle.live_segment.specs.Adding.{block_words}
-use Rattle.live_segment.specs.Hist.{IsKnownAt, KnowsNone, NoneHasName}
+use Rattle.live_segment.specs.Hist.{IsKnownAt, KnowsNone, MayBeAsked, NoneHasName}
 use Rattle.live_segment.specs.Known.{known_view, KnowsRight}
 use Rattle.segment_promises.specs.Onward.{Grows}
 use Rattle.live_segment.specs.Rule.{IsOf}
@@ -67,6 +68,27 @@ count_of list names n listed count = count ∙ (sym (length-map list known_view)
 pub asked_here : (setting : Setting) (a : Actor) {name : List ℕ} {kind : Spec} {asked : Asked} → IsOf setting a → IsAskedFor setting.shape name kind asked
     → IsAskedFor a.segment.shape name kind asked
 asked_here setting a {name} {kind} {asked} of asks = subst (λ (d : Dimensions). IsAskedFor d name kind asked) (sym of.shape) asks
+
+-- the words behind the header of a record: eleven, and those of the name and of the ranges
+payload_long : (s : Spec) (n : ℕ) (rest : List ℕ) → length (spec_fields s ++ 0 ∷ 0 ∷ 0 ∷ 0 ∷ 0 ∷ 0 ∷ n ∷ rest) ≡ 11 + length rest
+payload_long (spec.Linear low high m) n rest = omega arith
+payload_long spec.Boolean n rest = omega arith
+payload_long (spec.Custom values) n rest = omega arith
+payload_long spec.Sparse n rest = omega arith
+
+-- what is asked for may be asked for
+pub may_be_asked : (shape : Dimensions) (name : List ℕ) (kind : Spec) (asked : Asked) → IsAskedFor shape name kind asked → MayBeAsked shape name kind
+may_be_asked shape name kind asked is =
+    let letters = is.payload.letters in
+    let all = ap length is.payload.words ∙ payload_long kind (length name) (letters ++ spec_ranges kind) in
+    let both = length-append letters (spec_ranges kind) in
+    let named = letters_long name letters is.payload.spells in
+    let page = is.one_page in
+    let fits = is.fits in (
+      is.lawful_name,
+      is.lawful_spec,
+      λ large. ⊎_elim (λ more. omega (arith, more, all, both, named, page)) (λ more. omega (arith, more, fits)) large,
+    )
 
 -- ---- after a look around
 

@@ -1,12 +1,16 @@
 -- That the rule of a segment's table allows the announcement of a snapshot's answer.
-use Rattle.std.proofs.Common.{◌≡◌, ℕ, false, ◌==◌, [], ◌∷◌, refl, sym, ap, ◌∙◌}
+use Rattle.std.proofs.Common.{◌≡◌, ◌≢◌, ℕ, false, ◌==◌, [], ◌∷◌, refl, sym, ap, ◌∙◌}
 use mathlib.Core.Option.{some, some-injective}
 use prog.Atomic.{either}
 use Rattle.atomic_table.specs.Table.{step, Allows}
+use Rattle.atomic_table.proofs.Lists.{set_here}
 use Rattle.segment_calls.specs.declared.answer.Snapshot.{Snapshot}
+use Rattle.segment_machine.specs.declared.actor.Actor.{Actor}
 use Rattle.segment_machine.specs.declared.actor.Known.{Known}
+use Rattle.segment_machine.specs.declared.place.Place.TheVariants.{Spent}
 use Rattle.segment_machine.specs.Actor.{is_opener}
 use Rattle.segment_machine.specs.Note.{Note, answers, noted, MayNote}
+use Rattle.segment_invariant.proofs.Lists.Elements.{below_length}
 use Rattle.segment_promises.proofs.Tables.{tables_announce}
 use Rattle.live_segment.specs.declared.rule.Announcement.{Announcement}
 use Rattle.live_segment.specs.declared.rule.Announcement.TheVariants.{Answer}
@@ -17,6 +21,7 @@ use Rattle.live_segment.specs.Taking.{Answers, answered_as}
 use Rattle.live_segment.specs.GhostNotes.{KnowsAlone}
 use Rattle.live_segment.proofs.Seating.Seated.{nothing_exchanged}
 use Rattle.live_segment.proofs.Seating.GhostNoted.{one_known}
+use Rattle.live_segment.proofs.Seating.Standing.{stands_kept}
 
 -- what is said is the answer of one histogram alone
 module _ (histogram : ℕ) (snapshot : Snapshot) where
@@ -42,13 +47,18 @@ module _ (setting : Setting) (slots id : ℕ) (me : Sat) (records : is_opener me
       let note : Known → Snapshot → Note = λ k x. answers (answered_as me.0 k x) in
       let (view, act, valid, holds, told) =
       tables_announce Announcement setting.shape (opened_of setting) (note known snapshot ∷ []) slots id me (λ n. either (n == 0) 0 n) nothing_exchanged
-      records (may, refl) s run wide mine small in (
+      records (may, refl) s run wide mine small in
+      let (named, among, of, saw_all, when) = may in
+      let lives : view.hand.place ≢ Spent = λ spent. cc (sym saw_all.sum ∙ (ap (λ (a : Actor). a.hand.place) (sym told.0) ∙ spent)) in (
         view,
         act,
         valid,
         holds,
-        λ other saw is knows.
-            let same = one_answer known other snapshot saw (ap some (sym says) ∙ is) in
-            let one : known ≡ other = one_known me.0 known other same.0 alone knows in
-            (told.0 ∙ (λ i. noted me.0 (note (one i) (same.1 i))), told.1),
+        (
+          λ other saw is knows.
+              let same = one_answer known other snapshot saw (ap some (sym says) ∙ is) in
+              let one : known ≡ other = one_known me.0 known other same.0 alone knows in
+              (told.0 ∙ (λ i. noted me.0 (note (one i) (same.1 i))), told.1),
+          stands_kept setting _ holds id view (set_here s.views id view (below_length s.views id me.0 mine)) lives,
+        ),
       )

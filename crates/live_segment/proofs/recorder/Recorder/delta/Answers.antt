@@ -3,6 +3,8 @@ use Rattle.std.proofs.lemmas.Int.{to_z-of_z}
 use Rattle.segment_machine.specs.declared.actor.Known.{Known}
 use Rattle.live_segment.specs.Deltas.{HasTaken}
 use Rattle.live_segment.proofs.AddCall.Adds.{meant}
+use Rattle.segment_invariant.proofs.Lists.Elements.{contains_at}
+use Rattle.live_segment.proofs.DeltaCall.Owed.{took_enough}
 use Rattle.live_segment.proofs.DeltaCall.Given.{taken_rests, taken_of, taken_names, taken_share}
 use Rattle.live_segment.proofs.Walks.Walked.{all_right, come_still}
 use Rattle.live_segment.proofs.recorder.Recorder.delta.Goals as goal
@@ -27,3 +29,12 @@ returns-clause-taken c = λ known means.
     subst (λ (d : ℤ). HasTaken known c.take_delta-sum.new.taken.items d old.seat.me.0 c.take_delta-sum.new.seat.me.0) (sym (to_z-of_z w64 c.take_delta-sum.result fits))
     (subst (λ (k : Known). HasTaken k c.take_delta-sum.new.taken.items c.take_delta-sum.result old.seat.me.0 c.take_delta-sum.new.seat.me.0)
     (meant old.known.items old.seat.me.0.answers.names c.args.histogram.index c.index.result.now known old.listed c.index.ensures c.requires means) c.take_delta-sum.ensures.taken)
+
+pub returns-clause-owed : goal.returns-clause-owed
+returns-clause-owed c = λ known means.
+    let old = c.args.self.now in
+    let same = meant old.known.items old.seat.me.0.answers.names c.args.histogram.index c.index.result.now known old.listed c.index.ensures c.requires means in
+    took_enough known c.take_delta-sum.new.taken.items c.take_delta-sum.result old.seat.me.0 c.take_delta-sum.new.seat.me.0
+    (subst (λ (k : Known). HasTaken k c.take_delta-sum.new.taken.items c.take_delta-sum.result old.seat.me.0 c.take_delta-sum.new.seat.me.0) same
+    c.take_delta-sum.ensures.taken)
+    (contains_at old.seat.me.0.answers.names c.args.histogram.index known means) old.rests.recorder c.take_delta-sum.ensures.stands

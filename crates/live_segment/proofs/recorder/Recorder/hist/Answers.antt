@@ -4,7 +4,7 @@ use Rattle.std.proofs.lemmas.Result.{err_from_is_err_and}
 use Rattle.segment_invariant.proofs.Lists.Elements.{below_length}
 use Rattle.live_segment.specs.Known.{known_view, KnowsRight}
 use Rattle.live_segment.proofs.Walks.Walked.{all_right, come_still}
-use Rattle.live_segment.proofs.HistCall.HistAnswered.{read_known, none_known, names_still, of_still, rests_still, share_still, chain_grew, of_then, rests_then, share_same, right_then, listed_then, named_then, count_of, asked_here}
+use Rattle.live_segment.proofs.HistCall.HistAnswered.{read_known, none_known, names_still, of_still, rests_still, share_still, chain_grew, of_then, rests_then, share_same, right_then, listed_then, named_then, count_of, asked_here, may_be_asked}
 use Rattle.live_segment.proofs.recorder.Recorder.hist.Goals as goal
 use Rattle.live_segment.proofs.recorder.Recorder.hist.Goals.{then-is_same, else-is_same}
 
@@ -27,10 +27,12 @@ returns-in-Some-clause-answer c =
     let me = c.args.self.now in
     let (at, named) =
     read_known me.known.items me.seat.me.0.answers.names c.args.name.now me.known.len c.in-Some.index c.index.result.now me.listed me.known.ok.0 c.in-Some.ensures c.index.ensures in
+    let may = may_be_asked me.seat.me.0.segment.shape c.args.name.now c.args.spec.now c.in_ok-asked.asked
+    (asked_here me.segment.now.setting me.seat.me.0 me.seated.of c.in_ok-asked.ensures) in
     elim c.if-is_same.branch [
-      | then-is_same w ↦ rw w.result-is (inl (known_view c.index.result.now, (at, named), c.is_same.ensures.0 w.if-is_same.true, refl))
+      | then-is_same w ↦ rw w.result-is (inl (known_view c.index.result.now, (at, named), c.is_same.ensures.0 w.if-is_same.true, may, refl))
       | else-is_same w ↦ rw w.result-is
-          (inr (inl (refl, (c.in-Some.index, known_view c.index.result.now, (at, named), λ same. true≢false (sym (c.is_same.ensures.1 same) ∙ w.if-is_same.false)), refl)))
+          (inr (inl (refl, (c.in-Some.index, known_view c.index.result.now, (at, named), λ same. true≢false (sym (c.is_same.ensures.1 same) ∙ w.if-is_same.false)), may, refl)))
     ]
 
 pub invariant_of-self-in-Break-branch-3 : goal.invariant_of-self-in-Break-branch-3

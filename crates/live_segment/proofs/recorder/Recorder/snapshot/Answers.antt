@@ -3,6 +3,8 @@ use Rattle.std.proofs.lemmas.Result.{err_from_is_err_and}
 use Rattle.segment_machine.specs.declared.actor.Known.{Known}
 use Rattle.live_segment.specs.Snapshots.{HasSnapshot}
 use Rattle.live_segment.proofs.AddCall.Adds.{meant}
+use Rattle.segment_invariant.proofs.Lists.Elements.{contains_at}
+use Rattle.live_segment.proofs.DeltaCall.Owed.{has_enough}
 use Rattle.live_segment.proofs.DeltaCall.Given.{looked_rests, looked_of, looked_names, looked_share}
 use Rattle.live_segment.proofs.Walks.Walked.{all_right, come_still}
 use Rattle.live_segment.proofs.recorder.Recorder.snapshot.Goals as goal
@@ -37,3 +39,12 @@ returns-clause-values c = λ known means sparse.
     let old = c.args.self.now in
     let same = meant old.known.items old.seat.me.0.answers.names c.args.histogram.index c.index.result.now known old.listed c.index.ensures c.requires means in
     c.take_snapshot-snapshot.ensures.units (ap (λ (k : Known). k.spec) same ∙ sparse)
+
+pub returns-clause-owed : goal.returns-clause-owed
+returns-clause-owed c = λ known means.
+    let old = c.args.self.now in
+    let same = meant old.known.items old.seat.me.0.answers.names c.args.histogram.index c.index.result.now known old.listed c.index.ensures c.requires means in
+    has_enough known c.take_snapshot-snapshot.result old.seat.me.0 c.take_snapshot-snapshot.new.seat.me.0
+    (subst (λ (k : Known). HasSnapshot k old.seat.me.0 c.take_snapshot-snapshot.result c.take_snapshot-snapshot.new.seat.me.0) same
+    c.take_snapshot-snapshot.ensures.answer)
+    (contains_at old.seat.me.0.answers.names c.args.histogram.index known means) old.rests.recorder c.take_snapshot-snapshot.ensures.stands

@@ -16,10 +16,10 @@ pub snapshot_said-requires : goal.snapshot_said-requires
 snapshot_said-requires c = (c.args.histogram.now.reference, c.args.snapshot, refl)
 
 pub returns-clause-same : goal.returns-clause-same
-returns-clause-same c = (c.answer.ensures (known_view c.args.histogram.now) c.args.snapshot refl c.requires.alone).0
+returns-clause-same c = (c.answer.ensures.said (known_view c.args.histogram.now) c.args.snapshot refl c.requires.alone).0
 
 pub returns-clause-answer : goal.returns-clause-answer
 returns-clause-answer c = c.snapshot_said.ensures c.args.histogram.now.reference c.args.snapshot refl
 
 pub returns-clause-view : goal.returns-clause-view
-returns-clause-view c = (c.answer.ensures (known_view c.args.histogram.now) c.args.snapshot refl c.requires.alone).1
+returns-clause-view c = (c.answer.ensures.said (known_view c.args.histogram.now) c.args.snapshot refl c.requires.alone).1

@@ -40,7 +40,7 @@ returns-clause-taken c =
     let swap : Noted c.load_sum.new.seat [] (taking_event (swap_sum_mark c.args.histogram.now.reference (cast_signed w64 c.load_sum.result))) (has_taken ∷ [])
     c.swap_sum_mark.result c.swap_sum_mark.new.seat =
     subst (λ (s : ℤ). Noted c.load_sum.new.seat [] (taking_event (swap_sum_mark c.args.histogram.now.reference s)) (has_taken ∷ []) c.swap_sum_mark.result c.swap_sum_mark.new.seat)
-    sum c.swap_sum_mark.ensures in
+    sum c.swap_sum_mark.ensures.step in
     let amount : ℤ = cast_signed w64 c.load_sum.result -ℤ cast_signed w64 c.swap_sum_mark.result in
     let small : FitsSigned w64 amount = fits_signed_from_abs w64 amount (let most = swap.learned.2 in omega (arith, most)) in
     ended c.args.self.now (known_view c.args.histogram.now) c.args.seat.now

@@ -131,6 +131,7 @@ merged_none a = record {
   share = omega arith;
   spent = λ name. omega arith;
   knows = All-nil (KnowsAs a);
+  filled = refl;
   onward = goes_nowhere a;
 }
 
@@ -151,6 +152,7 @@ merged_then xs ys a b c first second = record {
       let sum = sum_by-append (λ (h : Histogram). if bytes_eq h.name name then cost_left h else 0) xs ys in
       omega (arith, one, two, sum);
   knows = All-append (KnowsAs c) xs ys (knows_still xs b c ys second.onward first.knows) second.knows;
+  filled = second.filled ∙ first.filled;
   onward = goes_on_with xs ys a b c first.onward second.onward;
 }
 
@@ -160,6 +162,7 @@ merged_then xs ys a b c first second = record {
 record IsFoundOnly (h : Histogram) (old new : Actor) : Type 0 where
   logged : log_of new ≡ log_of old
   units_are : new.units ≡ old.units
+  filled : new.done.filled ≡ old.done.filled
   onward : GoesOnWith (h ∷ []) old new
 
 -- it goes on with it, and has come to know none
@@ -206,11 +209,12 @@ comes_on h asked reference a b name spec comes =
 -- it is answered with: nothing is counted yet
 found_only : (h : Histogram) (histogram : Hist) (a b : Actor) → IsAnsweredWith h.name h.spec histogram a b → IsFoundOnly h a b
 found_only h histogram a b (inl (known, named, same, may, view)) =
-    subst (IsFoundOnly h a) (sym view) (record { logged = refl; units_are = refl; onward = with_one h a a (goes_nowhere a) })
+    subst (IsFoundOnly h a) (sym view) (record { logged = refl; units_are = refl; filled = refl; onward = with_one h a a (goes_nowhere a) })
 found_only h histogram a b (inr (none, index, (asked, reference, is, comes))) =
     let looks = comes.looks in record {
       logged = ap (λ (m : Actor). log_of m) comes.view ∙ ap (λ (m : Actor). log_of m) looks.same;
       units_are = ap (λ (m : Actor). m.units) comes.view ∙ ap (λ (m : Actor). m.units) looks.same;
+      filled = comes.filled;
       onward = comes_on h asked reference a b is.named is.specified comes;
     }
 
@@ -255,6 +259,7 @@ merged_one h known a b c found batched =
         found.same,
       )
           (All-nil (KnowsAs c));
+      filled = batched.filled ∙ only.filled;
       onward = on;
     }
 

@@ -1,5 +1,5 @@
 -- The image of a new segment into which histograms were merged, by what its opener has done.
-use Rattle.std.proofs.Common.{◌≡◌, ℕ, List, ◌++◌, map, flat_map, sym, ap, ◌∙◌, subst}
+use Rattle.std.proofs.Common.{◌≡◌, ℕ, false, List, [], ◌++◌, map, flat_map, sym, ap, ◌∙◌, subst}
 use Rattle.std.specs.List.{Contains}
 use Rattle.std.proofs.lemmas.List.Elements.{All-contains}
 use Rattle.segment_image.specs.declared.head.SegmentHead.{SegmentHead}
@@ -7,11 +7,14 @@ use Rattle.bucket_ranges.specs.Spec.{SameSpec}
 use Rattle.bucket_ranges.specs.declared.spec.Spec.{Spec}
 use Rattle.bucket_ranges.specs.Reading.{Histogram, Reading}
 use Rattle.segment_machine.specs.declared.actor.Actor.{Actor}
+use Rattle.segment_machine.specs.declared.actor.Done.{Done}
 use Rattle.segment_machine.specs.declared.actor.Known.{Known}
+use Rattle.segment_machine.specs.declared.actor.Portion.{Portion}
+use Rattle.segment_machine.specs.Actor.{portion_of, taken_of, taken_sum, taken_units}
 use Rattle.segment_machine.specs.declared.entry.EntryProgress.{EntryProgress}
 use Rattle.segment_machine.specs.declared.entry.Entry.{Entry}
 use Rattle.segment_machine.specs.Entry.{tally_noted, tally_sum, tally_units}
-use Rattle.segment_machine.specs.Seats.{joined, newcomer, offering, parent}
+use Rattle.segment_machine.specs.Seats.{joined, newcomer, offering, parent, shifted_taken}
 use Rattle.live_segment.specs.declared.rule.Setting.{Setting}
 use Rattle.live_segment.specs.Closing.{IsImageOf, IsJoinedReading, ReadsJoined}
 use Rattle.live_segment.specs.Rule.{first_view}
@@ -33,6 +36,16 @@ module _ (setting : Setting) (hists : List Histogram) (last : Actor)
   logged =
       ap (λ (front : List Entry). front ++ map (λ (c : EntryProgress). c.entry) last.entries.log) (sym (ap (λ (m : Actor). m.entries.first) merged.onward.same))
       ∙ merged.logged
+
+  -- no delta was taken, and no flag was set
+  untaken : taken_of closing ≡ []
+  untaken = ap (λ (m : Actor). map portion_of (shifted_taken 0 m.deltas.taken)) merged.onward.same
+
+  unfilled : last.done.filled ≡ false
+  unfilled = merged.filled
+
+  unspoiled : last.done.spoiled ≡ false
+  unspoiled = ap (λ (d : Done). d.spoiled) merged.onward.done.same
 
   -- it reads as the merge
   merge_of : (reading : Reading) → IsJoinedReading setting closing reading → IsMergeOf hists reading
@@ -58,6 +71,13 @@ module _ (setting : Setting) (hists : List Histogram) (last : Actor)
           sum = tally.sum ∙ ap (λ (log : List Entry). tally_sum log h.name) logged;
           redundant = tally.redundant ∙ ap (λ (log : List Entry). tally_noted log h.name) logged;
         };
+    unmarked = λ h has.
+        let tally = is.tallies h has in record {
+          marks = λ key. tally.marks key ∙ ap (λ (taken : List Portion). taken_units taken h.name key) untaken;
+          sum_mark = tally.sum_mark ∙ ap (λ (taken : List Portion). taken_sum taken h.name) untaken;
+        };
+    corrupt = is.corrupt ∙ unspoiled;
+    full = is.full ∙ unfilled;
   }
 
   pub merged_image : (first : SegmentHead) (words : List ℕ) → setting.shape ≡ first.shape → setting.version ≡ 2 → setting.id ≡ first.id

@@ -72,13 +72,14 @@ pub record GoesOnWith (hists : List Histogram) (old new : Actor) : Type 0 where
   pub of_these : All (IsOneOf hists) more
 
 -- Histograms are merged: the batches of what is left of them stand at the end of the log, one behind the other in their order. What they
--- cost is taken from the share, and spent for each name. The recorder knows them all.
+-- cost is taken from the share, and spent for each name. The recorder knows them all. No allocation was refused: it has not set the full flag.
 pub record IsMerged (hists : List Histogram) (old new : Actor) : Type 0 where
   pub logged : log_of new ≡ log_of old ++ flat_map entries_left hists
   pub share : new.units.share + sum_by cost_left hists ≡ old.units.share
   pub spent : (name : List ℕ)
       → cost_of new.units.costs name ≡ cost_of old.units.costs name + sum_by (λ h. if bytes_eq h.name name then cost_left h else 0) hists
   pub knows : All (KnowsAs new) hists
+  pub filled : new.done.filled ≡ old.done.filled
   pub onward : GoesOnWith hists old new
 
 -- ---- one that stops the merge

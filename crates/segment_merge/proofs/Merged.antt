@@ -271,7 +271,7 @@ stops_unfound h why a b refused =
     let looked : (log_of b ≡ log_of a) × (b.units ≡ a.units) × GoesOnWith (h ∷ []) a b = elim refused [
       | inl early ↦ unmoved h a b early.1
       | inr later ↦ elim later [
-        | inl other ↦ unmoved h a b other.2.1
+        | inl other ↦ unmoved h a b other.3
         | inr around ↦ let looks = around.2 in (ap (λ (m : Actor). log_of m) looks.same, ap (λ (m : Actor). m.units) looks.same, with_one h a b (looks_on a b looks))
       ]
     ] in record {

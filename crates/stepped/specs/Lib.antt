@@ -2,3 +2,4 @@ pub mod Fault
 pub mod Failure
 pub mod Lines
 pub mod Replay
+pub mod Output

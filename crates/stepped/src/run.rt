@@ -1,8 +1,13 @@
 //! Does what the command line asks for.
 
-ghost use Rattle.std.specs.Prelude.{◌≡◌, IfErr, Ok};
+ghost use Rattle.std.specs.Prelude.{◌≡◌, true, List, ℕ, IfErr, Ok, OnOk};
+ghost use Rattle.std.specs.Io.KnownBytes.{Appends};
 ghost use Rattle.segment_image.specs.Head.{head_of, header_of};
+ghost use Rattle.segment_image.specs.Watched.{is_flushed, watched_inner};
+ghost use Rattle.segment_image.specs.Words.{bytes_of_words};
 ghost use Rattle.stepped.specs.Failure.{UsageIsMistake};
+ghost use Rattle.stepped.specs.Output.{IsReportOf};
+ghost use Rattle.stepped.specs.Replay.{Replays};
 
 use crate::failure::Failure;
 use crate::fault::ReplayFault;
@@ -58,15 +63,34 @@ fn meet<R: Files + Print + AllocGlobal>(rt: &R, request: Request<'_>) -> Result<
     let mut writer = Watched::new(io::writer(rt));
     match request.show {
         Show::Lines => write_lines(alloc, &mut writer, &mut replay, &orders),
-        Show::Report => {
-            replay.run(&mut io::sink(), &orders)?;
-            write_report(alloc, &mut writer, replay.words())
-        }
-        Show::Image => {
-            replay.run(&mut io::sink(), &orders)?;
-            write_image(&mut writer, replay.words())
-        }
+        Show::Report => show_report(alloc, &mut writer, &mut replay, &orders),
+        Show::Image => show_image(&mut writer, &mut replay, &orders),
     }
+}
+
+// Replays the records of a schedule, and writes the report of the words that they leave.
+fn show_report<W: Write>(
+    alloc: Global,
+    writer: &mut Watched<W>,
+    replay: &mut Replay,
+    orders: &[Order],
+) -> Result<(), ReplayFault>
+    ensures shown { OnOk result ((lines : List ℕ) × (text : List ℕ) × Replays 2 orders.now replay.old.left replay.old.world.world_state replay.new.world.world_state replay.new.left lines × IsReportOf replay.new.world.world_state.words.items text × Appends (W.contents (watched_inner writer.old)) (W.contents (watched_inner writer.new)) text) }
+{
+    replay.run(&mut io::sink(), orders)?;
+    write_report(alloc, writer, replay.words())
+}
+
+// Replays the records of a schedule, and writes the words that they leave.
+fn show_image<W: Write>(
+    writer: &mut Watched<W>,
+    replay: &mut Replay,
+    orders: &[Order],
+) -> Result<(), ReplayFault>
+    ensures shown { OnOk result ((lines : List ℕ) × Replays 2 orders.now replay.old.left replay.old.world.world_state replay.new.world.world_state replay.new.left lines × Appends (W.contents (watched_inner writer.old)) (W.contents (watched_inner writer.new)) (bytes_of_words replay.new.world.world_state.words.items)) }
+{
+    replay.run(&mut io::sink(), orders)?;
+    write_image(writer, replay.words())
 }
 
 // Writes the lines of a schedule as it is replayed. Those before a fault are written too.
@@ -89,6 +113,8 @@ fn write_report<W: Write>(
     words: &[u64],
 ) -> Result<(), ReplayFault>
     requires { header_of words.now ≡ Ok (head_of words.now) }
+    ensures text { OnOk result ((text : List ℕ) × IsReportOf words.now text × Appends (W.contents (watched_inner writer.old)) (W.contents (watched_inner writer.new)) text) }
+    ensures flushed { OnOk result (is_flushed writer.new ≡ true) }
 {
     let reading = match image_reader::read(alloc, words) {
         Ok(reading) => reading,
@@ -101,7 +127,10 @@ fn write_report<W: Write>(
 }
 
 // Writes the words of a world.
-fn write_image<W: Write>(writer: &mut Watched<W>, words: &[u64]) -> Result<(), ReplayFault> {
+fn write_image<W: Write>(writer: &mut Watched<W>, words: &[u64]) -> Result<(), ReplayFault>
+    ensures bytes { OnOk result (Appends (W.contents (watched_inner writer.old)) (W.contents (watched_inner writer.new)) (bytes_of_words words.now)) }
+    ensures flushed { OnOk result (is_flushed writer.new ≡ true) }
+{
     write_words(writer, words).map_err(|_| ReplayFault::Write)?;
     writer.flush().map_err(|_| ReplayFault::Write)
 }

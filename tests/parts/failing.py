@@ -20,8 +20,6 @@ READ_FAULT, WRITE_FAULT = fault("Read", 4), fault("Write", 4)
 NO_MEMORY, NO_THREAD = fault("NoMemory", 5), fault("NoThread", 5)
 # What comes where the program is not even loaded.
 NOT_LOADED = (127, -signal.SIGSEGV)
-# The C library asks the system for each allocation by itself, and keeps none for threads.
-EACH_BY_ITSELF = {"MALLOC_MMAP_THRESHOLD_": "0", "MALLOC_TOP_PAD_": "0", "MALLOC_ARENA_MAX": "1"}
 # What stands in OUT before a command; None where there is no OUT.
 STOOD = b"what stood there before"
 BEFORE = (STOOD, None)
@@ -71,7 +69,7 @@ class Command:
     def failing(self, made, stood=STOOD):
         """What it answers where calls fail, and what then stands in OUT's folder."""
         self.prepare(stood)
-        settings = {"env": {**os.environ, **EACH_BY_ITSELF}}
+        settings = {"env": {**os.environ, **tracer.EACH_BY_ITSELF}}
         return tracer.answer(self.program, self.words, made, **settings), self.left()
 
     def each(self, stood=STOOD, **which):
@@ -224,8 +222,7 @@ def wrong_report_writes(command):
 def wrong_growths(command):
     """Each allocation and all behind it are refused."""
     tried = 0
-    growths = (tracer.MAP, tracer.BREAK, tracer.REMAP)
-    for place, came, left in command.each(numbers=growths, lasting=True, error=errno.ENOMEM):
+    for place, came, left in command.each(numbers=tracer.GROWTHS, lasting=True, error=errno.ENOMEM):
         if came.status in NOT_LOADED and not tried:
             continue
         wanted = NO_THREAD if came == NO_THREAD else NO_MEMORY
@@ -274,7 +271,7 @@ def checks(command):
 
 def cases(program, _options):
     if not tracer.can_trace():
-        print("failing: no program may be traced here, so nothing is tried")
+        print("failing: NOTHING WAS TRIED, since no program may be traced here")
         yield "nothing", None
         return
     with tempfile.TemporaryDirectory() as scratch:

@@ -13,6 +13,7 @@ import signal
 import subprocess
 import sys
 import tempfile
+import typing
 
 from support.program import Answer
 
@@ -30,6 +31,9 @@ RESULT, THIRD, FIRST, NUMBER = 8 * 10, 8 * 12, 8 * 14, 8 * 15
 NO_CALL = 2**64 - 1
 
 READ, WRITE, CLOSE, MAP, BREAK, REMAP, CLONE, CLONE_3, EXIT = 0, 1, 3, 9, 12, 25, 56, 435, 231
+GROWTHS = (MAP, BREAK, REMAP)
+# The C library asks the system for each allocation by itself, and keeps none for threads.
+EACH_BY_ITSELF = {"MALLOC_MMAP_THRESHOLD_": "0", "MALLOC_TOP_PAD_": "0", "MALLOC_ARENA_MAX": "1"}
 SYNC, CHANGE_MODE, OPEN_AT, RANDOM = 74, 91, 257, 318
 RENAMES = (82, 264, 316)
 OUTPUT = "standard output"
@@ -51,18 +55,21 @@ class Call(ctypes.Structure):
 @dataclasses.dataclass
 class Fault:
     """Which calls fail: of those with these numbers, on these files and those in these folders alone where any are named,
-    the one at `at`, from 0; and all behind it, where it is `lasting`. With `kills` the program is killed there instead. With
-    `most`, each read and write of them moves so many bytes at most instead.
+    the one at `at`, from 0; and all behind it, where it is `lasting`; or those behind it up to the thread's next call of another
+    number, where it is one `growth`, for which the C library asks more than once. With `kills` the program is killed there
+    instead. With `most`, each read and write of them moves so many bytes at most instead.
     """
 
     numbers: tuple
     files: tuple = ()
     at: int = -1
     lasting: bool = False
+    growth: bool = False
     error: int = errno.EIO
     most: int = 0
     kills: bool = False
     met: int = 0
+    refused: typing.Optional[int] = None
 
     def is_meant(self, thread, call):
         if call.number not in self.numbers or not self.files:
@@ -70,11 +77,21 @@ class Fault:
         path = file_of(thread, call.arguments[0])
         return path is not None and (path in self.files or os.path.dirname(path) in self.files)
 
-    def fails_next(self):
-        """Counts a call; whether it fails."""
+    def pass_by(self, thread):
+        """Meets a thread's call that is not meant."""
+        if thread == self.refused:
+            self.refused = None
+
+    def fails_next(self, thread):
+        """Counts a call of a thread; whether it fails."""
+        if thread == self.refused:
+            return True
         self.met += 1
         place = self.met - 1
-        return self.at >= 0 and (place >= self.at if self.lasting else place == self.at)
+        fails = self.at >= 0 and (place >= self.at if self.lasting else place == self.at)
+        if fails and self.growth:
+            self.refused = thread
+        return fails
 
 
 def file_of(thread, descriptor):
@@ -95,11 +112,12 @@ def ptrace(request, thread, address=0, data=0):
 def begin(thread, call, fault):
     """Meets a call that begins; the registers that are to be set where it ends, each with its value."""
     if not fault.is_meant(thread, call):
+        fault.pass_by(thread)
         return []
     if fault.most:
         ptrace(POKE_USER, thread, THIRD, min(fault.most, call.arguments[2]))
         return [(THIRD, call.arguments[2])]
-    if not fault.fails_next():
+    if not fault.fails_next(thread):
         return []
     if fault.kills:
         os.kill(thread, signal.SIGKILL)

@@ -3,6 +3,7 @@ pub mod Reads
 pub mod Lists
 pub mod Deltas
 pub mod Refusals
+pub mod Spoilers
 pub mod Tallies
 pub mod Adoption
 pub mod Follows

@@ -8,6 +8,7 @@ ghost use Rattle.segment_promises.specs.Tallies.{PartsAddUp, TalliesAreCounts};
 ghost use Rattle.segment_promises.specs.Deltas.{FinalDeltasTakeAll, FinalSnapshotsAreExact, SnapshotsStayBelow, DeltasTakeAccepted, SnapshotsSeeAccepted};
 ghost use Rattle.segment_promises.specs.Reads.{StoppedReads, JoinedReads};
 ghost use Rattle.segment_promises.specs.Refusals.{RefusedAddsFew};
+ghost use Rattle.segment_promises.specs.Spoilers.{SpoilersClaimNothing};
 ghost use Rattle.segment_promises.specs.Lists.{LinksAppend, ChainsAreLinks, WalksGiveAll, CursorsKeepOrder, CursorsGiveFronts, CursorsGiveAll, NamesAreFirst, OthersDiffer};
 ghost use Rattle.segment_promises.specs.Adoption.{AdoptionOpens, KeptAreAdoptable};
 ghost use Rattle.segment_promises.specs.Examples.{LinksLengthen, DeltaOwes, SnapshotOwes};
@@ -100,6 +101,11 @@ pub fn snapshots_stay_below()
 /// A call that counts and is refused has counted and noted its first entries, and otherwise nothing.
 pub fn refused_adds_few()
     ensures { RefusedAddsFew }
+{}
+
+/// Once a recorder has set the corrupt flag, its calls claim no block.
+pub fn spoilers_claim_nothing()
+    ensures { SpoilersClaimNothing }
 {}
 
 /// A link puts its record at the end of the chain, and nothing else changes the chain.

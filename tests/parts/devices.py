@@ -10,6 +10,7 @@ import struct
 import subprocess
 import tempfile
 
+from parts import explained
 from support.program import EXAMPLE, SCRIPT, Answer, answer, content, difference, fault
 
 PROGRAM = "persist_report"
@@ -37,10 +38,11 @@ Records into segments with shared histograms, reads their images and merges them
 Usage: persist_report <COMMAND>
 
 Commands:
-  report  Writes the histograms of an image to standard output
-  run     Records what a script says: writes the image to OUT and its report to standard output
-  merge   Merges two images into a new one, which has what no delta took of either
-  help    Print this message or the help of the given subcommand(s)
+  report   Writes the histograms of an image to standard output
+  run      Records what a script says: writes the image to OUT and its report to standard output
+  merge    Merges two images into a new one, which has what no delta took of either
+  explain  Tells what a fault means and what to do
+  help     Print this message or the help of the given subcommand(s)
 
 Options:
   -h, --help     Print help
@@ -49,13 +51,14 @@ Options:
 REPORT_HELP = b"""\
 Writes the histograms of an image to standard output
 
-Usage: persist_report report [FILE]
+Usage: persist_report report [OPTIONS] [FILE]
 
 Arguments:
   [FILE]  The image of a segment; standard input where it is left out
 
 Options:
-  -h, --help  Print help
+      --explain  Tells more of a fault, as on a terminal: its file, line and reason
+  -h, --help     Print help
 
 Example:
   persist_report report examples/three_samples.img
@@ -71,6 +74,7 @@ Arguments:
 
 Options:
       --workers <K>  How many workers record, each in a thread of its own: 1 to 16 [default: 1]
+      --explain      Tells more of a fault, as on a terminal: its file, line and reason
   -h, --help         Print help
 
 Example:
@@ -79,7 +83,7 @@ Example:
 MERGE_HELP = b"""\
 Merges two images into a new one, which has what no delta took of either
 
-Usage: persist_report merge <BASE> <DEAD> <OUT>
+Usage: persist_report merge [OPTIONS] <BASE> <DEAD> <OUT>
 
 Arguments:
   <BASE>  The image whose size, page and id the new one has
@@ -87,7 +91,8 @@ Arguments:
   <OUT>   Where the new image is written
 
 Options:
-  -h, --help  Print help
+      --explain  Tells more of a fault, as on a terminal: its file, line and reason
+  -h, --help     Print help
 
 Example:
   persist_report merge examples/three_samples.img three.img both.img
@@ -117,6 +122,10 @@ MISTAKES = [
     ["merge", EXAMPLE, EXAMPLE],
     ["merge", EXAMPLE, EXAMPLE, "out", "more"],
     ["merge", EXAMPLE, EXAMPLE, "out", "--workers", "2"],
+    ["report", "--explain", "--explain"],
+    ["explain", "Read", "Write"],
+    ["explain", "--explain"],
+    ["--explain", "report"],
 ]
 
 
@@ -451,3 +460,6 @@ def cases(program, _options):
         for part in (inputs_of_commands, inputs_as_outputs, outputs_of_commands, links, permissions, guarded, open_files):
             yield from part(program, folder)
         yield from words(program)
+        room = folder / "explained"
+        room.mkdir()
+        yield from explained.cases(program, room)

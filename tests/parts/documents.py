@@ -1,9 +1,10 @@
 """Documents that are made of the sources are what these say now. No program is run."""
 
-from support import definitions
+from support import definitions, faults
 
 PROGRAM = None
 
 
 def cases(_program, _options):
     yield "docs/DEFINITIONS.md, which tests/support/definitions.py --write makes anew", definitions.difference()
+    yield "docs/FAULTS.md, which tests/support/faults.py --write makes anew", faults.difference()

@@ -4,6 +4,8 @@ import dataclasses
 import pathlib
 import subprocess
 
+from support import faults
+
 ROOT = pathlib.Path(__file__).resolve().parents[2]
 EXAMPLE = ROOT / "examples" / "three_samples.img"
 SCRIPT = ROOT / "examples" / "three_samples.csv"
@@ -27,6 +29,13 @@ def built(name):
 def fault(text, status):
     """The answer that tells a fault: one line on the error stream and nothing else."""
     return Answer(error=f"persist_report: {text}\n".encode(), status=status)
+
+
+def explained(text, status, lines):
+    """The answer that tells a fault and then these lines, and then what it means and what to do."""
+    meant = {name: (meaning, remedy) for name, meaning, remedy in faults.texts()}
+    name = next(word for word in reversed(text.split()) if word in meant)
+    return Answer(error="".join(f"{line}\n" for line in (f"persist_report: {text}", *(f"  {more}" for more in (*lines, *meant[name])))).encode(), status=status)
 
 
 def answer(program, words, data=b"", **settings):

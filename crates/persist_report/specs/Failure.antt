@@ -7,7 +7,7 @@ use Rattle.clap.specs.declared.error.kind.ErrorKind.TheVariants.{DisplayHelp, Di
 use Rattle.persist_report_core.specs.declared.fault.CliFault.{CliFault}
 use Rattle.persist_report_core.specs.declared.fault.CliFault.TheVariants.{Read, Write, TooLong, NotWords, Image, BadLine, Refused, Gate, Merge, NoThread, NoMemory}
 use Rattle.persist_report.specs.declared.failure.Failure.{Failure}
-use Rattle.persist_report.specs.declared.failure.Failure.TheVariants.{Usage, Fault}
+use Rattle.persist_report.specs.declared.failure.Failure.TheVariants.{Usage, Fault, Explained}
 
 -- the status of a fault: 3 for bytes that are no image or no script, and for what is refused; 4 for a device that failed;
 -- 5 for want of a thread or of memory
@@ -28,6 +28,7 @@ fault_status NoMemory = 5
 abbrev pub failure_status : Failure → ℕ
 failure_status (Usage error) = 2
 failure_status (Fault fault) = fault_status fault
+failure_status (Explained fault lines) = fault_status fault
 
 -- what an error of the command line's parse comes to: want of memory is no mistake in the words
 abbrev pub IsFailureOf : Error → Failure → Type 0
@@ -45,3 +46,4 @@ pub record IsMistake (kind : ErrorKind) : Type 0 where
 abbrev pub UsageIsMistake : Failure → Type 0
 UsageIsMistake (Usage error) = IsMistake (kind_of error)
 UsageIsMistake (Fault fault) = ⊤
+UsageIsMistake (Explained fault lines) = ⊤

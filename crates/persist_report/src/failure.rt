@@ -17,16 +17,18 @@ pub enum Failure {
     Usage(clap::Error),
     /// What it asks for failed.
     Fault(CliFault),
+    /// It failed, and these lines follow the line of the fault.
+    Explained(CliFault, String),
 }
 
 impl Failure {
-    /// The status with which the program ends: 2 for `Usage`, and that of the fault for `Fault`.
+    /// The status with which the program ends: 2 for `Usage`, and else that of the fault.
     pub fn status(&self) -> u8
         ensures { result ≡ failure_status self.now }
     {
         match self {
             Failure::Usage(_) => 2,
-            Failure::Fault(fault) => fault_status(fault),
+            Failure::Fault(fault) | Failure::Explained(fault, _) => fault_status(fault),
         }
     }
 }
@@ -79,6 +81,10 @@ impl fmt::Display for Failure {
         match self {
             Failure::Usage(error) => write!(f, "{error}"),
             Failure::Fault(fault) => writeln!(f, "persist_report: {fault}"),
+            Failure::Explained(fault, lines) => {
+                writeln!(f, "persist_report: {fault}")?;
+                f.write_str(lines.as_str())
+            }
         }
     }
 }

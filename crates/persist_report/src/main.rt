@@ -1,12 +1,17 @@
-//! The program `persist_report`: writes the histograms of an image as a report, runs scripts, and merges images.
+//! The program `persist_report`: writes the histograms of an image as a report, runs scripts, merges images, and
+//! explains faults.
 #![tactic(auto)]
 
+mod cause;
+mod explaining;
 mod failure;
 mod files;
+mod noted;
 mod output;
 mod place;
 mod request;
 mod run;
+mod terminal;
 mod workers;
 
 use std::process::ExitCode;

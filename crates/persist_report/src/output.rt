@@ -6,8 +6,9 @@
 //!
 //! What has no bytes to keep is written itself, as a device or a pipe.
 
-ghost use Rattle.std.specs.Prelude.{◌≡◌, IfErr, OnOk, Err};
+ghost use Rattle.std.specs.Prelude.{◌≡◌, IfErr, IsErrAnd, OnOk};
 
+use crate::cause::Cause;
 use crate::place::{has_name, place_of};
 use persist_report_core::CliFault;
 use std::alloc::AllocError;
@@ -53,18 +54,34 @@ impl<F: Write + OpenFile> Write for Output<F> {
 impl<F: Drop> Output<F> {
     /// Ends the output of a command, whose outcome is given. Where the command did its work, a new file takes OUT's name,
     /// and it is `Write` where it cannot. Else the new file is removed.
-    pub fn end<R: Files>(self, rt: &R, outcome: Result<(), CliFault>) -> Result<(), CliFault>
-        ensures same { IfErr outcome (λ fault. result ≡ Err fault) }
-        ensures write { OnOk outcome (IfErr result (λ fault. fault ≡ CliFault.Write)) }
+    pub fn end<R: Files>(self, rt: &R, outcome: Result<(), CliFault>) -> Result<(), Cause>
+        ensures same { IfErr outcome (λ fault. IsErrAnd result (λ cause. cause.fault ≡ fault)) }
+        ensures write { OnOk outcome (IfErr result (λ cause. cause.fault ≡ CliFault.Write)) }
     {
         let Output::New { new, out, .. } = self else {
-            return outcome;
+            return match outcome {
+                Ok(()) => Ok(()),
+                Err(fault) => Err(Cause::from(fault)),
+            };
         };
-        let ended = outcome.and_then(|()| fs::rename(rt, &new, &out).map_err(|_| CliFault::Write));
+        let ended = match outcome {
+            Ok(()) => rename(rt, &new, &out),
+            Err(fault) => Err(Cause::from(fault)),
+        };
         if ended.is_err() {
             remove(rt, &new);
         }
         ended
+    }
+}
+
+// Gives a new file OUT's name.
+fn rename<R: Files>(rt: &R, new: &PathBuf, out: &PathBuf) -> Result<(), Cause>
+    ensures { IfErr result (λ cause. cause.fault ≡ CliFault.Write) }
+{
+    match fs::rename(rt, new, out) {
+        Ok(()) => Ok(()),
+        Err(error) => Err(Cause::of_write(error)),
     }
 }
 
@@ -74,14 +91,14 @@ impl<F: Drop> Output<F> {
 pub fn open_output<R: Files + RandomSource + AllocGlobal>(
     rt: &R,
     out: &str,
-) -> Result<Output<R::File>, CliFault> {
+) -> Result<Output<R::File>, Cause> {
     match OpenOptions::new().write(true).open(rt, out) {
         Ok(file) => open_for(rt, out, file),
         Err(error) if error.kind() == ErrorKind::NotFound => match place_of(rt, out)? {
             Some(place) => create_beside(rt, place, None),
-            None => Err(CliFault::Write),
+            None => Err(Cause::of_write(error)),
         },
-        Err(_) => Err(CliFault::Write),
+        Err(error) => Err(Cause::of_write(error)),
     }
 }
 
@@ -90,15 +107,15 @@ fn open_for<R: Files + RandomSource + AllocGlobal>(
     rt: &R,
     out: &str,
     file: R::File,
-) -> Result<Output<R::File>, CliFault> {
-    let found = file.metadata().map_err(|_| CliFault::Write)?;
+) -> Result<Output<R::File>, Cause> {
+    let found = file.metadata().map_err(Cause::of_write)?;
     if !found.is_file() {
         return Ok(Output::Itself(file));
     }
     match place_of(rt, out)? {
         Some(place) => create_beside(rt, place, Some(found.permissions())),
         None => {
-            file.set_len(0).map_err(|_| CliFault::Write)?;
+            file.set_len(0).map_err(Cause::of_write)?;
             Ok(Output::Itself(file))
         }
     }
@@ -109,18 +126,18 @@ fn create_beside<R: Files + RandomSource + AllocGlobal>(
     rt: &R,
     out: PathBuf,
     permissions: Option<Permissions>,
-) -> Result<Output<R::File>, CliFault> {
+) -> Result<Output<R::File>, Cause> {
     if !has_name(&out) {
-        return Err(CliFault::Write);
+        return Err(Cause::from(CliFault::Write));
     }
     let (file, new) = create_new(rt, &out, permissions.is_some())?;
     let granted = match permissions {
         Some(permissions) => file.set_permissions(permissions),
         None => Ok(()),
     };
-    if granted.is_err() {
+    if let Err(error) = granted {
         remove(rt, &new);
-        return Err(CliFault::Write);
+        return Err(Cause::of_write(error));
     }
     Ok(Output::New { file, new, out })
 }
@@ -135,7 +152,7 @@ fn create_new<R: Files + RandomSource + AllocGlobal>(
     rt: &R,
     out: &PathBuf,
     is_private: bool,
-) -> Result<(R::File, PathBuf), CliFault> {
+) -> Result<(R::File, PathBuf), Cause> {
     let mut options = OpenOptions::new();
     options.write(true).create_new(true);
     if is_private {
@@ -147,16 +164,16 @@ fn create_new<R: Files + RandomSource + AllocGlobal>(
         match options.open(rt, &new) {
             Ok(file) => return Ok((file, new)),
             Err(error) if error.kind() == ErrorKind::AlreadyExists => {}
-            Err(_) => return Err(CliFault::Write),
+            Err(error) => return Err(Cause::of_write(error)),
         }
     }
-    Err(CliFault::Write)
+    Err(Cause::from(CliFault::Write))
 }
 
 // A name that hardly any other file has.
-fn new_name<R: RandomSource + AllocGlobal>(rt: &R) -> Result<String, CliFault> {
+fn new_name<R: RandomSource + AllocGlobal>(rt: &R) -> Result<String, Cause> {
     let mut bytes = [0u8; 8];
-    rt.fill_bytes(&mut bytes).map_err(|_| CliFault::Write)?;
+    rt.fill_bytes(&mut bytes).map_err(Cause::of_write)?;
     let number = u64::from_le_bytes(bytes);
     let name: Result<String, AllocError> = format!(in rt.alloc(); ".persist_report-{number:016x}");
     Ok(name?)

@@ -1,5 +1,6 @@
 //! Where a path leads, behind links.
 
+use crate::cause::Cause;
 use persist_report_core::CliFault;
 use std::fs::Metadata;
 use std::io::ErrorKind;
@@ -15,21 +16,21 @@ const MOST_LINKS: u32 = 40;
 /// `/dev/stdout` leads to one.
 ///
 /// `Write` where a link cannot be looked at, or too many follow one another.
-pub fn place_of<R: Files + AllocGlobal>(rt: &R, path: &str) -> Result<Option<PathBuf>, CliFault> {
+pub fn place_of<R: Files + AllocGlobal>(rt: &R, path: &str) -> Result<Option<PathBuf>, Cause> {
     let mut place = PathBuf::from_str(rt.alloc(), path)?;
     for _ in 0..MOST_LINKS {
         let link = match fs::symlink_metadata(rt, &place) {
             Ok(found) if found.is_symlink() => found,
             Ok(_) => return Ok(Some(place)),
             Err(error) if error.kind() == ErrorKind::NotFound => return Ok(Some(place)),
-            Err(_) => return Err(CliFault::Write),
+            Err(error) => return Err(Cause::of_write(error)),
         };
         if is_open_file(rt, &link) {
             return Ok(None);
         }
         place = target_of(rt, &place)?;
     }
-    Err(CliFault::Write)
+    Err(Cause::from(CliFault::Write))
 }
 
 // Whether a link is one of those by which the system shows open files: these alone stand in /proc.
@@ -38,16 +39,16 @@ fn is_open_file<R: Files>(rt: &R, link: &Metadata) -> bool {
 }
 
 // The path to which one link leads.
-fn target_of<R: Files + AllocGlobal>(rt: &R, link: &PathBuf) -> Result<PathBuf, CliFault> {
-    let text = fs::read_link(rt, link).map_err(fault_of)?;
+fn target_of<R: Files + AllocGlobal>(rt: &R, link: &PathBuf) -> Result<PathBuf, Cause> {
+    let text = fs::read_link(rt, link).map_err(cause_of)?;
     let folder = link.parent().unwrap_or(Path::new(""));
     Ok(folder.join(rt.alloc(), text)?)
 }
 
-fn fault_of(error: io::Error) -> CliFault {
+fn cause_of(error: io::Error) -> Cause {
     match error.kind() {
-        ErrorKind::OutOfMemory => CliFault::NoMemory,
-        _ => CliFault::Write,
+        ErrorKind::OutOfMemory => Cause::from(CliFault::NoMemory),
+        _ => Cause::of_write(error),
     }
 }
 

@@ -5,7 +5,7 @@ ghost use Rattle.clap.specs.Words.{kind_of};
 
 use crate::workers::Workers;
 use clap::error::ErrorKind;
-use clap::{Arg, ArgMatches, Command, Error, value_parser};
+use clap::{Arg, ArgAction, ArgMatches, Command, Error, value_parser};
 use std::alloc::{AllocError, Global};
 use std::convert::AsStr;
 
@@ -15,24 +15,39 @@ pub enum Request<'a> {
     /// Write the report of the image in the file, or on standard input where none is named.
     Report {
         file: Option<&'a str>,
+        explains: bool,
     },
     /// Run a script by workers, and write the image to a file and its report to standard output.
     Run {
         script: &'a str,
         out: &'a str,
         workers: Workers,
+        explains: bool,
     },
     /// Merge two images into a new segment, and write its image to a file.
     Merge {
         base: &'a str,
         dead: &'a str,
         out: &'a str,
+        explains: bool,
+    },
+    /// Write what the fault of a name means, or what each means where none is named.
+    Explain {
+        name: Option<&'a str>,
     },
 }
 
 // A file that has to be named.
 fn file<'a>(alloc: Global, name: &'a str, help: &'a str) -> Arg<'a> {
     Arg::new(alloc, name).required(true).help(help)
+}
+
+// Asks for the lines that follow the line of a fault.
+fn explain_flag<'a>(alloc: Global) -> Arg<'a> {
+    Arg::new(alloc, "explain")
+        .long("explain")
+        .action(ArgAction::SetTrue)
+        .help("Tells more of a fault, as on a terminal: its file, line and reason")
 }
 
 fn report_command<'a>(alloc: Global) -> Result<Command<'a>, AllocError> {
@@ -42,7 +57,8 @@ fn report_command<'a>(alloc: Global) -> Result<Command<'a>, AllocError> {
     Command::new(alloc, "report")
         .about("Writes the histograms of an image to standard output")
         .after_help("Example:\n  persist_report report examples/three_samples.img")
-        .arg(file)
+        .arg(file)?
+        .arg(explain_flag(alloc))
 }
 
 fn run_command<'a>(alloc: Global) -> Result<Command<'a>, AllocError> {
@@ -61,7 +77,8 @@ fn run_command<'a>(alloc: Global) -> Result<Command<'a>, AllocError> {
         )
         .arg(file(alloc, "SCRIPT", "What is to be recorded, as CSV"))?
         .arg(file(alloc, "OUT", "Where the image of the segment is written"))?
-        .arg(workers)
+        .arg(workers)?
+        .arg(explain_flag(alloc))
 }
 
 fn merge_command<'a>(alloc: Global) -> Result<Command<'a>, AllocError> {
@@ -76,7 +93,18 @@ fn merge_command<'a>(alloc: Global) -> Result<Command<'a>, AllocError> {
             "The image whose size, page and id the new one has",
         ))?
         .arg(file(alloc, "DEAD", "The image that is merged behind it"))?
-        .arg(file(alloc, "OUT", "Where the new image is written"))
+        .arg(file(alloc, "OUT", "Where the new image is written"))?
+        .arg(explain_flag(alloc))
+}
+
+fn explain_command<'a>(alloc: Global) -> Result<Command<'a>, AllocError> {
+    let name = Arg::new(alloc, "NAME").help(
+        "The name of a fault; all of them where it is left out",
+    );
+    Command::new(alloc, "explain")
+        .about("Tells what a fault means and what to do")
+        .after_help("Example:\n  persist_report explain BadLine")
+        .arg(name)
 }
 
 fn command<'a>(alloc: Global) -> Result<Command<'a>, AllocError> {
@@ -86,7 +114,8 @@ fn command<'a>(alloc: Global) -> Result<Command<'a>, AllocError> {
         .subcommand_required(true)
         .subcommand(report_command(alloc)?)?
         .subcommand(run_command(alloc)?)?
-        .subcommand(merge_command(alloc)?)
+        .subcommand(merge_command(alloc)?)?
+        .subcommand(explain_command(alloc)?)
 }
 
 fn run_request<'a>(run: &ArgMatches<'a>) -> Option<Request<'a>> {
@@ -97,6 +126,7 @@ fn run_request<'a>(run: &ArgMatches<'a>) -> Option<Request<'a>> {
         script,
         out,
         workers,
+        explains: run.get_flag("explain"),
     })
 }
 
@@ -104,7 +134,13 @@ fn merge_request<'a>(merge: &ArgMatches<'a>) -> Option<Request<'a>> {
     let base = merge.get_str("BASE")?;
     let dead = merge.get_str("DEAD")?;
     let out = merge.get_str("OUT")?;
-    Some(Request::Merge { base, dead, out })
+    let explains = merge.get_flag("explain");
+    Some(Request::Merge {
+        base,
+        dead,
+        out,
+        explains,
+    })
 }
 
 // What a parsed command line asks for; none where something is missing, which the parse refuses.
@@ -112,9 +148,13 @@ fn request_of<'a>(matches: &ArgMatches<'a>) -> Option<Request<'a>> {
     match matches.subcommand()? {
         ("report", report) => Some(Request::Report {
             file: report.get_str("FILE"),
+            explains: report.get_flag("explain"),
         }),
         ("run", run) => run_request(run),
         ("merge", merge) => merge_request(merge),
+        ("explain", explain) => Some(Request::Explain {
+            name: explain.get_str("NAME"),
+        }),
         _ => None,
     }
 }
@@ -141,4 +181,11 @@ pub fn not_text(alloc: Global) -> Result<Error, AllocError>
         ErrorKind::ValueValidation,
         "invalid UTF-8 was detected in one or more arguments",
     )
+}
+
+/// What is wrong with a command line that asks for a fault that there is not.
+pub fn no_fault(alloc: Global) -> Result<Error, AllocError>
+    ensures { IfOk result (λ error. kind_of error ≡ ErrorKind.InvalidValue) }
+{
+    command(alloc)?.error(ErrorKind::InvalidValue, "no fault has this name")
 }

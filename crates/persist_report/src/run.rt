@@ -5,7 +5,9 @@ ghost use Rattle.persist_report.specs.Failure.{UsageIsMistake};
 
 use crate::failure::Failure;
 use crate::files::{merge_files_into, report_file, run_file};
-use crate::request::{Request, not_text};
+use crate::request::{Request, no_fault, not_text};
+use crate::terminal::is_terminal;
+use fault_texts::{AllTexts, text_of};
 use persist_report_core::CliFault;
 use std::random::RandomSource;
 use std::rt::{Env, Files};
@@ -43,17 +45,40 @@ fn words<R: Env + AllocGlobal>(rt: &R) -> Result<Vec<String>, Failure>
     }
 }
 
+// Writes what the fault of a name means, or what each means where none is named.
+fn explain<R: Print + AllocGlobal>(rt: &R, name: Option<&str>) -> Result<(), Failure>
+    ensures { IfErr result UsageIsMistake }
+{
+    match name {
+        None => rt.print(AllTexts).map_err(|_| CliFault::Write)?,
+        Some(name) => match text_of(name) {
+            Some(text) => rt.print(text).map_err(|_| CliFault::Write)?,
+            None => return Err(Failure::Usage(no_fault(rt.alloc())?)),
+        },
+    }
+    Ok(())
+}
+
 fn meet<R: Files + Input + Print + RandomSource + AllocGlobal + Threads + Wait>(
     rt: &R,
     request: Request<'_>,
-) -> Result<(), CliFault> {
+) -> Result<(), Failure>
+    ensures { IfErr result UsageIsMistake }
+{
     match request {
-        Request::Report { file } => report_file(rt, file),
+        Request::Report { file, explains } => report_file(rt, file, explains || is_terminal(rt)),
         Request::Run {
             script,
             out,
             workers,
-        } => run_file(rt, script, out, workers),
-        Request::Merge { base, dead, out } => merge_files_into(rt, base, dead, out),
+            explains,
+        } => run_file(rt, script, out, workers, explains || is_terminal(rt)),
+        Request::Merge {
+            base,
+            dead,
+            out,
+            explains,
+        } => merge_files_into(rt, base, dead, out, explains || is_terminal(rt)),
+        Request::Explain { name } => explain(rt, name),
     }
 }

@@ -1,0 +1,158 @@
+//! What is wrong with the form of a record of a script.
+
+ghost use Rattle.std.specs.Prelude.{◌≡◌, IfSome};
+ghost use Rattle.csv.specs.Records.{fields_of};
+ghost use Rattle.fault_texts.specs.Complaint.{IsSo, may_have};
+
+use crate::field::Wanted;
+use csv::ByteRecord;
+use std::fmt;
+
+/// The forms of records.
+#[derive(Clone, Copy, Debug, PartialEq, Eq)]
+pub enum Form {
+    Segment,
+    Add,
+    Delta,
+    /// A histogram of any kind.
+    Hist,
+    /// A boolean or a sparse histogram.
+    Alone,
+    Linear,
+    Custom,
+}
+
+/// What is wrong with a record of a script.
+#[derive(Clone, Copy, Debug, PartialEq, Eq)]
+pub enum Complaint {
+    /// The script has no record of that number.
+    NoRecord,
+    /// The field with this index, from 0, is none that may stand there.
+    Field { index: usize, wanted: Wanted },
+    /// It has not as many fields as its form.
+    Count(Form),
+    /// It is the first record, and no `segment` record.
+    NotFirst,
+    /// Its size and its page are no lawful shape.
+    Shape,
+    /// It is a `segment` record, and not the first.
+    LateSegment,
+    /// It is a `hist` record behind an `add` or a `delta` record.
+    LateHist,
+    /// No `hist` record before it has its name.
+    UnknownName,
+}
+
+impl Form {
+    // Whether a record of this form may have so many fields.
+    fn may_have(self, count: usize) -> bool
+        ensures { result ≡ may_have self count }
+    {
+        match self {
+            Form::Segment | Form::Add => count == 4,
+            Form::Delta => count == 2,
+            Form::Hist => count >= 3,
+            Form::Alone => count == 3,
+            Form::Linear => count == 6,
+            Form::Custom => count >= 4,
+        }
+    }
+
+    // The complaint where a record has not as many fields as this form.
+    fn check(self, fields: &ByteRecord) -> Option<Complaint>
+        ensures { IfSome result (IsSo (fields_of fields.now)) }
+    {
+        if self.may_have(fields.len()) {
+            None
+        } else {
+            Some(Complaint::Count(self))
+        }
+    }
+}
+
+// The complaint where a field is none that may stand there.
+fn check(fields: &ByteRecord, index: usize, wanted: Wanted) -> Option<Complaint>
+    ensures { IfSome result (IsSo (fields_of fields.now)) }
+{
+    let field = fields.get(index)?;
+    if wanted.allows(field) {
+        None
+    } else {
+        Some(Complaint::Field { index, wanted })
+    }
+}
+
+// The complaint of the first field from one on that is no number.
+fn check_numbers(fields: &ByteRecord, start: usize) -> Option<Complaint>
+    ensures { IfSome result (IsSo (fields_of fields.now)) }
+{
+    for index in start..fields.len() {
+        if let Some(complaint) = check(fields, index, Wanted::Unsigned) {
+            return Some(complaint);
+        }
+    }
+    None
+}
+
+// The complaint of a `hist` record.
+fn check_hist(fields: &ByteRecord) -> Option<Complaint>
+    ensures { IfSome result (IsSo (fields_of fields.now)) }
+{
+    if let Some(complaint) = Form::Hist.check(fields) {
+        return Some(complaint);
+    }
+    let kind = fields.get(2)?;
+    if kind == b"linear".as_slice() {
+        Form::Linear
+            .check(fields)
+            .or_else(|| check_numbers(fields, 3))
+    } else if kind == b"custom".as_slice() {
+        Form::Custom
+            .check(fields)
+            .or_else(|| check_numbers(fields, 3))
+    } else if kind == b"boolean".as_slice() || kind == b"sparse".as_slice() {
+        Form::Alone.check(fields)
+    } else {
+        check(fields, 2, Wanted::Kind)
+    }
+}
+
+/// What is wrong with the form of a record by itself: the first field that is none that may stand there, or that there are
+/// too many or too few.
+pub fn complaint_of(fields: &ByteRecord) -> Option<Complaint>
+    ensures { IfSome result (IsSo (fields_of fields.now)) }
+{
+    let word = fields.get(0)?;
+    if word == b"segment".as_slice() {
+        Form::Segment
+            .check(fields)
+            .or_else(|| check(fields, 1, Wanted::Unsigned))
+            .or_else(|| check(fields, 2, Wanted::Unsigned))
+            .or_else(|| check(fields, 3, Wanted::Long))
+    } else if word == b"add".as_slice() {
+        Form::Add
+            .check(fields)
+            .or_else(|| check(fields, 2, Wanted::Signed))
+            .or_else(|| check(fields, 3, Wanted::Unsigned))
+    } else if word == b"delta".as_slice() {
+        Form::Delta.check(fields)
+    } else if word == b"hist".as_slice() {
+        check_hist(fields)
+    } else {
+        check(fields, 0, Wanted::Word)
+    }
+}
+
+impl fmt::Display for Form {
+    fn fmt<W: fmt::Write>(&self, f: &mut fmt::Formatter<W>) -> fmt::Result {
+        f.write_str(match self {
+            Form::Segment => "segment,SIZE,PAGE,ID",
+            Form::Add => "add,NAME,VALUE,COUNT",
+            Form::Delta => "delta,NAME",
+            Form::Hist => "hist,NAME,KIND and what the kind needs",
+            Form::Alone => "hist,NAME,boolean or hist,NAME,sparse",
+            Form::Linear => "hist,NAME,linear,MIN,MAX,BUCKETS",
+            Form::Custom => "hist,NAME,custom,VALUE,.. with one value or more",
+        })
+    }
+}

@@ -1,0 +1,177 @@
+//! The lines that follow the line of a fault.
+
+use crate::complaint::Complaint;
+use crate::header::{wanted_of, word_of};
+use crate::script::{Finding, finding_of};
+use crate::shown::Shown;
+use crate::table::{FaultText, text_of};
+use persist_report_core::CliFault;
+use segment_image::ImageFault;
+use segment_image::layout::COOKIE_WORD;
+use std::alloc::{AllocError, Global};
+use std::{fmt, io};
+
+/// Where bytes come from or go to.
+#[derive(Clone, Copy, Debug)]
+pub enum Origin<'a> {
+    /// The file at a path.
+    File(&'a str),
+    /// Standard input.
+    Input,
+    /// Standard output.
+    Output,
+}
+
+/// An input of a command: where it comes from, and its bytes as far as they were read.
+#[derive(Clone, Copy)]
+pub struct Source<'a, 'b> {
+    pub origin: Origin<'a>,
+    pub bytes: &'b [u8],
+}
+
+impl fmt::Display for Origin<'_> {
+    fn fmt<W: fmt::Write>(&self, f: &mut fmt::Formatter<W>) -> fmt::Result {
+        match self {
+            Origin::File(path) => write!(f, "{path:?}"),
+            Origin::Input => f.write_str("standard input"),
+            Origin::Output => f.write_str("standard output"),
+        }
+    }
+}
+
+// The text of a fault: that of the last word of its line that has one.
+fn text_of_line(line: &str) -> Option<FaultText<'static>> {
+    line.rsplit(' ').find_map(text_of)
+}
+
+/// What a fault means, and what to do.
+pub fn remedy_lines(alloc: Global, fault: &CliFault) -> Result<String, AllocError> {
+    let line: String = format!(in alloc; "{fault}")?;
+    match text_of_line(line.as_str()) {
+        None => Ok(String::new(alloc)),
+        Some(text) => format!(in alloc; "  {}\n  {}\n", text.meaning, text.remedy),
+    }
+}
+
+/// The file of a device that failed, and the system's reason, where it gave one.
+pub fn device_lines(
+    alloc: Global,
+    origin: Origin<'_>,
+    reason: Option<io::Error>,
+) -> Result<String, AllocError> {
+    match reason {
+        Some(reason) => format!(in alloc; "  {origin}: {reason}\n"),
+        None => format!(in alloc; "  {origin}\n"),
+    }
+}
+
+/// How many bytes of an input were read, where there are too many, or no whole words.
+pub fn size_lines(alloc: Global, input: Source<'_, '_>) -> Result<String, AllocError> {
+    format!(in alloc;
+        "  {}: {} bytes were read\n",
+        input.origin,
+        input.bytes.len()
+    )
+}
+
+impl fmt::Display for Finding {
+    fn fmt<W: fmt::Write>(&self, f: &mut fmt::Formatter<W>) -> fmt::Result {
+        let word = Shown(self.fields.get(0).unwrap_or_default());
+        match self.complaint {
+            None => f.write_str("the record has no lawful form or place"),
+            Some(Complaint::NoRecord) => f.write_str("the script ends before this record"),
+            Some(Complaint::Field { index: 0, wanted }) => write!(
+                f,
+                "`{word}` stands first; {wanted}"
+            ),
+            Some(Complaint::Field { index, wanted }) => {
+                let field = Shown(self.fields.get(index).unwrap_or_default());
+                write!(f, "field {index} behind `{word}` is `{field}`; {wanted}")
+            }
+            Some(Complaint::Count(form)) => {
+                let count = self.fields.len().saturating_sub(1);
+                write!(
+                    f,
+                    "{count} fields stand behind `{word}`; its form is {form}"
+                )
+            }
+            Some(Complaint::NotFirst) => {
+                write!(
+                    f,
+                    "`{word}` stands first; the first record is segment,SIZE,PAGE,ID"
+                )
+            }
+            Some(Complaint::Shape) => {
+                let size = Shown(self.fields.get(1).unwrap_or_default());
+                let page = Shown(self.fields.get(2).unwrap_or_default());
+                write!(
+                    f,
+                    "SIZE is {size} and PAGE is {page}; PAGE is a multiple of 16 from 64 to 65536, and SIZE whole pages, at most 1048576"
+                )
+            }
+            Some(Complaint::LateSegment) => f.write_str(
+                "only the first record may be a `segment` record",
+            ),
+            Some(Complaint::LateHist) => {
+                f.write_str(
+                    "a `hist` record stands behind an `add` or a `delta` record; all of these come last",
+                )
+            }
+            Some(Complaint::UnknownName) => {
+                let name = Shown(self.fields.get(1).unwrap_or_default());
+                write!(
+                    f,
+                    "field 1 behind `{word}` is `{name}`; no `hist` record before it has this name"
+                )
+            }
+        }
+    }
+}
+
+/// The line of the record of a script that has this number; and what is wrong with it, where it is a `BadLine`.
+pub fn script_lines(
+    alloc: Global,
+    script: Source<'_, '_>,
+    number: u32,
+    fault: &CliFault,
+) -> Result<String, AllocError> {
+    let finding = finding_of(alloc, script.bytes, number)?;
+    let (origin, line) = (script.origin, finding.line);
+    match fault {
+        CliFault::BadLine(_) => format!(in alloc; "  {origin}, line {line}: {finding}\n"),
+        _ => format!(in alloc; "  {origin}, line {line}\n"),
+    }
+}
+
+// A word of an image, the least byte first; 0 where it has not so many.
+fn word_at(bytes: &[u8], at: usize) -> u64 {
+    let word = bytes.chunks_exact(8).nth(at).unwrap_or_default();
+    word.iter()
+        .rev()
+        .fold(0, |number, byte| number << 8 | u64::from(*byte))
+}
+
+/// Which word of the header of an image is wrong, what it is and what it has to be; or how many bytes an image has.
+pub fn image_lines(
+    alloc: Global,
+    image: Source<'_, '_>,
+    fault: ImageFault,
+) -> Result<String, AllocError> {
+    let (origin, wanted) = (image.origin, wanted_of(fault));
+    match word_of(fault) {
+        None => {
+            format!(in alloc;
+                "  {origin} has {} bytes; an image has 128 or more\n",
+                image.bytes.len()
+            )
+        }
+        Some(COOKIE_WORD) => {
+            let word = word_at(image.bytes, 0);
+            format!(in alloc; "  {origin}, word 0 is {word:#x}; it has to be {wanted}\n")
+        }
+        Some(at) => {
+            let word = word_at(image.bytes, at);
+            format!(in alloc; "  {origin}, word {at} is {word}; it has to be {wanted}\n")
+        }
+    }
+}

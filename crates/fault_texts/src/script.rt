@@ -1,0 +1,78 @@
+//! What is wrong with a record of a script, and where.
+
+use crate::complaint::{Complaint, complaint_of};
+use crate::place::{Place, is_named, line_of, place_of};
+use csv::ByteRecord;
+use std::alloc::{AllocError, Global};
+
+/// What is wrong with a record of a script.
+#[derive(Drop)]
+pub struct Finding {
+    /// Its fields.
+    pub fields: ByteRecord,
+    /// Its line in the file, from 1.
+    pub line: usize,
+    /// What is wrong, where it is known.
+    pub complaint: Option<Complaint>,
+}
+
+// What is wrong with the place of a record, whose form is lawful.
+fn misplaced(
+    alloc: Global,
+    text: &[u8],
+    number: u32,
+    place: &Place,
+) -> Result<Option<Complaint>, AllocError> {
+    let Some(word) = place.fields.get(0) else {
+        return Ok(None);
+    };
+    let is_segment = word == b"segment".as_slice();
+    if number <= 1 {
+        return Ok(Some(if is_segment {
+            Complaint::Shape
+        } else {
+            Complaint::NotFirst
+        }));
+    }
+    if is_segment {
+        return Ok(Some(Complaint::LateSegment));
+    }
+    if word == b"hist".as_slice() {
+        return Ok(if place.is_behind_calls {
+            Some(Complaint::LateHist)
+        } else {
+            None
+        });
+    }
+    let Some(name) = place.fields.get(1) else {
+        return Ok(None);
+    };
+    let is_known = is_named(alloc, text, number - 1, name)?;
+    Ok(if is_known {
+        None
+    } else {
+        Some(Complaint::UnknownName)
+    })
+}
+
+/// What is wrong with the record of a script that has this number.
+pub fn finding_of(alloc: Global, text: &[u8], number: u32) -> Result<Finding, AllocError> {
+    let Some(place) = place_of(alloc, text, number)? else {
+        return Ok(Finding {
+            fields: ByteRecord::new(alloc),
+            line: line_of(text, text.len()),
+            complaint: Some(Complaint::NoRecord),
+        });
+    };
+    let complaint = match complaint_of(&place.fields) {
+        Some(complaint) => Some(complaint),
+        None => misplaced(alloc, text, number, &place)?,
+    };
+    let line = line_of(text, place.start);
+    let Place { fields, .. } = place;
+    Ok(Finding {
+        fields,
+        line,
+        complaint,
+    })
+}

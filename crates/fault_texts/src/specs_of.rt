@@ -1,0 +1,60 @@
+//! The two specs of a name at which a merge stopped.
+
+use crate::lines::Source;
+use crate::shown::{Shown, ShownSpec};
+use bucket_ranges::Spec;
+use image_reader::Reading;
+use segment_image::{Watched, read_words};
+use std::alloc::{AllocError, Global};
+
+// An image has at most so many words.
+const MAX_WORDS: usize = 1_048_576;
+
+// What an image reads as, which was read before.
+fn reading_of(alloc: Global, bytes: &[u8]) -> Option<Reading> {
+    let words = read_words(alloc, &mut Watched::new(bytes), MAX_WORDS).ok()?;
+    image_reader::read(alloc, &words).ok()
+}
+
+// The spec of the histogram of a name.
+fn spec_of<'a>(reading: &'a Reading, name: &[u8]) -> Option<&'a Spec> {
+    let found = reading
+        .hists
+        .iter()
+        .find(|hist| hist.name.as_slice() == name)?;
+    Some(&found.spec)
+}
+
+// The spec of a name in one of the images.
+fn spec_lines(
+    alloc: Global,
+    role: &str,
+    image: Source<'_, '_>,
+    name: &[u8],
+) -> Result<String, AllocError> {
+    let reading = reading_of(alloc, image.bytes);
+    match reading.as_ref().and_then(|reading| spec_of(reading, name)) {
+        Some(spec) => {
+            format!(in alloc;
+                "  {role} {} has `{}` as {}\n",
+                image.origin,
+                Shown(name),
+                ShownSpec(spec)
+            )
+        }
+        None => Ok(String::new(alloc)),
+    }
+}
+
+/// The specs that a name has in both images, as far as they have it.
+pub fn merge_lines(
+    alloc: Global,
+    base: Source<'_, '_>,
+    dead: Source<'_, '_>,
+    name: &[u8],
+) -> Result<String, AllocError> {
+    let mut lines = spec_lines(alloc, "BASE", base, name)?;
+    let more = spec_lines(alloc, "DEAD", dead, name)?;
+    lines.push_str(more.as_str())?;
+    Ok(lines)
+}

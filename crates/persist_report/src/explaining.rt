@@ -1,0 +1,78 @@
+//! The lines that follow the line of a fault, where they are asked for.
+
+ghost use Rattle.persist_report.specs.Failure.{UsageIsMistake};
+
+use crate::cause::Cause;
+use crate::failure::Failure;
+use fault_texts::{
+    Origin, Source, device_lines, image_lines, merge_lines, remedy_lines, script_lines, size_lines,
+};
+use persist_report_core::CliFault;
+use std::alloc::{AllocError, Global};
+use std::io;
+
+/// What a command knows behind a fault.
+#[derive(Clone, Copy)]
+pub struct Known<'a, 'b> {
+    /// The input that was read last.
+    pub input: Source<'a, 'b>,
+    /// The image that was read before it, of a merge.
+    pub base: Option<Source<'a, 'b>>,
+    /// What failed, where it is a fault of a device.
+    pub device: Origin<'a>,
+    /// The reason that the system gave for it.
+    pub reason: Option<io::Error>,
+}
+
+// The lines that follow the line of a fault.
+fn lines_of(alloc: Global, fault: &CliFault, known: Known<'_, '_>) -> Result<String, AllocError> {
+    let mut lines = match fault {
+        CliFault::Read | CliFault::Write => device_lines(alloc, known.device, known.reason)?,
+        CliFault::Image(fault) => image_lines(alloc, known.input, *fault)?,
+        CliFault::NotWords | CliFault::TooLong => size_lines(alloc, known.input)?,
+        CliFault::BadLine(number) | CliFault::Refused { number, .. } => {
+            script_lines(alloc, known.input, *number, fault)?
+        }
+        CliFault::Merge { name, .. } => {
+            let base = known.base.unwrap_or(known.input);
+            merge_lines(alloc, base, known.input, name.as_slice())?
+        }
+        CliFault::Gate | CliFault::NoThread | CliFault::NoMemory => String::new(alloc),
+    };
+    let more = remedy_lines(alloc, fault)?;
+    lines.push_str(more.as_str())?;
+    Ok(lines)
+}
+
+/// The failure of a fault, with the lines that follow it where the command `explains`. Without memory for these the fault
+/// stands alone.
+pub fn told(alloc: Global, fault: CliFault, explains: bool, known: Known<'_, '_>) -> Failure
+    ensures { UsageIsMistake result }
+{
+    if !explains {
+        return Failure::Fault(fault);
+    }
+    match lines_of(alloc, &fault, known) {
+        Ok(lines) => Failure::Explained(fault, lines),
+        Err(_) => Failure::Fault(fault),
+    }
+}
+
+/// The failure where a file could not be opened.
+pub fn unopened(alloc: Global, cause: Cause, explains: bool, path: &str) -> Failure
+    ensures { UsageIsMistake result }
+{
+    let Cause { fault, reason } = cause;
+    let device = Origin::File(path);
+    let input = Source {
+        origin: device,
+        bytes: &[],
+    };
+    let known = Known {
+        input,
+        base: None,
+        device,
+        reason,
+    };
+    told(alloc, fault, explains, known)
+}

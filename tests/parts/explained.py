@@ -1,0 +1,233 @@
+"""Faults with `--explain`: the line of a fault is as it was, and lines follow it. `devices` runs these cases."""
+
+import errno
+import itertools
+import os
+import pty
+import random
+import struct
+import subprocess
+
+from support import faults, tracer
+from support.program import EXAMPLE, SCRIPT, Answer, answer, difference, explained, fault
+
+SEGMENT = "segment,256,64,7\n"
+# A record behind a segment and a histogram, and what is said of it.
+BAD_RECORDS = {
+    "hist,B,liner": "field 2 behind `hist` is `liner`; kinds are boolean, linear, custom, sparse",
+    "hits,B,boolean": "`hits` stands first; records begin with segment, hist, add, delta",
+    "hist,B,linear,1,x,3": "field 4 behind `hist` is `x`; a number from 0 to 4294967295 may stand there",
+    "hist,B,linear,1,4294967296,3": "field 4 behind `hist` is `4294967296`; a number from 0 to 4294967295 may stand there",
+    "hist,B,custom,1,2,-3": "field 5 behind `hist` is `-3`; a number from 0 to 4294967295 may stand there",
+    "hist,B,custom": "2 fields stand behind `hist`; its form is hist,NAME,custom,VALUE,.. with one value or more",
+    "hist,B,linear,1,2": "4 fields stand behind `hist`; its form is hist,NAME,linear,MIN,MAX,BUCKETS",
+    "hist,B,boolean,1": "3 fields stand behind `hist`; its form is hist,NAME,boolean or hist,NAME,sparse",
+    "hist,B": "1 fields stand behind `hist`; its form is hist,NAME,KIND and what the kind needs",
+    "add,A,1": "2 fields stand behind `add`; its form is add,NAME,VALUE,COUNT",
+    "add,A,2147483648,1": "field 2 behind `add` is `2147483648`; a number from -2147483648 to 2147483647 may stand there",
+    "add,A,1,": "field 3 behind `add` is ``; a number from 0 to 4294967295 may stand there",
+    "add,B,1,1": "field 1 behind `add` is `B`; no `hist` record before it has this name",
+    "delta,B": "field 1 behind `delta` is `B`; no `hist` record before it has this name",
+    "delta": "0 fields stand behind `delta`; its form is delta,NAME",
+    "segment,256,64,7": "only the first record may be a `segment` record",
+    "add,A,1,1\nhist,B,boolean": "a `hist` record stands behind an `add` or a `delta` record; all of these come last",
+    'hist,B,"\x1b[31m`\\"': "field 2 behind `hist` is `\\x1b[31m\\x60\\x5c`; kinds are boolean, linear, custom, sparse",
+    f"hist,B,{'x' * 65}": f"field 2 behind `hist` is `{'x' * 64}...`; kinds are boolean, linear, custom, sparse",
+}
+SHAPES = "PAGE is a multiple of 16 from 64 to 65536, and SIZE whole pages, at most 1048576"
+# A whole script whose first record is bad, and what is said of it.
+BAD_STARTS = {
+    "": (1, "the script ends before this record"),
+    "\n\n": (3, "the script ends before this record"),
+    "\r\nhist,A,boolean": (2, "`hist` stands first; the first record is segment,SIZE,PAGE,ID"),
+    "segment,1000,64,7": (1, f"SIZE is 1000 and PAGE is 64; {SHAPES}"),
+    "segment,256,64,x": (1, "field 3 behind `segment` is `x`; a number from 0 to 18446744073709551615 may stand there"),
+    "segment,256,64": (1, "2 fields stand behind `segment`; its form is segment,SIZE,PAGE,ID"),
+    "\ufeff\nsegment,1": (2, "1 fields stand behind `segment`; its form is segment,SIZE,PAGE,ID"),
+}
+# Records that are refused, and why.
+REFUSED = {
+    "hist,B,linear,1,9,2": "BadSpec TooFew",
+    "hist,B,linear,0,9,3": "BadSpec BadMin",
+    "hist,B,linear,9,9,3": "BadSpec BadMax",
+    "hist,B,linear,1,9,99": "BadSpec TooMany",
+    "hist,B,custom,0": "BadSpec Empty",
+    "hist,B,custom,2147483647": "BadSpec BadRange",
+    "hist,!,boolean": "BadName",
+    "hist,B,linear,1,900,90": "TooLarge",
+    "add,A,1,0": "ZeroCount",
+    "add,A,1,4294967295\nadd,A,1,1": "NoUnits",
+}
+# What is stored at a word of a lawful header, the fault, and what is said of it.
+WORDS = [
+    (0, 0x21, "BadCookie", "word 0 is 0x21; it has to be 0x408305dc; is this a Povundiri image?"),
+    (1, 3, "BadVersion", "word 1 is 3; it has to be 1 or 2"),
+    (2, 0, "BadSize", "word 2 is 0; it has to be the number of the words that there are, in whole pages and at most 1048576"),
+    (3, 2**64 - 1, "BadPage", "word 3 is 18446744073709551615; it has to be a multiple of 16 from 64 to 65536"),
+    (5, 0, "NotReady", "word 5 is 0; it has to be 1"),
+    (5, 2, "Deleted", "word 5 is 2; it has to be 1; the segment was deleted"),
+    (7, 15, "BadFree", "word 7 is 15; it has to be from 16 to the number of words"),
+    (12, 5, "BadQueue", "word 12 is 5; it has to be 4, and the two behind it 1 and 0"),
+]
+
+
+def both(program, words, text, status, lines, **settings):
+    """What is wrong with the answer without `--explain` and then with it, or None."""
+    without = difference(fault(text, status), answer(program, words, **settings))
+    return without or difference(explained(text, status, lines), answer(program, [*words, "--explain"], **settings))
+
+
+def scripts(program, folder):
+    script, out = folder / "script.csv", folder / "out"
+    words = ["run", script, out]
+    for bad, said in BAD_RECORDS.items():
+        # Before it: an empty line, a name with a line end in it, and a line that ends in both signs.
+        script.write_bytes(f'{SEGMENT}\nhist,"A\nA",sparse\r\nhist,A,sparse\n{bad}\n'.encode())
+        later = bad.count("\n")
+        lines = [f'"{script}", line {6 + later}: {said}']
+        yield f"{bad!r}", both(program, words, f"BadLine {4 + later}", 3, lines)
+    for start, (line, said) in BAD_STARTS.items():
+        script.write_bytes(start.encode())
+        yield f"{start!r}", both(program, words, "BadLine 1", 3, [f'"{script}", line {line}: {said}'])
+    for bad, why in REFUSED.items():
+        script.write_bytes(f"{SEGMENT}\nhist,A,sparse\n{bad}\n".encode())
+        later = bad.count("\n")
+        yield f"{bad!r}", both(program, words, f"Refused {3 + later} {why}", 3, [f'"{script}", line {4 + later}'])
+    yield "a script without an end", both(program, ["run", "/dev/zero", out], "TooLong", 3, ['"/dev/zero": 16777217 bytes were read'])
+    yield "a script that is lawful", difference(answer(program, ["run", SCRIPT, out]), answer(program, ["run", SCRIPT, out, "--explain"]))
+
+
+def lines_of_random_scripts(program, folder):
+    """Scripts with empty lines, fields in quotes and ends of lines of all sorts: the line of the record is that of a plain count."""
+    chance, script = random.Random(7), folder / "script.csv"
+    for number in range(40):
+        text, records = SEGMENT, 1
+        for _ in range(chance.randrange(1, 30)):
+            text += chance.choice(["\n", "\r\n", "\n\n\r", ""])
+            text += chance.choice(['hist,"A\nB\n",sparse', "hist,C,boolean", '"hist",D,sparse', 'hist,"""\r\n",boolean'])
+            text, records = text + chance.choice(["\n", "\r\n", "\r\n\n"]), records + 1
+        line = text.count("\n") + 1
+        script.write_bytes(f"{text}hits".encode())
+        said = f'"{script}", line {line}: `hits` stands first; records begin with segment, hist, add, delta'
+        yield f"random script {number}", both(program, ["run", script, folder / "out"], f"BadLine {records + 1}", 3, [said])
+
+
+def images(program, folder):
+    image, example = folder / "bad.img", EXAMPLE.read_bytes()
+    for at, word, name, said in WORDS:
+        image.write_bytes(example[: 8 * at] + struct.pack("<Q", word) + example[8 * at + 8 :])
+        yield f"{name} of a file", both(program, ["report", image], f"Image {name}", 3, [f'"{image}", {said}'])
+        both_inputs = {"BASE": ["merge", image, EXAMPLE], "DEAD": ["merge", EXAMPLE, image]}
+        for role, words in both_inputs.items():
+            yield f"{name} of {role}", both(program, [*words, folder / "out"], f"Image {name}", 3, [f'"{image}", {said}'])
+        yield f"{name} of standard input", both(program, ["report"], f"Image {name}", 3, [f"standard input, {said}"], data=image.read_bytes())
+    image.write_bytes(example[:64])
+    yield "an image that is cut short", both(program, ["report", image], "Image TooShort", 3, [f'"{image}" has 64 bytes; an image has 128 or more'])
+    image.write_bytes(b"")
+    for words in (["merge", image, EXAMPLE], ["merge", EXAMPLE, image]):
+        wrong = both(program, [*words, folder / "out"], "Image TooShort", 3, [f'"{image}" has 0 bytes; an image has 128 or more'])
+        yield "an image without bytes", wrong
+    image.write_bytes(example[:-1])
+    yield "no words", both(program, ["report", image], "NotWords", 3, [f'"{image}": {len(example) - 1} bytes were read'])
+    yield "an image without an end", both(program, ["report", "/dev/zero"], "TooLong", 3, ['"/dev/zero": 8388609 bytes were read'])
+
+
+def merges(program, folder):
+    """Two images that give one name two specs, and one that has no room."""
+    images, specs = [], ["linear,1,100,10", f"custom,{','.join(map(str, range(1, 21)))}"]
+    for number, spec in enumerate(specs):
+        script, image = folder / "script.csv", folder / f"{number}.img"
+        script.write_bytes(f"segment,512,128,7\nhist,load,{spec}\nhist,N{number},sparse\nadd,load,5,1\nadd,load,50,1\nadd,N{number},1,1\n".encode())
+        answer(program, ["run", script, image])
+        images.append(image)
+    words = ["merge", *images, folder / "out"]
+    said = [
+        f'BASE "{images[0]}" has `load` as linear,1,100,10',
+        f'DEAD "{images[1]}" has `load` as custom,{",".join(map(str, range(1, 17)))},...',
+    ]
+    yield "two specs", both(program, words, "Merge load OtherSpec", 3, said)
+    samples = "".join(f"add,S,{value},1\n" for value in range(20))
+    (folder / "script.csv").write_bytes(f"segment,1024,64,7\nhist,S,sparse\n{samples}".encode())
+    answer(program, ["run", folder / "script.csv", folder / "large.img"])
+    (folder / "script.csv").write_bytes(b"segment,64,64,7\nhist,A,boolean\n")
+    answer(program, ["run", folder / "script.csv", folder / "small.img"])
+    words = ["merge", folder / "small.img", folder / "large.img", folder / "out"]
+    yield "no room", both(program, words, "Merge S Full", 3, [f'DEAD "{folder / "large.img"}" has `S` as sparse'])
+
+
+def devices(program, folder):
+    out, missing = folder / "out", "No such file or directory (os error 2)"
+    reads = {
+        "a missing image": (["report", "no\nfile"], f'"no\\nfile": {missing}'),
+        "a folder as an image": (["report", folder], f'"{folder}": Is a directory (os error 21)'),
+        "a missing script": (["run", "missing", out], f'"missing": {missing}'),
+        "a missing base": (["merge", "missing", EXAMPLE, out], f'"missing": {missing}'),
+        "a missing dead": (["merge", EXAMPLE, "missing", out], f'"missing": {missing}'),
+        "a base that cannot be read": (["merge", folder, EXAMPLE, out], f'"{folder}": Is a directory (os error 21)'),
+        "a dead that cannot be read": (["merge", EXAMPLE, folder, out], f'"{folder}": Is a directory (os error 21)'),
+    }
+    for name, (words, said) in reads.items():
+        yield name, both(program, words, "Read", 4, [said], cwd=folder)
+    nowhere = folder / "missing" / "out"
+    for words in (["run", SCRIPT], ["merge", EXAMPLE, EXAMPLE]):
+        yield f"{words[0]} into no folder", both(program, [*words, nowhere], "Write", 4, [f'"{nowhere}": {missing}'])
+        yield f"{words[0]} into a folder", both(program, [*words, folder], "Write", 4, [f'"{folder}": Is a directory (os error 21)'])
+        yield f"{words[0]} into a full device", both(program, [*words, "/dev/full"], "Write", 4, ['"/dev/full": No space left on device (os error 28)'])
+    full = os.open("/dev/full", os.O_WRONLY)
+    for words in (["report", EXAMPLE], ["run", SCRIPT, out]):
+        said = ["standard output: No space left on device (os error 28)"]
+        yield f"the report of {words[0]} on a full device", both(program, words, "Write", 4, said, stdout=full)
+    os.close(full)
+
+
+def wants(program, folder):
+    """A worker that cannot be started, and one allocation that is refused."""
+    if not tracer.can_trace():
+        return
+    words = ["run", SCRIPT, folder / "out", "--explain"]
+    came = tracer.answer(program, words, tracer.Fault((tracer.CLONE, tracer.CLONE_3), at=0, error=errno.EAGAIN))
+    yield "no thread", difference(explained("NoThread", 5, []), came)
+    wanted = explained("NoMemory", 5, [])
+    for place in itertools.count():
+        made = tracer.Fault((tracer.MAP,), at=place, error=errno.ENOMEM)
+        came = tracer.answer(program, words, made, env={**os.environ, "MALLOC_MMAP_THRESHOLD_": "0", "MALLOC_TOP_PAD_": "0"})
+        if came == wanted or made.met <= place:
+            break
+    yield "no memory", difference(wanted, came)
+
+
+def on_terminal(program, words):
+    """What a program writes to an error stream that is a terminal."""
+    mine, its = pty.openpty()
+    done = subprocess.run([program, *words], stdin=subprocess.DEVNULL, stdout=subprocess.PIPE, stderr=its)
+    os.close(its)
+    text = b""
+    try:
+        while more := os.read(mine, 65536):
+            text += more
+    except OSError:
+        pass
+    os.close(mine)
+    return Answer(done.stdout, text.replace(b"\r\n", b"\n"), done.returncode)
+
+
+def told(program, folder):
+    """A terminal, and the command `explain`."""
+    wanted = explained("Read", 4, ['"/missing": No such file or directory (os error 2)'])
+    yield "a terminal", difference(wanted, on_terminal(program, ["report", "/missing"]))
+    yield "a terminal that has nothing to tell", difference(answer(program, ["report", EXAMPLE]), on_terminal(program, ["report", EXAMPLE]))
+    every = b""
+    for name, meaning, remedy in faults.texts():
+        text = f"{name}: {meaning}\n  {remedy}\n".encode()
+        yield f"explain {name}", difference(Answer(text), answer(program, ["explain", name]))
+        every += text
+    yield "explain", difference(Answer(every), answer(program, ["explain"]))
+    for name in ("badline", "", "BadLine 1"):
+        came = answer(program, ["explain", name])
+        is_right = came.error.startswith(b"error: no fault has this name\n") and (came.output, came.status) == (b"", 2)
+        yield f"explain {name!r}", None if is_right else f"wanted that no fault has this name, came {came}"
+
+
+def cases(program, folder):
+    for part in (scripts, lines_of_random_scripts, images, merges, devices, wants, told):
+        yield from part(program, folder)

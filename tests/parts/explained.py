@@ -181,19 +181,21 @@ def devices(program, folder):
 
 
 def wants(program, folder):
-    """A worker that cannot be started, and one allocation that is refused."""
+    """A worker that cannot be started, and memory that is refused from some allocation on."""
     if not tracer.can_trace():
         return
     words = ["run", SCRIPT, folder / "out", "--explain"]
     came = tracer.answer(program, words, tracer.Fault((tracer.CLONE, tracer.CLONE_3), at=0, error=errno.EAGAIN))
     yield "no thread", difference(explained("NoThread", 5, []), came)
-    wanted = explained("NoMemory", 5, [])
+    wanted = (fault("NoMemory", 5), explained("NoMemory", 5, []))
+    growths = (tracer.MAP, tracer.BREAK, tracer.REMAP)
     for place in itertools.count():
-        made = tracer.Fault((tracer.MAP,), at=place, error=errno.ENOMEM)
+        made = tracer.Fault(growths, at=place, lasting=True, error=errno.ENOMEM)
         came = tracer.answer(program, words, made, env={**os.environ, "MALLOC_MMAP_THRESHOLD_": "0", "MALLOC_TOP_PAD_": "0"})
-        if came == wanted or made.met <= place:
+        if came in wanted or made.met <= place:
             break
-    yield "no memory", difference(wanted, came)
+    # Where there is no memory for the lines either, the line stands alone.
+    yield "no memory", None if came in wanted else difference(wanted[0], came)
 
 
 def on_terminal(program, words):

@@ -11,3 +11,4 @@ pub mod NameSets
 pub mod Gathered
 pub mod Gathers
 pub mod Lawful
+pub mod Readables

@@ -12,3 +12,4 @@ pub mod Records
 pub mod Buckets
 pub mod Names
 pub mod Gathering
+pub mod Readable

@@ -1,9 +1,10 @@
 //! The reading of a segment.
 
-ghost use Rattle.std.specs.Prelude.{◌≡◌, ◌<◌, ℕ, Ok, Err, true, length, slice_index, IfOk, MatchResult};
+ghost use Rattle.std.specs.Prelude.{◌≡◌, ◌<◌, ℕ, Ok, Err, true, length, map, slice_index, All, IfOk, MatchResult};
 ghost use Rattle.segment_image.specs.Head.{header_of};
 ghost use Rattle.bucket_ranges.specs.Reading.{IsReading, is_block};
-ghost use Rattle.image_reader.specs.Views.{reading_view};
+ghost use Rattle.image_reader.specs.Readable.{IsReadable};
+ghost use Rattle.image_reader.specs.Views.{histogram_view, reading_view};
 ghost use Rattle.image_reader.specs.Gathering.{IsGathered, IsReady};
 
 use crate::gathering::Gathering;
@@ -18,7 +19,8 @@ use std::alloc::{AllocError, Global};
 /// The header's first fault is answered, `TooShort` to `BadQueue`, and `NoMemory` where there is none for the
 /// answer. Nothing else is refused: records with faults, and why the list stops, are part of the reading.
 pub fn read(alloc: Global, words: &[u64]) -> Result<Reading, ImageFault>
-    ensures { MatchResult (header_of words.now) (λ head. MatchResult result (λ reading. IsReading words.now head (reading_view reading)) (λ fault. fault ≡ ImageFault.NoMemory)) (λ fault. result ≡ Err fault) }
+    ensures answer { MatchResult (header_of words.now) (λ head. MatchResult result (λ reading. IsReading words.now head (reading_view reading)) (λ fault. fault ≡ ImageFault.NoMemory)) (λ fault. result ≡ Err fault) }
+    ensures readable { IfOk result (λ reading. All IsReadable (map histogram_view reading.hists.items)) }
 {
     let head = header(words)?;
     match read_list(alloc, words, &head) {

@@ -69,6 +69,7 @@ pub record IsSameRecorder (old new : Recorder) : Type 0 where
   pub segment : new.segment ≡ old.segment
   pub table : new.seat.table_id ≡ old.seat.table_id
   pub known : new.known ≡ old.known
+  pub names : (view_of_recorder new).answers.names ≡ (view_of_recorder old).answers.names
   pub fresh : new.fresh ≡ old.fresh
 
 -- a histogram is one that a recorder knows

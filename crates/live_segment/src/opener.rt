@@ -28,12 +28,13 @@ pub struct Opener {
 }
 
 impl Opener {
-    ghost use Rattle.std.specs.Prelude.{Ok, Err, MatchOption, MatchResult};
+    ghost use Rattle.std.specs.Prelude.{Ok, Err, IfOk, MatchOption, MatchResult};
     ghost use Rattle.segment_image.specs.Checks.{first_fault};
     ghost use Rattle.segment_machine.specs.Seats.{offering, parent, newcomer, joined};
     ghost use Rattle.live_segment.specs.Steps.{recorder_checks, IsSame};
     ghost use Rattle.live_segment.specs.Fresh.{given_fresh};
-    ghost use Rattle.live_segment.specs.Holders.{IsMadeWith, IsRecorderOf, IsSameOpener, view_of_opener, view_of_recorder};
+    ghost use Rattle.live_segment.specs.declared.segment.Segment.{Segment};
+    ghost use Rattle.live_segment.specs.Holders.{IsMadeWith, IsRecorderOf, IsSameOpener, RecordsInto, view_of_opener, view_of_recorder};
 
     // The opener of a new segment.
     pub(crate) fn new(alloc: Global, seat: Pass) -> Opener
@@ -79,6 +80,8 @@ impl Opener {
         units: u32,
     ) -> Result<Recorder<'a>, Refusal>
         requires { IsMadeWith segment.now self.old }
+        ensures made { IsMadeWith segment.entry.now self.new }
+        ensures into { IfOk result (RecordsInto segment.entry.now) }
         ensures mine { MatchResult result (λ _. IsSameOpener self.old self.new × (view_of_opener self.new ≡ parent (offering (view_of_opener self.old) units))) (λ _. self.new ≡ self.old) }
         ensures theirs { MatchOption (first_fault (recorder_checks (view_of_opener self.old) units)) (MatchResult result (λ recorder. (recorder.segment ≡ segment.entry) × (view_of_recorder recorder ≡ newcomer (offering (view_of_opener self.old) units)) × (given_fresh recorder ≡ 0)) (λ _. ⊥)) (λ why. result ≡ Err why) }
     {
@@ -99,7 +102,8 @@ impl Opener {
     /// behind the opener's, and the rest of its units comes back. It takes no memory.
     pub fn join(&mut self, recorder: Recorder)
         requires { IsRecorderOf recorder self.old }
-        ensures { IsSameOpener self.old self.new × (view_of_opener self.new ≡ joined (view_of_opener self.old) (view_of_recorder recorder.entry)) }
+        ensures takes { IsSameOpener self.old self.new × (view_of_opener self.new ≡ joined (view_of_opener self.old) (view_of_recorder recorder.entry)) }
+        ensures made { (segment : Segment) → IsMadeWith segment self.old → IsMadeWith segment self.new }
     {
         let (segment, seat, units) = recorder.into_parts();
         segment.join(&mut self.seat, seat);

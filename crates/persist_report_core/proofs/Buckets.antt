@@ -3,22 +3,14 @@ use Rattle.std.proofs.Common.{◌≡◌, ◌≢◌, ◌∙◌, map, ℕ, ◌+◌
 use Rattle.std.proofs.Common.{ℤ, pos, get_or, drop, sym}
 use Rattle.std.proofs.lemmas.Grind.{get_or_after_one}
 use Rattle.persist_report_core.specs.Text.{highs_of}
-use Rattle.persist_report_core.specs.Readable.{IsCounted}
+use Rattle.image_reader.specs.Readable.{IsCounted}
 use Rattle.std.specs.Prelude.{◌+ℤ◌}
 use Rattle.std.proofs.lemmas.List.{length-drop, length-map, get_or-map}
 use Rattle.bucket_ranges.specs.declared.spec.Spec.{Spec}
 use Rattle.bucket_ranges.specs.declared.spec.Spec.TheVariants.{Linear, Boolean, Custom, Sparse}
 use Rattle.bucket_ranges.specs.Spec.{spec_fault, buckets_of}
 use Rattle.bucket_ranges.specs.Ranges.{boundaries_of}
-use Rattle.bucket_ranges.proofs.Ascent.{is_linear-from_checks, boundaries_of-split}
-use Rattle.bucket_ranges.proofs.Customs.{is_custom-from_checks, length-distinct}
-
--- a lawful spec has at most 1,000 buckets
-pub few_buckets : (spec : Spec) → spec_fault spec ≡ None → buckets_of spec ≤ 1000
-few_buckets (Linear min max n) e = (is_linear-from_checks min max n e).many
-few_buckets Boolean e = omega arith
-few_buckets (Custom values) e = omega (arith, (is_custom-from_checks values e).few, length-distinct values)
-few_buckets Sparse e = omega arith
+use Rattle.bucket_ranges.proofs.Ascent.{boundaries_of-split}
 
 -- the boundaries are one more than the buckets, where there are buckets
 length-boundaries_of : (spec : Spec) → spec_fault spec ≡ None → spec ≢ Sparse → length (boundaries_of spec) ≡ buckets_of spec + 1

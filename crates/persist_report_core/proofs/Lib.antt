@@ -1,7 +1,6 @@
 pub mod Adding
 pub mod Answering
 pub mod Buckets
-pub mod Readables
 pub mod Numbers
 pub mod FieldLemmas
 pub mod DraftLemmas

@@ -21,7 +21,7 @@ mod words;
 pub use fault::CliFault;
 pub use fields::{read_spec, three_from};
 pub use number::{long_number, signed_long_number, signed_number, unsigned_number};
-pub use reporting::report;
+pub use reporting::{report, report_of};
 pub use rows::read_rows;
 pub use script::{CallKind, Script, ScriptCall, ScriptFault, ScriptHist, read_script};
 pub use text::text_of;

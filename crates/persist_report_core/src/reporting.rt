@@ -15,8 +15,11 @@ use std::io::{Read, Write};
 // An image has at most so many words.
 const MAX_WORDS: usize = 1_048_576;
 
-// The text of the report of the image that the words are.
-fn text_of_words(alloc: Global, words: &[u64]) -> Result<Vec<u8>, CliFault>
+/// The text of the report of the image that the words are.
+///
+/// Records that are no lawful histograms, and a list of records that is broken, are lines of the report. `Image` with the first
+/// fault of the image's header, and `NoMemory` where there is none; never another.
+pub fn report_of(alloc: Global, words: &[u64]) -> Result<Vec<u8>, CliFault>
     ensures text { IfOk result (λ text. IsReportOf (bytes_of_words words.now) text.items) }
     ensures cause { IfErr result (λ fault. IsCausedBy (bytes_of_words words.now) fault) }
     ensures other { IfErr result (λ fault. (fault ≢ CliFault.Read) × (fault ≢ CliFault.Write)) }
@@ -59,6 +62,6 @@ pub fn report<R: Read, W: Write>(
     ensures untouched { IfErr result (λ fault. fault ≢ CliFault.Write → writer.new ≡ writer.old) }
 {
     let words = read_words(alloc, reader, MAX_WORDS)?;
-    let text = text_of_words(alloc, &words)?;
+    let text = report_of(alloc, &words)?;
     write_out(writer, &text)
 }

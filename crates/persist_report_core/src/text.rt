@@ -7,7 +7,7 @@ ghost use Rattle.bucket_ranges.specs.Ranges.{boundaries_of};
 ghost use Rattle.bucket_ranges.specs.Spec.{spec_fault};
 ghost use Rattle.image_reader.specs.Views.{histogram_view, bad_view, reading_view};
 ghost use Rattle.persist_report_core.specs.Text.{line, highs_of, bucket_text, units_of, histogram_text, flag_text, redundant_text, bad_text, stopped_text, IsTextOf};
-ghost use Rattle.persist_report_core.specs.Readable.{IsReadable};
+ghost use Rattle.image_reader.specs.Readable.{IsReadable};
 
 use crate::lines::put_line;
 use crate::order::in_order;

@@ -11,7 +11,7 @@ pub returns-clause-image : goal.returns-clause-image
 returns-clause-image c =
     let words = c.args.words.now in
     let fit : All (λ word. word < 2 ^ 64) words = λ k d h. rw (get_or_default_zero words k d h) (omega (arith, c.type_inv.words k)) in
-    let taken = header_taken (λ head reading. IsReading words head (reading_view reading)) (header_of words) c.read.result c.in_ok-reading.reading c.in_ok-reading.was c.read.ensures in
+    let taken = header_taken (λ head reading. IsReading words head (reading_view reading)) (header_of words) c.read.result c.in_ok-reading.reading c.in_ok-reading.was c.read.ensures.answer in
     let head_is : header_of words ≡ Ok c.in_ok-head.head = sym c.header.ensures ∙ c.in_ok-head.was in
     let same : taken.0 ≡ c.in_ok-head.head = cc (taken.1, head_is) in
     record {

@@ -67,7 +67,7 @@ returns-clause-image c =
     (merged_then base dead (view_of_recorder c.in-Ok-recorder.recorder) mid last c.in_ok-merge_whole.ensures.merged c.in_ok-merge_whole-2.ensures.merged) in
     let last_opener : Actor = view_of_opener c.join.new.self in
     let closing_is : last_opener ≡ closing setting (base ++ dead) last merged =
-    c.join.ensures.1 ∙ ap (λ (o : Actor). joined o last) (mine ∙ ap (λ (o : Actor). parent (offering o 4294967295)) new.view) in
+    c.join.ensures.takes.1 ∙ ap (λ (o : Actor). joined o last) (mine ∙ ap (λ (o : Actor). parent (offering o 4294967295)) new.view) in
     let image : IsImageOf setting c.close.result = subst (λ (s : Setting). IsImageOf s c.close.result) new.setting_is c.close.ensures.image in
     let reads : ReadsJoined setting (closing setting (base ++ dead) last merged) c.close.result =
     subst (λ (s : Setting). ReadsJoined s (closing setting (base ++ dead) last merged) c.close.result) new.setting_is

@@ -18,9 +18,9 @@ loop-ended-preserved c =
     let at = c.loop-ended.invariant in (
       at.0,
       at.1,
-      c.join.ensures.0.table ∙ at.2,
+      c.join.ensures.takes.0.table ∙ at.2,
       All-tail (EndedAt c.args.opener.now.seat.table_id) one rest (subst (All (EndedAt c.args.opener.now.seat.table_id)) steps at.3),
-      ap (λ (a : Actor). all_joined a (map view_of_ended rest)) c.join.ensures.1
+      ap (λ (a : Actor). all_joined a (map view_of_ended rest)) c.join.ensures.takes.1
           ∙ subst (λ (l : List Ended). all_joined (view_of_opener c.loop-ended.opener) (map view_of_ended l) ≡ all_joined (view_of_opener c.args.opener.now) (map view_of_ended c.args.all.items)) steps at.4,
       λ together told.
           at.5 together

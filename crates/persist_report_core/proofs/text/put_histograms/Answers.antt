@@ -1,5 +1,5 @@
 use Rattle.std.proofs.Common.{◌≡◌, ◌++◌, subst}
-use Rattle.persist_report_core.specs.Readable.{IsReadable}
+use Rattle.image_reader.specs.Readable.{IsReadable}
 use Rattle.image_reader.specs.Views.{histogram_view}
 use Rattle.persist_report_core.specs.Text.{histogram_text}
 use Rattle.persist_report_core.proofs.Adding.{All-image_at, written-all, written-both, written-more}

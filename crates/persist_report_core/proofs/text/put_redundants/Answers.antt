@@ -1,4 +1,4 @@
-use Rattle.persist_report_core.specs.Readable.{IsReadable}
+use Rattle.image_reader.specs.Readable.{IsReadable}
 use Rattle.image_reader.specs.Views.{histogram_view}
 use Rattle.persist_report_core.specs.Text.{redundant_text}
 use Rattle.persist_report_core.proofs.Adding.{All-image_at, written-all}

@@ -2,7 +2,7 @@ use Rattle.std.proofs.Common.{◌≡◌, ◌∙◌, ◌++◌, map, ap}
 use Rattle.std.specs.List.{flat_map}
 use Rattle.std.proofs.lemmas.List.Sorted.{All-permutation, IsPermutation-sym}
 use Rattle.image_reader.specs.Views.{histogram_view}
-use Rattle.persist_report_core.specs.Readable.{IsReadable}
+use Rattle.image_reader.specs.Readable.{IsReadable}
 use Rattle.persist_report_core.specs.Text.{histogram_text}
 use Rattle.persist_report_core.proofs.text.text_of.Goals as goal
 

@@ -11,6 +11,7 @@ loop-value-preserved c =
         segment = same.segment ∙ before.segment;
         table = same.table ∙ before.table;
         known = same.known ∙ before.known;
+        names = same.names ∙ before.names;
         fresh = same.fresh ∙ before.fresh;
       },
     )

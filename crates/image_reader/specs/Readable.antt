@@ -1,18 +1,17 @@
--- The histograms of readings, as far as their text needs it.
-use Rattle.std.specs.Prelude.{◌≡◌, ℕ, ◌<◌, ◌^◌, length, None, ⊤}
+-- What holds of every histogram that is read.
+use Rattle.std.specs.Prelude.{◌≡◌, ℕ, ◌<◌, ◌^◌, length, sum_by, None, ⊤}
 use Rattle.bucket_ranges.specs.declared.spec.Spec.{Spec}
 use Rattle.bucket_ranges.specs.declared.spec.Spec.TheVariants.{Sparse}
 use Rattle.bucket_ranges.specs.Spec.{spec_fault, buckets_of}
 use Rattle.bucket_ranges.specs.Reading.{Histogram}
-use Rattle.persist_report_core.specs.Text.{units_of}
 
 -- so many counts: one for each bucket, where there are buckets
 abbrev pub IsCounted : Spec → ℕ → Type 0
 IsCounted Sparse counts = ⊤
 IsCounted spec counts = counts ≡ buckets_of spec
 
--- its spec is lawful, each bucket has its count, and the units fit a word; so it is with every histogram that is read
+-- its spec is lawful, each bucket has its count, and the units fit a word
 pub record IsReadable (hist : Histogram) : Type 0 where
   pub lawful : spec_fault hist.spec ≡ None
   pub counted : IsCounted hist.spec (length hist.counts)
-  pub small : units_of hist < 2 ^ 64
+  pub small : sum_by (λ count. count.1) hist.counts < 2 ^ 64

@@ -6,14 +6,7 @@ use Rattle.segment_image.specs.Head.{header_of}
 use Rattle.bucket_ranges.specs.Reading.{IsReading}
 use Rattle.image_reader.specs.Views.{reading_view}
 use Rattle.persist_report_core.proofs.Answering.{reading_cause, header_taken}
-use Rattle.persist_report_core.proofs.Readables.{reading_readable, head_within}
-use Rattle.persist_report_core.proofs.reporting.text_of_words.Goals as goal
-
-pub text_of-requires : goal.text_of-requires
-text_of-requires c =
-    let words = c.args.words.now in
-    let taken = header_taken (λ head reading. IsReading words head (reading_view reading)) (header_of words) c.read.result c.in_ok-reading.reading c.in_ok-reading.was c.read.ensures in
-    reading_readable words taken.0 (reading_view c.in_ok-reading.reading) (head_within words taken.0 taken.1) taken.2
+use Rattle.persist_report_core.proofs.reporting.report_of.Goals as goal
 
 pub returns-in_err-reading-clause-cause : goal.returns-in_err-reading-clause-cause
 returns-in_err-reading-clause-cause c =
@@ -21,11 +14,11 @@ returns-in_err-reading-clause-cause c =
     let words = c.args.words.now in
     let fit : All (λ word. word < 2 ^ 64) words = λ k d h. rw (get_or_default_zero words k d h) (omega (arith, c.type_inv.words k)) in
     rw (p.1, p.2)
-    (reading_cause (λ head reading. IsReading words head (reading_view reading)) (bytes_of_words words) words c.read.result c.in_err-reading.field-0.0 (record { fit = fit; bytes_are = refl }) c.in_err-reading.was c.read.ensures)
+    (reading_cause (λ head reading. IsReading words head (reading_view reading)) (bytes_of_words words) words c.read.result c.in_err-reading.field-0.0 (record { fit = fit; bytes_are = refl }) c.in_err-reading.was c.read.ensures.answer)
 
 pub returns-clause-text : goal.returns-clause-text
 returns-clause-text c =
     let words = c.args.words.now in
     let fit : All (λ word. word < 2 ^ 64) words = λ k d h. rw (get_or_default_zero words k d h) (omega (arith, c.type_inv.words k)) in
-    let taken = header_taken (λ head reading. IsReading words head (reading_view reading)) (header_of words) c.read.result c.in_ok-reading.reading c.in_ok-reading.was c.read.ensures in
+    let taken = header_taken (λ head reading. IsReading words head (reading_view reading)) (header_of words) c.read.result c.in_ok-reading.reading c.in_ok-reading.was c.read.ensures.answer in
     record { words = words; words_are = record { fit = fit; bytes_are = refl }; head = taken.0; head_is = taken.1; reading = reading_view c.in_ok-reading.reading; reading_is = taken.2; text_is = c.in_ok-text_of.ensures }

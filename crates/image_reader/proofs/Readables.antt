@@ -13,14 +13,22 @@ use Rattle.image_reader.proofs.Headers.{checked_ok}
 use Rattle.segment_image.specs.declared.head.SegmentHead.{SegmentHead}
 use Rattle.bucket_ranges.specs.declared.spec.Spec.{Spec}
 use Rattle.bucket_ranges.specs.declared.spec.Spec.TheVariants.{Linear, Boolean, Custom, Sparse}
+use Rattle.bucket_ranges.proofs.Ascent.{is_linear-from_checks}
+use Rattle.bucket_ranges.proofs.Customs.{is_custom-from_checks, length-distinct}
 use Rattle.bucket_ranges.proofs.Named.{named-lawful}
 use Rattle.bucket_ranges.proofs.Walks.{IsWalk-length}
 use Rattle.bucket_ranges.specs.declared.reading.RecordFault.TheVariants.{BadSpec}
 use Rattle.bucket_ranges.specs.Spec.{spec_fault, buckets_of}
 use Rattle.bucket_ranges.specs.Reading.{Reading, IsReading, histogram_of, read_records, lawful_samples, first_samples, bucket_counts, sample_counts, is_sparse, is_bad_counts, has_large, inner_ranges, record_fault, has_spec, spec_of, totals_of, record_buckets, record_checks, has_counts}
-use Rattle.persist_report_core.specs.Readable.{IsCounted, IsReadable}
+use Rattle.image_reader.specs.Readable.{IsCounted, IsReadable}
 use Rattle.image_reader.proofs.Lawful.{IsSmallSample, all_pass, bucket_at, bucket_counts-small, lawful_samples-few, lawful_samples-small, read_records-lawful, sample_counts-few, sample_counts-small}
-use Rattle.persist_report_core.proofs.Buckets.{few_buckets}
+
+-- a lawful spec has at most 1,000 buckets
+few_buckets : (spec : Spec) → spec_fault spec ≡ None → buckets_of spec ≤ 1000
+few_buckets (Linear min max n) e = (is_linear-from_checks min max n e).many
+few_buckets Boolean e = omega arith
+few_buckets (Custom values) e = omega (arith, (is_custom-from_checks values e).few, length-distinct values)
+few_buckets Sparse e = omega arith
 
 -- what the checks of a record say once they pass
 pub record_lawful : (words : List ℕ) (head : SegmentHead) (reference : ℕ) → record_fault words head reference ≡ None

@@ -161,9 +161,10 @@ impl<'a> Recorder<'a> {
     /// name that it knows needs no event, and is the same each time.
     ///
     /// `BadName`, then `BadSpec`, then `TooLarge` where its record or its counts do not fit in a page, and `NoMemory` where there
-    /// is none, before anything has happened, also where it knows the name. Then `OtherSpec` where the histogram of the name has another spec, and a record that
-    /// was made for this one stays on the list unused; or `Corrupt` or `Full` where the list has no record of the name and no
-    /// block could be claimed for one. After a refusal it knows the same histograms as before. On `Ok` it has not set the full flag.
+    /// is none, before anything has happened, also where it knows the name. Then `OtherSpec` where the histogram of the name has
+    /// another spec, and a record that was made for this one stays on the list unused; or `Corrupt` or `Full` where the list has
+    /// no record of the name and no block could be claimed for one. After a refusal it knows the same histograms as before. On
+    /// `Ok` it has not set the full flag.
     pub fn hist(&mut self, name: &[u8], spec: &Spec) -> Result<Hist, Refusal>
         ensures same { KnowsOn self.old self.new }
         ensures named { IfOk result (IsNamed name.now spec.now self.new) }

@@ -3,5 +3,6 @@ pub mod Went
 pub mod Meetings
 pub mod Runs
 mod Stops
+mod MergeClosed
 mod MergeFaults
 mod MergeOutcomes

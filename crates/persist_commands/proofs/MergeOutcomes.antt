@@ -1,5 +1,5 @@
 -- What a merge of two images comes to, by how its parts ended.
-use Rattle.std.proofs.Common.{◌≡◌, ℕ, List, ◌++◌, Bool, true, Option, Some, None, Result, Ok, Err, inl, inr, ◌⊎◌, sym, ap, subst}
+use Rattle.std.proofs.Common.{◌≡◌, ℕ, List, ◌++◌, Bool, true, false, Option, Some, None, Result, Ok, Err, inl, inr, ◌⊎◌, refl, sym, ap, subst}
 use Rattle.std.specs.Prelude.{MatchOption, ◌≢◌, ◌↔◌, ⊤, IfErr, IfSome, IsErrOf, OnOk, is_err}
 use Rattle.segment_image.specs.Checks.{first_fault}
 use Rattle.segment_image.specs.declared.head.SegmentHead.{SegmentHead}
@@ -13,7 +13,7 @@ use Rattle.segment_merge.specs.Image.{IsMergedImage}
 use Rattle.persist_report_core.specs.declared.fault.CliFault.{CliFault}
 use Rattle.persist_report_core.specs.declared.fault.CliFault.TheVariants as cli
 use Rattle.persist_report_core.specs.Report.{IsCausedBy}
-use Rattle.persist_commands.specs.MergeFiles.{AreMerged, IsImageOf, IsMergeFault, IsStopOf}
+use Rattle.persist_commands.specs.MergeFiles.{AreMerged, IsImage, IsImageOf, IsMergeFault, IsStopOf}
 
 -- a fault has its cause, as far as the bytes of both are known
 abbrev pub HasCauseIn : Option (List ℕ) → Option (List ℕ) → CliFault → Type 0
@@ -80,6 +80,19 @@ untouched (Err fault) P err = λ other. absurd (other err)
 -- a reader that answered has not failed
 pub not_failed : {T : Type 0} (r : Result T CliFault) (x : T) (failed : Bool) → r ≡ Ok x → (IsErrOf r cli.Read ↔ (failed ≡ true)) → failed ≡ true → ⊥
 not_failed r x failed is told e = let other : r ≡ Err cli.Read = told.1 e in cc (is, other)
+
+-- so the second reader is read only where the first has not failed, and its bytes are an image
+sound : (failed : Bool) → (failed ≡ true → ⊥) → failed ≡ false
+sound true other = absurd (other refl)
+sound false other = refl
+
+an_image : (a : Option (List ℕ)) (head : SegmentHead) (reading : Reading) → IfSome a (λ bytes. IsImageOf bytes head reading) → IfSome a IsImage
+an_image None head reading image = tt
+an_image (Some bytes) head reading image = (head, reading, image)
+
+pub first_sound : {T : Type 0} (r : Result T CliFault) (x : T) (failed : Bool) (a : Option (List ℕ)) (head : SegmentHead) (reading : Reading) → r ≡ Ok x
+    → (IsErrOf r cli.Read ↔ (failed ≡ true)) → IfSome a (λ bytes. IsImageOf bytes head reading) → (failed ≡ false) × IfSome a IsImage
+first_sound r x failed a head reading is told image = (sound failed (not_failed r x failed is told), an_image a head reading image)
 
 -- ---- a new segment
 

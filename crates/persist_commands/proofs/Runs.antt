@@ -1,16 +1,22 @@
 -- What all workers of a run have recorded, and what their image is read as.
-use Rattle.std.proofs.Common.{◌≡◌, ℕ, ◌+◌, ◌<◌, ◌≤◌, List, [], ◌∷◌, ◌++◌, map, length, get_or, All, Contains, Option, Some, None, IfSome, Ok, Err, Result, OnOk, refl, sym, ap, ◌∙◌, subst, arith}
-use Rattle.std.specs.Prelude.{◌+ℤ◌}
+use Rattle.std.proofs.Common.{◌≡◌, ℕ, ◌+◌, ◌<◌, ◌≤◌, List, [], ◌∷◌, ◌++◌, map, length, get_or, All, Contains, Option, Some, None, IfSome, Ok, Err, Result, IfErr, OnOk, refl, sym, ap, ◌∙◌, subst, arith}
+use Rattle.std.specs.Prelude.{◌+ℤ◌, Bool, true, false, suc, ℤ, pos, if◌then◌else◌, sum_by, fold}
 use Rattle.std.specs.List.{flat_map, range_with_len}
+use Rattle.std.specs.Str.{bytes_eq}
+use Rattle.std.proofs.lemmas.Slice.Eq.{bytes_eq-Decides}
+use Rattle.std.proofs.lemmas.List.Elements.{filter_map-append}
+use Rattle.std.proofs.lemmas.List.Sums.{sum_by-append}
 use Rattle.std.proofs.lemmas.List.{get_or-map, length-map}
 use Rattle.std.proofs.lemmas.List.Concat.{flat_map-append}
 use Rattle.atomic_table.specs.Seated.{TableId}
 use Rattle.bucket_ranges.specs.Spec.{SameSpec}
 use Rattle.segment_machine.specs.declared.actor.Actor.{Actor}
 use Rattle.segment_machine.specs.declared.actor.Known.{Known}
+use Rattle.segment_machine.specs.declared.actor.Portion.{Portion}
+use Rattle.segment_machine.specs.declared.actor.Taken.{Taken}
 use Rattle.segment_machine.specs.declared.entry.EntryProgress.{EntryProgress}
 use Rattle.segment_machine.specs.declared.entry.Entry.{Entry}
-use Rattle.segment_machine.specs.Actor.{log_of, outstanding_of}
+use Rattle.segment_machine.specs.Actor.{log_of, outstanding_of, portion_of, taken_of, taken_sum, taken_units, units_listed}
 use Rattle.segment_machine.specs.Seats.{joined}
 use Rattle.segment_machine.specs.Entry.{tally_units, tally_sum, tally_noted}
 use Rattle.segment_invariant.proofs.Lists.Countings.{units_total, sum_total, noted_total}
@@ -28,10 +34,11 @@ use Rattle.persist_report_core.specs.declared.fault.CliFault.{CliFault}
 use Rattle.persist_report_core.specs.Script.{HistRecord, Script, script_of, script_view}
 use Rattle.persist_commands.specs.declared.worker.Ended.{Ended}
 use Rattle.persist_commands.specs.declared.worker.Part.{Part}
-use Rattle.persist_commands.specs.Entries.{entries_of, entries_of_call}
+use Rattle.persist_commands.specs.Entries.{Deed, deeds_of, deeds_of_call, delta_in, deltas_among, deltas_of, entries_among, entries_of, entry_in}
 use Rattle.persist_commands.specs.Parts.{part_of}
-use Rattle.persist_commands.specs.Recording.{EndedAt, EndedWell, HandsOut, HasEnded, HasOpened, HasRun, HasWorked, IsAskedIn, IsReady, KnowsOf, WentOn, all_joined, entries_of_all, entries_of_part, view_of_ended}
+use Rattle.persist_commands.specs.Recording.{EndedAt, EndedWell, HandsOut, HasEnded, HasOpened, HasRun, HasWorked, IsAskedIn, IsReady, KnowsOf, WentOn, all_joined, deeds_of_all, deeds_of_part, names_taken, view_of_ended}
 use Rattle.persist_commands.specs.Run.{IsImageOfRun, IsReportOfImage, IsRunOf}
+use Rattle.persist_commands.specs.Stop.{StopTellsWant}
 use Rattle.persist_commands.proofs.Parts.{parts_add_up}
 use Rattle.persist_commands.proofs.Went.{Worked, knows_joining_all, outstanding_joining, went_handing, went_joining_all, went_twice}
 
@@ -60,7 +67,13 @@ module _ {W : Type 0} (part : W → Part) (has : W → code.Script) (recorder : 
   abbrev views : List Actor
   views = map view_of_ended ended
 
-  worked : (mine : All EndedWell ended) (k : ℕ) (a : Actor) → k < length views → Worked (script_view script).hists (entries_of_part (script_view script) workers) (0 + k) (get_or views k a)
+  -- those that ended with a stop tell want of memory as such
+  pub all_tell : All (λ (e : Ended). IfErr e.outcome StopTellsWant) ended
+  all_tell k e below =
+      let here : k < length all = omega (arith, below, same) in
+      (gives k (one_of all k here) e here).tells
+
+  worked : (mine : All EndedWell ended) (k : ℕ) (a : Actor) → k < length views → Worked (script_view script).hists (deeds_of_part (script_view script) workers) (0 + k) (get_or views k a)
   worked mine k a below =
       let count : length views ≡ length ended = length-map ended view_of_ended in
       let there : k < length ended = omega (arith, below, count) in
@@ -77,8 +90,8 @@ module _ {W : Type 0} (part : W → Part) (has : W → code.Script) (recorder : 
       let by_number = subst (λ n. HasWorked (script_view script) workers n (view_of_recorder (recorder (get_or all k d))) (view_of_ended (get_or ended k e))) is.number_is by_workers in
       let view : get_or views k a ≡ view_of_ended (get_or ended k e) = get_or-map view_of_ended ended k e a there in
       let number : k ≡ 0 + k = omega arith in
-      subst (λ n. Worked (script_view script).hists (entries_of_part (script_view script) workers) n (get_or views k a)) number
-      (subst (λ (v : Actor). Worked (script_view script).hists (entries_of_part (script_view script) workers) k v) (sym view)
+      subst (λ n. Worked (script_view script).hists (deeds_of_part (script_view script) workers) n (get_or views k a)) number
+      (subst (λ (v : Actor). Worked (script_view script).hists (deeds_of_part (script_view script) workers) k v) (sym view)
       (view_of_recorder (recorder (get_or all k d)), is.fresh, by_number))
 
   -- all have made their calls, and are joined
@@ -86,12 +99,12 @@ module _ {W : Type 0} (part : W → Part) (has : W → code.Script) (recorder : 
   has_run old mid new count hands joins mine =
       let hists = (script_view script).hists in
       let many : length views ≡ workers = length-map ended view_of_ended ∙ (same ∙ count) in
-      let together : WentOn hists (flat_map (entries_of_part (script_view script) workers) (range_with_len 0 (length views))) mid (all_joined mid views) =
-      went_joining_all hists (entries_of_part (script_view script) workers) 0 mid views (worked mine) in
-      let whole : WentOn hists (entries_of_all (script_view script) workers) mid new =
-      subst (λ n. WentOn hists (flat_map (entries_of_part (script_view script) workers) (range_with_len 0 n)) mid new) many
-      (subst (WentOn hists (flat_map (entries_of_part (script_view script) workers) (range_with_len 0 (length views))) mid) (sym joins) together) in record {
-        recorded = went_twice hists [] (entries_of_all (script_view script) workers) old mid new (went_handing hists workers old mid hands) whole;
+      let together : WentOn hists (flat_map (deeds_of_part (script_view script) workers) (range_with_len 0 (length views))) mid (all_joined mid views) =
+      went_joining_all hists (deeds_of_part (script_view script) workers) 0 mid views (worked mine) in
+      let whole : WentOn hists (deeds_of_all (script_view script) workers) mid new =
+      subst (λ n. WentOn hists (flat_map (deeds_of_part (script_view script) workers) (range_with_len 0 n)) mid new) many
+      (subst (WentOn hists (flat_map (deeds_of_part (script_view script) workers) (range_with_len 0 (length views))) mid) (sym joins) together) in record {
+        recorded = went_twice hists [] (deeds_of_all (script_view script) workers) old mid new (went_handing hists workers old mid hands) whole;
         knows = λ knew k d below. subst (λ (a : Actor). KnowsOf a (get_or hists k d)) (sym joins)
             (knows_joining_all mid views (get_or hists k d) (subst (λ n. (known : Known) × Contains n.names known × (known.name ≡ (get_or hists k d).name) × SameSpec known.spec (get_or hists k d).spec) (sym hands.answers) (knew k d below)));
         back =
@@ -102,17 +115,79 @@ module _ {W : Type 0} (part : W → Part) (has : W → code.Script) (recorder : 
 
 -- ---- the tally
 
-entries_in_turn : (hists : List HistRecord) (g : ℕ → List ScriptCall) (ks : List ℕ) → entries_of hists (flat_map g ks) ≡ flat_map (λ k. entries_of hists (g k)) ks
-entries_in_turn hists g [] = refl
-entries_in_turn hists g (k ∷ ks) = flat_map-append (entries_of_call hists) (g k) (flat_map g ks) ∙ ap (λ (l : List Entry). entries_of hists (g k) ++ l) (entries_in_turn hists g ks)
+deeds_in_turn : (hists : List HistRecord) (g : ℕ → List ScriptCall) (ks : List ℕ) → deeds_of hists (flat_map g ks) ≡ flat_map (λ k. deeds_of hists (g k)) ks
+deeds_in_turn hists g [] = refl
+deeds_in_turn hists g (k ∷ ks) = flat_map-append (deeds_of_call hists) (g k) (flat_map g ks) ∙ ap (λ (l : List Deed). deeds_of hists (g k) ++ l) (deeds_in_turn hists g ks)
 
--- what the entries of all workers come to is what those of the script come to
-all_come_to : {M : Type 0} (add : M → M → M) (total : List Entry → M) → IsAddition ◌≡◌ add → IsTotal add total → (script : Script) (workers : ℕ) → 0 < workers
-    → total (entries_of_all script workers) ≡ total (entries_of script.hists script.calls)
+-- what the deeds of all workers come to is what those of the script come to
+all_come_to : {M : Type 0} (add : M → M → M) (total : List Deed → M) → IsAddition ◌≡◌ add → IsTotal add total → (script : Script) (workers : ℕ) → 0 < workers
+    → total (deeds_of_all script workers) ≡ total (deeds_of script.hists script.calls)
 all_come_to add total is sums script workers some =
-    let of : List ScriptCall → List Entry = entries_of script.hists in
-    ap total (sym (entries_in_turn script.hists (λ part. part_of workers part script.calls) (range_with_len 0 workers)))
-    ∙ parts_add_up ◌≡◌ add (λ calls. total (of calls)) is (λ xs ys. ap total (flat_map-append (entries_of_call script.hists) xs ys) ∙ sums (of xs) (of ys)) workers script.calls some
+    let of : List ScriptCall → List Deed = deeds_of script.hists in
+    ap total (sym (deeds_in_turn script.hists (λ part. part_of workers part script.calls) (range_with_len 0 workers)))
+    ∙ parts_add_up ◌≡◌ add (λ calls. total (of calls)) is (λ xs ys. ap total (flat_map-append (deeds_of_call script.hists) xs ys) ∙ sums (of xs) (of ys)) workers script.calls some
+
+-- so do their entries
+entries_come_to : {M : Type 0} (add : M → M → M) (total : List Entry → M) → IsAddition ◌≡◌ add → IsTotal add total → (script : Script) (workers : ℕ) → 0 < workers
+    → total (entries_among (deeds_of_all script workers)) ≡ total (entries_of script.hists script.calls)
+entries_come_to add total is sums script workers some =
+    all_come_to add (λ deeds. total (entries_among deeds)) is
+    (λ xs ys. ap total (filter_map-append entry_in xs ys) ∙ sums (entries_among xs) (entries_among ys)) script workers some
+
+-- ---- the marks
+
+-- how many deltas of a name are taken
+abbrev times : List ℕ → List (List ℕ) → ℕ
+times name names = sum_by (λ other. if bytes_eq other name then 1 else 0) names
+
+times_more : (name other : List ℕ) (names : List (List ℕ)) → times name (other ∷ names) ≡ (if bytes_eq other name then 1 else 0) + times name names
+times_more name other names =
+    let sums = sum_by-append (λ (o : List ℕ). if bytes_eq o name then 1 else 0) (other ∷ []) names in omega (arith, sums)
+
+-- none where the name is not among them
+no_times : (name : List ℕ) (names : List (List ℕ)) → ¬ (Contains names name) → times name names ≡ 0
+no_times name [] none = refl
+no_times name (other ∷ names) none =
+    by (bytes_eq other name) refl (no_times name names (λ has. none (suc has.0, (let below = has.1 in omega (arith, below)), has.2)))
+  where
+    by : (b : Bool) → bytes_eq other name ≡ b → times name names ≡ 0 → times name (other ∷ names) ≡ 0
+    by true same rest = absurd (none (0, omega arith, (bytes_eq-Decides other name).0 same))
+    by false unlike rest =
+        times_more name other names
+        ∙ subst (λ (b : Bool). (if b then 1 else 0) + times name names ≡ 0) (sym unlike) (omega (arith, rest))
+
+-- then they have taken nothing of it
+takes_none : (name : List ℕ) (key : ℤ) (taken : List Taken) → times name (map (λ (t : Taken). t.name) taken) ≡ 0
+    → (taken_units (map portion_of taken) name key ≡ 0) × (taken_sum (map portion_of taken) name ≡ pos 0)
+takes_none name key [] none = (refl, refl)
+takes_none name key (t ∷ taken) none = by (takes_none name key taken) (bytes_eq t.name name) refl
+  where
+    names : List (List ℕ)
+    names = map (λ (t : Taken). t.name) taken
+
+    more : (if bytes_eq t.name name then 1 else 0) + times name names ≡ 0
+    more = sym (times_more name t.name names) ∙ none
+
+    units_more : taken_units (map portion_of (t ∷ taken)) name key
+        ≡ (if bytes_eq t.name name then units_listed t.counts key else 0) + taken_units (map portion_of taken) name key
+    units_more =
+        let sums = sum_by-append (λ (p : Portion). if bytes_eq p.name name then units_listed p.counts key else 0) (portion_of t ∷ []) (map portion_of taken) in
+        omega (arith, sums)
+
+    by : (times name names ≡ 0 → (taken_units (map portion_of taken) name key ≡ 0) × (taken_sum (map portion_of taken) name ≡ pos 0))
+        → (b : Bool) → bytes_eq t.name name ≡ b
+        → (taken_units (map portion_of (t ∷ taken)) name key ≡ 0) × (taken_sum (map portion_of (t ∷ taken)) name ≡ pos 0)
+    by others true same =
+        let one : 1 + times name names ≡ 0 = subst (λ (b : Bool). (if b then 1 else 0) + times name names ≡ 0) same more in absurd (omega (arith, one))
+    by others false unlike =
+        let rest : 0 + times name names ≡ 0 = subst (λ (b : Bool). (if b then 1 else 0) + times name names ≡ 0) unlike more in
+        let (units, sum) = others (omega (arith, rest)) in (
+          units_more
+              ∙ subst (λ (b : Bool). (if b then units_listed t.counts key else 0) + taken_units (map portion_of taken) name key ≡ 0) (sym unlike)
+              (omega (arith, units)),
+          subst (λ (b : Bool). fold ◌+ℤ◌ (pos 0 +ℤ (if b then t.sum else pos 0))
+              (map (λ (p : Portion). if bytes_eq p.name name then p.sum else pos 0) (map portion_of taken)) ≡ pos 0) (sym unlike) sum,
+        )
 
 -- ---- the image
 
@@ -123,9 +198,9 @@ pub is_image_of_run : (script : Script) (workers : ℕ) (setting : Setting) (ope
     → IsImageOf setting words → (outstanding_of ran.role ≡ 0 → ReadsJoined setting ran words) → IsImageOfRun script words
 is_image_of_run script workers setting opened ran words some shape version id opens runs image joined =
     let first : Actor = first_view setting in
-    let went = went_twice script.hists [] (entries_of_all script workers) first opened ran opens.went runs.recorded in
+    let went = went_twice script.hists [] (deeds_of_all script workers) first opened ran opens.went runs.recorded in
     let outstanding : outstanding_of ran.role ≡ 0 = runs.back ∙ opens.back in
-    let all : List Entry = entries_of_all script workers in
+    let all : List Entry = entries_among (deeds_of_all script workers) in
     let log : log_of ran ≡ all = went.logged in
     let none : ran.entries.first ≡ [] = went.first in
     let counted : map (λ (c : EntryProgress). c.entry) ran.entries.log ≡ all =
@@ -158,16 +233,33 @@ is_image_of_run script workers setting opened ran words some shape version id op
                 let tally = read.tallies h there in record {
                   units = λ key. tally.units key
                       ∙ (ap (λ (l : List Entry). tally_units l h.name key) log
-                      ∙ all_come_to ◌+◌ (λ l. tally_units l h.name key) numbers (units_total h.name key) script workers some);
+                      ∙ entries_come_to ◌+◌ (λ l. tally_units l h.name key) numbers (units_total h.name key) script workers some);
                   sum = tally.sum
                       ∙ (ap (λ (l : List Entry). tally_sum l h.name) log
-                      ∙ all_come_to ◌+ℤ◌ (λ l. tally_sum l h.name) amounts (sum_total h.name) script workers some);
+                      ∙ entries_come_to ◌+ℤ◌ (λ l. tally_sum l h.name) amounts (sum_total h.name) script workers some);
                   redundant = tally.redundant
                       ∙ (ap (λ (l : List Entry). tally_noted l h.name) counted
-                      ∙ all_come_to ◌+◌ (λ l. tally_noted l h.name) numbers (noted_total h.name) script workers some);
+                      ∙ entries_come_to ◌+◌ (λ l. tally_noted l h.name) numbers (noted_total h.name) script workers some);
                 };
             id = read.id ∙ id;
             corrupt = read.corrupt ∙ went.spoiled;
+            full = read.full ∙ went.filled;
+            unmarked = λ h there none.
+                let tally = read.tallies h there in
+                let names : names_taken ran ≡ deltas_among (deeds_of_all script workers) = went.took in
+                let count : times h.name (names_taken ran) ≡ 0 =
+                ap (times h.name) names
+                ∙ (all_come_to ◌+◌ (λ deeds. times h.name (deltas_among deeds)) numbers
+                (λ xs ys. ap (times h.name) (filter_map-append delta_in xs ys)
+                ∙ sum_by-append (λ (other : List ℕ). if bytes_eq other h.name then 1 else 0) (deltas_among xs) (deltas_among ys)) script workers some
+                ∙ no_times h.name (deltas_of script.hists script.calls) none) in
+                let portions : taken_of ran ≡ map portion_of ran.deltas.taken =
+                ap (λ (l : List Portion). l ++ map portion_of ran.deltas.taken) went.first_taken in record {
+                  marks = λ key. tally.marks key
+                      ∙ (ap (λ (l : List Portion). taken_units l h.name key) portions ∙ (takes_none h.name key ran.deltas.taken count).0);
+                  sum_mark = tally.sum_mark
+                      ∙ (ap (λ (l : List Portion). taken_sum l h.name) portions ∙ (takes_none h.name (pos 0) ran.deltas.taken count).1);
+                };
           };
     }
 
@@ -199,6 +291,7 @@ written_so (Ok done) (Some bytes) script image words again text A B a b is run r
   again,
   text,
   record {
+    few = is.0;
     script = script_view script;
     script_is = is.1;
     image = subst (IsImageOfRun (script_view script)) (sym two) run;

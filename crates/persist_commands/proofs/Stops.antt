@@ -1,11 +1,11 @@
 -- How workers ended together, and which of several stops is told.
 use Rattle.std.proofs.Common.{◌≡◌, ◌⊎◌, ⊎_elim, ℕ, zero, suc, ◌≤◌, List, [], ◌∷◌, map, All, Contains, inl, inr, Ok, Err, Result, refl, ap, subst, arith}
-use Rattle.std.specs.Prelude.{⊤, OnOk}
+use Rattle.std.specs.Prelude.{⊤, IfErr, OnOk}
 use Rattle.std.proofs.lemmas.List.Elements.{All-cons, All-tail}
 use Rattle.persist_commands.specs.declared.stop.Stop.{Stop}
 use Rattle.persist_commands.specs.declared.worker.Ended.{Ended}
 use Rattle.persist_commands.specs.Recording.{EndedWell}
-use Rattle.persist_commands.specs.Stop.{EndTogether, rank_of}
+use Rattle.persist_commands.specs.Stop.{EndTogether, StopTellsWant, rank_of}
 
 -- ---- elements
 
@@ -91,3 +91,17 @@ all_well (ended ∷ rest) well =
 pub where_well : (all : List Ended) (together : Outcome) → EndTogether (map (λ ended. ended.outcome) all) together → OnOk together (All EndedWell all)
 where_well all (Ok done) well = all_well all well
 where_well all (Err stop) told = tt
+
+-- each of some that ended with a stop tells want of memory as such, and so do they together
+pub tells_together : (all : List Ended) (together : Outcome) → EndTogether (map (λ ended. ended.outcome) all) together
+    → All (λ (ended : Ended). IfErr ended.outcome StopTellsWant) all → IfErr together StopTellsWant
+tells_together all (Ok done) well each = tt
+tells_together all (Err stop) (some, first) each = among all some each
+  where
+    among : (all : List Ended) → Contains (map (λ (ended : Ended). ended.outcome) all) (Err stop)
+        → All (λ (ended : Ended). IfErr ended.outcome StopTellsWant) all → StopTellsWant stop
+    among [] some each = absurd (omega (arith, some.1))
+    among (ended ∷ rest) some each =
+        ⊎_elim (λ is. subst (λ (o : Outcome). IfErr o StopTellsWant) is (each 0 ended (omega arith)))
+        (λ behind. among rest behind (All-tail (λ (e : Ended). IfErr e.outcome StopTellsWant) ended rest each))
+        (head_or_tail ended.outcome (Err stop) (map (λ (e : Ended). e.outcome) rest) some)

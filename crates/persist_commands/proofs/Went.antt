@@ -2,25 +2,26 @@
 use Rattle.std.proofs.Common.{◌≡◌, ℕ, suc, ◌+◌, ◌-◌, ◌<◌, Bool, true, false, ◌||◌, ℤ, List, [], ◌∷◌, ◌++◌, map, length, slice_index_or, All, Contains, Some, inl, inr, refl, sym, ap, ◌∙◌, subst, arith, append_assoc, append-nil}
 use Rattle.std.specs.List.{flat_map, range_with_len}
 use Rattle.std.proofs.lemmas.List.{map-append}
-use Rattle.std.proofs.lemmas.List.Elements.{All-append, All-cons, Contains-append_left, Contains-append_right}
+use Rattle.std.proofs.lemmas.List.Elements.{All-append, All-cons, Contains-append_left, Contains-append_right, filter_map-append}
 use Rattle.bucket_ranges.specs.Spec.{SameSpec}
 use Rattle.bucket_ranges.specs.declared.spec.Spec.{Spec}
 use Rattle.segment_machine.specs.declared.actor.Actor.{Actor}
 use Rattle.segment_machine.specs.declared.actor.Known.{Known}
+use Rattle.segment_machine.specs.declared.actor.Taken.{Taken}
 use Rattle.segment_machine.specs.declared.entry.EntryProgress.{EntryProgress}
 use Rattle.segment_machine.specs.declared.entry.Entry.{Entry}
 use Rattle.segment_machine.specs.Actor.{log_of, outstanding_of}
 use Rattle.segment_machine.specs.Entry.{sample_entry}
-use Rattle.segment_machine.specs.Seats.{joined}
+use Rattle.segment_machine.specs.Seats.{joined, shifted_taken}
 use Rattle.segment_invariant.proofs.Consistency.Keys.{same_boundaries}
 use Rattle.live_segment.specs.declared.recorder.Hist.{Hist}
 use Rattle.live_segment.specs.Adding.{IsAdded}
-use Rattle.live_segment.specs.Deltas.{HasTaken}
+use Rattle.live_segment.specs.Deltas.{HasTaken, taken_as}
 use Rattle.live_segment.specs.Hist.{IsAnsweredWith}
 use Rattle.persist_report_core.specs.declared.script.CallKind.TheVariants as kind
 use Rattle.persist_report_core.specs.Script.{HistRecord}
-use Rattle.persist_commands.specs.Entries.{entries_in}
-use Rattle.persist_commands.specs.Recording.{HandsOut, IsAskedIn, IsFresh, KnowsOf, WentOn, all_joined}
+use Rattle.persist_commands.specs.Entries.{Deed, deeds_in, delta_in, deltas_among, entries_among, entry_in}
+use Rattle.persist_commands.specs.Recording.{HandsOut, IsAskedIn, IsFresh, KnowsOf, WentOn, all_joined, names_taken}
 
 -- ---- one after the other
 
@@ -28,16 +29,28 @@ pub went_nowhere : (hists : List HistRecord) (old new : Actor) → new ≡ old �
 went_nowhere hists old new still = record {
   first = ap (λ (a : Actor). a.entries.first) still;
   logged = ap log_of still ∙ sym (append-nil (log_of old));
+  first_taken = ap (λ (a : Actor). a.deltas.first_taken) still;
+  took = ap names_taken still ∙ sym (append-nil (names_taken old));
   names = subst (λ (a : Actor). All (IsAskedIn hists) old.answers.names → All (IsAskedIn hists) a.answers.names) (sym still) (λ all. all);
   spoiled = ap (λ (a : Actor). a.done.spoiled) still;
+  filled = ap (λ (a : Actor). a.done.filled) still;
 }
 
-pub went_twice : (hists : List HistRecord) (xs ys : List Entry) (a b c : Actor) → WentOn hists xs a b → WentOn hists ys b c → WentOn hists (xs ++ ys) a c
+pub went_twice : (hists : List HistRecord) (xs ys : List Deed) (a b c : Actor) → WentOn hists xs a b → WentOn hists ys b c → WentOn hists (xs ++ ys) a c
 went_twice hists xs ys a b c one two = record {
   first = two.first ∙ one.first;
-  logged = two.logged ∙ (ap (λ (l : List Entry). l ++ ys) one.logged ∙ append_assoc (log_of a) xs ys);
+  logged = two.logged
+      ∙ (ap (λ (l : List Entry). l ++ entries_among ys) one.logged
+      ∙ (append_assoc (log_of a) (entries_among xs) (entries_among ys)
+      ∙ ap (λ (l : List Entry). log_of a ++ l) (sym (filter_map-append entry_in xs ys))));
+  first_taken = two.first_taken ∙ one.first_taken;
+  took = two.took
+      ∙ (ap (λ (l : List (List ℕ)). l ++ deltas_among ys) one.took
+      ∙ (append_assoc (names_taken a) (deltas_among xs) (deltas_among ys)
+      ∙ ap (λ (l : List (List ℕ)). names_taken a ++ l) (sym (filter_map-append delta_in xs ys))));
   names = λ all. two.names (one.names all);
   spoiled = two.spoiled ∙ one.spoiled;
+  filled = two.filled ∙ one.filled;
 }
 
 -- an opener that hands out recorders records nothing
@@ -45,8 +58,11 @@ pub went_handing : (hists : List HistRecord) (n : ℕ) (old new : Actor) → Han
 went_handing hists n old new hands = record {
   first = ap (λ e. e.first) hands.entries;
   logged = ap (λ e. e.first ++ map (λ (c : EntryProgress). c.entry) e.log) hands.entries ∙ sym (append-nil (log_of old));
+  first_taken = ap (λ d. d.first_taken) hands.deltas;
+  took = ap (λ d. map (λ (t : Taken). t.name) d.taken) hands.deltas ∙ sym (append-nil (names_taken old));
   names = subst (λ a. All (IsAskedIn hists) old.answers.names → All (IsAskedIn hists) a.names) (sym hands.answers) (λ all. all);
   spoiled = ap (λ d. d.spoiled) hands.done;
+  filled = ap (λ d. d.filled) hands.done;
 }
 
 -- ---- the calls of a recorder
@@ -60,62 +76,85 @@ went_asking hists hist histogram old new has (inr comes_to) =
     let (asked, reference, is_asked, comes) = rest in
     let looks = comes.looks in
     let entries : new.entries ≡ old.entries = ap (λ (a : Actor). a.entries) comes.view ∙ ap (λ (a : Actor). a.entries) looks.same in
+    let deltas : new.deltas ≡ old.deltas = ap (λ (a : Actor). a.deltas) comes.view ∙ ap (λ (a : Actor). a.deltas) looks.same in
     let names : new.answers.names ≡ old.answers.names ++ record { name = asked.name.items; spec = asked.spec; reference = reference } ∷ [] =
     ap (λ (a : Actor). a.answers.names) comes.view in
     let mine : IsAskedIn hists (record { name = asked.name.items; spec = asked.spec; reference = reference }) =
     (hist, has, is_asked.named, subst (λ (s : Spec). SameSpec s hist.spec) (sym is_asked.specified) (refl, refl)) in record {
       first = ap (λ e. e.first) entries;
       logged = ap (λ e. e.first ++ map (λ (c : EntryProgress). c.entry) e.log) entries ∙ sym (append-nil (log_of old));
+      first_taken = ap (λ d. d.first_taken) deltas;
+      took = ap (λ d. map (λ (t : Taken). t.name) d.taken) deltas ∙ sym (append-nil (names_taken old));
       names = λ all. subst (All (IsAskedIn hists)) (sym names)
           (All-append (IsAskedIn hists) old.answers.names (record { name = asked.name.items; spec = asked.spec; reference = reference } ∷ []) all
           (All-cons (IsAskedIn hists) (record { name = asked.name.items; spec = asked.spec; reference = reference }) [] mine (λ k d below. absurd (omega (arith, below)))));
       spoiled = ap (λ (a : Actor). a.done.spoiled) comes.view ∙ ap (λ d. d.spoiled) looks.done.same;
+      filled = comes.filled;
     }
 
 -- it added a sample
 pub went_adding : (hists : List HistRecord) (hist : HistRecord) (known : Known) (value : ℤ) (count : ℕ) (old new : Actor) → known.name ≡ hist.name
-    → SameSpec known.spec hist.spec → IsAdded known value count old new → WentOn hists (entries_in (Some hist) (kind.Add value count)) old new
+    → SameSpec known.spec hist.spec → IsAdded known value count old new → WentOn hists (deeds_in (Some hist) (kind.Add value count)) old new
 went_adding hists hist known value count old new named same added =
     let on = added.onward in record {
       first = ap (λ (a : Actor). a.entries.first) on.same;
       logged = added.logged
           ∙ (λ i. log_of old ++ sample_entry (named i) (same_boundaries known.spec hist.spec same i) (value, count) ∷ []);
+      first_taken = ap (λ (a : Actor). a.deltas.first_taken) on.same;
+      took = ap names_taken on.same ∙ sym (append-nil (names_taken old));
       names = subst (λ (l : List Known). All (IsAskedIn hists) old.answers.names → All (IsAskedIn hists) l) (sym (ap (λ (a : Actor). a.answers.names) on.same)) (λ all. all);
       spoiled = ap (λ d. d.spoiled) on.done.same;
+      filled = added.filled;
     }
 
 -- it took a delta
-pub went_taking : (hists : List HistRecord) (known : Known) (counts : List (ℤ × ℕ)) (sum : ℤ) (old new : Actor) → HasTaken known counts sum old new
-    → WentOn hists [] old new
-went_taking hists known counts sum old new taken = record {
+pub went_taking : (hists : List HistRecord) (hist : HistRecord) (known : Known) (counts : List (ℤ × ℕ)) (sum : ℤ) (old new : Actor) → known.name ≡ hist.name
+    → HasTaken known counts sum old new → WentOn hists (deeds_in (Some hist) kind.Delta) old new
+went_taking hists hist known counts sum old new named taken = record {
   first = ap (λ (a : Actor). a.entries.first) taken.same;
   logged = ap log_of taken.same ∙ sym (append-nil (log_of old));
+  first_taken = ap (λ (a : Actor). a.deltas.first_taken) taken.same;
+  took = ap names_taken taken.same
+      ∙ (map-append (λ (t : Taken). t.name) old.deltas.taken (taken_as old known taken.counts sum ∷ [])
+      ∙ ap (λ (name : List ℕ). names_taken old ++ name ∷ []) named);
   names = subst (λ (l : List Known). All (IsAskedIn hists) old.answers.names → All (IsAskedIn hists) l) (sym (ap (λ (a : Actor). a.answers.names) taken.same)) (λ all. all);
   spoiled = ap (λ (a : Actor). a.done.spoiled) taken.same;
+  filled = ap (λ (a : Actor). a.done.filled) taken.same;
 }
 
 -- ---- joins
 
-unspoiled : (b c : Bool) → c ≡ false → (b || c) ≡ b
-unspoiled true c none = refl
-unspoiled false c none = none
+unset : (b c : Bool) → c ≡ false → (b || c) ≡ b
+unset true c none = refl
+unset false c none = none
+
+-- the names of deltas whose moments are shifted are the same
+names_shifted : (n : ℕ) (taken : List Taken) → map (λ (t : Taken). t.name) (shifted_taken n taken) ≡ map (λ (t : Taken). t.name) taken
+names_shifted n [] = refl
+names_shifted n (t ∷ taken) = ap (λ (l : List (List ℕ)). t.name ∷ l) (names_shifted n taken)
 
 -- an opener joins a recorder: it has gone on with what that recorder did
-pub went_joining : (hists : List HistRecord) (entries : List Entry) (opener fresh recorder : Actor) → IsFresh fresh → WentOn hists entries fresh recorder
-    → WentOn hists entries opener (joined opener recorder)
-went_joining hists entries opener fresh recorder is went =
+pub went_joining : (hists : List HistRecord) (deeds : List Deed) (opener fresh recorder : Actor) → IsFresh fresh → WentOn hists deeds fresh recorder
+    → WentOn hists deeds opener (joined opener recorder)
+went_joining hists deeds opener fresh recorder is went =
     let entries_of : List EntryProgress → List Entry = map (λ (c : EntryProgress). c.entry) in
     let none : recorder.entries.first ≡ [] = went.first ∙ is.first in
     let begun : log_of fresh ≡ [] = λ i. is.first i ++ entries_of (is.log i) in
-    let its : entries_of recorder.entries.log ≡ entries =
-    sym (ap (λ (l : List Entry). l ++ entries_of recorder.entries.log) none) ∙ (went.logged ∙ ap (λ (l : List Entry). l ++ entries) begun) in record {
+    let its : entries_of recorder.entries.log ≡ entries_among deeds =
+    sym (ap (λ (l : List Entry). l ++ entries_of recorder.entries.log) none) ∙ (went.logged ∙ ap (λ (l : List Entry). l ++ entries_among deeds) begun) in
+    let name : Taken → List ℕ = λ t. t.name in
+    let took : names_taken recorder ≡ deltas_among deeds = went.took ∙ ap (λ (l : List Taken). map name l ++ deltas_among deeds) is.taken in record {
       first = refl;
       logged = ap (λ (l : List Entry). opener.entries.first ++ l) (map-append (λ (c : EntryProgress). c.entry) opener.entries.log recorder.entries.log)
           ∙ (sym (append_assoc opener.entries.first (entries_of opener.entries.log) (entries_of recorder.entries.log))
           ∙ ap (λ (l : List Entry). (opener.entries.first ++ entries_of opener.entries.log) ++ l) its);
+      first_taken = refl;
+      took = map-append name opener.deltas.taken (shifted_taken (length (log_of opener)) recorder.deltas.taken)
+          ∙ ap (λ (l : List (List ℕ)). names_taken opener ++ l) (names_shifted (length (log_of opener)) recorder.deltas.taken ∙ took);
       names = λ all. All-append (IsAskedIn hists) opener.answers.names recorder.answers.names all
           (went.names (subst (All (IsAskedIn hists)) (sym is.names) (λ k d below. absurd (omega (arith, below)))));
-      spoiled = unspoiled opener.done.spoiled recorder.done.spoiled (went.spoiled ∙ is.spoiled);
+      spoiled = unset opener.done.spoiled recorder.done.spoiled (went.spoiled ∙ is.spoiled);
+      filled = unset opener.done.filled recorder.done.filled (went.filled ∙ is.filled);
     }
 
 -- what it knew it knows still, and what the recorder knew it knows too
@@ -127,22 +166,22 @@ pub knows_of_recorder : (opener recorder : Actor) (hist : HistRecord) → KnowsO
 knows_of_recorder opener recorder hist knows =
     let (known, has, named, same) = knows in (known, Contains-append_right opener.answers.names recorder.answers.names known has, named, same)
 
--- a recorder that has gone on from nothing with the entries of a number
-abbrev pub Worked : List HistRecord → (ℕ → List Entry) → ℕ → Actor → Type 0
-Worked hists entries number a = (fresh : Actor) × IsFresh fresh × WentOn hists (entries number) fresh a
+-- a recorder that has gone on from nothing with the deeds of a number
+abbrev pub Worked : List HistRecord → (ℕ → List Deed) → ℕ → Actor → Type 0
+Worked hists deeds number a = (fresh : Actor) × IsFresh fresh × WentOn hists (deeds number) fresh a
 
 -- recorders are joined, one behind the other
-pub went_joining_all : (hists : List HistRecord) (entries : ℕ → List Entry) (first : ℕ) (opener : Actor) (recorders : List Actor)
-    → ((k : ℕ) (d : Actor) → k < length recorders → Worked hists entries (first + k) (slice_index_or recorders k d))
-    → WentOn hists (flat_map entries (range_with_len first (length recorders))) opener (all_joined opener recorders)
-went_joining_all hists entries first opener [] each = went_nowhere hists opener opener refl
-went_joining_all hists entries first opener (recorder ∷ rest) each =
+pub went_joining_all : (hists : List HistRecord) (deeds : ℕ → List Deed) (first : ℕ) (opener : Actor) (recorders : List Actor)
+    → ((k : ℕ) (d : Actor) → k < length recorders → Worked hists deeds (first + k) (slice_index_or recorders k d))
+    → WentOn hists (flat_map deeds (range_with_len first (length recorders))) opener (all_joined opener recorders)
+went_joining_all hists deeds first opener [] each = went_nowhere hists opener opener refl
+went_joining_all hists deeds first opener (recorder ∷ rest) each =
     let (fresh, is, went) = each 0 recorder (omega arith) in
-    let mine : WentOn hists (entries first) fresh recorder = subst (λ n. WentOn hists (entries n) fresh recorder) (omega arith) went in
-    let others : (k : ℕ) (d : Actor) → k < length rest → Worked hists entries (first + 1 + k) (slice_index_or rest k d) =
-    λ k d below. subst (λ n. Worked hists entries n (slice_index_or rest k d)) (omega arith) (each (suc k) d (omega (arith, below))) in
-    went_twice hists (entries first) (flat_map entries (range_with_len (first + 1) (length rest))) opener (joined opener recorder) (all_joined (joined opener recorder) rest)
-    (went_joining hists (entries first) opener fresh recorder is mine) (went_joining_all hists entries (first + 1) (joined opener recorder) rest others)
+    let mine : WentOn hists (deeds first) fresh recorder = subst (λ n. WentOn hists (deeds n) fresh recorder) (omega arith) went in
+    let others : (k : ℕ) (d : Actor) → k < length rest → Worked hists deeds (first + 1 + k) (slice_index_or rest k d) =
+    λ k d below. subst (λ n. Worked hists deeds n (slice_index_or rest k d)) (omega arith) (each (suc k) d (omega (arith, below))) in
+    went_twice hists (deeds first) (flat_map deeds (range_with_len (first + 1) (length rest))) opener (joined opener recorder) (all_joined (joined opener recorder) rest)
+    (went_joining hists (deeds first) opener fresh recorder is mine) (went_joining_all hists deeds (first + 1) (joined opener recorder) rest others)
 
 pub knows_joining_all : (opener : Actor) (recorders : List Actor) (hist : HistRecord) → KnowsOf opener hist → KnowsOf (all_joined opener recorders) hist
 knows_joining_all opener [] hist knows = knows

@@ -1,11 +1,10 @@
 -- What the recorders of a run have done.
-use Rattle.std.specs.Prelude.{◌≡◌, false, ℕ, ◌+◌, List, [], ◌∷◌, ◌++◌, slice_get, Option, Some, Ok, OnOk}
+use Rattle.std.specs.Prelude.{◌≡◌, false, ℕ, ◌+◌, List, [], ◌∷◌, ◌++◌, map, slice_get, Option, Some, Ok, IfErr, OnOk}
 use Rattle.std.specs.List.{All, Contains, flat_map, range_with_len}
 use Rattle.atomic_table.specs.Seated.{TableId}
 use Rattle.bucket_ranges.specs.Spec.{SameSpec}
 use Rattle.segment_machine.specs.declared.actor.Actor.{Actor}
 use Rattle.segment_machine.specs.declared.actor.Known.{Known}
-use Rattle.segment_machine.specs.declared.entry.Entry.{Entry}
 use Rattle.segment_machine.specs.Actor.{log_of, outstanding_of}
 use Rattle.segment_machine.specs.Seats.{joined}
 use Rattle.live_segment.specs.declared.recorder.Hist.{Hist}
@@ -16,8 +15,9 @@ use Rattle.persist_report_core.specs.declared.script.Script as code
 use Rattle.persist_report_core.specs.Script.{HistRecord, Script, script_view}
 use Rattle.persist_commands.specs.declared.worker.Part.{Part}
 use Rattle.persist_commands.specs.declared.worker.Ended.{Ended}
-use Rattle.persist_commands.specs.Entries.{entries_of}
+use Rattle.persist_commands.specs.Entries.{Deed, deeds_of, deltas_among, entries_among}
 use Rattle.persist_commands.specs.Parts.{part_of}
+use Rattle.persist_commands.specs.Stop.{StopTellsWant}
 
 -- ---- one recorder
 
@@ -27,18 +27,28 @@ pub record IsFresh (a : Actor) : Type 0 where
   pub log : a.entries.log ≡ []
   pub names : a.answers.names ≡ []
   pub spoiled : a.done.spoiled ≡ false
+  pub filled : a.done.filled ≡ false
+  pub first_taken : a.deltas.first_taken ≡ []
+  pub taken : a.deltas.taken ≡ []
 
 -- a histogram that a recorder knows is that of a `hist` record
 abbrev pub IsAskedIn : List HistRecord → Known → Type 0
 IsAskedIn hists known = (hist : HistRecord) × Contains hists hist × (known.name ≡ hist.name) × SameSpec known.spec hist.spec
 
--- A recorder, or an opener, has gone on: these entries stand at the end of its log. All histograms that it came to know are those of `hist`
--- records, and it has not set the corrupt flag.
-pub record WentOn (hists : List HistRecord) (entries : List Entry) (old new : Actor) : Type 0 where
+-- the names of the histograms of which it has taken deltas, one after the other
+abbrev pub names_taken : Actor → List (List ℕ)
+names_taken a = map (λ t. t.name) a.deltas.taken
+
+-- A recorder, or an opener, has gone on and done these deeds: the entries stand at the end of its log, and the deltas behind those that it
+-- had taken. All histograms that it came to know are those of `hist` records, and it has set no flag.
+pub record WentOn (hists : List HistRecord) (deeds : List Deed) (old new : Actor) : Type 0 where
   pub first : new.entries.first ≡ old.entries.first
-  pub logged : log_of new ≡ log_of old ++ entries
+  pub logged : log_of new ≡ log_of old ++ entries_among deeds
+  pub first_taken : new.deltas.first_taken ≡ old.deltas.first_taken
+  pub took : names_taken new ≡ names_taken old ++ deltas_among deeds
   pub names : All (IsAskedIn hists) old.answers.names → All (IsAskedIn hists) new.answers.names
   pub spoiled : new.done.spoiled ≡ old.done.spoiled
+  pub filled : new.done.filled ≡ old.done.filled
 
 -- it knows the histogram of a `hist` record
 abbrev pub KnowsOf : Actor → HistRecord → Type 0
@@ -60,6 +70,7 @@ pub record HandsOut (recorders : ℕ) (old new : Actor) : Type 0 where
   pub entries : new.entries ≡ old.entries
   pub answers : new.answers ≡ old.answers
   pub done : new.done ≡ old.done
+  pub deltas : new.deltas ≡ old.deltas
   pub outstanding : outstanding_of new.role ≡ outstanding_of old.role + recorders
 
 -- the histograms of `hist` records were made, by a recorder that is joined
@@ -70,13 +81,13 @@ pub record HasOpened (hists : List HistRecord) (old new : Actor) : Type 0 where
 
 -- ---- workers
 
--- the entries that a worker of some records
-abbrev pub entries_of_part : Script → ℕ → ℕ → List Entry
-entries_of_part script workers part = entries_of script.hists (part_of workers part script.calls)
+-- what a worker of some does
+abbrev pub deeds_of_part : Script → ℕ → ℕ → List Deed
+deeds_of_part script workers part = deeds_of script.hists (part_of workers part script.calls)
 
 -- a worker has made all of its calls
 abbrev pub HasWorked : Script → ℕ → ℕ → Actor → Actor → Type 0
-HasWorked script workers part old new = WentOn script.hists (entries_of_part script workers part) old new
+HasWorked script workers part old new = WentOn script.hists (deeds_of_part script workers part) old new
 
 -- a worker that is to be started: its number, the script, and a recorder of a segment that has done nothing
 pub record IsReady (segment : TableId) (script : code.Script) (workers number : ℕ) (part : Part) (has : code.Script) (recorder : Recorder) : Type 0 where
@@ -86,10 +97,12 @@ pub record IsReady (segment : TableId) (script : code.Script) (workers number : 
   pub at : recorder.seat.table_id ≡ segment
   pub fresh : IsFresh (view_of_recorder recorder)
 
--- a worker that was started has ended: its recorder is of the same segment, and where it ended well it has made all of its calls
+-- a worker that was started has ended: its recorder is of the same segment, and where it ended well it has made all of its calls; else it
+-- tells want of memory as such
 pub record HasEnded (script : code.Script) (part : Part) (old : Recorder) (ended : Ended) : Type 0 where
   pub at : ended.recorder.seat.table_id ≡ old.seat.table_id
   pub worked : OnOk ended.outcome (HasWorked (script_view script) part.workers part.part (view_of_recorder old) (view_of_recorder ended.recorder))
+  pub tells : IfErr ended.outcome StopTellsWant
 
 -- ---- all workers
 
@@ -110,12 +123,12 @@ abbrev pub all_joined : Actor → List Actor → Actor
 all_joined opener [] = opener
 all_joined opener (recorder ∷ rest) = all_joined (joined opener recorder) rest
 
--- the entries of all workers, those of each behind one another
-abbrev pub entries_of_all : Script → ℕ → List Entry
-entries_of_all script workers = flat_map (entries_of_part script workers) (range_with_len 0 workers)
+-- what all workers do, the deeds of each behind one another
+abbrev pub deeds_of_all : Script → ℕ → List Deed
+deeds_of_all script workers = flat_map (deeds_of_part script workers) (range_with_len 0 workers)
 
 -- the calls of a script were made by so many workers, whose recorders are joined
 pub record HasRun (script : Script) (workers : ℕ) (old new : Actor) : Type 0 where
-  pub recorded : WentOn script.hists (entries_of_all script workers) old new
+  pub recorded : WentOn script.hists (deeds_of_all script workers) old new
   pub knows : All (KnowsOf old) script.hists → All (KnowsOf new) script.hists
   pub back : outstanding_of new.role ≡ outstanding_of old.role

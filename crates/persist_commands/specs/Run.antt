@@ -9,6 +9,7 @@ use Rattle.bucket_ranges.specs.Reading.{Histogram, Reading, IsReading}
 use Rattle.segment_machine.specs.declared.entry.Entry.{Entry}
 use Rattle.segment_machine.specs.Entry.{tally_units, tally_sum, tally_noted}
 use Rattle.segment_promises.specs.Reads.{units_read, HasNoFault}
+use Rattle.segment_merge.specs.Image.{HasNoMarks}
 use Rattle.segment_calls.specs.declared.refusal.Refusal.TheVariants as refusal
 use Rattle.persist_report_core.specs.declared.fault.CliFault.{CliFault}
 use Rattle.persist_report_core.specs.declared.fault.CliFault.TheVariants as cli
@@ -16,7 +17,7 @@ use Rattle.persist_report_core.specs.declared.script.fault.ScriptFault.{ScriptFa
 use Rattle.persist_report_core.specs.declared.script.fault.ScriptFault.TheVariants as told
 use Rattle.persist_report_core.specs.Script.{HistRecord, Script, script_of}
 use Rattle.persist_report_core.specs.Text.{IsTextOf}
-use Rattle.persist_commands.specs.Entries.{entries_of}
+use Rattle.persist_commands.specs.Entries.{deltas_of, entries_of}
 
 -- a histogram that is read has what entries add up to: the units of each key, the sum, and all units as its redundant count
 pub record IsTallyOf (entries : List Entry) (h : Histogram) : Type 0 where
@@ -24,8 +25,9 @@ pub record IsTallyOf (entries : List Entry) (h : Histogram) : Type 0 where
   pub sum : h.sum ≡ tally_sum entries h.name
   pub redundant : h.redundant ≡ tally_noted entries h.name
 
--- A reading of what a script records: no record is bad, the list does not stop, and nobody has found the segment corrupt. The names are
--- exactly those of the `hist` records, each once and with their spec. Each histogram has the tally of the `add` records.
+-- A reading of what a script records: no record is bad, the list does not stop, and no flag is set. The names are
+-- exactly those of the `hist` records, each once and with their spec. Each histogram has the tally of the `add` records. One of which no
+-- `delta` record takes has no marks.
 pub record IsRecordingOf (script : Script) (reading : Reading) : Type 0 where
   pub lawful : HasNoFault reading
   pub named : (name : List ℕ) → ((h : Histogram) × Contains reading.hists h × (h.name ≡ name)) ↔ ((hist : HistRecord) × Contains script.hists hist × (hist.name ≡ name))
@@ -34,6 +36,8 @@ pub record IsRecordingOf (script : Script) (reading : Reading) : Type 0 where
   pub tallies : (h : Histogram) → Contains reading.hists h → IsTallyOf (entries_of script.hists script.calls) h
   pub id : reading.id ≡ script.id
   pub corrupt : reading.corrupt ≡ false
+  pub full : reading.full ≡ false
+  pub unmarked : (h : Histogram) → Contains reading.hists h → ¬ (Contains (deltas_of script.hists script.calls) h.name) → HasNoMarks h
 
 -- Words are the image of a segment in which a script was run: it has the script's shape and id and is of version 2, and is read as what
 -- the script records.
@@ -48,8 +52,9 @@ pub record IsImageOfRun (script : Script) (words : List ℕ) : Type 0 where
 abbrev pub IsReportOfImage : List ℕ → List ℕ → Type 0
 IsReportOfImage words text = (reading : Reading) × IsReading words (head_of words) reading × IsTextOf reading text
 
--- The bytes are a script that was run: the words are the image of the segment in which it was, and the text is their report.
+-- The bytes are a script that was run, and not too many: the words are the image of the segment in which it was, and the text is their report.
 pub record IsRunOf (bytes words text : List ℕ) : Type 0 where
+  pub few : length bytes ≤ 16777216
   pub script : Script
   pub script_is : script_of 4294967295 bytes ≡ Ok script
   pub image : IsImageOfRun script words

@@ -1,6 +1,7 @@
 -- Why a run stops, and which of several stops is told.
-use Rattle.std.specs.Prelude.{◌≡◌, ◌+◌, ◌≤◌, ℕ, List, Result, Ok, Err, ⊤}
+use Rattle.std.specs.Prelude.{◌≡◌, ◌≢◌, ◌+◌, ◌≤◌, ℕ, List, Result, Ok, Err, ⊤}
 use Rattle.std.specs.List.{All, Contains}
+use Rattle.segment_calls.specs.declared.refusal.Refusal.TheVariants as refusal
 use Rattle.persist_report_core.specs.declared.fault.CliFault.{CliFault}
 use Rattle.persist_report_core.specs.declared.fault.CliFault.TheVariants as cli
 use Rattle.persist_commands.specs.declared.stop.Stop.{Stop}
@@ -12,6 +13,15 @@ fault_of_stop NoThread = cli.NoThread
 fault_of_stop NoMemory = cli.NoMemory
 fault_of_stop Gate = cli.Gate
 fault_of_stop (Refused number why) = cli.Refused number why
+
+-- A fault tells want of memory as such: where it refuses a record, the refusal has another cause.
+abbrev pub TellsWant : CliFault → Type 0
+TellsWant (cli.Refused number why) = why ≢ refusal.NoMemory
+TellsWant _ = ⊤
+
+-- a stop tells it so
+abbrev pub StopTellsWant : Stop → Type 0
+StopTellsWant stop = TellsWant (fault_of_stop stop)
 
 -- where a stop stands in the order in which stops are told: want of a thread, want of memory, the gate, and refusals in the order of their records
 abbrev pub rank_of : Stop → ℕ

@@ -5,7 +5,7 @@ ghost use Rattle.std.specs.Io.KnownBytes.{Appends};
 ghost use Rattle.image_reader.specs.Views.{reading_view};
 ghost use Rattle.live_segment.specs.Hist.{KnowsOn};
 ghost use Rattle.live_segment.specs.Holders.{view_of_recorder};
-ghost use Rattle.persist_commands.specs.MergeFiles.{AreMerged, IsImageOf, IsMergeFault, IsStopOf, fault_of_stop};
+ghost use Rattle.persist_commands.specs.MergeFiles.{AreMerged, HasStopped, IsImage, IsImageOf, IsMergeFault, IsStopOf, fault_of_stop};
 ghost use Rattle.persist_report_core.specs.Report.{IsCausedBy};
 ghost use Rattle.segment_image.specs.Watched.{has_failed, is_flushed, watched_inner};
 ghost use Rattle.segment_image.specs.Words.{bytes_of_words};
@@ -63,7 +63,7 @@ fn merge_whole(alloc: Global, recorder: &mut Recorder, reading: &Reading) -> Res
     requires { All HasRemainder reading.now.hists.items }
     ensures same { KnowsOn recorder.old recorder.new }
     ensures merged { OnOk result (IsMerged (reading_view reading.now).hists (view_of_recorder recorder.old) (view_of_recorder recorder.new)) }
-    ensures fault { IfErr result (IsStopOf (view_of_recorder recorder.old).segment.shape.page (view_of_recorder recorder.old).units.share (reading_view reading.now).hists) }
+    ensures fault { IfErr result (HasStopped (reading_view reading.now).hists (view_of_recorder recorder.old) (view_of_recorder recorder.new)) }
 {
     let Ok(report) = merge(alloc, recorder, reading) else {
         return Err(CliFault::NoMemory);
@@ -84,6 +84,23 @@ fn fault_of(stop: MergeStop) -> CliFault
         Refusal::NoMemory => CliFault::NoMemory,
         why => CliFault::Merge { name, why },
     }
+}
+
+// Merges two readings whole, one behind the other.
+fn merge_both(
+    alloc: Global,
+    recorder: &mut Recorder,
+    base: &Reading,
+    dead: &Reading,
+) -> Result<(), CliFault>
+    requires base { All HasRemainder base.now.hists.items }
+    requires dead { All HasRemainder dead.now.hists.items }
+    ensures beside { recorder.new.seat.table_id ≡ recorder.old.seat.table_id }
+    ensures merged { OnOk result (IsMerged ((reading_view base.now).hists ++ (reading_view dead.now).hists) (view_of_recorder recorder.old) (view_of_recorder recorder.new)) }
+    ensures fault { IfErr result (HasStopped ((reading_view base.now).hists ++ (reading_view dead.now).hists) (view_of_recorder recorder.old) (view_of_recorder recorder.new)) }
+{
+    merge_whole(alloc, recorder, base)?;
+    merge_whole(alloc, recorder, dead)
 }
 
 // The image of a new segment, of the size, the page and the id of BASE, into which both are merged.
@@ -107,10 +124,12 @@ fn merge_inputs(alloc: Global, base: &Input, dead: &Input) -> Result<Image, CliF
     let Ok(mut recorder) = opener.recorder(&segment, u32::MAX) else {
         unreachable!()
     };
-    merge_whole(alloc, &mut recorder, &base.reading)?;
-    merge_whole(alloc, &mut recorder, &dead.reading)?;
+    let merged = merge_both(alloc, &mut recorder, &base.reading, &dead.reading);
+    // Closed after a refusal too: what its words are then says that the refusal had its cause.
     opener.join(recorder);
-    Ok(segment.close(opener))
+    let image = segment.close(opener);
+    merged?;
+    Ok(image)
 }
 
 /// Merges two images, and writes the image of a new segment: it has the size, the page and the id of the first one, BASE, and version 2.
@@ -131,6 +150,7 @@ pub fn merge_files<A: Read, B: Read, W: Write>(
     ensures image { OnOk result (IfSome (A.remaining (watched_inner base.old)) (λ first. IfSome (B.remaining (watched_inner dead.old)) (λ second. (words : List ℕ) × AreMerged first second words × Appends (W.contents (watched_inner out.old)) (W.contents (watched_inner out.new)) (bytes_of_words words)))) }
     ensures cause { IfErr result (λ fault. IfSome (A.remaining (watched_inner base.old)) (λ first. IfSome (B.remaining (watched_inner dead.old)) (λ second. IsMergeFault first second fault))) }
     ensures read { IsErrOf result CliFault.Read ↔ ((has_failed base.new ≡ true) ⊎ (has_failed dead.new ≡ true)) }
+    ensures base_first { has_failed dead.new ≡ true → (has_failed base.new ≡ false) × IfSome (A.remaining (watched_inner base.old)) IsImage }
     ensures write { IsErrOf result CliFault.Write ↔ (has_failed out.new ≡ true) }
     ensures flushed { OnOk result (is_flushed out.new ≡ true) }
     ensures untouched { IfErr result (λ fault. fault ≢ CliFault.Write → out.new ≡ out.old) }

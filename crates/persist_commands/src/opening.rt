@@ -1,9 +1,10 @@
 //! The histograms of a script are made.
 
-ghost use Rattle.std.specs.Prelude.{◌≡◌, map, OnOk};
+ghost use Rattle.std.specs.Prelude.{◌≡◌, map, IfErr, OnOk};
 ghost use Rattle.live_segment.specs.Holders.{IsMadeWith, view_of_opener, view_of_recorder};
 ghost use Rattle.persist_report_core.specs.Script.{hist_view};
 ghost use Rattle.persist_commands.specs.Recording.{HasAsked, HasOpened};
+ghost use Rattle.persist_commands.specs.Stop.{StopTellsWant};
 
 use crate::stop::Stop;
 use live_segment::{Opener, Recorder, Segment};
@@ -12,6 +13,7 @@ use persist_report_core::ScriptHist;
 // Asks for the histograms of `hist` records in their order, up to the first that is refused.
 fn ask_all(recorder: &mut Recorder, hists: &[ScriptHist]) -> Result<(), Stop>
     ensures beside { recorder.new.seat.table_id ≡ recorder.old.seat.table_id }
+    ensures tells { IfErr result StopTellsWant }
     ensures asked { OnOk result (HasAsked (map hist_view hists.now) (view_of_recorder recorder.old) (view_of_recorder recorder.new)) }
 {
     for hist in hists {
@@ -30,6 +32,7 @@ pub(crate) fn make_histograms(
 ) -> Result<(), Stop>
     requires made { IsMadeWith segment.now opener.old }
     ensures made { IsMadeWith segment.now opener.new }
+    ensures tells { IfErr result StopTellsWant }
     ensures opened { OnOk result (HasOpened (map hist_view hists.now) (view_of_opener opener.old) (view_of_opener opener.new)) }
 {
     let mut recorder = match opener.recorder(segment, 0) {

@@ -8,7 +8,7 @@ ghost use Rattle.live_segment.specs.Holders.{IsMadeWith, IsSameOpener, table_of,
 ghost use Rattle.persist_report_core.specs.Script.{script_of, script_view};
 ghost use Rattle.persist_commands.specs.Recording.{EndedAt, HandsOut, HasRun, IsReady, all_joined, view_of_ended};
 ghost use Rattle.persist_commands.specs.Run.{IsFaultOfRun, IsImageOfRun, IsRunOf};
-ghost use Rattle.persist_commands.specs.Stop.{EndTogether};
+ghost use Rattle.persist_commands.specs.Stop.{EndTogether, StopTellsWant, TellsWant};
 
 use crate::beside::{NotRun, run_beside};
 use crate::gate::Gate;
@@ -41,6 +41,7 @@ fn make_workers<'w, G: Gate>(
     requires made { IsMadeWith segment.now opener.old }
     ensures made { IsMadeWith segment.entry.now opener.new }
     ensures handed { OnOk result (HandsOut workers (view_of_opener opener.old) (view_of_opener opener.new)) }
+    ensures tells { IfErr result StopTellsWant }
     ensures len { IfOk result (λ all. length all.items ≡ workers) }
     ensures each { IfOk result (λ all. (k : ℕ) (d : _) → k < length all.items → IsReady (table_of segment.entry.now) script.entry.now workers k (slice_index_or all.items k d).part (slice_index_or all.items k d).script.now (slice_index_or all.items k d).recorder) }
 {
@@ -98,6 +99,7 @@ fn work<R: Threads + Wait, G: Gate + Sync>(
     requires made { IsMadeWith segment.now opener.old }
     requires some { 0 < workers }
     ensures made { IsMadeWith segment.now opener.new }
+    ensures tells { IfErr result StopTellsWant }
     ensures run { OnOk result (HasRun (script_view script.now) workers (view_of_opener opener.old) (view_of_opener opener.new)) }
 {
     let all = make_workers(alloc, segment, opener, script, workers, gate)?;
@@ -117,7 +119,8 @@ fn record_script<R: Threads + Wait, G: Gate + Sync>(
     gate: &G,
 ) -> Result<Image, Stop>
     requires { 0 < workers }
-    ensures { IfOk result (IsImageOfRun (script_view script.now)) }
+    ensures image { IfOk result (IsImageOfRun (script_view script.now)) }
+    ensures tells { IfErr result StopTellsWant }
 {
     let (size, page) = (script.shape.size(), script.shape.page());
     let (segment, mut opener) = match Segment::create(
@@ -143,6 +146,7 @@ fn take_script<S: Read>(alloc: Global, reader: &mut Watched<S>) -> Result<Script
     ensures cause { IfErr result (λ fault. IfSome (S.remaining (watched_inner reader.old)) (λ bytes. IsFaultOfRun bytes fault)) }
     ensures read { IsErrOf result CliFault.Read ↔ (has_failed reader.new ≡ true) }
     ensures other { IfErr result (λ fault. fault ≢ CliFault.Write) }
+    ensures tells { IfErr result TellsWant }
 {
     match read_script(alloc, reader, UNITS) {
         Ok(script) => Ok(script),
@@ -213,6 +217,7 @@ pub fn run_script<R: Threads + Wait, S: Read, I: Write, W: Write, G: Gate + Sync
         × Appends (I.contents (watched_inner image_out.old)) (I.contents (watched_inner image_out.new)) (bytes_of_words words)
         × Appends (W.contents (watched_inner report_out.old)) (W.contents (watched_inner report_out.new)) text)) }
     ensures cause { IfErr result (λ fault. IfSome (S.remaining (watched_inner script.old)) (λ bytes. IsFaultOfRun bytes fault)) }
+    ensures tells { IfErr result TellsWant }
     ensures read { IsErrOf result CliFault.Read ↔ (has_failed script.new ≡ true) }
     ensures write { IsErrOf result CliFault.Write ↔ ((has_failed image_out.new ≡ true) ⊎ (has_failed report_out.new ≡ true)) }
     ensures flushed { OnOk result ((is_flushed image_out.new ≡ true) × (is_flushed report_out.new ≡ true)) }

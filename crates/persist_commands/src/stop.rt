@@ -49,10 +49,12 @@ impl From<Stop> for CliFault {
 
 impl Stop {
     ghost use Rattle.std.specs.Prelude.{◌≡◌};
-    ghost use Rattle.persist_commands.specs.Stop.{rank_of};
+    ghost use Rattle.persist_commands.specs.Stop.{StopTellsWant, rank_of};
 
     /// The refusal of what a record asks for.
-    pub(crate) fn refused(number: u32, why: Refusal) -> Stop {
+    pub(crate) fn refused(number: u32, why: Refusal) -> Stop
+        ensures { StopTellsWant result }
+    {
         match why {
             Refusal::NoMemory => Stop::NoMemory,
             why => Stop::Refused { number, why },

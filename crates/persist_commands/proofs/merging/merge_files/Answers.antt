@@ -5,7 +5,7 @@ use Rattle.segment_image.specs.Watched.{has_failed, watched_inner}
 use Rattle.segment_image.specs.Words.{bytes_of_words}
 use Rattle.image_reader.specs.Views.{reading_view}
 use Rattle.segment_merge.specs.Image.{IsMergedImage}
-use Rattle.persist_commands.proofs.MergeOutcomes.{merge_cause, not_failed, reads_well, second_cause, untouched, write_cause, write_told, written}
+use Rattle.persist_commands.proofs.MergeOutcomes.{first_sound, merge_cause, not_failed, reads_well, second_cause, untouched, write_cause, write_told, written}
 use Rattle.persist_commands.proofs.merging.merge_files.Goals as goal
 
 pub returns-in_err-second-clause-cause : goal.returns-in_err-second-clause-cause
@@ -48,3 +48,18 @@ returns-clause-write g c = write_told c.write_image.result (has_failed c.write_i
 
 pub returns-clause-untouched : goal.returns-clause-untouched
 returns-clause-untouched g c = untouched c.write_image.result (c.write_image.new.writer ≡ c.args.out.now) c.write_image.ensures.err
+
+pub returns-in_err-second-clause-base_first : goal.returns-in_err-second-clause-base_first
+returns-in_err-second-clause-base_first g c = λ failed.
+    first_sound c.read_image.result c.in_ok-first.first (has_failed c.read_image.new.reader) (g.A.Read.remaining (watched_inner c.args.base.now)) c.in_ok-first.first.head
+    (reading_view c.in_ok-first.first.reading) c.in_ok-first.was c.read_image.ensures.read c.in_ok-first.ensures.image
+
+pub returns-in_err-image-clause-base_first : goal.returns-in_err-image-clause-base_first
+returns-in_err-image-clause-base_first g c = λ failed.
+    first_sound c.read_image.result c.in_ok-first.first (has_failed c.read_image.new.reader) (g.A.Read.remaining (watched_inner c.args.base.now)) c.in_ok-first.first.head
+    (reading_view c.in_ok-first.first.reading) c.in_ok-first.was c.read_image.ensures.read c.in_ok-first.ensures.image
+
+pub returns-clause-base_first : goal.returns-clause-base_first
+returns-clause-base_first g c = λ failed.
+    first_sound c.read_image.result c.in_ok-first.first (has_failed c.read_image.new.reader) (g.A.Read.remaining (watched_inner c.args.base.now)) c.in_ok-first.first.head
+    (reading_view c.in_ok-first.first.reading) c.in_ok-first.was c.read_image.ensures.read c.in_ok-first.ensures.image

@@ -11,8 +11,8 @@ use Rattle.persist_commands.proofs.Meetings.{not_refused}
 use Rattle.persist_commands.proofs.Runs.{is_image_of_run}
 use Rattle.persist_commands.proofs.run.record_script.Goals as goal
 
-pub returns : goal.returns
-returns g c =
+pub returns-clause-image : goal.returns-clause-image
+returns-clause-image g c =
     let size = c.size-size.result in
     let page = c.page-page.result in
     let script = c.args.script.now in

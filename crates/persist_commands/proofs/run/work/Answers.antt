@@ -3,8 +3,8 @@ use Rattle.atomic_table.specs.Seated.{TableId}
 use Rattle.live_segment.specs.Holders.{table_of, view_of_opener}
 use Rattle.persist_commands.specs.declared.worker.Worker.{Worker}
 use Rattle.persist_commands.specs.Recording.{EndedAt, view_of_ended}
-use Rattle.persist_commands.proofs.Runs.{ended_at, has_run, made_joining, where_well}
-use Rattle.persist_commands.proofs.Stops.{where_well as joined_well}
+use Rattle.persist_commands.proofs.Runs.{all_tell, ended_at, has_run, made_joining, where_well}
+use Rattle.persist_commands.proofs.Stops.{tells_together, where_well as joined_well}
 use Rattle.persist_commands.proofs.run.work.Goals as goal
 
 pub join_all-requires : goal.join_all-requires
@@ -25,3 +25,9 @@ returns-in-Ok-clause-run g c =
     c.in_ok-all.all.items c.in-Ok.ended.items c.in_ok-all.ensures.each c.in-Ok.ensures.len c.in-Ok.ensures.each
     (view_of_opener c.args.opener.now) (view_of_opener c.make_workers.new.opener) (view_of_opener c.join_all.new.opener) c.in_ok-all.ensures.len c.in_ok-all.ensures.handed c.join_all.ensures.joined)
     (joined_well c.in-Ok.ended.items c.join_all.result c.join_all.ensures.told)
+
+pub returns-in-Ok-clause-tells : goal.returns-in-Ok-clause-tells
+returns-in-Ok-clause-tells g c =
+    tells_together c.in-Ok.ended.items c.join_all.result c.join_all.ensures.told
+    (all_tell (λ (w : Worker g.row.G.Denot). w.part) (λ (w : Worker g.row.G.Denot). w.script.now) (λ (w : Worker g.row.G.Denot). w.recorder) (table_of c.args.segment.now) c.args.script.now c.args.workers
+    c.in_ok-all.all.items c.in-Ok.ended.items c.in_ok-all.ensures.each c.in-Ok.ensures.len c.in-Ok.ensures.each)

@@ -3,7 +3,7 @@ use Rattle.std.proofs.Math.Seq.{take-length}
 use Rattle.live_segment.specs.Holders.{view_of_recorder}
 use Rattle.persist_report_core.specs.declared.script.ScriptCall.{ScriptCall}
 use Rattle.persist_report_core.specs.Script.{hist_view}
-use Rattle.persist_commands.specs.Entries.{entries_of}
+use Rattle.persist_commands.specs.Entries.{deeds_of}
 use Rattle.persist_commands.specs.Parts.{part_of}
 use Rattle.persist_commands.specs.Recording.{WentOn}
 use Rattle.persist_commands.proofs.Meetings.{calls_next_at}
@@ -29,5 +29,5 @@ returns-clause-went g c =
     let at = c.loop-number.invariant in
     let last : c.loop-number.number ≡ length c.args.calls.now = omega arith in
     let whole : take c.loop-number.number c.args.calls.now ≡ c.args.calls.now = subst (λ n. take n c.args.calls.now ≡ c.args.calls.now) (sym last) (take-length c.args.calls.now) in
-    subst (λ (l : List ScriptCall). WentOn (map hist_view c.args.hists.now) (entries_of (map hist_view c.args.hists.now) (part_of c.args.part.workers c.args.part.part l)) (view_of_recorder c.args.recorder.now) (view_of_recorder c.loop-number.recorder))
+    subst (λ (l : List ScriptCall). WentOn (map hist_view c.args.hists.now) (deeds_of (map hist_view c.args.hists.now) (part_of c.args.part.workers c.args.part.part l)) (view_of_recorder c.args.recorder.now) (view_of_recorder c.loop-number.recorder))
     whole at.3

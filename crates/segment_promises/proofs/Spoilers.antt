@@ -15,7 +15,7 @@ use Rattle.segment_machine.specs.declared.place.Place.TheVariants.{Spent, Idle}
 use Rattle.segment_machine.specs.Actor.{is_bound, is_opener}
 use Rattle.segment_machine.specs.Calls.{back}
 use Rattle.segment_machine.specs.Event.{Event, Ready, Learned, next, allocating_event, publishing_event, walking_event, counting_event, taking_event, packing_event, cursor_event}
-use Rattle.segment_machine.specs.Allocating.{load_flags, load_free, exchange_free, store_size, store_cookie, store_type, store_payload, set_flag}
+use Rattle.segment_machine.specs.Allocating.{load_flags, load_free, exchange_free, store_size, store_cookie, store_type, store_payload, set_corrupt, set_full}
 use Rattle.segment_machine.specs.Publishing.{store_own_next, load_tail, link, move_tail, after_link}
 use Rattle.segment_machine.specs.Walking.{load_next, load_published, behind}
 use Rattle.segment_machine.specs.Counting.{load_counts, add_count, add_sum, add_redundant}
@@ -107,10 +107,6 @@ module _ (a : Actor) (rests : allocates a.hand.place ≡ false) (spoiled : a.don
   flags_loaded : (found : ℕ) → bit_and found 1 ≡ 1 → allocates (if bit_and found 1 == 0 then place.FlagsLoaded else Idle) ≡ false
   flags_loaded found is = ap (λ (n : ℕ). allocates (if n == 0 then place.FlagsLoaded else Idle)) is
 
-  flagged : (b : Bool) → StillQuiet (if b then record a { hand = record a.hand { place = Idle }; done = record a.done { spoiled = true } } else record a { hand = record a.hand { place = Idle }; done = record a.done { filled = true } })
-  flagged true = (refl, refl, refl)
-  flagged false = (refl, spoiled, refl)
-
   quiet_on : (event : Event) (found : ℕ) → Ready a event → Learned a event found → StillQuiet (next a event found)
   quiet_on (allocating_event load_flags) found ready learned = (flags_loaded found (learned spoiled), spoiled, refl)
   quiet_on (allocating_event load_free) found ready learned = never place.FlagsLoaded refl ready
@@ -119,7 +115,8 @@ module _ (a : Actor) (rests : allocates a.hand.place ≡ false) (spoiled : a.don
   quiet_on (allocating_event (store_cookie at cookie)) found ready learned = never (place.Sized at ready.0.0) refl ready.0.1
   quiet_on (allocating_event (store_type at tag)) found ready learned = never (place.Marked at ready.0.0) refl ready.0.1
   quiet_on (allocating_event (store_payload at index value)) found ready learned = (rests, spoiled, refl)
-  quiet_on (allocating_event (set_flag flag)) found ready learned = flagged (flag == 1)
+  quiet_on (allocating_event set_corrupt) found ready learned = (refl, refl, refl)
+  quiet_on (allocating_event (set_full wanted)) found ready learned = (refl, spoiled, refl)
   quiet_on (publishing_event (store_own_next at)) found ready learned = (rests, spoiled, refl)
   quiet_on (publishing_event load_tail) found ready learned = (refl, spoiled, refl)
   quiet_on (publishing_event (link tail at)) found ready learned = linked (found == 12) tail at found
@@ -187,7 +184,8 @@ module _ (a : Actor) (gone : a.hand.place ≡ Spent) where
   gone_on (allocating_event (store_cookie at cookie)) found ready = stands (place.Sized at ready.0.0) (λ e. cc e) ready.0.1
   gone_on (allocating_event (store_type at tag)) found ready = stands (place.Marked at ready.0.0) (λ e. cc e) ready.0.1
   gone_on (allocating_event (store_payload at index value)) found ready = gone
-  gone_on (allocating_event (set_flag flag)) found ready = turned ready.0
+  gone_on (allocating_event set_corrupt) found ready = turned ready
+  gone_on (allocating_event (set_full wanted)) found ready = stands (place.FreeLoaded ready.0) (λ e. cc e) ready.1
   gone_on (publishing_event (store_own_next at)) found ready = gone
   gone_on (publishing_event load_tail) found ready = turned ready.0
   gone_on (publishing_event (link tail at)) found ready = stands (place.TailLoaded tail) (λ e. cc e) ready.2
@@ -202,7 +200,7 @@ module _ (a : Actor) (gone : a.hand.place ≡ Spent) where
   gone_on (taking_event (raise_mark at least)) found ready = raises at least ready
   gone_on (taking_event (load_sum histogram)) found ready = turned ready.0
   gone_on (taking_event (swap_sum_mark histogram sum)) found ready = stands (place.SumLoaded histogram sum) (λ e. cc e) ready.2
-  gone_on (taking_event (load_redundant histogram)) found ready = turned ready.0
+  gone_on (taking_event (load_redundant histogram)) found ready = stands (place.SumLoaded histogram ready.0.0) (λ e. cc e) ready.0.1
   gone_on (taking_event (raise_single_mark histogram least)) found ready = raises_single histogram least ready
   gone_on (packing_event (load_single histogram)) found ready = turned ready.0
   gone_on (packing_event (pack histogram old new)) found ready = stands (place.Looking ready.1) (λ e. cc e) ready.5.0

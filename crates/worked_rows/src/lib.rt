@@ -23,4 +23,6 @@ mod streams;
 #[cfg(test)]
 mod tallies;
 #[cfg(test)]
+mod turns;
+#[cfg(test)]
 mod workers;

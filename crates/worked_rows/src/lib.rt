@@ -25,4 +25,6 @@ mod streams;
 #[cfg(test)]
 mod tallies;
 #[cfg(test)]
+mod turns;
+#[cfg(test)]
 mod workers;

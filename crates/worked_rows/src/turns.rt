@@ -1,0 +1,115 @@
+//! Each call of a worker comes between its two calls of the gate: the delta of a second worker, which the gate lets come while the
+//! first worker is in one of the two calls beside its `add`, takes what was added before.
+
+use image_reader::read;
+use persist_commands::{Gate, run_script};
+use segment_image::{Watched, read_words};
+use std::alloc::Global;
+use std::sync::Wait;
+use std::sync::atomic::{AtomicU64, Ordering};
+use std::test::Fail;
+use std::thread;
+use std::thread::Threads;
+
+const SCRIPT: &[u8] = b"segment,128,64,7\nhist,A,boolean\nadd,A,1,1\ndelta,A\n";
+
+// The calls of the gate by their numbers: before the add and after it, before the delta and after it.
+const BEFORE_ADD: usize = 0;
+
+const AFTER_ADD: usize = 1;
+
+const BEFORE_DELTA: usize = 2;
+
+const AFTER_DELTA: usize = 3;
+
+// How often a call of the gate looks for another.
+const LOOKS: u32 = 1_000_000;
+
+// A gate each of whose calls returns once another call of it has come.
+#[derive(Drop)]
+struct Turns {
+    come: [AtomicU64; 4],
+    waits_for: [usize; 4],
+}
+
+impl Turns {
+    // A call comes, and returns once the one has come for which it waits. Whether that one has.
+    fn take(&self, call: usize) -> bool {
+        let (Some(mine), Some(&other)) = (self.come.get(call), self.waits_for.get(call)) else {
+            return false;
+        };
+        mine.store(1, Ordering::SeqCst);
+        let Some(flag) = self.come.get(other) else {
+            return false;
+        };
+        for _ in 0..LOOKS {
+            if flag.load(Ordering::SeqCst) == 1 {
+                return true;
+            }
+            thread::yield_now();
+        }
+        false
+    }
+}
+
+impl Gate for Turns {
+    fn before(&self, worker: u32, _call: u64) -> bool {
+        self.take(if worker == 1 {
+            BEFORE_ADD
+        } else {
+            BEFORE_DELTA
+        })
+    }
+
+    fn after(&self, worker: u32, _call: u64) {
+        self.take(if worker == 1 { AFTER_ADD } else { AFTER_DELTA });
+    }
+}
+
+// The mark that a run by two workers leaves of the value that was added. None where it is refused.
+fn mark_of_run<R: Threads + Wait>(
+    rt: &R,
+    alloc: Global,
+    waits_for: [usize; 4],
+) -> Result<Option<u64>, Fail> {
+    let gate = Turns {
+        come: [
+            AtomicU64::new(0),
+            AtomicU64::new(0),
+            AtomicU64::new(0),
+            AtomicU64::new(0),
+        ],
+        waits_for,
+    };
+    let mut image = Watched::new(Vec::new(alloc));
+    let mut report = Watched::new(Vec::new(alloc));
+    let mut script = Watched::new(SCRIPT);
+    if run_script(rt, alloc, &mut script, &mut image, &mut report, 2, &gate).is_err() {
+        return Ok(None);
+    }
+    let bytes: Vec<u8> = image.into_inner();
+    let words = read_words(alloc, &mut Watched::new(bytes.as_slice()), 128)?;
+    let reading = read(alloc, &words)?;
+    let Some(histogram) = reading.hists.first() else {
+        return Ok(None);
+    };
+    Ok(histogram.marks.get(1).copied())
+}
+
+// The delta is let come and is made before the first call of the gate returns to the worker that adds: it takes nothing.
+#[test]
+fn delta_before_an_add(rt: HostRuntime) -> Result<(), Fail> {
+    let waits_for = [AFTER_DELTA, AFTER_ADD, BEFORE_ADD, AFTER_ADD];
+    let mark = mark_of_run(&rt, rt.alloc(), waits_for)?;
+    assert!(rt; mark == Some(0));
+    Ok(())
+}
+
+// It is let come once the second call has come of the worker that adds, and is made before that returns: it takes what was added.
+#[test]
+fn delta_behind_an_add(rt: HostRuntime) -> Result<(), Fail> {
+    let waits_for = [BEFORE_DELTA, AFTER_DELTA, AFTER_ADD, AFTER_DELTA];
+    let mark = mark_of_run(&rt, rt.alloc(), waits_for)?;
+    assert!(rt; mark == Some(1));
+    Ok(())
+}

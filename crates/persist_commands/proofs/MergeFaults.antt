@@ -65,7 +65,7 @@ module _ (page units : ℕ) (front : List Histogram) (h : Histogram) (old new : 
       → MayStop page units front h why
   not_found asked refusal.OtherSpec before none is = absurd (unseen asked is none)
   not_found asked refusal.Full before none is = tt
-  not_found asked refusal.Corrupt before none (all, done, corrupt, warned) = absurd (sound corrupt)
+  not_found asked refusal.Corrupt before none (all, (done, corrupt, warned)) = absurd (sound corrupt)
   not_found asked why before none is = absurd is.1
 
   -- the recorder knew one of the name, with another spec

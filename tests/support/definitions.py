@@ -1,27 +1,30 @@
 #!/usr/bin/env python3
-"""Makes docs/DEFINITIONS.md of the comments in specs/.
+"""Makes docs/DEFINITIONS.md of the comments in specs/, and a page of docs/definitions for each crate.
 
     tests/support/definitions.py [--write]
 
-With --write it writes the file. Without, it says what differs in the file that is there, and the status is 1 where anything does.
+With --write it writes the files. Without, it says what differs in the files that are there, and the status is 1 where anything does.
 """
 
-import difflib
 import pathlib
 import re
 import sys
 
-ROOT = pathlib.Path(__file__).resolve().parents[2]
+sys.path.insert(0, str(pathlib.Path(__file__).resolve().parents[1]))
+from support import made
+from support.made import ROOT
+
 DOCUMENT = ROOT / "docs" / "DEFINITIONS.md"
+PAGES = ROOT / "docs" / "definitions"
 WIDTH = 140
 MOST_SIGNS = 110
 HEAD = """\
 # The definitions
 
-The index of the definitions that contracts speak of. It is made of the comments in `specs/`: do not edit it, but the comment there,
-and then run `tests/support/definitions.py --write`.
+The definitions that contracts speak of, a page for each crate. The pages are made of the comments in `specs/`: do not edit them, but
+the comment there, and then run `tests/support/definitions.py --write`.
 
-Crates stand in the order of `ARCHITECTURE.md`. Of each, every module of `specs/` has its name, what it is about, and its definitions
+Crates stand in the order of `ARCHITECTURE.md`. On its page, every module of `specs/` has its name, what it is about, and its definitions
 in the order of the file, each with the first sentence of its comment. Left out are those that no contract names, and no definition of
 another crate: the parts of those that are listed. The comment in the file says each in full.
 
@@ -127,31 +130,27 @@ def module_lines(crate, file, used):
     return lines
 
 
-def document():
-    used, lines = named(), [HEAD.rstrip("\n")]
+def pages():
+    """The page of each crate of which anything is listed, by the name of the crate."""
+    used = named()
     for crate in crates():
         modules = [module_lines(crate, file, used) for file in sorted((ROOT / "crates" / crate / "specs").glob("*.antt"))]
         if any(modules):
-            lines += ["", f"## `{crate}`", *(line for module in modules for line in module)]
-    return "\n".join(lines) + "\n"
+            lines = [f"# The definitions of `{crate}`", *(line for module in modules for line in module)]
+            yield crate, "\n".join(lines) + "\n"
+
+
+def documents():
+    """The index and the pages, by their paths."""
+    made_of = dict(pages())
+    index = "".join(f"- [`{crate}`](definitions/{crate}.md)\n" for crate in made_of)
+    return {DOCUMENT: f"{HEAD}\n{index}", **{PAGES / f"{crate}.md": text for crate, text in made_of.items()}}
 
 
 def difference():
-    """Where the document differs from the comments, or None."""
-    came = difflib.unified_diff(DOCUMENT.read_text().splitlines(), document().splitlines(), "docs/DEFINITIONS.md", "specs/", "", "", 0, "")
-    return "\n".join(came) or None
-
-
-def main(arguments):
-    if arguments == ["--write"]:
-        DOCUMENT.write_text(document())
-        return 0
-    if arguments:
-        sys.exit(__doc__)
-    wrong = difference()
-    print(wrong or "docs/DEFINITIONS.md is what the comments in specs/ say")
-    return 1 if wrong else 0
+    """Where the documents differ from the comments, or a page has no crate; or None."""
+    return made.difference(documents(), "specs/", PAGES)
 
 
 if __name__ == "__main__":
-    sys.exit(main(sys.argv[1:]))
+    sys.exit(made.run(sys.argv[1:], __doc__, documents(), "specs/", PAGES))

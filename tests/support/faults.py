@@ -6,12 +6,14 @@
 With --write it writes the file. Without, it says what differs in the file that is there, and the status is 1 where anything does.
 """
 
-import difflib
 import pathlib
 import re
 import sys
 
-ROOT = pathlib.Path(__file__).resolve().parents[2]
+sys.path.insert(0, str(pathlib.Path(__file__).resolve().parents[1]))
+from support import made
+from support.made import ROOT
+
 DOCUMENT = ROOT / "docs" / "FAULTS.md"
 TABLE = ROOT / "crates" / "fault_texts" / "src" / "table.rt"
 HEAD = """\
@@ -40,21 +42,8 @@ def document():
 
 def difference():
     """Where the document differs from the table, or None."""
-    there = DOCUMENT.read_text() if DOCUMENT.is_file() else ""
-    came = difflib.unified_diff(there.splitlines(), document().splitlines(), "docs/FAULTS.md", "table.rt", "", "", 0, "")
-    return "\n".join(came) or None
-
-
-def main(arguments):
-    if arguments == ["--write"]:
-        DOCUMENT.write_text(document())
-        return 0
-    if arguments:
-        sys.exit(__doc__)
-    wrong = difference()
-    print(wrong or "docs/FAULTS.md is what the table says")
-    return 1 if wrong else 0
+    return made.difference({DOCUMENT: document()}, TABLE.name)
 
 
 if __name__ == "__main__":
-    sys.exit(main(sys.argv[1:]))
+    sys.exit(made.run(sys.argv[1:], __doc__, {DOCUMENT: document()}, TABLE.name))

@@ -1,5 +1,5 @@
 -- What the events of several families share: what an actor has in hand and has seen, what it may turn to, and what it learns.
-use Rattle.std.specs.Prelude.{◌≡◌, ◌≢◌, Bool, true, false, not, ℕ, ◌+◌, ◌*◌, ◌<◌, ◌≤◌, ℤ, List, [], ◌∷◌, Some, None, ◌==◌, if◌then◌else◌, Option}
+use Rattle.std.specs.Prelude.{◌≡◌, ◌≢◌, Bool, true, false, not, ℕ, ◌+◌, ◌*◌, ◌<◌, ◌≤◌, ℤ, List, [], ◌∷◌, ◌++◌, Some, None, ◌==◌, if◌then◌else◌, Option}
 use Rattle.std.specs.List.{filter, Contains}
 use Rattle.bucket_ranges.specs.Spec.{buckets_of}
 use Rattle.segment_image.specs.declared.layout.TheConstants.{BLOCK_HEADER, HISTOGRAM_COUNTS, HISTOGRAM_SINGLE}
@@ -62,6 +62,10 @@ sight at word = record { at = at; word = word } ∷ []
 -- a counts reference that is not 0, which never changes any more
 abbrev pub sight_counts : ℕ → ℕ → List Sighting
 sight_counts histogram found = if found == 0 then [] else sight (histogram + HISTOGRAM_COUNTS) found
+
+-- the words that led to no block when they were loaded, once one more was loaded: it led to none, or it leads to one
+abbrev pub ended : List ℕ → ℕ → Bool → List ℕ
+ended ends at none = if none then ends ++ at ∷ [] else ends
 
 -- ---- places
 

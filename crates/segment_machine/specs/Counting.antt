@@ -1,6 +1,6 @@
 -- EntryProgress: the counts reference of a histogram, a count that stands at a word, the sum, and the redundant count.
 -- An event is read here in one place: what it acts on, when it is ready, what becomes of its actor, and what this learns.
-use Rattle.std.specs.Prelude.{◌≡◌, ◌⊎◌, true, false, ℕ, ◌+◌, ℤ, List, ◌++◌, ⊤}
+use Rattle.std.specs.Prelude.{◌≡◌, ◌⊎◌, true, false, ℕ, ◌+◌, ℤ, List, ◌++◌, ⊤, ◌==◌}
 use Rattle.std.specs.List.{Contains}
 use Rattle.segment_image.specs.declared.layout.TheConstants.{BLOCK_HEADER, HISTOGRAM_COUNTS, SAMPLE_COUNT, HISTOGRAM_REDUNDANT, HISTOGRAM_SUM}
 use Rattle.segment_machine.specs.declared.entry.EntryProgress.{EntryProgress}
@@ -14,7 +14,7 @@ use Rattle.segment_machine.specs.Made.{IsFirstSample}
 use Rattle.std.specs.Int.{w64, cast_unsigned}
 use Rattle.alloc_core.specs.Event as atomic
 use Rattle.segment_machine.specs.Operation.{Operation, single, add}
-use Rattle.segment_machine.specs.Calls.{MayTurn, IsNext, CountsNext, IsKeyOfBucket, LooksOff, change_next, count_next, sight, sight_counts, look_of, IsUnits, AreCountsOf, CountsStay}
+use Rattle.segment_machine.specs.Calls.{MayTurn, IsNext, CountsNext, IsKeyOfBucket, LooksOff, change_next, count_next, sight, sight_counts, ended, look_of, IsUnits, AreCountsOf, CountsStay}
 
 -- the events that count
 pub data CountingEvent : Type 0 where
@@ -70,7 +70,7 @@ note_next list = change_next (λ c. record c { noted = true }) list
 abbrev pub next : Actor → CountingEvent → ℕ → Actor
 next a (load_counts histogram) found = record a {
   hand = record a.hand { place = Looking (record (look_of a.hand.place histogram) { counts = found }) };
-  seen = record a.seen { words = a.seen.words ++ sight_counts histogram found };
+  seen = record a.seen { words = a.seen.words ++ sight_counts histogram found; ends = ended a.seen.ends (histogram + HISTOGRAM_COUNTS) (found == 0) };
 }
 next a (add_count at units) found =
     record a { hand = record a.hand { place = Idle }; entries = record a.entries { running = count_next a.entries.running }; seen = record a.seen { counts = a.seen.counts ++ sight at (found + units) } }

@@ -14,7 +14,7 @@ use Rattle.segment_machine.specs.declared.actor.Role.TheVariants.{Opener, Record
 
 -- nothing that was seen
 abbrev pub nothing_seen : Seen
-nothing_seen = record { free = 0; corrupt = false; warned = 0; chain = []; tails = []; singles = []; counts = []; words = []; cursors = [] }
+nothing_seen = record { free = 0; corrupt = false; warned = 0; chain = []; ends = []; tails = []; singles = []; counts = []; words = []; cursors = [] }
 
 -- an actor that has done nothing, and has seen this free pointer
 abbrev pub idle : Dimensions → ℕ → ℕ → ℕ → ℕ → Actor
@@ -116,6 +116,7 @@ both_seen a b = record {
   corrupt = a.corrupt || b.corrupt;
   warned = a.warned + b.warned;
   chain = longer a.chain b.chain;
+  ends = a.ends ++ b.ends;
   tails = a.tails ++ b.tails;
   singles = a.singles ++ b.singles;
   counts = a.counts ++ b.counts;

@@ -12,7 +12,7 @@ use Rattle.list_core.specs.Chain.{stops}
 use Rattle.list_core.specs.Walk.{IsPrefix, stands_behind}
 use Rattle.alloc_core.specs.Event as atomic
 use Rattle.segment_machine.specs.Operation.{Operation, single}
-use Rattle.segment_machine.specs.Calls.{MayTurn, sight, IsReference}
+use Rattle.segment_machine.specs.Calls.{MayTurn, sight, ended, IsReference}
 
 -- the events of a walk
 pub data WalkingEvent : Type 0 where
@@ -65,7 +65,10 @@ behind (CursorLoaded cursor at) from found =
 behind place from found = place
 
 abbrev pub next : Actor → WalkingEvent → ℕ → Actor
-next a (load_next at) found = record a { hand = record a.hand { place = behind a.hand.place at found }; seen = record a.seen { chain = extended a.seen.chain at found } }
+next a (load_next at) found = record a {
+  hand = record a.hand { place = behind a.hand.place at found };
+  seen = record a.seen { chain = extended a.seen.chain at found; ends = ended a.seen.ends (at + BLOCK_NEXT) (found == QUEUE) };
+}
 next a (load_published at index) found = record a { seen = record a.seen { words = a.seen.words ++ sight (at + index) found } }
 
 -- ---- what it learns

@@ -18,6 +18,9 @@ pub struct Seen {
     pub warned: u64,
     /// The chain, so far as it has walked along it.
     pub chain: LinkedList<u64>,
+    /// The words that led to no block when it loaded them, in the order of the loads: the next of a block, or of the queue block,
+    /// that was the end of the list; a counts reference that was 0. Each was so then; others may have stored there since.
+    pub ends: LinkedList<u64>,
     /// The tails that it saw.
     pub tails: LinkedList<u64>,
     /// The single words that it saw, by where they stand.

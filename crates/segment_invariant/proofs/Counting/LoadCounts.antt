@@ -9,7 +9,7 @@ use Rattle.segment_machine.specs.declared.actor.Actor.{Actor}
 use Rattle.segment_machine.specs.declared.place.Place.{Place}
 use Rattle.segment_machine.specs.declared.place.Place.TheVariants.{Looking}
 use Rattle.segment_machine.specs.declared.seen.Sighting.{Sighting}
-use Rattle.segment_machine.specs.Calls.{look_of, nothing_of, sight_counts}
+use Rattle.segment_machine.specs.Calls.{look_of, nothing_of, sight_counts, ended}
 use Rattle.segment_machine.specs.Counting.{load_counts}
 use Rattle.segment_machine.specs.Event.{counting_event, Ready, next}
 use Rattle.segment_machine.specs.State.{State}
@@ -58,6 +58,7 @@ module _ (shape : Dimensions) (opened : Anatomy) (state : State) (kept : Invaria
       happens opened.version state id a (counting_event (load_counts h)) (word_within shape opened state kept h 8 (histogram r) stands refl (omega arith)) shape opened (
         loaded shape opened state kept id a mine recorder (h + 8) (next a (counting_event (load_counts h)) found)
             (words_seen shape opened state kept id a mine recorder unbound place turns.lives (λ reference sum is. cc is) turns.moves (sight_counts h found)
+            (ended a.seen.ends (h + 8) (found == 0))
             (counts_fixed shape opened state kept id a mine turns.lived h known (has, refers, bucketed))
             (record {
               known = known;

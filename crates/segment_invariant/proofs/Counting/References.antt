@@ -31,10 +31,10 @@ use Rattle.segment_invariant.proofs.Counting.Seen.{count_most, off_is}
 module _ (shape : Dimensions) (opened : Anatomy) (state : State) (kept : Invariant shape opened state) (id : ℕ) (a : Actor)
     (mine : get_elem? state.actors id ≡ some a) (recorder : is_opener a.role ≡ false) (unbound : is_bound a.hand.place ≡ false) (place : Place) (free : place ≢ Spent)
     (unsummed : (reference : ℕ) (sum : ℤ) → place ≢ SumLoaded reference sum)
-    (moves : (name : List ℕ) (key : ℤ) → moving_at a name key place ≡ moving_at a name key a.hand.place) (more : List Sighting)
+    (moves : (name : List ℕ) (key : ℤ) → moving_at a name key place ≡ moving_at a name key a.hand.place) (more : List Sighting) (ends : List ℕ)
     (fixed : All (WasFixed kept.anatomy.pieces) (a.seen.words ++ more)) where
   abbrev pub with_words : Seen
-  with_words = record a.seen { words = a.seen.words ++ more }
+  with_words = record a.seen { words = a.seen.words ++ more; ends = ends }
 
   abbrev b : Actor
   b = seer a place with_words a.done.given a.done.lost

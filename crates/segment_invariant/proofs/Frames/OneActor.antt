@@ -41,6 +41,7 @@ pub record Doing : Type 0 where
   pub beaten : ℕ
   pub seen_free : ℕ
   pub seen_chain : List ℕ
+  pub seen_ends : List ℕ
   pub seen_tails : List ℕ
   pub seen_words : List Sighting
 
@@ -57,7 +58,7 @@ doing a d = record a {
     beaten = d.beaten;
   };
   answers = record a.answers { owed = d.owed };
-  seen = record a.seen { free = d.seen_free; chain = d.seen_chain; tails = d.seen_tails; words = d.seen_words };
+  seen = record a.seen { free = d.seen_free; chain = d.seen_chain; ends = d.seen_ends; tails = d.seen_tails; words = d.seen_words };
 }
 
 -- what it has of that
@@ -74,6 +75,7 @@ doing_of a = record {
   beaten = a.done.beaten;
   seen_free = a.seen.free;
   seen_chain = a.seen.chain;
+  seen_ends = a.seen.ends;
   seen_tails = a.seen.tails;
   seen_words = a.seen.words;
 }

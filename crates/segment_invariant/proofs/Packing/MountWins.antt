@@ -204,7 +204,7 @@ module _ (shape : Dimensions) (opened : Anatomy) (state : State) (kept : Invaria
       subst (λ (list : List Actor). Invariant shape opened (record { words = between.words; cursors = state.cursors; actors = list }))
       (set-set state.actors id b (after_mount true a h own.at found))
       (words_seen shape opened between kept_between id b mine_between recorder refl (Looking look) (λ is. cc is) (λ reference sum is. cc is)
-      (λ name key. refl) (sight_counts h own.at) fixed
+      (λ name key. refl) (sight_counts h own.at) a.seen.ends fixed
       (record { known = known; knows = buckets; single = λ w is. absurd (cc is); counts = λ some_there. saw }))
 
 module _ (shape : Dimensions) (opened : Anatomy) (state : State) (kept : Invariant shape opened state) (id : ℕ) (a : Actor)

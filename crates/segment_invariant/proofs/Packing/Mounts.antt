@@ -64,7 +64,7 @@ module _ (shape : Dimensions) (opened : Anatomy) (state : State) (kept : Invaria
         })) (sym late)
             (loaded shape opened state kept id a mine recorder (h + 8) (after_mount false a h at found)
             (words_seen shape opened state kept id a mine recorder unbound (Losing look at) (λ is. cc is) (λ reference sum is. cc is)
-            (λ name key. sym (rests_at a name key a.hand.place (λ look bucket units moving. cc (unbound, ap is_bound moving)))) (sight_counts h found)
+            (λ name key. sym (rests_at a name key a.hand.place (λ look bucket units moving. cc (unbound, ap is_bound moving)))) (sight_counts h found) a.seen.ends
             (counts_fixed shape opened state kept id a mine lives h known buckets) (
               record {
                 known = known;

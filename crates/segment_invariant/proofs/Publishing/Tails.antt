@@ -47,7 +47,7 @@ module _ (shape : Dimensions) (opened : Anatomy) (state : State) (kept : Invaria
 
   -- it saw nothing more
   saw_no_more : (place : Place) (beaten : ℕ) (own : List Own) (tails : List ℕ) → TurnsTo a place
-      → SawMore a (walking shape opened state kept id a mine records place beaten own tails a.seen.chain a.seen.words)
+      → SawMore a (walking shape opened state kept id a mine records place beaten own tails a.seen.chain a.seen.ends a.seen.words)
   saw_no_more place beaten own tails turns = record {
     chain = λ at has. has;
     words = λ at word has. has;
@@ -67,7 +67,7 @@ module _ (shape : Dimensions) (opened : Anatomy) (state : State) (kept : Invaria
       let fits = kept.each id a mine turns.lived in
       happens opened.version state id a (publishing_event load_tail) eight_within shape opened (
         loaded shape opened state kept id a mine records 8 (next a (publishing_event load_tail) found)
-            (looks_on shape opened state kept id a mine records (TailLoaded found) a.done.beaten (a.seen.tails ++ found ∷ []) a.seen.chain a.seen.words turns
+            (looks_on shape opened state kept id a mine records (TailLoaded found) a.done.beaten (a.seen.tails ++ found ∷ []) a.seen.chain a.seen.ends a.seen.words turns
             (saw_no_more (TailLoaded found) a.done.beaten a.hand.own (a.seen.tails ++ found ∷ []) turns) kept.anatomy.tail state.words kept.shown kept.list.linked kept.list.tail
             (λ seen before. before)
             (ahead_at order kept.anatomy.tail state.cursors a.hand.place a.done.beaten a.done.lost fits.ahead (TailLoaded found) (λ no. unbound_unbeaten a.hand.place unbound)) (
@@ -140,7 +140,7 @@ module _ (shape : Dimensions) (opened : Anatomy) (state : State) (kept : Invaria
       let turns = turns_plain a Idle plain refl in
       let fits = kept.each id a mine turns.lived in
       happens opened.version state id a (publishing_event (move_tail old new)) eight_within shape opened (
-        looks_on shape opened state kept id a mine records Idle a.done.beaten (a.seen.tails ++ v ∷ []) a.seen.chain a.seen.words turns
+        looks_on shape opened state kept id a mine records Idle a.done.beaten (a.seen.tails ++ v ∷ []) a.seen.chain a.seen.ends a.seen.words turns
             (saw_no_more Idle a.done.beaten a.hand.own (a.seen.tails ++ v ∷ []) turns) v (set state.words 8 v)
             (shown_tail shape state.words (layout_of kept.anatomy) v kept.shown)
             (linked_beside_head shape state.words kept.anatomy kept.shown kept.list.standing 8 v (omega arith) kept.list.linked)
@@ -177,7 +177,7 @@ module _ (shape : Dimensions) (opened : Anatomy) (state : State) (kept : Invaria
       happens opened.version state id a (publishing_event (link tail at)) (stop_within shape opened state kept tail stop) shape opened (
         subst by (sym (ne_eqb found 12 other))
             (loaded shape opened state kept id a mine records (tail + 3) (after_link false a tail at found)
-            (looks_on shape opened state kept id a mine records (Beaten tail found) (a.done.beaten + 1) a.seen.tails a.seen.chain a.seen.words turns
+            (looks_on shape opened state kept id a mine records (Beaten tail found) (a.done.beaten + 1) a.seen.tails a.seen.chain a.seen.ends a.seen.words turns
             (saw_no_more (Beaten tail found) (a.done.beaten + 1) a.hand.own a.seen.tails turns) kept.anatomy.tail state.words kept.shown kept.list.linked kept.list.tail
             (λ seen before. before)
             (record { links = λ no. cc no; many = fits.ahead.many; exchanges = fits.ahead.exchanges })

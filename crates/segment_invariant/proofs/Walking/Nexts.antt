@@ -20,6 +20,7 @@ use Rattle.segment_machine.specs.declared.place.Place.TheVariants.{Spent, Idle, 
 use Rattle.segment_machine.specs.Actor.{is_bound, is_opener}
 use Rattle.segment_machine.specs.State.{State}
 use Rattle.segment_machine.specs.Event.{walking_event, next, Ready}
+use Rattle.segment_machine.specs.Calls.{ended}
 use Rattle.segment_machine.specs.Walking.{load_next, behind, extended, MayFollow}
 use Rattle.segment_invariant.proofs.Walking.Learned.{next_learned}
 use Rattle.segment_invariant.proofs.Frames.Ahead.{ahead_at, unbound_unbeaten, reached_stop}
@@ -132,10 +133,11 @@ module _ (shape : Dimensions) (opened : Anatomy) (state : State) (kept : Invaria
       let lives : a.hand.place ≢ Spent = λ spent. cc (unbound, ap is_bound spent) in
       let place : Place = behind a.hand.place at found in
       let chain : List ℕ = extended a.seen.chain at found in
+      let ends : List ℕ = ended a.seen.ends (at + 3) (found == 12) in
       let stop = follows_stop at lives follow in
       let turns = turns_behind a at found a.hand.place refl lives in
       let fits = kept.each id a mine lives in
-      let d : Doing = walking shape opened state kept id a mine records place a.done.beaten a.hand.own a.seen.tails chain a.seen.words in
+      let d : Doing = walking shape opened state kept id a mine records place a.done.beaten a.hand.own a.seen.tails chain ends a.seen.words in
       let follows : Follows a (doing a d) = record {
         saw = (refl, refl, refl, refl, refl);
         late = (refl, refl);
@@ -154,7 +156,7 @@ module _ (shape : Dimensions) (opened : Anatomy) (state : State) (kept : Invaria
       } in
       happens opened.version state id a (walking_event (load_next at)) (stop_within shape opened state kept at stop) shape opened (
         loaded shape opened state kept id a mine records (at + 3) (next a (walking_event (load_next at)) found)
-            (looks_on shape opened state kept id a mine records place a.done.beaten a.seen.tails chain a.seen.words turns more kept.anatomy.tail state.words
+            (looks_on shape opened state kept id a mine records place a.done.beaten a.seen.tails chain ends a.seen.words turns more kept.anatomy.tail state.words
             kept.shown kept.list.linked kept.list.tail (λ seen before. before)
             (ahead_at order kept.anatomy.tail state.cursors a.hand.place a.done.beaten a.done.lost fits.ahead place (λ no. unbound_unbeaten a.hand.place unbound))
             (stands_behind d follows at found (λ goes. link_missed state.words order at kept.list.linked stop goes) a.hand.place (kept.standing id a mine))

@@ -107,10 +107,10 @@ module _ (shape : Dimensions) (opened : Anatomy) (state : State) (kept : Invaria
   -- ---- an actor that sees more of the list
 
   module _ (id : ℕ) (a : Actor) (mine : get_elem? state.actors id ≡ some a) (records : is_opener a.role ≡ false) where
-    -- where it stands, how often its link came too late, its blocks, the tail, the chain and the words that it saw
-    abbrev pub walking : Place → ℕ → List Own → List ℕ → List ℕ → List Sighting → Doing
-    walking place beaten own tails chain words =
-        record (doing_of a) { place = place; beaten = beaten; own = own; seen_tails = tails; seen_chain = chain; seen_words = words }
+    -- where it stands, how often its link came too late, its blocks, the tail, the chain, the ends and the words that it saw
+    abbrev pub walking : Place → ℕ → List Own → List ℕ → List ℕ → List ℕ → List Sighting → Doing
+    walking place beaten own tails chain ends words =
+        record (doing_of a) { place = place; beaten = beaten; own = own; seen_tails = tails; seen_chain = chain; seen_ends = ends; seen_words = words }
 
     -- a stop is a reference that it may find
     pub reference_is : (at : ℕ) → a.hand.place ≢ Spent → IsStop order at → IsReference a at
@@ -118,8 +118,8 @@ module _ (shape : Dimensions) (opened : Anatomy) (state : State) (kept : Invaria
         subst (λ (s : Dimensions). is_reference s.size at ≡ true) (sym (kept.each id a mine lives).shaped) (stop_reference at stop)
 
     -- it goes on so, where the words of the header but the tail, and all but its own blocks, stay
-    pub walks_on : (place : Place) (beaten : ℕ) (own : List Own) (tails chain : List ℕ) (words : List Sighting) → TurnsTo a place
-        → SawMore a (walking place beaten own tails chain words)
+    pub walks_on : (place : Place) (beaten : ℕ) (own : List Own) (tails chain ends : List ℕ) (words : List Sighting) → TurnsTo a place
+        → SawMore a (walking place beaten own tails chain ends words)
         → (pieces : List Piece) (present : ℕ) (words' : List ℕ)
         → Stays anatomy.pieces pieces
         → ((who at : ℕ) (body : Body) → who ≢ id → Stands anatomy.pieces at (some who) body → Stands pieces at (some who) body)
@@ -132,15 +132,15 @@ module _ (shape : Dimensions) (opened : Anatomy) (state : State) (kept : Invaria
         → IsStop order present
         → ((seen : ℕ) → IsNoLater order seen anatomy.tail → IsNoLater order seen present)
         → IsAhead order present state.cursors place beaten a.done.lost
-        → StandsRight shape (reshaped anatomy pieces anatomy.spare anatomy.corrupt anatomy.full present) id (doing a (walking place beaten own tails chain words)) place
+        → StandsRight shape (reshaped anatomy pieces anatomy.spare anatomy.corrupt anatomy.full present) id (doing a (walking place beaten own tails chain ends words)) place
         → IsPrefix chain order
         → AreNoLater order tails present
         → All (WasFixed pieces) words
         → All (HoldsOwn shape pieces id) own
         → ((i j : ℕ) (x y : Own) → get_elem? own i ≡ some x → get_elem? own j ≡ some y → x.at ≡ y.at → i ≡ j)
-        → Invariant shape opened (record { words = words'; cursors = state.cursors; actors = set state.actors id (doing a (walking place beaten own tails chain words)) })
-    walks_on place beaten own tails chain words turns more pieces present words' stays others still blocks claims free shown linked stop later ahead stands prefix no_later fixed holds apart =
-        let d : Doing = walking place beaten own tails chain words in
+        → Invariant shape opened (record { words = words'; cursors = state.cursors; actors = set state.actors id (doing a (walking place beaten own tails chain ends words)) })
+    walks_on place beaten own tails chain ends words turns more pieces present words' stays others still blocks claims free shown linked stop later ahead stands prefix no_later fixed holds apart =
+        let d : Doing = walking place beaten own tails chain ends words in
         let new : Anatomy = reshaped anatomy pieces anatomy.spare anatomy.corrupt anatomy.full present in
         let fits = kept.each id a mine turns.lived in
         let old_sees : Sees new state.cursors a.seen =
@@ -187,20 +187,20 @@ module _ (shape : Dimensions) (opened : Anatomy) (state : State) (kept : Invaria
         })
 
     -- where no block changes
-    pub looks_on : (place : Place) (beaten : ℕ) (tails chain : List ℕ) (words : List Sighting) → TurnsTo a place
-        → SawMore a (walking place beaten a.hand.own tails chain words)
+    pub looks_on : (place : Place) (beaten : ℕ) (tails chain ends : List ℕ) (words : List Sighting) → TurnsTo a place
+        → SawMore a (walking place beaten a.hand.own tails chain ends words)
         → (present : ℕ) (words' : List ℕ)
         → IsShown shape words' (layout_of (record anatomy { tail = present }))
         → IsLinked words' order
         → IsStop order present
         → ((seen : ℕ) → IsNoLater order seen anatomy.tail → IsNoLater order seen present)
         → IsAhead order present state.cursors place beaten a.done.lost
-        → StandsRight shape (record anatomy { tail = present }) id (doing a (walking place beaten a.hand.own tails chain words)) place
+        → StandsRight shape (record anatomy { tail = present }) id (doing a (walking place beaten a.hand.own tails chain ends words)) place
         → IsPrefix chain order
         → AreNoLater order tails present
         → All (WasFixed anatomy.pieces) words
-        → Invariant shape opened (record { words = words'; cursors = state.cursors; actors = set state.actors id (doing a (walking place beaten a.hand.own tails chain words)) })
-    looks_on place beaten tails chain words turns more present words' shown linked stop later ahead stands prefix no_later fixed =
+        → Invariant shape opened (record { words = words'; cursors = state.cursors; actors = set state.actors id (doing a (walking place beaten a.hand.own tails chain ends words)) })
+    looks_on place beaten tails chain ends words turns more present words' shown linked stop later ahead stands prefix no_later fixed =
         let fits = kept.each id a mine turns.lived in
-        walks_on place beaten a.hand.own tails chain words turns more anatomy.pieces present words' (stays_same anatomy.pieces)
+        walks_on place beaten a.hand.own tails chain ends words turns more anatomy.pieces present words' (stays_same anatomy.pieces)
         (λ who at body ne has. has) (still_same anatomy.pieces) kept.blocks refl refl shown linked stop later ahead stands prefix no_later fixed fits.own fits.apart

@@ -157,7 +157,7 @@ module _ (shape : Dimensions) (opened : Anatomy) (state : State) (kept : Invaria
         let lt = fixed_within body index fixed in
         let size = length_shown shape state.words (layout_of anatomy) kept.shown in
         let (from, five, within) = block_within shape opened state kept at body stands claimed in
-        let d : Doing = walking shape opened state kept id a mine records a.hand.place a.done.beaten a.hand.own a.seen.tails a.seen.chain words in
+        let d : Doing = walking shape opened state kept id a mine records a.hand.place a.done.beaten a.hand.own a.seen.tails a.seen.chain a.seen.ends words in
         let follows : Follows a (doing a d) = record {
           saw = (refl, refl, refl, refl, refl);
           late = (refl, refl);
@@ -182,7 +182,7 @@ module _ (shape : Dimensions) (opened : Anatomy) (state : State) (kept : Invaria
         } in
         happens opened.version state id a (walking_event (load_published at index)) (omega (arith, lt, size, within)) shape opened (
           loaded shape opened state kept id a mine records (at + index) (next a (walking_event (load_published at index)) found)
-              (looks_on shape opened state kept id a mine records a.hand.place a.done.beaten a.seen.tails a.seen.chain words turns more anatomy.tail state.words
+              (looks_on shape opened state kept id a mine records a.hand.place a.done.beaten a.seen.tails a.seen.chain a.seen.ends words turns more anatomy.tail state.words
               kept.shown kept.list.linked kept.list.tail (λ seen before. before) fits.ahead
               (stands_on shape anatomy anatomy id a (doing a d) (grounds_itself anatomy id) follows a.hand.place (kept.standing id a mine))
               fits.sees.walked fits.sees.tails

@@ -16,9 +16,8 @@ use Rattle.alloc_core.specs.Planned.{planned, is_pointer}
 use Rattle.alloc_core.proofs.Lawful.{moved_lawful}
 use Rattle.segment_machine.specs.declared.actor.Actor.{Actor}
 use Rattle.segment_machine.specs.declared.place.Place.{Place}
-use Rattle.segment_machine.specs.declared.place.Place.TheVariants.{Idle, FlagsLoaded, FreeLoaded, Raised, Sized, Marked}
+use Rattle.segment_machine.specs.declared.place.Place.TheVariants.{Idle, FlagsLoaded, Raised, Sized, Marked}
 use Rattle.segment_machine.specs.Operation.{single}
-use Rattle.segment_machine.specs.Actor.{is_bound}
 use Rattle.segment_machine.specs.Allocating.{AllocatingEvent, load_flags, load_free, exchange_free, store_size, store_cookie, store_type, store_payload, set_corrupt, set_full, operation, Ready, next, Learned, after_free, new_own, size_at}
 use Rattle.segment_machine.specs.Stages.{allocates, StandsAt, AllocationsAgree}
 

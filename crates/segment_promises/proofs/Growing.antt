@@ -11,6 +11,7 @@ use Rattle.list_core.specs.Chain.{is_reference, stops}
 use Rattle.segment_machine.specs.declared.seen.Seen.{Seen}
 use Rattle.segment_machine.specs.declared.seen.Sighting.{Sighting}
 use Rattle.segment_machine.specs.Actor.{word_seen}
+use Rattle.segment_machine.specs.Calls.{ended}
 use Rattle.segment_machine.specs.Made.{SawOther}
 use Rattle.segment_machine.specs.Walking.{extended}
 use Rattle.segment_invariant.proofs.Walking.Words.{word_still}
@@ -70,6 +71,11 @@ extended_end chain at found end = by (slice_index (stops chain) (length chain) =
     by true true is = refl
     by true false is = absurd (true≢false (sym is))
     by false e is = refl
+
+-- and the words that led to no block only become more
+pub ended_grows : (ends : List ℕ) (at : ℕ) (none : Bool) → Grows ends (ended ends at none)
+ended_grows ends at true = (at ∷ [], refl)
+ended_grows ends at false = grows_not ends
 
 -- ---- what was seen stays
 

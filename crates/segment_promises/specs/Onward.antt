@@ -19,6 +19,7 @@ pub record SeesOn (old new : Seen) : Type 0 where
   pub corrupt : old.corrupt ≡ true → new.corrupt ≡ true
   pub warned : old.warned ≤ new.warned
   pub chain : Grows old.chain new.chain
+  pub ends : Grows old.ends new.ends
   pub tails : Grows old.tails new.tails
   pub singles : Grows old.singles new.singles
   pub counts : Grows old.counts new.counts

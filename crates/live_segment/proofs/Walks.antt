@@ -1,5 +1,6 @@
 -- Walks along the list, and shared cursors.
 pub mod CursorSteps
+pub mod Ends
 pub mod Listed
 pub mod Sharing
 pub mod Showing

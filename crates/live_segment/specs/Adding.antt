@@ -16,6 +16,7 @@ use Rattle.segment_machine.specs.Entry.{key_of, sample_entry}
 use Rattle.segment_machine.specs.Form.{is_off, IsPacking}
 use Rattle.segment_machine.specs.Made.{SawOther}
 use Rattle.segment_promises.specs.Onward.{GoesOn}
+use Rattle.live_segment.specs.Ends.{FoundNoCounts, SawAllOfList}
 
 -- ---- accepted
 
@@ -50,16 +51,18 @@ pub record IsRefused (name : List ℕ) (old new : Actor) : Type 0 where
 abbrev pub block_words : Known → ℕ
 block_words known = if has_buckets known.spec then BLOCK_HEADER + 2 * buckets_of known.spec else SAMPLE_LEAST
 
--- Units of a value need a block. With buckets: the call has loaded a single word that is not off and cannot take the units, and no
--- recorder's counts were there for it. Without: it has walked to the end of the list and met no sample of the value.
+-- Units of a value need a block. With buckets: the call has loaded a single word that is not off and cannot take the units, and the counts
+-- reference, which was 0; no recorder's counts were there for it before. Without: it has walked to the end of the list, and of all records
+-- that this had then none behind the histogram's is a sample of the value.
 pub record NeedsBlock (known : Known) (value : ℤ) (count : ℕ) (old new : Actor) : Type 0 where
   pub buckets : has_buckets known.spec ≡ true
       → ((word : ℕ) × Contains (drop (length old.seen.singles) new.seen.singles) (record { at = known.reference + HISTOGRAM_SINGLE; word = word })
       × (is_off word ≡ false)
       × ((bucket packed : ℕ) → IsKeyOfBucket known bucket (key_of (boundaries_of known.spec) value) → ¬ (IsPacking bucket count word packed)))
-      × (word_seen new.seen.words (known.reference + HISTOGRAM_COUNTS) ≡ None)
+      × (word_seen new.seen.words (known.reference + HISTOGRAM_COUNTS) ≡ None) × FoundNoCounts known.reference old.seen new.seen
   pub values : known.spec ≡ spec.Sparse
       → (front behind : List ℕ) × (new.seen.chain ≡ front ++ known.reference ∷ behind) × All (SawOther new.seen known.reference value) behind
+      × SawAllOfList old.seen new.seen
 
 -- Why a block could not be claimed: so many words pass the end of the segment from the free pointer that the call loaded last, and for that
 -- it has set the full flag; or the call has loaded flags with the corrupt one. It has done nothing else: it has claimed and published nothing.

@@ -1,7 +1,7 @@
 -- What a call on a shared cursor makes of a recorder: it was given a record, or found the end of the list behind the cursor.
 use Rattle.std.specs.Prelude.{◌≡◌, false, ℕ, ◌+◌, ◌<◌, ◌≤◌, List, [], ◌∷◌, ◌++◌, length, Option, Some, None, slice_index, slice_set}
 use Rattle.std.specs.List.{All, Contains}
-use Rattle.segment_image.specs.declared.layout.TheConstants.{BLOCK_LEAST, HEADER_WORDS, QUEUE}
+use Rattle.segment_image.specs.declared.layout.TheConstants.{BLOCK_LEAST, BLOCK_NEXT, HEADER_WORDS, QUEUE}
 use lib.ListN.{get_elem?}
 use mathlib.Core.Option.{some}
 use Rattle.list_core.specs.Chain.{AreNeighbours}
@@ -16,6 +16,7 @@ use Rattle.segment_machine.specs.Cursors.{load_cursor, move_cursor}
 use Rattle.segment_machine.specs.Event.{cursor_event}
 use Rattle.segment_machine.specs.Walking.{extended, records_met, IsNextOf}
 use Rattle.segment_promises.specs.Onward.{Grows}
+use Rattle.live_segment.specs.Ends.{FoundEndAt}
 use Rattle.live_segment.specs.Steps.{DoesAt, Sat}
 
 -- ---- its steps
@@ -81,9 +82,12 @@ given_behind a cursor at reference = record a {
   };
 }
 
--- it has found the end of the list there
+-- it has loaded the next of that block, and found the end of the list there
 abbrev pub ended_at : Actor → ℕ → ℕ → Actor
-ended_at a cursor at = record a { hand = record a.hand { place = Idle }; seen = record a.seen { cursors = a.seen.cursors ++ sight cursor at } }
+ended_at a cursor at = record a {
+  hand = record a.hand { place = Idle };
+  seen = record a.seen { cursors = a.seen.cursors ++ sight cursor at; ends = a.seen.ends ++ (at + BLOCK_NEXT) ∷ [] };
+}
 
 -- The cursor gave the record that is next on the list behind where it stood when the exchange took. It is a record within the segment.
 -- All that cursors gave the recorder stands on that list, in order.
@@ -99,7 +103,7 @@ pub record IsGivenNext (cursor : ℕ) (old : Actor) (reference : ℕ) (new : Act
   pub neighbours : AreNeighbours chain at reference
   pub ordered : GaveInOrder chain new
 
--- The list ended where the cursor stood. A chain ends there that has all that the recorder has seen of the list, and each record that it
+-- The list ended where the cursor stood, when the call loaded the next there. A chain ends there that has all that the recorder has seen of the list, and each record that it
 -- made, was given, or saw as the tail or where a shared cursor stands.
 pub record IsAtEnd (cursor : ℕ) (old new : Actor) : Type 0 where
   pub late : Actor
@@ -107,6 +111,7 @@ pub record IsAtEnd (cursor : ℕ) (old new : Actor) : Type 0 where
   pub at : ℕ
   pub next : IsNextOf (at_cursor late cursor at) at QUEUE
   pub view : new ≡ ended_at late cursor at
+  pub found : FoundEndAt at old.seen new.seen
   pub chain : List ℕ
   pub seen : IsPrefix new.seen.chain chain
   pub ends : stands_behind chain ≡ at

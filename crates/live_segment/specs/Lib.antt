@@ -8,6 +8,7 @@ pub use Rattle.segment_machine.specs.Entry
 pub use Rattle.segment_machine.specs.Seats
 pub use Rattle.segment_promises.specs.Onward
 pub use Rattle.segment_promises.specs.Reads
+pub mod Ends
 pub mod Fault
 pub mod Rule
 pub mod Known

@@ -15,6 +15,7 @@ use Rattle.segment_machine.specs.Event.{counting_event}
 use Rattle.segment_machine.specs.Form.{is_off}
 use Rattle.segment_machine.specs.Packing.{CountsIn, IsBlankCounts}
 use Rattle.live_segment.specs.Adding.{HasNoRoom, block_words}
+use Rattle.live_segment.specs.Ends.{FoundNoCounts}
 use Rattle.live_segment.specs.Refusing.{given_up}
 use Rattle.live_segment.specs.Steps.{Does, Sat}
 use Rattle.live_segment.specs.GhostNotes.{KnowsAlone}
@@ -64,6 +65,7 @@ pub record HasNotMounted (why : Refusal) (known : Known) (old new : Actor) : Typ
   pub ends : new ≡ given_up last
   pub idle : new.hand.place ≡ Idle
   pub none : word_seen new.seen.words (known.reference + HISTOGRAM_COUNTS) ≡ None
+  pub loaded : FoundNoCounts known.reference old.seen new.seen
   pub room : HasNoRoom why (block_words known) old new
 
 -- ---- in use

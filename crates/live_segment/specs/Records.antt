@@ -1,8 +1,9 @@
 -- What a walk along the list makes of a recorder: it has seen all of the list, and has its records in their order.
-use Rattle.std.specs.Prelude.{◌≡◌, false, ℕ, ◌+◌, ◌≤◌, ℤ, List, ◌∷◌, ◌++◌}
+use Rattle.std.specs.Prelude.{◌≡◌, false, ℕ, ◌+◌, ◌≤◌, ℤ, List, [], ◌∷◌, ◌++◌}
 use Rattle.std.specs.List.{All, Contains}
-use Rattle.segment_image.specs.declared.layout.TheConstants.{BLOCK_LEAST, HEADER_WORDS}
+use Rattle.segment_image.specs.declared.layout.TheConstants.{BLOCK_LEAST, BLOCK_NEXT, HEADER_WORDS}
 use Rattle.bucket_ranges.specs.declared.spec.Spec.{Spec}
+use Rattle.list_core.specs.Walk.{stands_behind}
 use Rattle.segment_machine.specs.declared.actor.Actor.{Actor}
 use Rattle.segment_machine.specs.declared.actor.Made.TheVariants.{Histogram, Sample}
 use Rattle.segment_machine.specs.Made.{SawOther, SawOtherName}
@@ -31,9 +32,13 @@ LoadsNext word me found me' =
     × KnowsOwnSamples me.0
 
 -- The records of the list are these, in its order, each once and within the segment: first those that the recorder had seen there, and
--- among them all that it had met elsewhere. It has seen them now, a cursor that it had loaded may be let go, and all else is as it was.
+-- among them all that it had met elsewhere. It has seen them now, and that the list ended behind the last of them; a cursor that it had
+-- loaded may be let go, and all else is as it was.
 pub record HasWalked (old : Actor) (given : List ℕ) (new : Actor) : Type 0 where
-  pub view : new ≡ record old { hand = record old.hand { place = new.hand.place }; seen = record old.seen { chain = given } }
+  pub view : new ≡ record old {
+    hand = record old.hand { place = new.hand.place };
+    seen = record old.seen { chain = given; ends = old.seen.ends ++ (stands_behind given + BLOCK_NEXT) ∷ [] };
+  }
   pub free : is_bound new.hand.place ≡ false
   pub apart : StaysApart old new
   pub chain : Grows old.seen.chain given

@@ -14,6 +14,7 @@ use Rattle.segment_machine.specs.Event.{allocating_event}
 use Rattle.segment_machine.specs.Note.{Note, refused, is_untouched}
 use Rattle.segment_promises.specs.Follows.{noted_by, GhostNoted}
 use Rattle.live_segment.specs.Adding.{HasNoRoom, LacksBlock, block_words}
+use Rattle.live_segment.specs.Ends.{FoundNoCounts}
 use Rattle.live_segment.specs.Finishing.{item_of}
 use Rattle.live_segment.specs.Steps.{Sat}
 use Rattle.live_segment.specs.GhostNotes.{bucket_entry}
@@ -59,7 +60,7 @@ SetsFull me found me' = GhostNoted [] (allocating_event (set_full 0)) (λ found.
 
 -- ---- a call that is turned away
 
--- Units of a bucket were not counted: the call had loaded a single word that cannot take them, no counts were there, and no block could
+-- Units of a bucket were not counted: the call had loaded a single word that cannot take them and a counts reference of 0, and no block could
 -- be claimed for them. It has come to no count.
 pub record IsTurnedAway (why : Refusal) (known : Known) (bucket units : ℕ) (old new : Actor) : Type 0 where
   pub last : Actor
@@ -69,6 +70,7 @@ pub record IsTurnedAway (why : Refusal) (known : Known) (bucket units : ℕ) (ol
   pub idle : new.hand.place ≡ Idle
   pub cannot : CannotPack known bucket units old new
   pub none : word_seen new.seen.words (known.reference + HISTOGRAM_COUNTS) ≡ None
+  pub loaded : FoundNoCounts known.reference old.seen new.seen
   pub room : HasNoRoom why (block_words known) old new
 
 -- Units of a value were not counted: a block was needed for them, and could not be claimed. The call has come to no count, and has ended.

@@ -1,6 +1,6 @@
 -- How a recorder finds the sample of a value of a sparse histogram: it walks along the list, on from the histogram's record. Where there is
 -- none, it makes one.
-use Rattle.std.specs.Prelude.{◌≡◌, Bool, true, false, ℕ, ◌+◌, ◌≤◌, ℤ, List, ◌∷◌, ◌++◌}
+use Rattle.std.specs.Prelude.{◌≡◌, Bool, true, false, ℕ, ◌+◌, ◌≤◌, ℤ, List, ◌∷◌, ◌++◌, ⊤}
 use Rattle.std.specs.List.{All, Contains}
 use Rattle.segment_image.specs.declared.layout.TheConstants.{SAMPLE_LEAST}
 use Rattle.segment_machine.specs.declared.actor.Actor.{Actor}
@@ -8,11 +8,13 @@ use Rattle.segment_machine.specs.declared.actor.Known.{Known}
 use Rattle.segment_machine.specs.declared.actor.Made.TheVariants.{Sample}
 use Rattle.segment_machine.specs.declared.place.Place.TheVariants.{Idle}
 use Rattle.segment_calls.specs.declared.refusal.Refusal.{Refusal}
+use Rattle.segment_machine.specs.declared.seen.Seen.{Seen}
 use Rattle.segment_machine.specs.Calls.{MayTurn}
 use Rattle.segment_machine.specs.Made.{IsFirstSample, SawOther, SawSample}
 use Rattle.live_segment.specs.declared.sampling.SampleSearch.{SampleSearch}
 use Rattle.live_segment.specs.declared.sampling.SampleSearch.TheVariants.{Met, End}
 use Rattle.live_segment.specs.Adding.{HasNoRoom}
+use Rattle.live_segment.specs.Ends.{SawAllOfList}
 use Rattle.live_segment.specs.Refusing.{given_up}
 use Rattle.live_segment.specs.Walks.{IsWalkProgress}
 use Rattle.live_segment.specs.Working.{LooksOn}
@@ -45,6 +47,11 @@ FindsSample histogram value (Met reference) a =
     MayTurn a × IsFirstSample a.seen histogram value reference × (reference + SAMPLE_LEAST ≤ a.segment.shape.size)
 FindsSample histogram value (End at) a =
     WalksBehind histogram value at a × SawNone histogram value a × HasMadeNoSample histogram value a
+
+-- where it came to the end, it found that there since
+abbrev pub FoundEnd : SampleSearch → Seen → Seen → Type 0
+FoundEnd (End at) old new = SawAllOfList old new
+FoundEnd _ old new = ⊤
 
 -- ---- one that is made
 
@@ -85,4 +92,5 @@ pub record LacksSampleOf (why : Refusal) (known : Known) (value : ℤ) (old new 
   pub ends : new ≡ given_up last
   pub idle : new.hand.place ≡ Idle
   pub none : SawNone known.reference value new
+  pub all : SawAllOfList old.seen new.seen
   pub room : HasNoRoom why SAMPLE_LEAST old new

@@ -1,5 +1,5 @@
 -- What a walk along the list that looks for a name makes of a recorder, and how it ends.
-use Rattle.std.specs.Prelude.{◌≡◌, ℕ, ◌+◌, ◌≤◌, List, length}
+use Rattle.std.specs.Prelude.{◌≡◌, ℕ, ◌+◌, ◌≤◌, List, length, ⊤}
 use Rattle.std.specs.List.{All, Contains}
 use Rattle.segment_image.specs.declared.layout.TheConstants.{BLOCK_LEAST, HISTOGRAM_NAME}
 use Rattle.bucket_ranges.specs.declared.spec.Spec.{Spec}
@@ -7,6 +7,7 @@ use Rattle.list_core.specs.Walk.{IsPrefix, stands_behind}
 use Rattle.segment_machine.specs.declared.actor.Actor.{Actor}
 use Rattle.segment_machine.specs.declared.actor.Known.{Known}
 use Rattle.segment_machine.specs.declared.actor.Made.TheVariants.{Histogram}
+use Rattle.segment_machine.specs.declared.seen.Seen.{Seen}
 use Rattle.segment_machine.specs.Calls.{MayTurn}
 use Rattle.segment_machine.specs.Made.{AreNameWords, IsFirstNamed, SawOtherName, SawOtherSpec}
 use Rattle.segment_machine.specs.Note.{MayNote, knows}
@@ -14,6 +15,7 @@ use Rattle.segment_calls.specs.declared.asked.Asked.{Asked}
 use Rattle.live_segment.specs.declared.finding.Search.{Search}
 use Rattle.live_segment.specs.declared.finding.Search.TheVariants.{Met, OtherSpec, End}
 use Rattle.segment_promises.specs.Onward.{Grows, StaysApart}
+use Rattle.live_segment.specs.Ends.{SawAllOfList}
 
 -- ---- on the way
 
@@ -31,10 +33,11 @@ pub record WalksAt (name : List ℕ) (at : ℕ) (a : Actor) : Type 0 where
 pub record HasSearched (old new : Actor) : Type 0 where
   pub view : new ≡ record old {
     hand = record old.hand { place = new.hand.place };
-    seen = record old.seen { chain = new.seen.chain; words = new.seen.words };
+    seen = record old.seen { chain = new.seen.chain; ends = new.seen.ends; words = new.seen.words };
   }
   pub apart : StaysApart old new
   pub chain : Grows old.seen.chain new.seen.chain
+  pub ends : Grows old.seen.ends new.seen.ends
   pub words : Grows old.seen.words new.seen.words
 
 -- ---- at its end
@@ -51,6 +54,11 @@ SawOther asked a = (at : ℕ) × (letters : List ℕ) × IsFirstNamed a.seen ask
 -- it has published no record of the name
 abbrev pub HasMadeNone : List ℕ → Actor → Type 0
 HasMadeNone name a = (spec : Spec) (at : ℕ) → ¬ (Contains a.done.published (record { reference = at; made = Histogram name spec }))
+
+-- where it came to the end, it found that there since
+abbrev pub FoundEnd : Search → Seen → Seen → Type 0
+FoundEnd (End at) old new = SawAllOfList old new
+FoundEnd _ old new = ⊤
 
 -- It met the first record of the name on the list, within the segment: it may note that it knows what is asked for, or that the spec is another.
 -- Or it saw all of the list, and no record has the name, one of its own neither.

@@ -13,6 +13,7 @@ use Rattle.segment_calls.specs.declared.refusal.Refusal.TheVariants.{OtherSpec}
 use Rattle.live_segment.specs.declared.recorder.KnownHistogram.{KnownHistogram}
 use Rattle.live_segment.specs.Adding.{HasNoRoom}
 use Rattle.live_segment.specs.Answering.{HaveOneName}
+use Rattle.live_segment.specs.Ends.{SawAllOfList}
 use Rattle.live_segment.specs.Known.{known_view}
 use Rattle.segment_promises.specs.Onward.{DoesOn, SeesOn, StaysApart}
 use Rattle.live_segment.specs.Searching.{asked_at, SawOther}
@@ -36,12 +37,13 @@ abbrev pub IsFound : Asked → ℕ → Actor → Type 0
 IsFound asked reference a =
     MayNote a (knows (asked_at asked reference)) × Contains a.seen.chain reference × (reference + HISTOGRAM_NAME ≤ a.segment.shape.size)
 
--- Why there is none for the caller: the first record of the name has another spec; or no record had the name to the end of the list, and
--- no block could be claimed for one.
+-- Why there is none for the caller: the first record of the name has another spec; or it has seen all of the list, as that was when the call
+-- found its end, no record of it had the name, and no block could be claimed for one.
 abbrev pub IsRefusedBy : Asked → Refusal → Actor → Actor → Type 0
 IsRefusedBy asked OtherSpec old new = SawOther asked new
 IsRefusedBy asked why old new =
-    All (SawOtherName new.seen asked.name.items) new.seen.chain × HasNoRoom why (BLOCK_HEADER + length asked.payload.items) old new
+    All (SawOtherName new.seen asked.name.items) new.seen.chain × SawAllOfList old.seen new.seen
+    × HasNoRoom why (BLOCK_HEADER + length asked.payload.items) old new
 
 -- then the refusal is owed to records that it made, where the cause is another spec alone
 abbrev pub OwesAs : Asked → Refusal → Actor → Type 0

@@ -1,7 +1,7 @@
 //! How a recorder looks for the first record of a name along the list.
 
 ghost use Rattle.live_segment.specs.Finding.{IsAsked};
-ghost use Rattle.live_segment.specs.Searching.{WalksAt, HasSearched, Searches};
+ghost use Rattle.live_segment.specs.Searching.{WalksAt, HasSearched, FoundEnd, Searches};
 
 use crate::rule::Pass;
 use crate::segment::Segment;
@@ -30,6 +30,7 @@ impl Segment {
         ensures same { IsSame seat.old seat.new }
         ensures view { HasSearched seat.old.me.0 seat.new.me.0 }
         ensures outcome { Searches asked.now result seat.new.me.0 }
+        ensures ended { FoundEnd result seat.old.me.0.seen seat.new.me.0.seen }
     {
         let mut at = from;
         loop {

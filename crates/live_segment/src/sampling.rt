@@ -6,7 +6,7 @@ ghost use Rattle.segment_machine.specs.Actor.{is_bound};
 ghost use Rattle.segment_machine.specs.Actor.{Sparse as KnowsSparse};
 ghost use Rattle.live_segment.specs.Finding.{Meets, SeesWords};
 ghost use Rattle.live_segment.specs.Searching.{HasSearched};
-ghost use Rattle.live_segment.specs.Sampling.{ShowsValue, WalksBehind, FindsSample, HasMadeSample, HasNotMadeSample, HasSampleOf, LacksSampleOf};
+ghost use Rattle.live_segment.specs.Sampling.{ShowsValue, WalksBehind, FindsSample, FoundEnd, HasMadeSample, HasNotMadeSample, HasSampleOf, LacksSampleOf};
 
 use crate::recorder::KnownHistogram;
 use crate::rule::{Announcement, Pass};
@@ -95,6 +95,7 @@ impl Segment {
         ensures same { IsSame seat.old seat.new }
         ensures view { HasSearched seat.old.me.0 seat.new.me.0 }
         ensures outcome { FindsSample histogram value result seat.new.me.0 }
+        ensures ended { FoundEnd result seat.old.me.0.seen seat.new.me.0.seen }
     {
         let mut at = from;
         loop {

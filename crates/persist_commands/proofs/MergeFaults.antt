@@ -65,8 +65,8 @@ module _ (page units : ℕ) (front : List Histogram) (h : Histogram) (old new : 
       → MayStop page units front h why
   not_found asked refusal.OtherSpec before none is = absurd (unseen asked is none)
   not_found asked refusal.Full before none is = tt
-  not_found asked refusal.Corrupt before none (all, (done, corrupt, warned)) = absurd (sound corrupt)
-  not_found asked why before none is = absurd is.1
+  not_found asked refusal.Corrupt before none (others, all, (done, corrupt, warned)) = absurd (sound corrupt)
+  not_found asked why before none is = absurd is.2
 
   -- the recorder knew one of the name, with another spec
   knew_other : (index : ℕ) (known : Known) → KnowsNamed h.name old index known → ¬ (SameSpec known.spec h.spec) → HaveOtherSpec front h

@@ -158,6 +158,7 @@ module _ (known : Known) (value : ℤ) (units : ℕ) (old mid : Actor) (rest : I
             corrupt = was.corrupt;
             warned = was.warned;
             chain = was.chain;
+            ends = was.ends;
             tails = was.tails;
             singles = was.singles;
             counts = grows_on old.seen.counts mid.seen.counts new.seen.counts was.counts ended.counts;

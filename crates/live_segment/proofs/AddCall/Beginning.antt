@@ -53,6 +53,7 @@ sees_single a more = record {
   corrupt = λ saw. saw;
   warned = omega arith;
   chain = grows_not a.chain;
+  ends = grows_not a.ends;
   tails = grows_not a.tails;
   singles = grows_by a.singles more;
   counts = grows_not a.counts;

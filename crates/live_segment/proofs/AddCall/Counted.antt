@@ -1,5 +1,5 @@
 -- Units of a bucket are counted in the counts, once these are in use: what a call that may count them knows behind each of its parts.
-use Rattle.std.proofs.Common.{◌≡◌, ◌≢◌, ℕ, ◌+◌, ◌<◌, ◌||◌, not, Bool, false, List, [], ◌∷◌, ◌++◌, filter, length, drop, Some, inl, inr, refl, sym, ap, ◌∙◌, subst, arith}
+use Rattle.std.proofs.Common.{◌≡◌, ◌≢◌, ℕ, ◌+◌, ◌<◌, ◌||◌, ◌==◌, not, Bool, false, List, [], ◌∷◌, ◌++◌, filter, length, drop, Some, inl, inr, refl, sym, ap, ◌∙◌, subst, arith}
 use Rattle.std.specs.List.{Contains}
 use Rattle.std.proofs.lemmas.Bool.{ne_eqb}
 use Rattle.std.proofs.lemmas.List.Elements.{Contains-append_left}
@@ -34,6 +34,9 @@ use Rattle.live_segment.proofs.AddCall.Beginning.{counted_behind, knows, looks_f
 use Rattle.live_segment.proofs.AddCall.Ended.{next_behind, none_open}
 use Rattle.live_segment.proofs.AddCall.CountsAlone.{counted_at, counts_next, goes, may_give_up}
 use Rattle.live_segment.proofs.AddCall.Mounted.{with_words}
+use Rattle.live_segment.proofs.Walks.Ends.{found_on}
+use Rattle.segment_promises.proofs.Growing.{ended_grows, grows_not}
+use Rattle.segment_promises.specs.Onward.{Grows}
 use Rattle.live_segment.proofs.AddCall.Refusing.{only_given_up}
 use Rattle.live_segment.proofs.NewRecords.Rooms.{lacked_since}
 use Rattle.live_segment.specs.Adding.{block_words}
@@ -188,7 +191,7 @@ module _ (known : Known) (bucket units : ℕ) (old mid : Pass) (may : MayCount o
         may = may;
         looks = looks_for_on old.me.0 mid.me.0 seat.me.0 known (bucket_entry known bucket units) may.counts looks_off
             (looks_for (bucket_entry known bucket units) mid.me.0 seat.me.0 (subst (LooksOn mid.me.0) (sym step.view)
-            (with_words mid.me.0 (next mid.me.0 (counting_event (load_counts known.reference)) found).hand (sight_counts known.reference found) refl)));
+            (with_words mid.me.0 (next mid.me.0 (counting_event (load_counts known.reference)) found).hand (sight_counts known.reference found) _ (ended_grows mid.me.0.seen.ends (known.reference + 8) (found == 0)) refl)));
         filled = ap (λ (b : Actor). b.done.filled) step.view ∙ ap (λ d. d.filled) tried.1;
         off = stands_off;
       }
@@ -238,5 +241,8 @@ module _ (known : Known) (bucket units : ℕ) (old mid : Pass) (may : MayCount o
             none,
           );
           none = refuses.none;
+          loaded = found_on old.me.0.seen mid.me.0.seen new.me.0.seen new.me.0.seen looks_passed.proceeds.seen.ends
+              (subst (λ (b : Actor). Grows mid.me.0.seen.ends b.seen.ends) (sym (refuses.ends ∙ only_given_up refuses.last)) refuses.looks.proceeds.seen.ends)
+              (grows_not new.me.0.seen.ends) (known.reference + 8) refuses.loaded;
           room = lacked_since why (block_words known) old.me.0 mid.me.0 new.me.0 tried.1 looks_passed.proceeds.seen.warned refuses.room;
         }

@@ -229,6 +229,7 @@ module _ {segment : Segment} {known : Known} {counts : ℕ} {first old : Pass} (
                       corrupt = λ saw. saw;
                       warned = omega arith;
                       chain = grows_not b.seen.chain;
+                      ends = grows_not b.seen.ends;
                       tails = grows_not b.seen.tails;
                       singles = grows_by b.seen.singles (sight (known.reference + 9) off);
                       counts = grows_by b.seen.counts (sight (counts + 4 + word / 2 ^ 32) (count + word % 2 ^ 32));

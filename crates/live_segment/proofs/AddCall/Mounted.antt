@@ -1,5 +1,5 @@
 -- How a recorder brings the counts of a histogram in use: what it knows of the counts reference, and what mounting leaves as it was.
-use Rattle.std.proofs.Common.{◌≡◌, ◌≢◌, ℕ, ◌+◌, ◌≤◌, not, Bool, true, false, true≢false, if◌then◌else◌, zero, suc, ◌-◌, ◌*◌, ◌<◌, length, append-nil, Option, Ok, Err, List, [], ◌∷◌, ◌++◌, filter, Some, None, refl, sym, ap, ◌∙◌, subst, arith, eq-eqb, ne_eqb}
+use Rattle.std.proofs.Common.{◌≡◌, ◌≢◌, ℕ, ◌+◌, ◌≤◌, not, Bool, true, false, true≢false, if◌then◌else◌, zero, suc, ◌-◌, ◌*◌, ◌<◌, ◌==◌, length, append-nil, Option, Ok, Err, List, [], ◌∷◌, ◌++◌, filter, Some, None, refl, sym, ap, ◌∙◌, subst, arith, eq-eqb, ne_eqb}
 use Rattle.std.specs.Prelude.{slice_index}
 use Rattle.std.specs.List.{Contains}
 use Rattle.std.proofs.lemmas.List.Elements.{Contains-append_right}
@@ -44,10 +44,11 @@ use Rattle.live_segment.specs.Working.{CountsWithin, LooksOn}
 use Rattle.live_segment.proofs.Seating.Allowed.{does_at}
 use Rattle.live_segment.proofs.NewRecords.Claimed.{looks_claimed, looks_refused}
 use Rattle.live_segment.proofs.Seating.Proceeding.{does_not, looks_on}
-use Rattle.segment_promises.proofs.Growing.{grows_by, grows_not}
+use Rattle.segment_promises.proofs.Growing.{ended_grows, grows_by, grows_not, grows_same}
 use Rattle.segment_promises.proofs.Calls.Places.{looks_there}
 use Rattle.live_segment.proofs.AddCall.Refusing.{only_given_up}
 use Rattle.live_segment.proofs.NewRecords.Rooms.{lacked_since, lacks_room}
+use Rattle.live_segment.proofs.Walks.Ends.{found_now, found_on}
 
 -- ---- the counts reference
 
@@ -87,13 +88,14 @@ mounts_on a b known may looks =
       );
     }
 
--- it has seen words more
-sees_words : (a : Seen) (more : List Sighting) → SeesOn a (record a { words = a.words ++ more })
-sees_words a more = record {
+-- it has seen words more, and may have found one that leads to no block
+sees_words : (a : Seen) (more : List Sighting) (ends : List ℕ) → Grows a.ends ends → SeesOn a (record a { words = a.words ++ more; ends = ends })
+sees_words a more ends longer = record {
   free = omega arith;
   corrupt = λ saw. saw;
   warned = omega arith;
   chain = grows_not a.chain;
+  ends = longer;
   tails = grows_not a.tails;
   singles = grows_not a.singles;
   counts = grows_not a.counts;
@@ -102,10 +104,10 @@ sees_words a more = record {
 }
 
 -- it stands elsewhere with other blocks, and has seen words more
-pub with_words : (a : Actor) (hand : Hand) (more : List Sighting) → is_bound hand.place ≡ false
-    → LooksOn a (record a { hand = hand; seen = record a.seen { words = a.seen.words ++ more } })
-with_words a hand more free = record {
-  proceeds = record { same = refl; free = free; done = does_not a.done; seen = sees_words a.seen more };
+pub with_words : (a : Actor) (hand : Hand) (more : List Sighting) (ends : List ℕ) → Grows a.seen.ends ends → is_bound hand.place ≡ false
+    → LooksOn a (record a { hand = hand; seen = record a.seen { words = a.seen.words ++ more; ends = ends } })
+with_words a hand more ends longer free = record {
+  proceeds = record { same = refl; free = free; done = does_not a.done; seen = sees_words a.seen more ends longer };
   units = refl;
   entries = refl;
 }
@@ -131,7 +133,7 @@ module _ (segment : Segment) (known : Known) (old : Pass) (at : ℕ) (table : ol
         let view : mid.me.0 ≡ after_mount true a known.reference at found =
         step.view ∙ ap (λ (b : Bool). after_mount b a known.reference at found) (eq-eqb found 0 none) in
         subst (λ (b : Actor). HasMounted known a at b) (sym view) (record {
-          looks = with_words a (after_mount true a known.reference at found).hand (sight_counts known.reference at) refl;
+          looks = with_words a (after_mount true a known.reference at found).hand (sight_counts known.reference at) a.seen.ends (grows_not a.seen.ends) refl;
           filled = refl;
           stands = ((None, refl), within);
         })
@@ -153,7 +155,7 @@ module _ (segment : Segment) (known : Known) (old : Pass) (at : ℕ) (table : ol
           let all : new.me.0 ≡ next (after_mount false a known.reference at found) (packing_event (purge_block at)) 0 =
           purged.view ∙ ap (λ (b : Actor). next b (packing_event (purge_block at)) 0) view in
           subst (λ (b : Actor). HasMounted known a found b) (sym all) (record {
-            looks = with_words a (next (after_mount false a known.reference at found) (packing_event (purge_block at)) 0).hand (sight_counts known.reference found) refl;
+            looks = with_words a (next (after_mount false a known.reference at found) (packing_event (purge_block at)) 0).hand (sight_counts known.reference found) a.seen.ends (grows_not a.seen.ends) refl;
             filled = refl;
             stands = ((None, refl), (there, step.learned.0 known may.knows there));
           })
@@ -197,14 +199,17 @@ module _ (segment : Segment) (known : Known) (old : Pass) (table : old.table_id 
     abbrev loaded : Actor
     loaded = next first (counting_event (load_counts known.reference)) found
 
+    ends_more : Grows first.seen.ends loaded.seen.ends
+    ends_more = ended_grows first.seen.ends (known.reference + 8) (found == 0)
+
     pub looks_loaded : LooksOn first seat.me.0
-    looks_loaded = subst (LooksOn first) (sym step.view) (with_words first loaded.hand (sight_counts known.reference found) refl)
+    looks_loaded = subst (LooksOn first) (sym step.view) (with_words first loaded.hand (sight_counts known.reference found) loaded.seen.ends ends_more refl)
 
     -- there are some
     pub finds_some : found ≢ 0 → HasMounted known first found seat.me.0
     finds_some there =
         subst (λ (b : Actor). HasMounted known first found b) (sym step.view) (record {
-          looks = with_words first loaded.hand (sight_counts known.reference found) refl;
+          looks = with_words first loaded.hand (sight_counts known.reference found) loaded.seen.ends ends_more refl;
           filled = refl;
           stands = (
             (
@@ -289,6 +294,9 @@ module _ (segment : Segment) (known : Known) (old : Pass) (table : old.table_id 
               idle = ap (λ (b : Actor). b.hand.place) (ends ∙ only_given_up last) ∙ ap (λ (b : Actor). b.hand.place) is;
               none = ap (λ (s : Seen). word_seen s.words (known.reference + 8)) seen
                   ∙ (ap (λ (b : Actor). word_seen b.seen.words (known.reference + 8)) is ∙ none_seen);
+              loaded = found_on first.seen first.seen seat.me.0.seen new.seen (grows_not first.seen.ends) looks_loaded.proceeds.seen.ends
+                  (grows_same seat.me.0.seen.ends new.seen.ends (ap (λ (s : Seen). s.ends) seen ∙ ap (λ (b : Actor). b.seen.ends) is)) (known.reference + 8)
+                  (found_now first.seen seat.me.0.seen (known.reference + 8) (found == 0) (ap (λ (b : Actor). b.seen.ends) step.view) (eq-eqb found 0 none));
               room = lacked_since why (block_words known) first seat.me.0 new (ap (λ (b : Actor). b.done) step.view) looks_loaded.proceeds.seen.warned room;
             }
 

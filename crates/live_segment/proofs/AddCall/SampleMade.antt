@@ -196,6 +196,7 @@ looks_published at histogram value a b has = record {
       corrupt = λ saw. ap (λ (x : Actor). x.seen.corrupt) has.view ∙ saw;
       warned = let e = ap (λ (x : Actor). x.seen.warned) has.view in omega (arith, e);
       chain = grows_same a.seen.chain b.seen.chain (ap (λ (x : Actor). x.seen.chain) has.view);
+      ends = grows_same a.seen.ends b.seen.ends (ap (λ (x : Actor). x.seen.ends) has.view);
       tails = has.tails;
       singles = grows_same a.seen.singles b.seen.singles (ap (λ (x : Actor). x.seen.singles) has.view);
       counts = grows_same a.seen.counts b.seen.counts (ap (λ (x : Actor). x.seen.counts) has.view);

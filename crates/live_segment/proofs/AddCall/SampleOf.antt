@@ -23,11 +23,13 @@ use Rattle.segment_promises.specs.Onward.{DoesOn}
 use Rattle.live_segment.specs.Refusing.{MayGiveUp}
 use Rattle.live_segment.specs.Rule.{IsOf}
 use Rattle.live_segment.specs.Sampling.{FindsSample, HasMadeNoSample, HasMadeSample, HasNotMadeSample, HasSampleOf, LacksSampleOf, SawNone, WalksBehind}
+use Rattle.live_segment.specs.Ends.{SawAllOfList}
 use Rattle.live_segment.specs.Searching.{HasSearched}
 use Rattle.live_segment.specs.Working.{LooksOn}
 use Rattle.live_segment.proofs.AddCall.Beginning.{known_there}
+use Rattle.live_segment.proofs.Walks.Ends.{all_on}
 use Rattle.live_segment.proofs.Seating.Proceeding.{does_not, looks_on}
-use Rattle.segment_promises.proofs.Growing.{grows_same, others_still}
+use Rattle.segment_promises.proofs.Growing.{grows_not, grows_same, others_still}
 use Rattle.live_segment.proofs.AddCall.Refusing.{only_given_up}
 use Rattle.live_segment.proofs.NewRecords.Rooms.{lacked_since}
 
@@ -86,6 +88,7 @@ looks_searched a b free searched = record {
       corrupt = λ saw. ap (λ (x : Actor). x.seen.corrupt) searched.view ∙ saw;
       warned = let e = ap (λ (x : Actor). x.seen.warned) searched.view in omega (arith, e);
       chain = searched.chain;
+      ends = searched.ends;
       tails = grows_same a.seen.tails b.seen.tails (ap (λ (x : Actor). x.seen.tails) searched.view);
       singles = grows_same a.seen.singles b.seen.singles (ap (λ (x : Actor). x.seen.singles) searched.view);
       counts = grows_same a.seen.counts b.seen.counts (ap (λ (x : Actor). x.seen.counts) searched.view);
@@ -161,20 +164,23 @@ module _ (known : Known) (value : ℤ) (a b : Actor) (searched : HasSearched a b
         (sym (ap (λ (x : Actor). x.done.published) again.view)) made.published)
 
   -- there is none, and none could be made
-  pub lacks_sample : (why : Refusal) (c : Actor) → SawNone known.reference value b → HasNotMadeSample why b c → LacksSampleOf why known value a c
-  lacks_sample why c none refused = record {
-    last = refused.last;
-    looks = looks_on a b refused.last (looks_searched a b free searched) refused.looks;
-    untouched = ap (λ (s : Seen). s.counts) refused.seen ∙ ap (λ (x : Actor). x.seen.counts) searched.view;
-    ends = refused.ends;
-    idle = refused.idle;
-    none =
-        let seen : c.seen ≡ record b.seen { free = refused.last.seen.free; corrupt = refused.last.seen.corrupt; warned = refused.last.seen.warned } = ap (λ (x : Actor). x.seen) (refused.ends ∙ only_given_up refused.last) ∙ refused.seen in
-        let (front, behind, parts, others) = none in (
-          front,
-          behind,
-          ap (λ (s : Seen). s.chain) seen ∙ parts,
-          others_still b.seen c.seen (grows_same b.seen.words c.seen.words (ap (λ (s : Seen). s.words) seen)) known.reference value behind others,
-        );
-    room = lacked_since why 8 a b c (ap (λ (x : Actor). x.done) searched.view) (looks_searched a b free searched).proceeds.seen.warned refused.room;
-  }
+  pub lacks_sample : (why : Refusal) (c : Actor) → SawNone known.reference value b → SawAllOfList a.seen b.seen → HasNotMadeSample why b c → LacksSampleOf why known value a c
+  lacks_sample why c none all refused =
+      let seen : c.seen ≡ record b.seen { free = refused.last.seen.free; corrupt = refused.last.seen.corrupt; warned = refused.last.seen.warned } = ap (λ (x : Actor). x.seen) (refused.ends ∙ only_given_up refused.last) ∙ refused.seen in
+      record {
+        last = refused.last;
+        looks = looks_on a b refused.last (looks_searched a b free searched) refused.looks;
+        untouched = ap (λ (s : Seen). s.counts) refused.seen ∙ ap (λ (x : Actor). x.seen.counts) searched.view;
+        ends = refused.ends;
+        idle = refused.idle;
+        none =
+            let (front, behind, parts, others) = none in (
+              front,
+              behind,
+              ap (λ (s : Seen). s.chain) seen ∙ parts,
+              others_still b.seen c.seen (grows_same b.seen.words c.seen.words (ap (λ (s : Seen). s.words) seen)) known.reference value behind others,
+            );
+        all = all_on a.seen a.seen b.seen c.seen (grows_not a.seen.ends) searched.ends (grows_same b.seen.ends c.seen.ends (ap (λ (s : Seen). s.ends) seen))
+            (ap (λ (s : Seen). s.chain) seen) all;
+        room = lacked_since why 8 a b c (ap (λ (x : Actor). x.done) searched.view) (looks_searched a b free searched).proceeds.seen.warned refused.room;
+      }

@@ -21,6 +21,7 @@ use Rattle.live_segment.specs.Seated.{IsSeated}
 use Rattle.segment_promises.specs.Values.{NoRepeats}
 use Rattle.live_segment.specs.Records.{KnowsOwnSamples}
 use Rattle.live_segment.specs.Finding.{Meets, SeesWords}
+use Rattle.live_segment.specs.Ends.{SawAllOfList}
 use Rattle.live_segment.specs.Searching.{HasSearched}
 use Rattle.live_segment.specs.Sampling.{FindsSample, ShowsValue, WalksBehind}
 use Rattle.live_segment.specs.Walks.{IsWalkProgress}
@@ -45,6 +46,10 @@ module _ {segment : Segment} {old : Pass} {histogram : ℕ} {value : ℤ} {at : 
 
     others_then : All (SawOther new.me.0.seen histogram value) walks.given
     others_then = others_still old.me.0.seen new.me.0.seen searched.words histogram value walks.given walks.others
+
+    -- at the end of the list it has seen all of it
+    pub found_end : NoRepeats old.me.0.seen.chain → found ≡ 12 → SawAllOfList old.me.0.seen new.me.0.seen
+    found_end once end = way.found_end seated walks.way found new load once end
 
     -- at the end of the list there is none, and so it has published none
     pub ends : NoRepeats old.me.0.seen.chain → KnowsOwnSamples old.me.0 → found ≡ 12 → FindsSample histogram value (search.End at) new.me.0

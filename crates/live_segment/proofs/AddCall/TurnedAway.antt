@@ -143,7 +143,7 @@ turned_not_counted why known bucket value units old new bucketed one is_of turne
     record {
       buckets = λ has.
           let (word, saw, on, none) = turned.cannot in
-          ((word, saw, on, λ other packed key packs. none packed (subst (λ (b : ℕ). IsPacking b units word packed) (one other key) packs)), turned.none);
+          ((word, saw, on, λ other packed key packs. none packed (subst (λ (b : ℕ). IsPacking b units word packed) (one other key) packs)), turned.none, turned.loaded);
       values = λ sparse. absurd (true≢false (sym bucketed ∙ ap has_buckets sparse));
     },
     turned.room,

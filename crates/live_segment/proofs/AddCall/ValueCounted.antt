@@ -112,7 +112,7 @@ value_lacks why known value units old new sparse lacks = record {
   lacks = (
     record {
       buckets = λ bucketed. absurd (true≢false (sym bucketed ∙ ap has_buckets sparse));
-      values = λ is. lacks.none;
+      values = λ is. let (front, behind, parts, others) = lacks.none in (front, behind, parts, others, lacks.all);
     },
     subst (λ (spec : Spec). HasNoRoom why (if has_buckets spec then 4 + 2 * buckets_of spec else 8) old new) (sym sparse) lacks.room,
   );

@@ -121,6 +121,7 @@ module _ (known : Known) (front : List (ℤ × ℕ)) (item : ℤ × ℕ) (old a 
             corrupt = on.seen.corrupt;
             warned = on.seen.warned;
             chain = on.seen.chain;
+            ends = on.seen.ends;
             tails = on.seen.tails;
             singles = on.seen.singles;
             counts = grows_on old.seen.counts mid.seen.counts new.seen.counts on.seen.counts ended.counts;

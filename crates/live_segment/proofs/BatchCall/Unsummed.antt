@@ -1,8 +1,9 @@
 -- A batch without a sum: its first items and its last one. Where the first ones are cut short, all of it is.
-use Rattle.std.proofs.Common.{◌≡◌, ◌+◌, ◌-◌, ◌<◌, ◌≤◌, ℤ, pos, ℕ, List, [], ◌∷◌, ◌++◌, map, take, length, get_or, sym, ap, ◌∙◌, subst, arith}
+use Rattle.std.proofs.Common.{◌≡◌, ◌+◌, ◌-◌, ◌<◌, ◌≤◌, ℤ, pos, ℕ, List, [], ◌∷◌, ◌++◌, map, take, length, get_or, Bool, true, false, if◌then◌else◌, refl, sym, ap, ◌∙◌, subst, arith}
 use Rattle.std.specs.List.{All}
 use Rattle.std.proofs.Math.Seq.{take-length}
-use Rattle.std.proofs.lemmas.List.{take-append-le, take_more}
+use Rattle.std.specs.Str.{bytes_eq}
+use Rattle.std.proofs.lemmas.List.{append-nil, take-append-le, take_more}
 use Rattle.atomic_table.proofs.Lists.{at_longer}
 use Rattle.segment_invariant.proofs.Lists.Elements.{below_length}
 use Rattle.segment_calls.specs.declared.refusal.BatchRefusal.{BatchRefusal}
@@ -13,14 +14,32 @@ use Rattle.segment_machine.specs.declared.actor.Known.{Known}
 use Rattle.segment_machine.specs.Actor.{log_of}
 use Rattle.segment_machine.specs.Entry.{item_entry}
 use Rattle.live_segment.specs.Adding.{Pays}
-use Rattle.live_segment.specs.Batching.{IsCutShort}
+use Rattle.live_segment.specs.Batching.{IsBatched, IsCutShort}
 use Rattle.live_segment.proofs.BatchCall.Items.{within_all}
+use Rattle.live_segment.proofs.Seating.Proceeding.{does_not, sees_not}
 
 pub front_and_last : (items : List (ℤ × ℕ)) (d : ℤ × ℕ) → 1 ≤ length items
     → take (length items - 1) items ++ get_or items (length items - 1) d ∷ [] ≡ items
 front_and_last items d some =
     let all : length items - 1 + 1 ≡ length items = omega (arith, some) in
     sym (take_more items (length items - 1) d (omega (arith, some))) ∙ (ap (λ (n : ℕ). take n items) all ∙ take-length items)
+
+nothing : (b : Bool) → ◌≡◌ {A = ℕ} (if b then 0 else 0) 0
+nothing true = refl
+nothing false = refl
+
+-- a batch of nothing is counted where nothing happens
+pub batched_none : (known : Known) (items : List (ℤ × ℕ)) (a : Actor) → length items < 1 → IsBatched known items (pos 0) a a
+batched_none known [] a none = record {
+  logged = sym (append-nil (log_of a));
+  pays = record {
+    share = omega arith;
+    spent = λ other. let no_units = nothing (bytes_eq known.name other) in omega (arith, no_units);
+  };
+  filled = refl;
+  onward = record { same = refl; done = does_not a.done; seen = sees_not a.seen };
+}
+batched_none known (item ∷ rest) a none = absurd (omega (arith, none))
 
 -- the last item has units, and the share has those of all
 pub last_fits : (known : Known) (items : List (ℤ × ℕ)) (share : ℕ) → 1 ≤ length items → All (λ item. 1 ≤ item.1) items × (units_of items ≤ share)

@@ -83,6 +83,7 @@ sees_count a more = record {
   corrupt = λ saw. saw;
   warned = omega arith;
   chain = grows_not a.chain;
+  ends = grows_not a.ends;
   tails = grows_not a.tails;
   singles = grows_not a.singles;
   counts = grows_by a.counts more;

@@ -1,5 +1,5 @@
 -- A delta of a histogram with buckets: it begins with the single word, takes what that says, and ends with the sum.
-use Rattle.std.proofs.Common.{◌≡◌, ◌≢◌, ℕ, ◌+◌, ◌-◌, ◌*◌, ◌<◌, ◌≤◌, ℤ, max, if◌then◌else◌, Bool, true, false, true≢false, List, [], ◌∷◌, ◌++◌, drop, take, length, Option, Some, None, inl, inr, ⊎_elim, refl, sym, ap, subst, ◌∙◌, arith}
+use Rattle.std.proofs.Common.{◌≡◌, ◌≢◌, ℕ, ◌+◌, ◌-◌, ◌*◌, ◌<◌, ◌≤◌, ◌==◌, ℤ, max, if◌then◌else◌, Bool, true, false, true≢false, List, [], ◌∷◌, ◌++◌, drop, take, length, Option, Some, None, inl, inr, ⊎_elim, refl, sym, ap, subst, ◌∙◌, arith}
 use Rattle.std.specs.Prelude.{unwrap_or}
 use Rattle.std.specs.List.{Contains}
 use Rattle.std.specs.List.Sorted.{IsStrictlySortedBy}
@@ -22,7 +22,7 @@ use Rattle.segment_machine.specs.declared.place.Place.TheVariants.{Looking}
 use Rattle.segment_machine.specs.declared.seen.Seen.{Seen}
 use Rattle.segment_machine.specs.declared.seen.Sighting.{Sighting}
 use Rattle.segment_machine.specs.Actor.{Buckets, SawCount, SawSingle, bucket_key, has_buckets, is_bound, is_opener, known_at, known_buckets, word_seen}
-use Rattle.segment_machine.specs.Calls.{back, form_seen, look_of, sight, sight_counts}
+use Rattle.segment_machine.specs.Calls.{back, ended, form_seen, look_of, sight, sight_counts}
 use Rattle.segment_machine.specs.Counting.{load_counts}
 use Rattle.segment_machine.specs.Event.{Event, next, counting_event, packing_event, taking_event}
 use Rattle.segment_machine.specs.Form.{is_off, units_in, SaysPacked}
@@ -45,7 +45,7 @@ use Rattle.live_segment.proofs.AddCall.Beginning.{known_there}
 use Rattle.live_segment.proofs.SnapshotCall.BucketsSeen.{counts_there}
 use Rattle.segment_promises.proofs.Calls.Sights.{long_still}
 use Rattle.live_segment.proofs.DeltaCall.OneBucket.{marked, none_packed, nothing_more, saw_here, sees_count, takes_by, takes_not, takes_of}
-use Rattle.segment_promises.proofs.Growing.{grows_by, grows_not}
+use Rattle.segment_promises.proofs.Growing.{ended_grows, grows_by, grows_not}
 use Rattle.segment_promises.proofs.Ranks.{on_units}
 use Rattle.segment_promises.proofs.Calls.Places.{looks_again, looks_there}
 
@@ -159,7 +159,10 @@ module _ (segment : Segment) (known : Known) (word : ℕ) (old : Pass) (takes : 
         ∙ ap (λ (l : Look). Looking (record l { counts = counts })) (looks_again (Looking look) look known.reference refl refl))
 
     abbrev seen : Seen
-    seen = record old.me.0.seen { words = old.me.0.seen.words ++ sight_counts known.reference counts }
+    seen = record old.me.0.seen {
+      words = old.me.0.seen.words ++ sight_counts known.reference counts;
+      ends = ended old.me.0.seen.ends (known.reference + 8) (counts == 0);
+    }
 
     sees : SeesOn old.me.0.seen seen
     sees = record {
@@ -167,6 +170,7 @@ module _ (segment : Segment) (known : Known) (word : ℕ) (old : Pass) (takes : 
       corrupt = λ saw. saw;
       warned = omega arith;
       chain = grows_not old.me.0.seen.chain;
+      ends = ended_grows old.me.0.seen.ends (known.reference + 8) (counts == 0);
       tails = grows_not old.me.0.seen.tails;
       singles = grows_not old.me.0.seen.singles;
       counts = grows_not old.me.0.seen.counts;

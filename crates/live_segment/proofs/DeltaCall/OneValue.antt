@@ -27,6 +27,7 @@ module _ (segment : Segment) (known : Known) (at : ℕ) (old mid : Pass) (takes 
     corrupt = λ saw. saw;
     warned = omega arith;
     chain = grows_not old.me.0.seen.chain;
+    ends = grows_not old.me.0.seen.ends;
     tails = grows_not old.me.0.seen.tails;
     singles = grows_not old.me.0.seen.singles;
     counts = sees.counts;

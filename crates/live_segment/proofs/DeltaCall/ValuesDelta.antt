@@ -1,5 +1,5 @@
 -- A delta of a sparse histogram: how it begins, what it has taken at the end of the list, and how it ends.
-use Rattle.std.proofs.Common.{◌≡◌, ℕ, ◌+◌, ◌≤◌, ℤ, true≢false, if◌then◌else◌, List, [], ◌∷◌, ◌++◌, length, inl, inr, refl, sym, ap, subst, ◌∙◌, arith}
+use Rattle.std.proofs.Common.{◌≡◌, ℕ, ◌+◌, ◌≤◌, ◌==◌, ℤ, true≢false, if◌then◌else◌, List, [], ◌∷◌, ◌++◌, length, inl, inr, refl, sym, ap, subst, ◌∙◌, arith}
 use Rattle.std.specs.List.{All, Contains}
 use Rattle.std.specs.Ordering.{int_eq}
 use Rattle.std.proofs.lemmas.List.Elements.{Contains-append_right}
@@ -27,7 +27,7 @@ use Rattle.live_segment.specs.Values.{HasTakenValues, TakesAlong}
 use Rattle.live_segment.proofs.AddCall.Beginning.{known_there}
 use Rattle.live_segment.proofs.DeltaCall.DeltaEnds.{kept_all, sees_all}
 use Rattle.segment_promises.proofs.Calls.SampleLists.{all_passed, did_with}
-use Rattle.segment_promises.proofs.Growing.{grows_not, extended_grows}
+use Rattle.segment_promises.proofs.Growing.{grows_not, extended_grows, ended_grows}
 use Rattle.segment_promises.proofs.ValueWalks.{comes_first}
 use Rattle.segment_promises.proofs.Calls.Places.{behind_apart, behind_free}
 
@@ -104,6 +104,7 @@ module _ {segment : Segment} (known : Known) {first : Pass} (seated : IsSeated s
       corrupt = λ saw. saw;
       warned = omega arith;
       chain = extended_grows first.me.0.seen.chain known.reference found;
+      ends = ended_grows first.me.0.seen.ends (known.reference + 3) (found == 12);
       tails = grows_not first.me.0.seen.tails;
       singles = grows_not first.me.0.seen.singles;
       counts = grows_not first.me.0.seen.counts;

@@ -1,5 +1,5 @@
 -- A delta takes of the samples of a sparse histogram, record by record.
-use Rattle.std.proofs.Common.{◌≡◌, ◌≢◌, ℕ, suc, ◌+◌, ◌-◌, ◌*◌, ◌/◌, ◌<◌, ◌≤◌, ℤ, List, [], ◌∷◌, ◌++◌, length, length-append, Option, inl, inr, refl, sym, ap, subst, ◌∙◌, arith, ne_eqb}
+use Rattle.std.proofs.Common.{◌≡◌, ◌≢◌, ℕ, suc, ◌+◌, ◌-◌, ◌*◌, ◌/◌, ◌<◌, ◌≤◌, ◌==◌, ℤ, List, [], ◌∷◌, ◌++◌, length, length-append, Option, inl, inr, refl, sym, ap, subst, ◌∙◌, arith, ne_eqb}
 use Rattle.std.specs.List.{Contains}
 use Rattle.std.proofs.lemmas.List.{append-nil}
 use Rattle.segment_image.specs.Shape.{Dimensions}
@@ -10,6 +10,7 @@ use Rattle.segment_machine.specs.Actor.{is_bound}
 use Rattle.segment_machine.specs.Event.{Event, walking_event}
 use Rattle.segment_machine.specs.Note.{TookSample}
 use Rattle.segment_machine.specs.Taking.{is_looking}
+use Rattle.segment_machine.specs.Calls.{ended}
 use Rattle.segment_machine.specs.Walking.{extended, load_next}
 use Rattle.live_segment.specs.declared.segment.Segment.{Segment}
 use Rattle.live_segment.specs.Deltas.{TakesOn, TakesValues}
@@ -21,7 +22,7 @@ use Rattle.live_segment.specs.Values.{TakesAlong, TakesValue}
 use Rattle.segment_promises.proofs.ListedValues.{lists_nothing, lists_still}
 use Rattle.live_segment.proofs.DeltaCall.OneBucket.{nothing_more, takes_by, takes_not, takes_then}
 use Rattle.live_segment.proofs.DeltaCall.OneSample.{values_on}
-use Rattle.segment_promises.proofs.Growing.{grows_not, extended_grows}
+use Rattle.segment_promises.proofs.Growing.{grows_not, extended_grows, ended_grows}
 use Rattle.live_segment.proofs.SnapshotCall.Seeing.{began, takes_sees}
 use Rattle.live_segment.proofs.Walks.Sharing.{same_on}
 use Rattle.segment_promises.proofs.Calls.Sights.{took_sample}
@@ -84,7 +85,7 @@ module _ (segment : Segment) (known : Known) (passed : List ℕ) (at : ℕ) (tak
       chain_is = ap (λ (a : Actor). a.seen.chain) step.view
 
       abbrev seen : Seen
-      seen = record mid.me.0.seen { chain = extended mid.me.0.seen.chain at found }
+      seen = record mid.me.0.seen { chain = extended mid.me.0.seen.chain at found; ends = ended mid.me.0.seen.ends (at + 3) (found == 12) }
 
       sees : SeesOn mid.me.0.seen seen
       sees = record {
@@ -92,6 +93,7 @@ module _ (segment : Segment) (known : Known) (passed : List ℕ) (at : ℕ) (tak
         corrupt = λ saw. saw;
         warned = omega arith;
         chain = extended_grows mid.me.0.seen.chain at found;
+        ends = ended_grows mid.me.0.seen.ends (at + 3) (found == 12);
         tails = grows_not mid.me.0.seen.tails;
         singles = grows_not mid.me.0.seen.singles;
         counts = grows_not mid.me.0.seen.counts;

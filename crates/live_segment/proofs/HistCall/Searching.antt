@@ -40,7 +40,10 @@ use Rattle.segment_promises.proofs.Growing.{extended_end, extended_grows, refere
 use Rattle.segment_promises.proofs.Furthest.{last_of, last_least, last_most, last_stands}
 use Rattle.segment_promises.proofs.Calls.Places.{behind_apart}
 use Rattle.live_segment.proofs.Walks.Showing.{sees_on}
+use Rattle.live_segment.proofs.Walks.WalkProgress as way
 use Rattle.live_segment.proofs.Walks.Walked.{all_given}
+use Rattle.live_segment.specs.Ends.{SawAllOfList}
+use Rattle.live_segment.specs.Walks.{IsWalkProgress}
 
 -- ---- what was seen stays
 
@@ -56,16 +59,17 @@ others_still a b grows name given others k d inside = other_still a b grows name
 -- ---- on the way
 
 pub searched_not : (a : Actor) → HasSearched a a
-searched_not a = record { view = refl; apart = λ was. was; chain = ([], sym (append-nil a.seen.chain)); words = ([], sym (append-nil a.seen.words)) }
+searched_not a = record { view = refl; apart = λ was. was; chain = ([], sym (append-nil a.seen.chain)); ends = ([], sym (append-nil a.seen.ends)); words = ([], sym (append-nil a.seen.words)) }
 
 pub searched_on : (a b c : Actor) → HasSearched a b → HasSearched b c → HasSearched a c
 searched_on a b c one two = record {
   view = two.view ∙ ap (λ (x : Actor). record x {
     hand = record x.hand { place = c.hand.place };
-    seen = record x.seen { chain = c.seen.chain; words = c.seen.words };
+    seen = record x.seen { chain = c.seen.chain; ends = c.seen.ends; words = c.seen.words };
   }) one.view;
   apart = λ was. two.apart (one.apart was);
   chain = grows_on a.seen.chain b.seen.chain c.seen.chain one.chain two.chain;
+  ends = grows_on a.seen.ends b.seen.ends c.seen.ends one.ends two.ends;
   words = grows_on a.seen.words b.seen.words c.seen.words one.words two.words;
 }
 
@@ -74,10 +78,15 @@ sees_searched a b sees = record {
   view = sees.view
       ∙ (λ i. record a {
         hand = record a.hand { place = sym (ap (λ (x : Actor). x.hand.place) sees.view) i };
-        seen = record a.seen { chain = sym (ap (λ (x : Actor). x.seen.chain) sees.view) i; words = b.seen.words };
+        seen = record a.seen {
+          chain = sym (ap (λ (x : Actor). x.seen.chain) sees.view) i;
+          ends = sym (ap (λ (x : Actor). x.seen.ends) sees.view) i;
+          words = b.seen.words;
+        };
       });
   apart = λ was. ap (λ (x : Actor). is_looking x.hand.place) sees.view ∙ was;
   chain = ([], ap (λ (x : Actor). x.seen.chain) sees.view ∙ sym (append-nil a.seen.chain));
+  ends = ([], ap (λ (x : Actor). x.seen.ends) sees.view ∙ sym (append-nil a.seen.ends));
   words = sees.words;
 }
 
@@ -89,6 +98,9 @@ module _ {segment : Segment} {old : Pass} {name : List ℕ} {at : ℕ} (seated :
 
   abbrev chain : List ℕ
   chain = old.me.0.seen.chain
+
+  way_there : IsWalkProgress given at old.me.0
+  way_there = record { free = walks.free; front = walks.front; stands = walks.stands; within = walks.within }
 
   pub may_follow : MayStep segment old (walking_event (load_next at))
   may_follow = record {
@@ -104,19 +116,12 @@ module _ {segment : Segment} {old : Pass} {name : List ℕ} {at : ℕ} (seated :
     chain_is : new.me.0.seen.chain ≡ extended chain at found
     chain_is = ap (λ (a : Actor). a.seen.chain) load.view
 
-    words_are : new.me.0.seen.words ≡ old.me.0.seen.words
-    words_are = ap (λ (a : Actor). a.seen.words) load.view
-
     pub searched : HasSearched old.me.0 new.me.0
-    searched = record {
-      view = load.view ∙ (λ i. record old.me.0 {
-        hand = record old.me.0.hand { place = sym (ap (λ (a : Actor). a.hand.place) load.view) i };
-        seen = record old.me.0.seen { chain = sym chain_is i; words = sym words_are i };
-      });
-      apart = λ was. ap (λ (a : Actor). is_looking a.hand.place) load.view ∙ behind_apart old.me.0.hand.place at found was;
-      chain = subst (Grows chain) (sym chain_is) (extended_grows chain at found);
-      words = ([], words_are ∙ sym (append-nil old.me.0.seen.words));
-    }
+    searched = way.searched seated way_there found new load
+
+    -- at the end of the list it has seen all of it
+    pub found_end : NoRepeats chain → found ≡ 12 → SawAllOfList old.me.0.seen new.me.0.seen
+    found_end once end = way.found_end seated way_there found new load once end
 
     walks_on : Walks new.me.0 (given_after given (said_of old.me.0.segment.shape.size found))
     walks_on =

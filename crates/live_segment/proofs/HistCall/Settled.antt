@@ -23,12 +23,14 @@ use Rattle.segment_calls.specs.declared.refusal.Refusal.{Refusal}
 use Rattle.segment_calls.specs.declared.refusal.Refusal.TheVariants as why
 use Rattle.live_segment.specs.declared.finding.Search.TheVariants as search
 use Rattle.live_segment.specs.Adding.{HasNoRoom}
+use Rattle.live_segment.specs.Ends.{SawAllOfList}
 use Rattle.live_segment.specs.Allocation.{Allocates, filled, noticed, saw_free}
 use Rattle.live_segment.specs.Answering.{HaveOneName}
 use Rattle.live_segment.specs.Making.{HasMade, Makes}
 use Rattle.live_segment.specs.Settling.{IsRefusedBy, LooksAround, LooksUp, Owes, OwesAs, Settles}
 use Rattle.segment_promises.specs.Onward.{DoesOn}
 use Rattle.live_segment.specs.Searching.{HasMadeNone, HasSearched, Searches, WalksAt, asked_at}
+use Rattle.live_segment.proofs.Walks.Ends.{all_on}
 use Rattle.live_segment.proofs.NewRecords.Claimed.{sees_header}
 use Rattle.live_segment.proofs.NewRecords.Rooms.{lacked_since, lacks_room}
 use Rattle.live_segment.proofs.Seating.Proceeding.{does_not, does_on, sees_on}
@@ -68,6 +70,7 @@ searched_around a b free searched = record {
     corrupt = λ saw. ap (λ (x : Actor). x.seen.corrupt) searched.view ∙ saw;
     warned = let e = ap (λ (x : Actor). x.seen.warned) searched.view in omega (arith, e);
     chain = searched.chain;
+    ends = searched.ends;
     tails = grows_same a.seen.tails b.seen.tails (ap (λ (x : Actor). x.seen.tails) searched.view);
     singles = grows_same a.seen.singles b.seen.singles (ap (λ (x : Actor). x.seen.singles) searched.view);
     counts = grows_same a.seen.counts b.seen.counts (ap (λ (x : Actor). x.seen.counts) searched.view);
@@ -107,6 +110,7 @@ made_around asked a b made = record {
     corrupt = λ saw. ap (λ (x : Actor). x.seen.corrupt) made.view ∙ saw;
     warned = let e = ap (λ (x : Actor). x.seen.warned) made.view in omega (arith, e);
     chain = grows_same a.seen.chain b.seen.chain (ap (λ (x : Actor). x.seen.chain) made.view);
+    ends = grows_same a.seen.ends b.seen.ends (ap (λ (x : Actor). x.seen.ends) made.view);
     tails = made.tails;
     singles = grows_same a.seen.singles b.seen.singles (ap (λ (x : Actor). x.seen.singles) made.view);
     counts = grows_same a.seen.counts b.seen.counts (ap (λ (x : Actor). x.seen.counts) made.view);
@@ -146,6 +150,7 @@ filled_around a free = record {
     corrupt = λ saw. saw;
     warned = omega arith;
     chain = grows_not a.seen.chain;
+    ends = grows_not a.seen.ends;
     tails = grows_not a.seen.tails;
     singles = grows_not a.seen.singles;
     counts = grows_not a.seen.counts;
@@ -258,28 +263,29 @@ module _ (asked : Asked) (a b c d : Actor) (none : a.answers.owed ≡ []) (first
 
 -- no block could be claimed for a record
 pub not_made : (asked : Asked) (at : ℕ) (a b c : Actor) (cause : Refusal) → a.answers.owed ≡ [] → a.entries.running ≡ [] → HasSearched a b
-    → Searches asked (search.End at) b → Makes asked b (Err cause) c → LooksUp asked a (Err cause) c
-not_made asked at a b c cause none rests searched (walks, others, made_none) allocates =
+    → Searches asked (search.End at) b → SawAllOfList a.seen b.seen → Makes asked b (Err cause) c → LooksUp asked a (Err cause) c
+not_made asked at a b c cause none rests searched (walks, others, made_none) all allocates =
     let (looks, room, chain, words, owed, not_other) =
     refused_around (4 + length asked.payload.items) b c cause (ap (λ (x : Actor). x.entries.running) searched.view ∙ rests) allocates in
     let looked = around_on a b c (searched_around a b walks.free searched) looks in
     let still = others_still b.seen c.seen (grows_same b.seen.words c.seen.words words) asked.name.items b.seen.chain others in
     let nothing : c.answers.owed ≡ [] = owed ∙ (ap (λ (x : Actor). x.answers.owed) searched.view ∙ none) in
     let began = searched_around a b walks.free searched in
-    by cause (lacked_since cause (4 + length asked.payload.items) a b c (ap (λ (x : Actor). x.done) searched.view) began.seen.warned room) (subst (All (SawOtherName c.seen asked.name.items)) (sym chain) still) nothing looked not_other
+    by cause (lacked_since cause (4 + length asked.payload.items) a b c (ap (λ (x : Actor). x.done) searched.view) began.seen.warned room) (subst (All (SawOtherName c.seen asked.name.items)) (sym chain) still)
+    (all_on a.seen a.seen b.seen c.seen (grows_not a.seen.ends) began.seen.ends looks.seen.ends chain all) nothing looked not_other
   where
-    by : (cause : Refusal) → HasNoRoom cause (4 + length asked.payload.items) a c → All (SawOtherName c.seen asked.name.items) c.seen.chain → c.answers.owed ≡ []
-        → LooksAround a c → cause ≢ why.OtherSpec → LooksUp asked a (Err cause) c
-    by why.Full room others nothing looked not_other = (looked, nothing, (others, room))
-    by why.Corrupt room others nothing looked not_other = (looked, nothing, (others, room))
-    by why.OtherSpec room others nothing looked not_other = absurd (not_other refl)
-    by why.BadName room others nothing looked not_other = absurd room
-    by (why.BadSpec fault) room others nothing looked not_other = absurd room
-    by why.ZeroCount room others nothing looked not_other = absurd room
-    by why.NoUnits room others nothing looked not_other = absurd room
-    by why.TooMany room others nothing looked not_other = absurd room
-    by why.NoMemory room others nothing looked not_other = absurd room
-    by why.TooLarge room others nothing looked not_other = absurd room
+    by : (cause : Refusal) → HasNoRoom cause (4 + length asked.payload.items) a c → All (SawOtherName c.seen asked.name.items) c.seen.chain → SawAllOfList a.seen c.seen
+        → c.answers.owed ≡ [] → LooksAround a c → cause ≢ why.OtherSpec → LooksUp asked a (Err cause) c
+    by why.Full room others all nothing looked not_other = (looked, nothing, (others, all, room))
+    by why.Corrupt room others all nothing looked not_other = (looked, nothing, (others, all, room))
+    by why.OtherSpec room others all nothing looked not_other = absurd (not_other refl)
+    by why.BadName room others all nothing looked not_other = absurd room
+    by (why.BadSpec fault) room others all nothing looked not_other = absurd room
+    by why.ZeroCount room others all nothing looked not_other = absurd room
+    by why.NoUnits room others all nothing looked not_other = absurd room
+    by why.TooMany room others all nothing looked not_other = absurd room
+    by why.NoMemory room others all nothing looked not_other = absurd room
+    by why.TooLarge room others all nothing looked not_other = absurd room
 
 -- ---- what is said of it
 
@@ -291,13 +297,13 @@ may_decline asked why.OtherSpec old a (inr (at, one)) other =
     ((subst (λ (l : List Known). Contains l (asked_at asked at)) (sym one) (0, omega arith, refl), other), refl)
 may_decline asked why.Full old a none cause = subst (λ (l : List Known). MayNoteAll a (map declines l)) (sym none) refl
 may_decline asked why.Corrupt old a none cause = subst (λ (l : List Known). MayNoteAll a (map declines l)) (sym none) refl
-may_decline asked why.BadName old a none cause = absurd cause.1
-may_decline asked (why.BadSpec fault) old a none cause = absurd cause.1
-may_decline asked why.ZeroCount old a none cause = absurd cause.1
-may_decline asked why.NoUnits old a none cause = absurd cause.1
-may_decline asked why.TooMany old a none cause = absurd cause.1
-may_decline asked why.NoMemory old a none cause = absurd cause.1
-may_decline asked why.TooLarge old a none cause = absurd cause.1
+may_decline asked why.BadName old a none cause = absurd cause.2
+may_decline asked (why.BadSpec fault) old a none cause = absurd cause.2
+may_decline asked why.ZeroCount old a none cause = absurd cause.2
+may_decline asked why.NoUnits old a none cause = absurd cause.2
+may_decline asked why.TooMany old a none cause = absurd cause.2
+may_decline asked why.NoMemory old a none cause = absurd cause.2
+may_decline asked why.TooLarge old a none cause = absurd cause.2
 
 -- the same name and the same record
 same_known : (k : Known) → (not (bytes_eq k.name k.name && (k.reference == k.reference))) ≡ false
@@ -324,13 +330,13 @@ declined_all asked why.OtherSpec old a (inl none) other = declined_none a none
 declined_all asked why.OtherSpec old a (inr (at, one)) other = declined_one a (asked_at asked at) one
 declined_all asked why.Full old a none cause = declined_none a none
 declined_all asked why.Corrupt old a none cause = declined_none a none
-declined_all asked why.BadName old a none cause = absurd cause.1
-declined_all asked (why.BadSpec fault) old a none cause = absurd cause.1
-declined_all asked why.ZeroCount old a none cause = absurd cause.1
-declined_all asked why.NoUnits old a none cause = absurd cause.1
-declined_all asked why.TooMany old a none cause = absurd cause.1
-declined_all asked why.NoMemory old a none cause = absurd cause.1
-declined_all asked why.TooLarge old a none cause = absurd cause.1
+declined_all asked why.BadName old a none cause = absurd cause.2
+declined_all asked (why.BadSpec fault) old a none cause = absurd cause.2
+declined_all asked why.ZeroCount old a none cause = absurd cause.2
+declined_all asked why.NoUnits old a none cause = absurd cause.2
+declined_all asked why.TooMany old a none cause = absurd cause.2
+declined_all asked why.NoMemory old a none cause = absurd cause.2
+declined_all asked why.TooLarge old a none cause = absurd cause.2
 
 -- the cause lies in what it has seen and done
 cause_of : (asked : Asked) (cause : Refusal) (old a : Actor) (owed : List Known) → IsRefusedBy asked cause old a
@@ -338,13 +344,13 @@ cause_of : (asked : Asked) (cause : Refusal) (old a : Actor) (owed : List Known)
 cause_of asked why.OtherSpec old a owed other = other
 cause_of asked why.Full old a owed cause = cause
 cause_of asked why.Corrupt old a owed cause = cause
-cause_of asked why.BadName old a owed cause = absurd cause.1
-cause_of asked (why.BadSpec fault) old a owed cause = absurd cause.1
-cause_of asked why.ZeroCount old a owed cause = absurd cause.1
-cause_of asked why.NoUnits old a owed cause = absurd cause.1
-cause_of asked why.TooMany old a owed cause = absurd cause.1
-cause_of asked why.NoMemory old a owed cause = absurd cause.1
-cause_of asked why.TooLarge old a owed cause = absurd cause.1
+cause_of asked why.BadName old a owed cause = absurd cause.2
+cause_of asked (why.BadSpec fault) old a owed cause = absurd cause.2
+cause_of asked why.ZeroCount old a owed cause = absurd cause.2
+cause_of asked why.NoUnits old a owed cause = absurd cause.2
+cause_of asked why.TooMany old a owed cause = absurd cause.2
+cause_of asked why.NoMemory old a owed cause = absurd cause.2
+cause_of asked why.TooLarge old a owed cause = absurd cause.2
 
 around_unowed : (a b : Actor) → LooksAround a b → LooksAround a (record b { answers = record b.answers { owed = [] } })
 around_unowed a b looks = record {

@@ -17,6 +17,7 @@ sees_header a free corrupt warned later saw more = record {
   corrupt = saw;
   warned = more;
   chain = grows_not a.chain;
+  ends = grows_not a.ends;
   tails = grows_not a.tails;
   singles = grows_not a.singles;
   counts = grows_not a.counts;

@@ -18,6 +18,7 @@ sees_not a = record {
   corrupt = λ saw. saw;
   warned = omega arith;
   chain = grows_not a.chain;
+  ends = grows_not a.ends;
   tails = grows_not a.tails;
   singles = grows_not a.singles;
   counts = grows_not a.counts;
@@ -41,6 +42,7 @@ sees_on a b c first second = record {
   corrupt = λ saw. second.corrupt (first.corrupt saw);
   warned = let x = first.warned in let y = second.warned in omega (arith, x, y);
   chain = grows_on a.chain b.chain c.chain first.chain second.chain;
+  ends = grows_on a.ends b.ends c.ends first.ends second.ends;
   tails = grows_on a.tails b.tails c.tails first.tails second.tails;
   singles = grows_on a.singles b.singles c.singles first.singles second.singles;
   counts = grows_on a.counts b.counts c.counts first.counts second.counts;

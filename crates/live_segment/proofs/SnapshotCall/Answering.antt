@@ -86,6 +86,7 @@ module _ (known : Known) (a b : Actor) (looked : HasLooked a b) (snapshot : Snap
     corrupt = λ saw. saw;
     warned = omega arith;
     chain = grows_not b.seen.chain;
+    ends = grows_not b.seen.ends;
     tails = grows_not b.seen.tails;
     singles = grows_not b.seen.singles;
     counts = grows_by b.seen.counts (sight (known.reference + 13) snapshot.redundant);

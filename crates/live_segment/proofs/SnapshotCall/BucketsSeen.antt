@@ -1,5 +1,5 @@
 -- A recorder looks at the buckets of a histogram: it loads the single word and, where that is off, the counts of all buckets.
-use Rattle.std.proofs.Common.{◌≡◌, ◌≢◌, ℕ, ◌+◌, ◌*◌, ◌^◌, ◌<◌, ◌≤◌, Bool, true, false, true≢false, if◌then◌else◌, ℤ, List, [], ◌∷◌, ◌++◌, drop, length, get_or, Some, inl, inr, ⊎_elim, refl, sym, ap, ◌∙◌, subst, arith}
+use Rattle.std.proofs.Common.{◌≡◌, ◌≢◌, ℕ, ◌+◌, ◌*◌, ◌^◌, ◌<◌, ◌≤◌, ◌==◌, Bool, true, false, true≢false, if◌then◌else◌, ℤ, List, [], ◌∷◌, ◌++◌, drop, length, get_or, Some, inl, inr, ⊎_elim, refl, sym, ap, ◌∙◌, subst, arith}
 use Rattle.std.specs.List.{All, Contains}
 use Rattle.std.proofs.lemmas.Bool.{ne_eqb, le-leb}
 use Rattle.std.proofs.lemmas.List.Elements.{All-contains, Contains-append_right}
@@ -32,7 +32,7 @@ use Rattle.live_segment.specs.Steps.{Pass, IsAtRest, Stepped}
 use Rattle.live_segment.specs.GhostNotes.{KnowsAlone, MayDo, Noted}
 use Rattle.live_segment.proofs.AddCall.Attempts.{is_on}
 use Rattle.live_segment.proofs.AddCall.Beginning.{known_there, sees_single}
-use Rattle.segment_promises.proofs.Growing.{grows_by, grows_not}
+use Rattle.segment_promises.proofs.Growing.{ended_grows, grows_by, grows_not}
 use Rattle.segment_promises.proofs.Calls.Places.{looks_again, looks_there}
 use Rattle.segment_promises.proofs.Calls.SeenWords.{seen_now}
 
@@ -181,6 +181,7 @@ module _ {segment : Segment} (known : Known) {first : Pass} (seated : IsSeated s
           corrupt = λ saw. saw;
           warned = omega arith;
           chain = grows_not a.seen.chain;
+          ends = ended_grows a.seen.ends (known.reference + 8) (counts == 0);
           tails = grows_not a.seen.tails;
           singles = grows_by a.seen.singles (sight (known.reference + 9) word);
           counts = now.more;

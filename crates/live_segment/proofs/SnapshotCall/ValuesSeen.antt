@@ -1,5 +1,5 @@
 -- A snapshot looks at the samples of a sparse histogram, record by record.
-use Rattle.std.proofs.Common.{◌≡◌, ◌≢◌, ℕ, ◌+◌, ◌-◌, ◌*◌, ◌/◌, ◌<◌, ◌≤◌, ℤ, false, true≢false, map, List, [], ◌∷◌, ◌++◌, length, Option, Some, None, inl, inr, ⊎_elim, refl, sym, ap, subst, ◌∙◌, arith}
+use Rattle.std.proofs.Common.{◌≡◌, ◌≢◌, ℕ, ◌+◌, ◌-◌, ◌*◌, ◌/◌, ◌<◌, ◌≤◌, ◌==◌, ℤ, false, true≢false, map, List, [], ◌∷◌, ◌++◌, length, Option, Some, None, inl, inr, ⊎_elim, refl, sym, ap, subst, ◌∙◌, arith}
 use Rattle.std.specs.Int.{cast_signed, cast_unsigned, w64}
 use Rattle.std.specs.List.{All, Contains}
 use Rattle.std.proofs.Math.ListN.{get_or}
@@ -13,7 +13,7 @@ use Rattle.segment_machine.specs.declared.actor.Actor.{Actor}
 use Rattle.segment_machine.specs.declared.actor.Known.{Known}
 use Rattle.segment_machine.specs.declared.seen.Seen.{Seen}
 use Rattle.segment_machine.specs.Actor.{SawCount, has_buckets, is_bound, is_opener, known_at, looking}
-use Rattle.segment_machine.specs.Calls.{sight}
+use Rattle.segment_machine.specs.Calls.{ended, sight}
 use Rattle.segment_machine.specs.Event.{Event, next, walking_event}
 use Rattle.segment_machine.specs.Made.{IsFirstSample, SawSample}
 use Rattle.segment_machine.specs.Note.{SawAll, looks}
@@ -35,7 +35,7 @@ use Rattle.live_segment.specs.Values.{HasListed, HasTotal, LooksAlong, LooksAtVa
 use Rattle.live_segment.proofs.SnapshotCall.Answering.{answered, began, redundant_last, saw_still, summed}
 use Rattle.live_segment.proofs.AddCall.Beginning.{known_there}
 use Rattle.segment_promises.proofs.ListedValues.{lists_nothing, lists_still}
-use Rattle.segment_promises.proofs.Growing.{grows_not, extended_grows}
+use Rattle.segment_promises.proofs.Growing.{grows_not, extended_grows, ended_grows}
 use Rattle.live_segment.proofs.Seating.Proceeding.{sees_not, sees_on}
 use Rattle.segment_promises.proofs.Calls.Sights.{began_still, saw_count}
 use Rattle.live_segment.proofs.SnapshotCall.Seeing.{began as had, more_sees}
@@ -118,6 +118,7 @@ module _ (segment : Segment) (known : Known) (passed : List ℕ) (at : ℕ) (lis
       corrupt = λ saw. saw;
       warned = omega arith;
       chain = grows_not old.me.0.seen.chain;
+      ends = grows_not old.me.0.seen.ends;
       tails = grows_not old.me.0.seen.tails;
       singles = grows_not old.me.0.seen.singles;
       counts = sees.counts;
@@ -179,15 +180,16 @@ module _ (segment : Segment) (known : Known) (passed : List ℕ) (at : ℕ) (lis
 
     module _ (found : ℕ) (new : Pass) (step : Stepped mid event found new) (once : NoRepeats mid.me.0.seen.chain) where
       on_step : SeesMore mid.me.0 new.me.0
-      on_step = more_by mid.me.0 new.me.0 (record mid.me.0.seen { chain = extended mid.me.0.seen.chain at found })
+      on_step = more_by mid.me.0 new.me.0 (record mid.me.0.seen { chain = extended mid.me.0.seen.chain at found; ends = ended mid.me.0.seen.ends (at + 3) (found == 12) })
           (step.view ∙ (λ i. record mid.me.0 {
             hand = record mid.me.0.hand { place = sym (ap (λ (a : Actor). a.hand.place) step.view) i };
-            seen = record mid.me.0.seen { chain = extended mid.me.0.seen.chain at found };
+            seen = record mid.me.0.seen { chain = extended mid.me.0.seen.chain at found; ends = ended mid.me.0.seen.ends (at + 3) (found == 12) };
           })) (record {
             free = omega arith;
             corrupt = λ saw. saw;
             warned = omega arith;
             chain = extended_grows mid.me.0.seen.chain at found;
+            ends = ended_grows mid.me.0.seen.ends (at + 3) (found == 12);
             tails = grows_not mid.me.0.seen.tails;
             singles = grows_not mid.me.0.seen.singles;
             counts = grows_not mid.me.0.seen.counts;
@@ -280,6 +282,7 @@ module _ {segment : Segment} (known : Known) {first : Pass} (seated : IsSeated s
         corrupt = λ saw. saw;
         warned = omega arith;
         chain = extended_grows first.me.0.seen.chain known.reference found;
+        ends = ended_grows first.me.0.seen.ends (known.reference + 3) (found == 12);
         tails = grows_not first.me.0.seen.tails;
         singles = grows_not first.me.0.seen.singles;
         counts = grows_not first.me.0.seen.counts;

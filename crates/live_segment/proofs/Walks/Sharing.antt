@@ -1,6 +1,6 @@
 -- A try of a call on a shared cursor: what a recorder knows once it has loaded the cursor and the next behind it, and once its exchange
 -- took or came too late.
-use Rattle.std.proofs.Common.{◌≡◌, ◌≢◌, ℕ, ◌+◌, ◌-◌, ◌*◌, ◌<◌, ◌≤◌, ◌==◌, Bool, true, false, if◌then◌else◌, List, [], ◌∷◌, ◌++◌, length, set, slice_index, inr, refl, sym, ap, subst, ◌∙◌, eq-eqb, ne_eqb, arith, All, Option, Some, None}
+use Rattle.std.proofs.Common.{◌≡◌, ◌≢◌, ℕ, ◌+◌, ◌-◌, ◌*◌, ◌<◌, ◌≤◌, ◌==◌, Bool, true, false, if◌then◌else◌, List, [], ◌∷◌, ◌++◌, length, drop, set, slice_index, inr, refl, sym, ap, subst, ◌∙◌, eq-eqb, ne_eqb, arith, All, Option, Some, None}
 use Rattle.std.specs.List.{Contains}
 use Rattle.std.proofs.lemmas.List.{append-nil, append_assoc, set-set, set-get_or, get_or-set_same}
 use Rattle.std.proofs.lemmas.List.Elements.{All-push}
@@ -12,7 +12,7 @@ use Rattle.segment_machine.specs.declared.place.Place.{Place}
 use Rattle.segment_machine.specs.declared.place.Place.TheVariants.{Idle, CursorLoaded, BehindCursor}
 use Rattle.segment_machine.specs.declared.seen.Sighting.{Sighting}
 use Rattle.segment_machine.specs.Actor.{is_bound, is_opener}
-use Rattle.segment_machine.specs.Calls.{sight}
+use Rattle.segment_machine.specs.Calls.{sight, ended as with_end}
 use Rattle.segment_machine.specs.Cursors.{load_cursor, move_cursor, after_cursor}
 use Rattle.segment_machine.specs.Event.{cursor_event, walking_event, next}
 use Rattle.segment_machine.specs.Walking.{load_next, behind, records_met, IsNextOf}
@@ -22,7 +22,8 @@ use Rattle.live_segment.specs.Holders.{MayStep}
 use Rattle.live_segment.specs.Seated.{IsSeated}
 use Rattle.segment_promises.specs.Onward.{Grows}
 use Rattle.segment_promises.proofs.Growing.{grows_on, extended_grows, extended_end, reference_within, reference_behind}
-use Rattle.live_segment.specs.Cursors.{AnswersNext, IsLate, IsGivenNext, IsAtEnd, StandsBehind, at_cursor, ended_at}
+use Rattle.live_segment.specs.Cursors.{AnswersNext, IsLate, IsGivenNext, IsAtEnd, StandsBehind, at_cursor, ended_at, given_behind}
+use Rattle.live_segment.proofs.Walks.Ends.{found_now}
 
 -- ---- what came before
 
@@ -151,7 +152,11 @@ module _ {segment : Segment} {cursor : ℕ} {first old : Pass} (turn : IsSharing
           let last : new.me.0 ≡ ended_at old.me.0 cursor at = view
           ∙ (λ i. record old.me.0 {
             hand = record old.me.0.hand { place = behind_end cursor at found end i };
-            seen = record old.me.0.seen { chain = extended_end old.me.0.seen.chain at found end i; cursors = old.me.0.seen.cursors ++ sight cursor at };
+            seen = record old.me.0.seen {
+              chain = extended_end old.me.0.seen.chain at found end i;
+              ends = with_end old.me.0.seen.ends (at + 3) (eq-eqb found 12 end i);
+              cursors = old.me.0.seen.cursors ++ sight cursor at;
+            };
           }) in
           let (chain, seen, ends, met) = learned.given cursor refl end in record {
             late = old.me.0;
@@ -159,6 +164,8 @@ module _ {segment : Segment} {cursor : ℕ} {first old : Pass} (turn : IsSharing
             at = at;
             next = subst (λ (n : ℕ). IsNextOf (at_cursor old.me.0 cursor at) at n) end learned;
             view = last;
+            found = subst (λ (l : List ℕ). Contains (drop (length l) new.me.0.seen.ends) (at + 3)) (ap (λ (a : Actor). a.seen.ends) turn.late.same)
+                (found_now old.me.0.seen new.me.0.seen (at + 3) true (ap (λ (a : Actor). a.seen.ends) last) refl);
             chain = chain;
             seen = subst (λ (a : Actor). IsPrefix a.seen.chain chain) (sym last) seen;
             ends = ends;
@@ -195,7 +202,10 @@ module _ {segment : Segment} {cursor : ℕ} {first old : Pass} (turn : IsSharing
                 next = learned;
                 behind = low;
                 within = high;
-                view = moved ∙ ap (λ (b : Bool). after_cursor b (followed old.me.0 cursor at found) cursor found other) (eq-eqb other at took);
+                view = moved
+                    ∙ (ap (λ (b : Bool). after_cursor b (followed old.me.0 cursor at found) cursor found other) (eq-eqb other at took)
+                    ∙ ap (λ (b : Bool). let given = given_behind old.me.0 cursor at found in
+                    record given { seen = record given.seen { ends = with_end old.me.0.seen.ends (at + 3) b } }) (ne_eqb found 12 miss));
                 chain = chain;
                 neighbours = neighbours;
                 ordered = ordered;
@@ -224,7 +234,11 @@ module _ {segment : Segment} {cursor : ℕ} {first old : Pass} (turn : IsSharing
                       ∙ (λ i. record first.me.0 {
                         hand = record first.me.0.hand { place = Idle };
                         done = record first.me.0.done { lost = sym losses i };
-                        seen = record first.me.0.seen { chain = sym chains i; cursors = sym (ap (λ (a : Actor). a.seen.cursors) again) i };
+                        seen = record first.me.0.seen {
+                          chain = sym chains i;
+                          ends = with_end first.me.0.seen.ends (at + 3) (ne_eqb found 12 miss i);
+                          cursors = sym (ap (λ (a : Actor). a.seen.cursors) again) i;
+                        };
                       })
                       ∙ ap (λ (p : Place). record first.me.0 {
                         hand = record first.me.0.hand { place = p };

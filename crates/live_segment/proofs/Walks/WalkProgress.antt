@@ -1,5 +1,5 @@
 -- A walk along the list goes on, whatever it looks for: what a recorder knows once it has loaded the next of the block where it stands.
-use Rattle.std.proofs.Common.{◌≡◌, ◌≢◌, ℕ, ◌+◌, ◌<◌, ◌≤◌, Bool, true, List, [], ◌∷◌, ◌++◌, length, slice_index, false, refl, sym, ap, subst, ◌∙◌, arith, ne_eqb, length-append, eq-eqb}
+use Rattle.std.proofs.Common.{◌≡◌, ◌≢◌, ℕ, ◌+◌, ◌<◌, ◌≤◌, ◌==◌, Bool, true, List, [], ◌∷◌, ◌++◌, length, slice_index, false, refl, sym, ap, subst, ◌∙◌, arith, ne_eqb, length-append, eq-eqb}
 use Rattle.std.specs.Prelude.{if◌then◌else◌}
 use Rattle.std.specs.List.{All, Contains}
 use Rattle.std.proofs.lemmas.List.{append-nil, get_or_push, get_or_append_left, length_push}
@@ -11,6 +11,7 @@ use Rattle.list_core.specs.Walk.{IsPrefix, given_after, said_of, stands_behind}
 use Rattle.list_core.proofs.Walks.{place_of}
 use Rattle.segment_machine.specs.declared.actor.Actor.{Actor}
 use Rattle.segment_machine.specs.Actor.{is_bound}
+use Rattle.segment_machine.specs.Calls.{ended}
 use Rattle.segment_machine.specs.Event.{walking_event, Ready}
 use Rattle.segment_machine.specs.Stages.{Walks}
 use Rattle.segment_machine.specs.Taking.{is_looking}
@@ -22,12 +23,14 @@ use Rattle.live_segment.specs.Holders.{MayStep}
 use Rattle.live_segment.specs.Seated.{IsSeated}
 use Rattle.segment_promises.specs.Onward.{Grows}
 use Rattle.segment_promises.specs.Values.{NoRepeats}
+use Rattle.live_segment.specs.Ends.{FoundNone, SawAllOfList}
 use Rattle.live_segment.specs.Finding.{Meets, SeesWords}
 use Rattle.live_segment.specs.Searching.{HasSearched}
 use Rattle.live_segment.specs.Walks.{IsWalkProgress}
-use Rattle.segment_promises.proofs.Growing.{extended_end, extended_grows, reference_behind}
+use Rattle.segment_promises.proofs.Growing.{ended_grows, extended_end, extended_grows, reference_behind}
 use Rattle.segment_promises.proofs.Furthest.{last_of, last_least, last_most, last_stands}
 use Rattle.segment_promises.proofs.Calls.Places.{behind_apart}
+use Rattle.live_segment.proofs.Walks.Ends.{found_now}
 use Rattle.live_segment.proofs.Walks.Walked.{all_given}
 
 module _ {segment : Segment} {old : Pass} {given : List ℕ} {at : ℕ} (seated : IsSeated segment old) (way : IsWalkProgress given at old.me.0) where
@@ -51,14 +54,18 @@ module _ {segment : Segment} {old : Pass} {given : List ℕ} {at : ℕ} (seated 
     words_are : new.me.0.seen.words ≡ old.me.0.seen.words
     words_are = ap (λ (a : Actor). a.seen.words) load.view
 
+    ends_are : new.me.0.seen.ends ≡ ended old.me.0.seen.ends (at + 3) (found == 12)
+    ends_are = ap (λ (a : Actor). a.seen.ends) load.view
+
     pub searched : HasSearched old.me.0 new.me.0
     searched = record {
       view = load.view ∙ (λ i. record old.me.0 {
         hand = record old.me.0.hand { place = sym (ap (λ (a : Actor). a.hand.place) load.view) i };
-        seen = record old.me.0.seen { chain = sym chain_is i; words = sym words_are i };
+        seen = record old.me.0.seen { chain = sym chain_is i; ends = sym ends_are i; words = sym words_are i };
       });
       apart = λ was. ap (λ (a : Actor). is_looking a.hand.place) load.view ∙ behind_apart old.me.0.hand.place at found was;
       chain = subst (Grows chain) (sym chain_is) (extended_grows chain at found);
+      ends = subst (Grows old.me.0.seen.ends) (sym ends_are) (ended_grows old.me.0.seen.ends (at + 3) (found == 12));
       words = ([], words_are ∙ sym (append-nil old.me.0.seen.words));
     }
 
@@ -78,6 +85,12 @@ module _ {segment : Segment} {old : Pass} {given : List ℕ} {at : ℕ} (seated 
 
       pub chain_still : new.me.0.seen.chain ≡ chain
       chain_still = chain_is ∙ extended_end chain at found end
+
+      -- it has seen all of the list
+      pub found_end : SawAllOfList old.me.0.seen new.me.0.seen
+      found_end =
+          subst (λ (n : ℕ). FoundNone (n + 3) old.me.0.seen new.me.0.seen) (way.stands ∙ ap stands_behind (whole ∙ sym chain_still))
+          (found_now old.me.0.seen new.me.0.seen (at + 3) (found == 12) ends_are (eq-eqb found 12 end))
 
       -- all that it met is there
       pub met_all : All (Contains chain) (records_met old.me.0)

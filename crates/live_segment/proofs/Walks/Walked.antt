@@ -1,5 +1,5 @@
 -- A walk along the list: what a recorder knows between two of its steps, and at its end.
-use Rattle.std.proofs.Common.{◌≡◌, ◌≢◌, ℕ, suc, ◌+◌, ◌*◌, ◌<◌, ◌≤◌, Bool, true, false, true≢false, List, [], ◌∷◌, ◌++◌, length, slice_index, refl, sym, ap, subst, ◌∙◌, ne_eqb, length-append, arith}
+use Rattle.std.proofs.Common.{◌≡◌, ◌≢◌, ℕ, suc, ◌+◌, ◌*◌, ◌<◌, ◌≤◌, Bool, true, false, true≢false, List, [], ◌∷◌, ◌++◌, length, slice_index, refl, sym, ap, subst, ◌∙◌, eq-eqb, ne_eqb, length-append, arith}
 use Rattle.std.specs.Prelude.{◌==◌, ◌||◌, if◌then◌else◌, take, drop}
 use Rattle.std.specs.List.{All, Contains, list_any}
 use Rattle.std.proofs.lemmas.List.Folds.{list_any-append}
@@ -19,6 +19,7 @@ use Rattle.segment_machine.specs.declared.place.Place.{Place}
 use Rattle.segment_machine.specs.declared.place.Place.TheVariants.{Spent}
 use Rattle.segment_machine.specs.declared.actor.Known.{Known}
 use Rattle.segment_machine.specs.Actor.{is_bound, is_opener, known_at}
+use Rattle.segment_machine.specs.Calls.{ended as with_end}
 use Rattle.segment_machine.specs.Event.{walking_event, change, next, Ready}
 use Rattle.segment_machine.specs.Stages.{Walks}
 use Rattle.segment_machine.specs.Taking.{is_looking}
@@ -70,14 +71,14 @@ module _ (setting : Setting) (slots id : ℕ) (me : Sat) (word : ℕ) (records :
 
 -- ---- between two steps
 
--- it has seen so much of the list, and otherwise only its place may be another
-abbrev saw_list : Actor → Place → List ℕ → Actor
-saw_list a place chain = record a { hand = record a.hand { place = place }; seen = record a.seen { chain = chain } }
+-- it has seen so much of the list, and found these words to lead to no block; otherwise only its place may be another
+abbrev saw_list : Actor → Place → List ℕ → List ℕ → Actor
+saw_list a place chain ends = record a { hand = record a.hand { place = place }; seen = record a.seen { chain = chain; ends = ends } }
 
 -- a walk has given these records, and stands behind them
 pub record IsWalking (first now : Pass) (given : List ℕ) (at : ℕ) : Type 0 where
   pub same : IsSame first now
-  pub view : now.me.0 ≡ saw_list first.me.0 now.me.0.hand.place now.me.0.seen.chain
+  pub view : now.me.0 ≡ saw_list first.me.0 now.me.0.hand.place now.me.0.seen.chain first.me.0.seen.ends
   pub apart : StaysApart first.me.0 now.me.0
   pub chain : Grows first.me.0.seen.chain now.me.0.seen.chain
   pub walks : Walks now.me.0 given
@@ -135,10 +136,11 @@ module _ {segment : Segment} {first old : Pass} {given : List ℕ} {at : ℕ} (s
     pub same_still : IsSame first new
     same_still = (load.same.0 ∙ is.same.0, load.same.1 ∙ is.same.1, load.same.2 ∙ is.same.2)
 
-    view_still : new.me.0 ≡ saw_list first.me.0 new.me.0.hand.place new.me.0.seen.chain
+    view_still : new.me.0 ≡ saw_list first.me.0 new.me.0.hand.place new.me.0.seen.chain (with_end first.me.0.seen.ends (at + 3) (found == 12))
     view_still =
         load.view ∙ (ap (λ (a : Actor). next a (walking_event (load_next at)) found) is.view
-        ∙ (λ i. saw_list first.me.0 (sym (ap (λ (a : Actor). a.hand.place) load.view) i) (sym (ap (λ (a : Actor). a.seen.chain) load.view) i)))
+        ∙ (λ i. saw_list first.me.0 (sym (ap (λ (a : Actor). a.hand.place) load.view) i) (sym (ap (λ (a : Actor). a.seen.chain) load.view) i)
+        (with_end first.me.0.seen.ends (at + 3) (found == 12))))
 
     apart_still : StaysApart first.me.0 new.me.0
     apart_still was = ap (λ (a : Actor). is_looking a.hand.place) load.view ∙ behind_apart old.me.0.hand.place at found (is.apart was)
@@ -161,7 +163,9 @@ module _ {segment : Segment} {first old : Pass} {given : List ℕ} {at : ℕ} (s
         (λ passed. load.learned.again (length given) passed (place_of given rest old.me.0.seen.chain front ∙ sym is.stands)) end in
         let seen : new.me.0.seen.chain ≡ given = chain_is ∙ (extended_end old.me.0.seen.chain at found end ∙ sym whole) in
         let met : All (Contains old.me.0.seen.chain) (records_met old.me.0) = load.learned.all (ap stands_behind (sym whole) ∙ sym is.stands) end in record {
-          view = view_still ∙ ap (saw_list first.me.0 new.me.0.hand.place) seen;
+          view = view_still
+              ∙ ((λ i. saw_list first.me.0 new.me.0.hand.place (seen i) (with_end first.me.0.seen.ends (at + 3) (eq-eqb found 12 end i)))
+              ∙ ap (λ (n : ℕ). saw_list first.me.0 new.me.0.hand.place given (first.me.0.seen.ends ++ (n + 3) ∷ [])) is.stands);
           free = walks_on.0;
           apart = apart_still;
           chain = subst (Grows first.me.0.seen.chain) (sym whole) is.chain;
@@ -185,7 +189,8 @@ module _ {segment : Segment} {first old : Pass} {given : List ℕ} {at : ℕ} (s
           let shape : old.me.0.segment.shape ≡ first.me.0.segment.shape = ap (λ (a : Actor). a.segment.shape) is.view in
           let long = length_push given found in record {
             same = same_still;
-            view = view_still;
+            view = view_still
+                ∙ ap (λ (b : Bool). saw_list first.me.0 new.me.0.hand.place new.me.0.seen.chain (with_end first.me.0.seen.ends (at + 3) b)) (ne_eqb found 12 miss);
             apart = apart_still;
             chain = grows_on first.me.0.seen.chain old.me.0.seen.chain new.me.0.seen.chain is.chain
                 (subst (Grows old.me.0.seen.chain) (sym chain_is) (extended_grows old.me.0.seen.chain at found));

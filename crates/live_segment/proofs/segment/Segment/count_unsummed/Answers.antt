@@ -13,7 +13,7 @@ use Rattle.live_segment.specs.Working.{CountsAlone, HasCounted}
 use Rattle.live_segment.proofs.BatchCall.ItemsCounted.{may_next}
 use Rattle.live_segment.proofs.BatchCall.ItemsRefused.{stops_at}
 use Rattle.live_segment.proofs.BatchCall.LastItem.{may_end_batch, same_ended, last_rests, last_batched}
-use Rattle.live_segment.proofs.BatchCall.Unsummed.{cut_before, front_and_last, last_fits}
+use Rattle.live_segment.proofs.BatchCall.Unsummed.{batched_none, cut_before, front_and_last, last_fits}
 use Rattle.live_segment.proofs.segment.Segment.count_unsummed.Goals as goal
 
 pub returns-in_err-count_items-clause-outcome : goal.returns-in_err-count_items-clause-outcome
@@ -27,6 +27,9 @@ returns-in_err-count_items-clause-outcome c =
     let new = c.count_items.new.seat.me.0 in
     rw (p.1, p.2) (subst (λ (l : List (ℤ × ℕ)). IsCutShort known l refusal old new) (take-append-drop k items)
     (cut_before known (take k items) (drop k items) refusal old new c.in_err-count_items.ensures.outcome.0))
+
+pub returns-in_default-clause-outcome : goal.returns-in_default-clause-outcome
+returns-in_default-clause-outcome c = batched_none (known_view c.args.histogram.now) c.args.items.now c.args.seat.now.me.0 (search rules)
 
 pub count_value-requires-clause-may : goal.count_value-requires-clause-may
 count_value-requires-clause-may c =

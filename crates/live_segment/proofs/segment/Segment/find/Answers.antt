@@ -1,7 +1,9 @@
 use Rattle.std.proofs.Common.{Bool, refl, subst, arith}
 use Rattle.live_segment.specs.Finding.{ShowsName, ShowsSpec}
+use Rattle.segment_promises.proofs.Growing.{grows_not}
+use Rattle.live_segment.proofs.Walks.Ends.{all_on}
 use Rattle.live_segment.proofs.Walks.Showing.{same_on, sees_on, meets_still}
-use Rattle.live_segment.proofs.HistCall.Searching.{searched_not, searched_on, sees_searched, searched, seat_on, may_follow, room, ends, meets, room_found, walks_then, comes_further, met_spec, met_other}
+use Rattle.live_segment.proofs.HistCall.Searching.{searched_not, searched_on, sees_searched, searched, seat_on, may_follow, room, found_end, ends, meets, room_found, walks_then, comes_further, met_spec, met_other}
 use Rattle.live_segment.proofs.segment.Segment.find.Goals as goal
 
 pub loop-from-init : goal.loop-from-init
@@ -28,6 +30,14 @@ returns-then-next-eq-QUEUE-clause-outcome c =
     let was = c.loop-from.invariant in
     ends was.seated was.walks _ _ c.load_next-next.ensures.step
     c.load_next-next.ensures.once c.load_next-next.ensures.own c.if-next-eq-QUEUE.true
+
+pub returns-then-next-eq-QUEUE-clause-ended : goal.returns-then-next-eq-QUEUE-clause-ended
+returns-then-next-eq-QUEUE-clause-ended c =
+    let was = c.loop-from.invariant in
+    let new = c.load_next-next.new.seat.me.0.seen in
+    all_on c.args.seat.now.me.0.seen c.loop-from.seat.me.0.seen new new was.searched.ends
+    (searched was.seated was.walks _ _ c.load_next-next.ensures.step).ends (grows_not new.ends) refl
+    (found_end was.seated was.walks _ _ c.load_next-next.ensures.step c.load_next-next.ensures.once c.if-next-eq-QUEUE.true)
 
 pub shows_name-requires-clause-met : goal.shows_name-requires-clause-met
 shows_name-requires-clause-met c =

@@ -1,10 +1,12 @@
 use Rattle.std.proofs.Common.{Bool, ℤ, w32, refl, sym, ◌∙◌, subst, arith}
 use Rattle.std.proofs.lemmas.Int.{to_z-of_z}
 use Rattle.live_segment.specs.Sampling.{ShowsValue, WalksBehind}
+use Rattle.segment_promises.proofs.Growing.{grows_not}
+use Rattle.live_segment.proofs.Walks.Ends.{all_on}
 use Rattle.live_segment.proofs.Walks.WalkProgress.{comes_further}
 use Rattle.live_segment.proofs.HistCall.Searching.{searched_not, searched_on, sees_searched, seat_on}
 use Rattle.live_segment.proofs.Walks.Showing.{same_on}
-use Rattle.live_segment.proofs.AddCall.SampleSearches.{may_follow, room, searched, ends, meets, room_found, walks_then, met_first}
+use Rattle.live_segment.proofs.AddCall.SampleSearches.{may_follow, room, searched, found_end, ends, meets, room_found, walks_then, met_first}
 use Rattle.live_segment.proofs.segment.Segment.find_sample.Goals as goal
 
 pub loop-from-init : goal.loop-from-init
@@ -29,6 +31,15 @@ pub returns-then-next-eq-QUEUE-clause-outcome : goal.returns-then-next-eq-QUEUE-
 returns-then-next-eq-QUEUE-clause-outcome c =
     let was = c.loop-from.invariant in
     ends was.seated (was.walks c.args.value (sym (to_z-of_z w32 c.args.value c.ranges.value))) _ _ c.load_next-next.ensures.step c.load_next-next.ensures.once c.load_next-next.ensures.samples c.if-next-eq-QUEUE.true
+
+pub returns-then-next-eq-QUEUE-clause-ended : goal.returns-then-next-eq-QUEUE-clause-ended
+returns-then-next-eq-QUEUE-clause-ended c =
+    let was = c.loop-from.invariant in
+    let walks = was.walks c.args.value (sym (to_z-of_z w32 c.args.value c.ranges.value)) in
+    let new = c.load_next-next.new.seat.me.0.seen in
+    all_on c.args.seat.now.me.0.seen c.loop-from.seat.me.0.seen new new was.searched.ends
+    (searched was.seated walks _ _ c.load_next-next.ensures.step).ends (grows_not new.ends) refl
+    (found_end was.seated walks _ _ c.load_next-next.ensures.step c.load_next-next.ensures.once c.if-next-eq-QUEUE.true)
 
 pub shows_value-requires-clause-met : goal.shows_value-requires-clause-met
 shows_value-requires-clause-met c =

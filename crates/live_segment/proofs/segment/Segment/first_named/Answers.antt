@@ -15,7 +15,7 @@ returns-in_err-make_record-clause-outcome c =
     let p = err_from_is_err_and c.from_residual.result c.from_residual.ensures.1 in
     rw (p.1, p.2)
     (not_made c.args.asked.now c.in-End.at c.args.seat.now.me.0 c.find.new.seat.me.0 c.make_record.new.seat.me.0 c.in_err-make_record.field-0.0
-    c.requires.rests.2 c.requires.rests.1 c.find.ensures.view c.in-End.ensures.outcome c.in_err-make_record.ensures.outcome)
+    c.requires.rests.2 c.requires.rests.1 c.find.ensures.view c.in-End.ensures.outcome c.in-End.ensures.ended c.in_err-make_record.ensures.outcome)
 
 pub find-requires-2-clause-walks : goal.find-requires-2-clause-walks
 find-requires-2-clause-walks c =

@@ -26,7 +26,7 @@ returns-in_err-make_sample-clause-outcome c =
     rw (p.1, p.2)
     (subst (λ (v : ℤ). LacksSampleOf c.in_err-make_sample.field-0.0 k v c.args.seat.now.me.0 c.make_sample.new.seat.me.0) (to_z-of_z w32 c.args.value c.ranges.value)
     (lacks_sample k _ c.args.seat.now.me.0 c.find_sample.new.seat.me.0 c.find_sample.ensures.view c.in-End.ensures.outcome.0.way.free
-    c.in_err-make_sample.field-0.0 c.make_sample.new.seat.me.0 c.in-End.ensures.outcome.1 c.in_err-make_sample.ensures.outcome))
+    c.in_err-make_sample.field-0.0 c.make_sample.new.seat.me.0 c.in-End.ensures.outcome.1 c.in-End.ensures.ended c.in_err-make_sample.ensures.outcome))
 
 pub find_sample-requires-2-clause-walks : goal.find_sample-requires-2-clause-walks
 find_sample-requires-2-clause-walks c =

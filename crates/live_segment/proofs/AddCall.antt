@@ -3,6 +3,7 @@ pub mod Added
 pub mod Adds
 pub mod Attempts
 pub mod Beginning
+pub mod Blocks
 pub mod Counted
 pub mod CountsAlone
 pub mod Disabled

@@ -1,5 +1,6 @@
 -- The call `batch`.
 pub mod Batches
+pub mod Blocks
 pub mod ItemNoted
 pub mod Items
 pub mod ItemsCounted

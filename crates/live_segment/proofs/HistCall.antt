@@ -1,4 +1,5 @@
 -- The call `hist`.
+pub mod Blocks
 pub mod HistAnnounced
 pub mod HistAnswered
 pub mod Knowing

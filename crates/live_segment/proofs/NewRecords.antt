@@ -1,4 +1,5 @@
 -- A block is claimed, filled and published.
+pub mod Blocks
 pub mod Claimed
 pub mod Filled
 pub mod Owned

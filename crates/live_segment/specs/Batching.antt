@@ -18,6 +18,7 @@ use Rattle.segment_machine.specs.Actor.{log_of}
 use Rattle.segment_machine.specs.Counting.{note_next}
 use Rattle.segment_machine.specs.Entry.{batch_cost, batch_entries, item_entry}
 use Rattle.live_segment.specs.Adding.{Pays, LacksBlock}
+use Rattle.live_segment.specs.Claims.{ClaimsForAll}
 use Rattle.segment_promises.specs.Follows.{noted_by}
 use Rattle.segment_promises.specs.Onward.{DoesOn, GoesOn, SeesOn}
 use Rattle.live_segment.specs.Steps.{IsAtRest}
@@ -37,7 +38,7 @@ abbrev pub batch_checks : Actor → List (ℤ × ℕ) → ℤ → List (Bool × 
 batch_checks a items sum = (list_any (λ item. item.1 == 0) items, ZeroCount) ∷ (nat_lt a.units.share (batch_cost items sum), NoUnits) ∷ []
 
 -- A batch that is refused at an item: the items before it are counted, and their units are taken from the share. The sum is not added.
--- That item needed a block behind them, and none could be claimed.
+-- It has claimed what these may claim. The item needed a block behind them, and none could be claimed.
 pub record IsCutShort (known : Known) (items : List (ℤ × ℕ)) (refusal : BatchRefusal) (old new : Actor) : Type 0 where
   pub item : ℤ × ℕ
   pub there : get_elem? items refusal.added ≡ some item
@@ -45,6 +46,7 @@ pub record IsCutShort (known : Known) (items : List (ℤ × ℕ)) (refusal : Bat
   pub pays : Pays known.name (units_of (take refusal.added items)) old new
   pub at : Actor
   pub counted : DoesOn old.done at.done × SeesOn old.seen at.seen
+  pub claims : ClaimsForAll known (take refusal.added items) old at
   pub lacks : LacksBlock refusal.why known item.0 item.1 at new
   pub onward : GoesOn old new
 

@@ -18,6 +18,7 @@ pub mod Holders
 pub mod Closing
 pub mod Allocation
 pub mod Adding
+pub mod Claims
 pub mod Batching
 pub mod GhostNotes
 pub mod Working

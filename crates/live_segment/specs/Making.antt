@@ -11,6 +11,7 @@ use Rattle.segment_calls.specs.declared.asked.Asked.{Asked}
 use Rattle.segment_calls.specs.declared.refusal.Refusal.{Refusal}
 use Rattle.live_segment.specs.declared.rule.Announcement.{Announcement}
 use Rattle.live_segment.specs.Allocation.{Allocates}
+use Rattle.live_segment.specs.Claims.{MakesOne}
 use Rattle.live_segment.specs.Listing.{asked_for}
 use Rattle.segment_promises.specs.Onward.{Grows}
 use Rattle.live_segment.specs.Searching.{asked_at}
@@ -68,6 +69,7 @@ pub record HasMade (asked : Asked) (old new : Actor) : Type 0 where
   pub apart : is_looking new.hand.place ≡ false
   pub unspoiled : old.done.spoiled ≡ false
   pub claimed : Grows old.done.claimed new.done.claimed
+  pub makes : MakesOne (Histogram asked.name.items asked.spec) (BLOCK_HEADER + length asked.payload.items) old.done new.done
   pub later : old.seen.free ≤ new.seen.free
   pub tails : Grows old.seen.tails new.seen.tails
 

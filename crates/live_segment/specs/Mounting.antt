@@ -1,5 +1,5 @@
 -- How a recorder brings the counts of a histogram in use: they are there or are mounted, and the single word is disabled.
-use Rattle.std.specs.Prelude.{◌≡◌, ◌≢◌, true, false, ℕ, ◌+◌, Option, Some, None}
+use Rattle.std.specs.Prelude.{◌≡◌, ◌≢◌, ◌⊎◌, true, false, ℕ, ◌+◌, ◌++◌, Option, Some, None}
 use Rattle.std.specs.List.{Contains}
 use Rattle.segment_image.specs.declared.layout.TheConstants.{HISTOGRAM_COUNTS}
 use Rattle.segment_calls.specs.declared.refusal.Refusal.{Refusal}
@@ -10,12 +10,15 @@ use Rattle.segment_machine.specs.declared.actor.Own.{Own}
 use Rattle.segment_machine.specs.declared.place.Place.TheVariants.{Idle}
 use Rattle.segment_machine.specs.declared.seen.Seen.{Seen}
 use Rattle.segment_machine.specs.Actor.{Buckets, is_bound, is_opener, word_seen}
+use Rattle.segment_machine.specs.Calls.{sight}
 use Rattle.segment_machine.specs.Counting.{load_counts}
 use Rattle.segment_machine.specs.Event.{counting_event}
 use Rattle.segment_machine.specs.Form.{is_off}
 use Rattle.segment_machine.specs.Packing.{CountsIn, IsBlankCounts}
 use Rattle.live_segment.specs.Adding.{HasNoRoom, block_words}
 use Rattle.live_segment.specs.Ends.{FoundNoCounts}
+use Rattle.live_segment.specs.Claims.{IsPurged, KeepsBlocks, MountsOne}
+use Rattle.segment_promises.specs.Onward.{Grows}
 use Rattle.live_segment.specs.Refusing.{given_up}
 use Rattle.live_segment.specs.Steps.{Does, Sat}
 use Rattle.live_segment.specs.GhostNotes.{KnowsAlone}
@@ -57,6 +60,17 @@ pub record HasMounted (known : Known) (old : Actor) (counts : ℕ) (new : Actor)
   pub filled : new.done.filled ≡ old.done.filled
   pub stands : LooksAtCounts new known counts
 
+-- It had a block of its own for the counts, and has done nothing else than to mount it: the counts reference that it saw is that of the block,
+-- or another's, and then the block was purged.
+pub record MountsAt (known : Known) (at : ℕ) (old : Actor) (counts : ℕ) (new : Actor) : Type 0 where
+  pub done : new.done ≡ old.done
+  pub saw : new.seen.words ≡ old.seen.words ++ sight (known.reference + HISTOGRAM_COUNTS) counts
+  pub kept : (counts ≡ at) ⊎ IsPurged at new
+
+-- it has claimed no block for the counts that it found or mounted, or one; of the words of records it has seen no fewer
+abbrev pub MountsAtMostOne : Known → Actor → Actor → Type 0
+MountsAtMostOne known old new = ((new.done ≡ old.done) ⊎ MountsOne known old new) × Grows old.seen.words new.seen.words
+
 -- There were none, and no block could be claimed for them: the call has ended.
 pub record HasNotMounted (why : Refusal) (known : Known) (old new : Actor) : Type 0 where
   pub last : Actor
@@ -77,5 +91,5 @@ StandsOff a known counts = ((word : ℕ) × LooksAt a known.reference (Some word
 -- it has found the single word off or disabled it, and has moved the units that this had
 pub record HasDisabled (known : Known) (counts : ℕ) (old new : Actor) : Type 0 where
   pub looks : LooksOn old new
-  pub done : new.done ≡ old.done
+  pub keeps : KeepsBlocks old new
   pub stands : StandsOff new known counts

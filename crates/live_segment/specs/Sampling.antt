@@ -1,6 +1,6 @@
 -- How a recorder finds the sample of a value of a sparse histogram: it walks along the list, on from the histogram's record. Where there is
 -- none, it makes one.
-use Rattle.std.specs.Prelude.{◌≡◌, Bool, true, false, ℕ, ◌+◌, ◌≤◌, ℤ, List, ◌∷◌, ◌++◌, ⊤}
+use Rattle.std.specs.Prelude.{◌≡◌, ◌⊎◌, Bool, true, false, ℕ, ◌+◌, ◌≤◌, ℤ, List, ◌∷◌, ◌++◌, ⊤}
 use Rattle.std.specs.List.{All, Contains}
 use Rattle.segment_image.specs.declared.layout.TheConstants.{SAMPLE_LEAST}
 use Rattle.segment_machine.specs.declared.actor.Actor.{Actor}
@@ -15,6 +15,7 @@ use Rattle.live_segment.specs.declared.sampling.SampleSearch.{SampleSearch}
 use Rattle.live_segment.specs.declared.sampling.SampleSearch.TheVariants.{Met, End}
 use Rattle.live_segment.specs.Adding.{HasNoRoom}
 use Rattle.live_segment.specs.Ends.{SawAllOfList}
+use Rattle.live_segment.specs.Claims.{MakesOne, MakesSample}
 use Rattle.live_segment.specs.Refusing.{given_up}
 use Rattle.live_segment.specs.Walks.{IsWalkProgress}
 use Rattle.live_segment.specs.Working.{LooksOn}
@@ -64,6 +65,7 @@ pub record HasMadeSample (histogram : ℕ) (value : ℤ) (old new : Actor) : Typ
   pub filled : new.done.filled ≡ old.done.filled
   pub at : ℕ
   pub published : Contains new.done.published (record { reference = at; made = Sample histogram value })
+  pub makes : MakesOne (Sample histogram value) SAMPLE_LEAST old.done new.done
 
 -- no block could be claimed for one, and its call ends
 pub record HasNotMadeSample (why : Refusal) (old new : Actor) : Type 0 where
@@ -76,13 +78,15 @@ pub record HasNotMadeSample (why : Refusal) (old new : Actor) : Type 0 where
 
 -- ---- one that is found or made
 
--- It met the first sample of the value, within the segment. No allocation was refused, and it came to no count.
+-- It met the first sample of the value, within the segment. No allocation was refused, and it came to no count. It claimed nothing, or one
+-- block for the sample.
 pub record HasSampleOf (known : Known) (value : ℤ) (sample : ℕ) (old new : Actor) : Type 0 where
   pub looks : LooksOn old new
   pub first : IsFirstSample new.seen known.reference value sample
   pub within : sample + SAMPLE_LEAST ≤ new.segment.shape.size
   pub filled : new.done.filled ≡ old.done.filled
   pub untouched : new.seen.counts ≡ old.seen.counts
+  pub claims : (new.done ≡ old.done) ⊎ MakesSample known.reference value old new
 
 -- There was none up to the end of the list, and no block could be claimed for one. It came to no count, and its call ends.
 pub record LacksSampleOf (why : Refusal) (known : Known) (value : ℤ) (old new : Actor) : Type 0 where

@@ -14,6 +14,7 @@ use Rattle.live_segment.specs.declared.recorder.KnownHistogram.{KnownHistogram}
 use Rattle.live_segment.specs.Adding.{HasNoRoom}
 use Rattle.live_segment.specs.Answering.{HaveOneName}
 use Rattle.live_segment.specs.Ends.{SawAllOfList}
+use Rattle.live_segment.specs.Claims.{NamesAtMostOne}
 use Rattle.live_segment.specs.Known.{known_view}
 use Rattle.segment_promises.specs.Onward.{DoesOn, SeesOn, StaysApart}
 use Rattle.live_segment.specs.Searching.{asked_at, SawOther}
@@ -55,6 +56,10 @@ abbrev pub LooksUp : Asked → Actor → Result ℕ Refusal → Actor → Type 0
 LooksUp asked old (Ok reference) new =
     LooksAround old new × Owes asked new × IsFound asked reference new × (new.done.filled ≡ old.done.filled)
 LooksUp asked old (Err why) new = LooksAround old new × OwesAs asked why new × IsRefusedBy asked why old new
+
+-- what it has made where there is a record of the name, with the spec or another: nothing, or one record of what is asked for
+abbrev pub MakesFor : Asked → Actor → Actor → Type 0
+MakesFor asked old new = NamesAtMostOne asked.name.items asked.spec (BLOCK_HEADER + length asked.payload.items) old new
 
 -- It knows what it asked for from then on, behind what it knew, and looks at histograms anew. No allocation was refused: it has not set the
 -- full flag.

@@ -17,6 +17,7 @@ use Rattle.segment_promises.specs.Follows.{noted_by}
 use Rattle.live_segment.specs.declared.bucket_counting.PackAttempt.{PackAttempt}
 use Rattle.live_segment.specs.declared.bucket_counting.PackAttempt.TheVariants.{Packed, Off, Passed}
 use Rattle.segment_promises.specs.Onward.{DoesOn, SeesOn}
+use Rattle.live_segment.specs.Claims.{KeepsBlocks}
 use Rattle.live_segment.specs.GhostNotes.{KnowsAlone, bucket_entry, entry_notes}
 
 -- A call of a recorder goes on: what only an ended call changes is as it was, and it has seen and done no less.
@@ -112,10 +113,10 @@ CannotPack known bucket units old new =
 
 -- How an attempt to pack units ended. They are packed; or they are not counted, and the single word that it loaded last is off or cannot take them.
 abbrev pub Tries : Known → ℕ → ℕ → Actor → PackAttempt → Actor → Type 0
-Tries known bucket units old Packed new = HasCounted (bucket_entry known bucket units) old new
+Tries known bucket units old Packed new = HasCounted (bucket_entry known bucket units) old new × KeepsBlocks old new
 Tries known bucket units old Off new =
-    LooksFor (bucket_entry known bucket units) old new × (new.done ≡ old.done) × (new.seen.counts ≡ old.seen.counts)
+    LooksFor (bucket_entry known bucket units) old new × KeepsBlocks old new × (new.seen.counts ≡ old.seen.counts)
     × ((word counts : ℕ) × LooksAt new known.reference (Some word) counts × (is_off word ≡ true)
     × Contains new.seen.singles (record { at = known.reference + HISTOGRAM_SINGLE; word = word }))
 Tries known bucket units old Passed new =
-    LooksFor (bucket_entry known bucket units) old new × (new.done ≡ old.done) × (new.seen.counts ≡ old.seen.counts) × CannotPack known bucket units old new
+    LooksFor (bucket_entry known bucket units) old new × KeepsBlocks old new × (new.seen.counts ≡ old.seen.counts) × CannotPack known bucket units old new

@@ -1,6 +1,6 @@
 //! How a sample is added: it is counted in its bucket, or in the sample of its value, and finished.
 
-ghost use Rattle.std.specs.Prelude.{◌≡◌, ◌≤◌, MatchResult};
+ghost use Rattle.std.specs.Prelude.{◌≡◌, ◌≤◌, IfOk, MatchResult};
 
 use crate::recorder::KnownHistogram;
 use crate::rule::Pass;
@@ -10,6 +10,7 @@ use segment_calls::Refusal;
 impl Segment {
     ghost use Rattle.bucket_ranges.specs.declared.spec.Spec.TheVariants.{Sparse};
     ghost use Rattle.live_segment.specs.Adding.{AnswersSample};
+    ghost use Rattle.live_segment.specs.Claims.{ClaimsFor};
     ghost use Rattle.live_segment.specs.Finishing.{item_of};
     ghost use Rattle.live_segment.specs.Seated.{IsSeated};
     ghost use Rattle.live_segment.specs.Known.{known_view, KnowsRight};
@@ -35,6 +36,7 @@ impl Segment {
         ensures same { IsSame seat.old seat.new }
         ensures rests { IsAtRest seat.new.me.0 }
         ensures outcome { AnswersSample (known_view histogram.now) value units seat.old.me.0 result seat.new.me.0 }
+        ensures claims { IfOk result (λ _. ClaimsFor (known_view histogram.now) value seat.old.me.0 seat.new.me.0) }
     {
         self.count_value(seat, histogram, value, units)?;
         self.finish_sample(seat, histogram, value, units);
@@ -57,6 +59,7 @@ impl Segment {
         requires may { CountsAlone seat.old.me.0 (known_view histogram.now) (item_of (known_view histogram.now) value units) }
         ensures same { IsSame seat.old seat.new }
         ensures outcome { MatchResult result (λ _. HasCounted (item_of (known_view histogram.now) value units) seat.old.me.0 seat.new.me.0) (λ why. IsNotCounted why (known_view histogram.now) value units seat.old.me.0 seat.new.me.0) }
+        ensures claims { IfOk result (λ _. ClaimsFor (known_view histogram.now) value seat.old.me.0 seat.new.me.0) }
     {
         if histogram.ranges.len() == 0 {
             return self.count_in_sample(seat, histogram, value, units);
@@ -79,6 +82,7 @@ impl Segment {
         requires may { CountsAlone seat.old.me.0 (known_view histogram.now) (item_of (known_view histogram.now) value units) }
         ensures same { IsSame seat.old seat.new }
         ensures outcome { MatchResult result (λ _. HasCounted (item_of (known_view histogram.now) value units) seat.old.me.0 seat.new.me.0) (λ why. IsNotCounted why (known_view histogram.now) value units seat.old.me.0 seat.new.me.0) }
+        ensures claims { IfOk result (λ _. ClaimsFor (known_view histogram.now) value seat.old.me.0 seat.new.me.0) }
     {
         let sample = self.sample_of(seat, histogram, value)?;
         self.add_to_sample(seat, sample, u64::from(units));

@@ -1,6 +1,6 @@
 //! How the items of a batch are counted, one after the other.
 
-ghost use Rattle.std.specs.Prelude.{◌≢◌, ◌+◌, ◌≤◌, pos, MatchResult};
+ghost use Rattle.std.specs.Prelude.{◌≢◌, ◌+◌, ◌≤◌, pos, IfOk, MatchResult};
 ghost use Rattle.std.specs.List.{All};
 ghost use Rattle.bucket_ranges.specs.Tally.{units_of};
 ghost use Rattle.segment_machine.specs.Entry.{batch_cost};
@@ -12,6 +12,7 @@ use segment_calls::{BatchRefusal, Refusal};
 
 impl Segment {
     ghost use Rattle.live_segment.specs.Batching.{HasItems, HasNoted, IsBatched, IsCutShort, StopsAt};
+    ghost use Rattle.live_segment.specs.Claims.{ClaimsFor, ClaimsForAll, ClaimsForEach};
     ghost use Rattle.live_segment.specs.Finishing.{item_of};
     ghost use Rattle.live_segment.specs.Seated.{IsSeated};
     ghost use Rattle.live_segment.specs.Known.{known_view, KnowsRight};
@@ -37,6 +38,7 @@ impl Segment {
         ensures same { IsSame seat.old seat.new }
         ensures rests { IsAtRest seat.new.me.0 }
         ensures outcome { MatchResult result (λ _. IsBatched (known_view histogram.now) items.now sum seat.old.me.0 seat.new.me.0) (λ refusal. IsCutShort (known_view histogram.now) items.now refusal seat.old.me.0 seat.new.me.0) }
+        ensures claims { IfOk result (λ _. ClaimsForAll (known_view histogram.now) items.now seat.old.me.0 seat.new.me.0) }
     {
         if sum == 0 {
             self.count_unsummed(seat, histogram, items)
@@ -61,6 +63,7 @@ impl Segment {
         ensures same { IsSame seat.old seat.new }
         ensures rests { IsAtRest seat.new.me.0 }
         ensures outcome { MatchResult result (λ _. IsBatched (known_view histogram.now) items.now sum seat.old.me.0 seat.new.me.0) (λ refusal. IsCutShort (known_view histogram.now) items.now refusal seat.old.me.0 seat.new.me.0) }
+        ensures claims { IfOk result (λ _. ClaimsForAll (known_view histogram.now) items.now seat.old.me.0 seat.new.me.0) }
     {
         self.count_items(seat, histogram, items)?;
         self.add_sum(seat, histogram.reference, sum);
@@ -81,6 +84,7 @@ impl Segment {
         ensures same { IsSame seat.old seat.new }
         ensures rests { IsAtRest seat.new.me.0 }
         ensures outcome { MatchResult result (λ _. IsBatched (known_view histogram.now) items.now (pos 0) seat.old.me.0 seat.new.me.0) (λ refusal. IsCutShort (known_view histogram.now) items.now refusal seat.old.me.0 seat.new.me.0) }
+        ensures claims { IfOk result (λ _. ClaimsForAll (known_view histogram.now) items.now seat.old.me.0 seat.new.me.0) }
     {
         let [front @ .., last] = items else {
             return Ok(());
@@ -111,6 +115,7 @@ impl Segment {
         requires units { All (λ item. 1 ≤ item.1) items.now × (units_of items.now ≤ seat.old.me.0.units.share) }
         ensures same { IsSame seat.old seat.new }
         ensures outcome { MatchResult result (λ _. HasItems (known_view histogram.now) items.now seat.old.me.0 seat.new.me.0) (λ refusal. StopsAt (known_view histogram.now) items.now refusal seat.old.me.0 seat.new.me.0) }
+        ensures claims { IfOk result (λ _. ClaimsForEach (known_view histogram.now) items.now seat.old.me.0 seat.new.me.0) }
     {
         for (added, item) in items.iter().enumerate() {
             if let Err(why) = self.count_item(seat, histogram, item.0, item.1) {
@@ -133,6 +138,7 @@ impl Segment {
         requires may { CountsAlone seat.old.me.0 (known_view histogram.now) (item_of (known_view histogram.now) value units) }
         ensures same { IsSame seat.old seat.new }
         ensures outcome { MatchResult result (λ _. HasNoted (item_of (known_view histogram.now) value units) seat.old.me.0 seat.new.me.0) (λ why. IsNotCounted why (known_view histogram.now) value units seat.old.me.0 seat.new.me.0) }
+        ensures claims { IfOk result (λ _. ClaimsFor (known_view histogram.now) value seat.old.me.0 seat.new.me.0) }
     {
         self.count_value(seat, histogram, value, units)?;
         self.add_redundant(seat, histogram.reference, u64::from(units));

@@ -18,9 +18,10 @@ pub(crate) enum PackAttempt {
 }
 
 impl Segment {
-    ghost use Rattle.std.specs.Prelude.{◌≡◌, ◌+◌, ◌<◌, ◌≤◌, Some, None, MatchResult};
+    ghost use Rattle.std.specs.Prelude.{◌≡◌, ◌+◌, ◌<◌, ◌≤◌, Some, None, IfOk, MatchResult};
     ghost use Rattle.bucket_ranges.specs.Spec.{buckets_of};
     ghost use Rattle.live_segment.specs.Known.{known_view, KnowsRight};
+    ghost use Rattle.live_segment.specs.Mounting.{MountsAtMostOne};
     ghost use Rattle.live_segment.specs.Refusing.{IsTurnedAway};
     ghost use Rattle.live_segment.specs.Holders.{table_of};
     ghost use Rattle.live_segment.specs.Seated.{IsSeated};
@@ -75,6 +76,7 @@ impl Segment {
         requires may { MayCount seat.old.me.0 (known_view histogram.now) bucket units }
         ensures same { IsSame seat.old seat.new }
         ensures outcome { MatchResult result (λ _. HasCounted (bucket_entry (known_view histogram.now) bucket units) seat.old.me.0 seat.new.me.0) (λ why. IsTurnedAway why (known_view histogram.now) bucket units seat.old.me.0 seat.new.me.0) }
+        ensures claims { IfOk result (λ _. MountsAtMostOne (known_view histogram.now) seat.old.me.0 seat.new.me.0) }
     {
         match self.pack_units(seat, histogram, bucket, units) {
             PackAttempt::Packed => {}

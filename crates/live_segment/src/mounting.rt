@@ -21,13 +21,13 @@ fn moves_units(version: u64, word: u64) -> bool
 }
 
 impl Segment {
-    ghost use Rattle.std.specs.Prelude.{◌≡◌, ◌+◌, ◌*◌, ◌≤◌, MatchResult, None};
+    ghost use Rattle.std.specs.Prelude.{◌≡◌, ◌+◌, ◌*◌, ◌≤◌, IfOk, MatchResult, None};
     ghost use Rattle.bucket_ranges.specs.Spec.{buckets_of, spec_fault};
     ghost use Rattle.live_segment.specs.Known.{known_view};
     ghost use Rattle.live_segment.specs.Adding.{block_words};
     ghost use Rattle.bucket_ranges.specs.Ranges.{boundaries_of};
     ghost use Rattle.live_segment.specs.Seated.{IsSeated};
-    ghost use Rattle.live_segment.specs.Mounting.{MayMount, HasBlank, LooksAtCounts, HasMounted, HasNotMounted, HasDisabled};
+    ghost use Rattle.live_segment.specs.Mounting.{MayMount, HasBlank, LooksAtCounts, HasMounted, HasNotMounted, HasDisabled, MountsAt, MountsAtMostOne};
     ghost use Rattle.live_segment.specs.Refusing.{MayGiveUp};
     ghost use Rattle.live_segment.specs.Steps.{IsSame};
     ghost use Rattle.live_segment.specs.Working.{CountsWithin};
@@ -46,6 +46,7 @@ impl Segment {
         requires closes { MayGiveUp seat.old.me.0 }
         ensures same { IsSame seat.old seat.new }
         ensures outcome { MatchResult result (λ counts. HasMounted (known_view histogram.now) seat.old.me.0 counts seat.new.me.0) (λ why. HasNotMounted why (known_view histogram.now) seat.old.me.0 seat.new.me.0) }
+        ensures claims { IfOk result (λ counts. MountsAtMostOne (known_view histogram.now) seat.old.me.0 seat.new.me.0) }
     {
         let counts = self.load_counts(seat, histogram.reference);
         if counts != 0 {
@@ -65,6 +66,7 @@ impl Segment {
         requires within { CountsWithin seat.old.me.0 (known_view histogram.now) at }
         ensures same { IsSame seat.old seat.new }
         ensures mounted { HasMounted (known_view histogram.now) seat.old.me.0 result seat.new.me.0 }
+        ensures claims { MountsAt (known_view histogram.now) at seat.old.me.0 result seat.new.me.0 }
     {
         let found = self.mount_counts(seat, histogram.reference, at);
         if found == 0 {

@@ -90,13 +90,14 @@ impl<'a> Recorder<'a> {
     ghost use Rattle.segment_machine.specs.declared.actor.Known.{Known};
     ghost use Rattle.live_segment.specs.Adding.{add_checks, AnswersSample};
     ghost use Rattle.live_segment.specs.Allocation.{spoiled};
+    ghost use Rattle.live_segment.specs.Claims.{ClaimsFor, ClaimsForAll, NamesAtMostOne, record_words};
     ghost use Rattle.live_segment.specs.Batching.{batch_checks, IsBatched, IsCutShort};
     ghost use Rattle.live_segment.specs.Cursors.{AnswersNext, gift};
     ghost use Rattle.live_segment.specs.Holders.{view_of_recorder, IsSameRecorder, Knows, Means};
     ghost use Rattle.live_segment.specs.Records.{HasWalked};
     ghost use Rattle.live_segment.specs.Fresh.{GivesFresh, given_fresh};
     ghost use Rattle.live_segment.specs.Hist.{IsAnsweredWith, IsKnownAt, IsNamed, IsRefusedWith, KnowsOn, NoneHasName};
-    ghost use Rattle.segment_calls.specs.declared.refusal.Refusal.TheVariants.{NoMemory};
+    ghost use Rattle.segment_calls.specs.declared.refusal.Refusal.TheVariants.{NoMemory, OtherSpec};
 
     // A recorder that has done nothing.
     pub(crate) fn new(alloc: Global, segment: &'a Segment, seat: Pass, units: u32) -> Recorder<'a>
@@ -165,10 +166,14 @@ impl<'a> Recorder<'a> {
     /// another spec, and a record that was made for this one stays on the list unused; or `Corrupt` or `Full` where the list has
     /// no record of the name and no block could be claimed for one. After a refusal it knows the same histograms as before. On
     /// `Ok` it has not set the full flag.
+    ///
+    /// On `Ok` and on `OtherSpec` it has claimed no block, or the one of the record that it made, and it made one only behind records
+    /// that have other names.
     pub fn hist(&mut self, name: &[u8], spec: &Spec) -> Result<Hist, Refusal>
         ensures same { KnowsOn self.old self.new }
         ensures named { IfOk result (IsNamed name.now spec.now self.new) }
         ensures answer { MatchResult result (λ histogram. IsAnsweredWith name.now spec.now histogram (view_of_recorder self.old) (view_of_recorder self.new)) (λ why. IsRefusedWith name.now spec.now why (view_of_recorder self.old) (view_of_recorder self.new)) }
+        ensures claims { MatchResult result (λ _. NamesAtMostOne name.now spec.now (record_words name.now spec.now) (view_of_recorder self.old) (view_of_recorder self.new)) (λ why. why ≡ OtherSpec → NamesAtMostOne name.now spec.now (record_words name.now spec.now) (view_of_recorder self.old) (view_of_recorder self.new)) }
     {
         let asked = Asked::of(self.alloc, self.segment.setting.shape, name, spec)?;
         if let Some(index) = self.index_of(name) {
@@ -191,12 +196,16 @@ impl<'a> Recorder<'a> {
     /// `ZeroCount` where there are none and `NoUnits` where the share has fewer, both before anything has happened; then `Corrupt` or
     /// `Full` where a block was needed for them and none could be claimed. Log, share and deltas are then as before, and no count, sum,
     /// mark or redundant count has changed. It takes no memory.
+    ///
+    /// On `Ok` it has claimed one block at most: for the counts, where it found none, or for the sample of the value, which is on the list
+    /// then.
     // Inlined with the calls on its way: what a call keeps in memory, the next atomic step waits for.
     #[inline(always)]
     pub fn add(&mut self, histogram: Hist, value: i32, count: u32) -> Result<(), Refusal>
         requires { Knows self.old histogram }
         ensures same { IsSameRecorder self.old self.new }
         ensures answer { MatchOption (first_fault (add_checks (view_of_recorder self.old) count)) ((known : Known) → Means self.old histogram known → AnswersSample known value count (view_of_recorder self.old) result (view_of_recorder self.new)) (λ why. (result ≡ Err why) × (self.new ≡ self.old)) }
+        ensures claims { IfOk result (λ _. (known : Known) → Means self.old histogram known → ClaimsFor known value (view_of_recorder self.old) (view_of_recorder self.new)) }
     {
         if count == 0 {
             return Err(Refusal::ZeroCount);
@@ -220,6 +229,9 @@ impl<'a> Recorder<'a> {
     /// and with no item counted; then `Corrupt` or `Full` where a block was needed for an item and none could be claimed. Then the
     /// items before it are counted, as many as the refusal says, and only their units are taken; the sum is not added. It takes no
     /// memory.
+    ///
+    /// For each item that is counted it has claimed what [`Recorder::add`] may claim, and nothing else: of a histogram with buckets one
+    /// block at most.
     pub fn batch(
         &mut self,
         histogram: Hist,
@@ -229,6 +241,7 @@ impl<'a> Recorder<'a> {
         requires { Knows self.old histogram }
         ensures same { IsSameRecorder self.old self.new }
         ensures answer { MatchOption (first_fault (batch_checks (view_of_recorder self.old) items.now sum)) ((known : Known) → Means self.old histogram known → MatchResult result (λ _. IsBatched known items.now sum (view_of_recorder self.old) (view_of_recorder self.new)) (λ refusal. IsCutShort known items.now refusal (view_of_recorder self.old) (view_of_recorder self.new))) (λ why. (result ≡ Err (record { added = 0; why = why })) × (self.new ≡ self.old)) }
+        ensures claims { IfOk result (λ _. (known : Known) → Means self.old histogram known → ClaimsForAll known items.now (view_of_recorder self.old) (view_of_recorder self.new)) }
     {
         let cost = match price(items, sum, self.units) {
             Ok(cost) => cost,

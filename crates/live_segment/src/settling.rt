@@ -1,10 +1,11 @@
 //! How a `hist` of a recorder is answered.
 
-ghost use Rattle.std.specs.Prelude.{◌≡◌, []};
+ghost use Rattle.std.specs.Prelude.{◌≡◌, [], MatchResult};
+ghost use Rattle.segment_calls.specs.declared.refusal.Refusal.TheVariants.{OtherSpec};
 ghost use Rattle.segment_machine.specs.Calls.{MayTurn};
 ghost use Rattle.live_segment.specs.Finding.{IsAsked};
 ghost use Rattle.live_segment.specs.Making.{SaysAsked};
-ghost use Rattle.live_segment.specs.Settling.{IsAnnouncedOf, LooksUp, Settles};
+ghost use Rattle.live_segment.specs.Settling.{IsAnnouncedOf, LooksUp, MakesFor, Settles};
 
 use crate::finding::Search;
 use crate::recorder::KnownHistogram;
@@ -32,6 +33,7 @@ impl Segment {
         requires says { SaysAsked asked.now said.now }
         ensures same { IsSame seat.old seat.new }
         ensures outcome { LooksUp asked.now seat.old.me.0 result seat.new.me.0 }
+        ensures claims { MatchResult result (λ _. MakesFor asked.now seat.old.me.0 seat.new.me.0) (λ why. why ≡ OtherSpec → MakesFor asked.now seat.old.me.0 seat.new.me.0) }
     {
         let end = match self.find(seat, QUEUE, asked) {
             Search::Met(reference) => return Ok(reference),
@@ -62,6 +64,7 @@ impl Segment {
         requires says { SaysAsked asked.now said.now }
         ensures same { IsSame seat.old seat.new }
         ensures outcome { Settles asked.now seat.old.me.0 result seat.new.me.0 }
+        ensures claims { MatchResult result (λ _. MakesFor asked.now seat.old.me.0 seat.new.me.0) (λ why. why ≡ OtherSpec → MakesFor asked.now seat.old.me.0 seat.new.me.0) }
     {
         match self.first_named(seat, asked, said) {
             Ok(reference) => {
@@ -85,6 +88,7 @@ impl Segment {
         requires asked { IsAsked self.now.setting.shape asked }
         ensures same { IsSame seat.old seat.new }
         ensures outcome { IsAnnouncedOf asked seat.old.me.0 result seat.new.me.0 }
+        ensures claims { MatchResult result (λ _. MakesFor asked seat.old.me.0 seat.new.me.0) (λ why. why ≡ OtherSpec → MakesFor asked seat.old.me.0 seat.new.me.0) }
     {
         let said = Announcement::Histogram(asked);
         let Announcement::Histogram(asked) = &said else {

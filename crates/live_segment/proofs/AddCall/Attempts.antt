@@ -30,6 +30,8 @@ use Rattle.segment_promises.specs.Onward.{SeesOn}
 use Rattle.live_segment.specs.GhostNotes.{MayPack, HasPacked, Noted, bucket_entry, bucket_notes}
 use Rattle.live_segment.specs.Working.{LooksOn, LooksFor, MayCount, Tries}
 use Rattle.live_segment.proofs.Seating.Proceeding.{does_not, sees_not}
+use Rattle.live_segment.specs.Claims.{KeepsBlocks}
+use Rattle.live_segment.proofs.AddCall.Blocks.{keeps_begun, keeps_on}
 use Rattle.live_segment.proofs.AddCall.Beginning.{singled, sees_single, may_tell, is_next, only_begun, knows, looks_for, may_yet, looks_for_on, late, counted, counted_behind}
 use Rattle.segment_promises.proofs.Ranks.{rank, on_units, leads_higher, last_rank, last_most, last_is, last_leads}
 use Rattle.segment_promises.proofs.Calls.Places.{looks_there}
@@ -48,7 +50,7 @@ pub record IsPackingOn (segment : Segment) (known : Known) (bucket units : ℕ) 
   pub may : MayCount first.me.0 known bucket units
   pub same : IsSame first old
   pub looks : LooksFor (bucket_entry known bucket units) first.me.0 old.me.0
-  pub done : old.me.0.done ≡ first.me.0.done
+  pub keeps : KeepsBlocks first.me.0 old.me.0
   pub counts : old.me.0.seen.counts ≡ first.me.0.seen.counts
 
 module _ {segment : Segment} {known : Known} {bucket units : ℕ} {first old : Pass} (attempt : IsPackingOn segment known bucket units first old) where
@@ -89,8 +91,8 @@ module _ {segment : Segment} {known : Known} {bucket units : ℕ} {first old : P
         (looks_for (bucket_entry known bucket units) old.me.0 seat.me.0
         (subst (LooksOn old.me.0) (sym step.view) (singled old.me.0 (Looking look) (seen_here ∷ []) refl)))
 
-    pub done_still : seat.me.0.done ≡ first.me.0.done
-    done_still = ap (λ (x : Actor). x.done) step.view ∙ attempt.done
+    pub keeps_still : KeepsBlocks first.me.0 seat.me.0
+    keeps_still = keeps_on first.me.0 old.me.0 seat.me.0 attempt.keeps (subst (KeepsBlocks old.me.0) (sym step.view) (record { done = refl; own = refl; chain = refl; words = refl }))
 
     pub counts_still : seat.me.0.seen.counts ≡ first.me.0.seen.counts
     counts_still = ap (λ (x : Actor). x.seen.counts) step.view ∙ attempt.counts
@@ -122,10 +124,10 @@ module _ {segment : Segment} {known : Known} {bucket units : ℕ} {first old : P
     tries_off off =
         let there : seat.me.0.hand.place ≡ Looking (record { histogram = known.reference; single = Some word; counts = look.counts }) =
         placed ∙ ap (λ (h : ℕ). Looking (record { histogram = h; single = Some word; counts = look.counts })) (looks_there old.me.0.hand.place known.reference) in
-        (looks_at, done_still, counts_still, (word, look.counts, there, le-leb (2 ^ 63) word off, contained))
+        (looks_at, keeps_still, counts_still, (word, look.counts, there, le-leb (2 ^ 63) word off, contained))
 
     pub tries_passed : word < 2 ^ 63 → ((packed : ℕ) → ¬ (IsPacking bucket units word packed)) → Tries known bucket units first.me.0 Passed seat.me.0
-    tries_passed on none = (looks_at, done_still, counts_still, (word, since, is_on word on, none))
+    tries_passed on none = (looks_at, keeps_still, counts_still, (word, since, is_on word on, none))
 
     -- the word has a form that can be packed
     formed : word < 2 ^ 63 → (word ≡ 0) ⊎ (1 ≤ word % 2 ^ 32)
@@ -144,6 +146,9 @@ module _ {segment : Segment} {known : Known} {bucket units : ℕ} {first old : P
 
       only : x ≡ record seat.me.0 { units = x.units; entries = x.entries }
       only = only_begun seat.me.0 known (bucket_entry known bucket units) loaded_may.counts
+
+      keeps_begins : KeepsBlocks first.me.0 x
+      keeps_begins = keeps_on first.me.0 seat.me.0 x keeps_still (keeps_begun seat.me.0 known (bucket_entry known bucket units) loaded_may.counts)
 
       knows_still : Buckets x known.reference known
       knows_still = subst (λ (y : Actor). Buckets y known.reference known) (sym only) (knows seat.me.0 known bucket units loaded_may)
@@ -180,12 +185,14 @@ module _ {segment : Segment} {known : Known} {bucket units : ℕ} {first old : P
         pub tries_packed : found ≡ word → Tries known bucket units first.me.0 Packed after.me.0
         tries_packed won =
             let view : after.me.0 ≡ after_pack true x known.reference packed found =
-            told.view ∙ ap (λ (b : Bool). after_pack b x known.reference packed found) (eq-eqb found word won) in
-            counted_behind first.me.0 seat.me.0 after.me.0 known (bucket_entry known bucket units) attempt.may.counts looks_at (ap (λ d. d.filled) done_still)
-            (counted seat.me.0 after.me.0 known (bucket_entry known bucket units) (record x.hand { place = Idle }) (record x.seen { singles = x.seen.singles ++ sight at packed })
-            loaded_may.counts refl
-            (subst (λ (y : Actor). SeesOn seat.me.0.seen (record y.seen { singles = y.seen.singles ++ sight at packed })) (sym only) (sees_single seat.me.0.seen (sight at packed)))
-            view)
+            told.view ∙ ap (λ (b : Bool). after_pack b x known.reference packed found) (eq-eqb found word won) in (
+              counted_behind first.me.0 seat.me.0 after.me.0 known (bucket_entry known bucket units) attempt.may.counts looks_at (ap (λ d. d.filled) keeps_still.done)
+                  (counted seat.me.0 after.me.0 known (bucket_entry known bucket units) (record x.hand { place = Idle }) (record x.seen { singles = x.seen.singles ++ sight at packed })
+                  loaded_may.counts refl
+                  (subst (λ (y : Actor). SeesOn seat.me.0.seen (record y.seen { singles = y.seen.singles ++ sight at packed })) (sym only) (sees_single seat.me.0.seen (sight at packed)))
+                  view),
+              keeps_on first.me.0 x after.me.0 keeps_begins (subst (KeepsBlocks x) (sym view) (record { done = refl; own = refl; chain = refl; words = refl })),
+            )
 
         module _ (lost : found ≢ word) where
           view : after.me.0 ≡ after_pack false x known.reference packed found
@@ -202,7 +209,7 @@ module _ {segment : Segment} {known : Known} {bucket units : ℕ} {first old : P
             may = attempt.may;
             same = same_after;
             looks = looks_for_on first.me.0 seat.me.0 after.me.0 known (bucket_entry known bucket units) attempt.may.counts looks_at came_late.0;
-            done = came_late.1 ∙ done_still;
+            keeps = keeps_on first.me.0 x after.me.0 keeps_begins (subst (KeepsBlocks x) (sym view) (record { done = refl; own = refl; chain = refl; words = refl }));
             counts = came_late.2 ∙ counts_still;
           }
 

@@ -22,6 +22,7 @@ use Rattle.segment_promises.specs.Follows.{noted_by}
 use Rattle.segment_promises.proofs.Calls.Places.{looks_again}
 use Rattle.segment_calls.specs.declared.refusal.Refusal.{Refusal}
 use Rattle.live_segment.specs.declared.bucket_counting.PackAttempt.TheVariants.{Off, Passed}
+use Rattle.live_segment.specs.Claims.{KeepsBlocks}
 use Rattle.live_segment.specs.Mounting.{HasDisabled, HasMounted, HasNotMounted, MayMount, StandsOff}
 use Rattle.live_segment.specs.Refusing.{IsTurnedAway, MayGiveUp}
 use Rattle.live_segment.specs.Steps.{IsSame, Pass, Stepped}
@@ -31,6 +32,7 @@ use Rattle.segment_image.specs.Shape.{Dimensions}
 use Rattle.live_segment.specs.GhostNotes.{HasAddedTo, MayAddTo, Noted, bucket_entry, bucket_notes}
 use Rattle.live_segment.specs.Working.{HasCounted, IsOpenTo, LooksFor, LooksOn, MayCount, Tries}
 use Rattle.live_segment.proofs.AddCall.Beginning.{counted_behind, knows, looks_for, looks_for_on, may_yet, may_tell, only_begun}
+use Rattle.live_segment.proofs.AddCall.Blocks.{keeps_counted}
 use Rattle.live_segment.proofs.AddCall.Ended.{next_behind, none_open}
 use Rattle.live_segment.proofs.AddCall.CountsAlone.{counted_at, counts_next, goes, may_give_up}
 use Rattle.live_segment.proofs.AddCall.Mounted.{with_words}
@@ -132,6 +134,9 @@ module _ (known : Known) (bucket units counts : ℕ) (seat : Pass) (may : MayCou
       → Noted seat (bucket_notes a known bucket units) (counting_event (add_count at units)) [] found after
   has_told found after has = has (record { known = known; counts = counts; bucket = bucket; units = units }) ((look, off.0.1, refl, refl), may.counts.alone, refl, refl)
 
+  pub adds_keeps : (found : ℕ) (after : Pass) → HasAddedTo seat at units found after → KeepsBlocks a after.me.0
+  adds_keeps found after has = keeps_counted known (bucket_entry known bucket units) at found seat after may.counts (has_told found after has)
+
   pub adds : (found : ℕ) (after : Pass) → HasAddedTo seat at units found after → HasCounted (bucket_entry known bucket units) a after.me.0
   adds found after has = counted_at known (bucket_entry known bucket units) at found seat after may.counts (has_told found after has)
 
@@ -158,6 +163,9 @@ module _ {known : Known} {bucket units counts : ℕ} {old seat : Pass} (is : IsA
     same_here same =
         let told = has_told known bucket units counts seat may_here is.off below found after has in
         (told.same.0 ∙ same.0, told.same.1 ∙ same.1, told.same.2 ∙ same.2)
+
+    pub keeps_here : KeepsBlocks seat.me.0 after.me.0
+    keeps_here = adds_keeps known bucket units counts seat may_here is.off below found after has
 
     pub counted_here : HasCounted (bucket_entry known bucket units) old.me.0 after.me.0
     counted_here =
@@ -192,7 +200,7 @@ module _ (known : Known) (bucket units : ℕ) (old mid : Pass) (may : MayCount o
         looks = looks_for_on old.me.0 mid.me.0 seat.me.0 known (bucket_entry known bucket units) may.counts looks_off
             (looks_for (bucket_entry known bucket units) mid.me.0 seat.me.0 (subst (LooksOn mid.me.0) (sym step.view)
             (with_words mid.me.0 (next mid.me.0 (counting_event (load_counts known.reference)) found).hand (sight_counts known.reference found) _ (ended_grows mid.me.0.seen.ends (known.reference + 8) (found == 0)) refl)));
-        filled = ap (λ (b : Actor). b.done.filled) step.view ∙ ap (λ d. d.filled) tried.1;
+        filled = ap (λ (b : Actor). b.done.filled) step.view ∙ ap (λ d. d.filled) tried.1.done;
         off = stands_off;
       }
 
@@ -212,7 +220,7 @@ module _ (known : Known) (bucket units : ℕ) (old mid : Pass) (may : MayCount o
           let first = looks_for_on old.me.0 mid.me.0 with_counts.me.0 known (bucket_entry known bucket units) may.counts looks_passed (looks_for (bucket_entry known bucket units) mid.me.0 with_counts.me.0 mounted.looks) in record {
             may = may;
             looks = looks_for_on old.me.0 with_counts.me.0 seat.me.0 known (bucket_entry known bucket units) may.counts first (looks_for (bucket_entry known bucket units) with_counts.me.0 seat.me.0 disabled.looks);
-            filled = ap (λ d. d.filled) disabled.done ∙ (mounted.filled ∙ ap (λ d. d.filled) tried.1);
+            filled = ap (λ d. d.filled) disabled.keeps.done ∙ (mounted.filled ∙ ap (λ d. d.filled) tried.1.done);
             off = disabled.stands;
           }
 
@@ -244,5 +252,5 @@ module _ (known : Known) (bucket units : ℕ) (old mid : Pass) (may : MayCount o
           loaded = found_on old.me.0.seen mid.me.0.seen new.me.0.seen new.me.0.seen looks_passed.proceeds.seen.ends
               (subst (λ (b : Actor). Grows mid.me.0.seen.ends b.seen.ends) (sym (refuses.ends ∙ only_given_up refuses.last)) refuses.looks.proceeds.seen.ends)
               (grows_not new.me.0.seen.ends) (known.reference + 8) refuses.loaded;
-          room = lacked_since why (block_words known) old.me.0 mid.me.0 new.me.0 tried.1 looks_passed.proceeds.seen.warned refuses.room;
+          room = lacked_since why (block_words known) old.me.0 mid.me.0 new.me.0 tried.1.done looks_passed.proceeds.seen.warned refuses.room;
         }

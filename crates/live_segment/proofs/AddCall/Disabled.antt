@@ -31,6 +31,8 @@ use Rattle.live_segment.proofs.Seating.Proceeding.{does_not, looks_on, sees_not}
 use Rattle.segment_promises.proofs.Growing.{grows_by, grows_not}
 use Rattle.live_segment.proofs.AddCall.Beginning.{singled}
 use Rattle.live_segment.proofs.AddCall.Attempts.{is_on}
+use Rattle.live_segment.specs.Claims.{KeepsBlocks}
+use Rattle.live_segment.proofs.AddCall.Blocks.{keeps_none, keeps_on}
 use Rattle.live_segment.proofs.AddCall.Mounted.{mounts_on}
 use Rattle.segment_promises.proofs.Ranks.{rank, leads_higher, last_rank, last_most, last_is, last_leads}
 use Rattle.segment_promises.proofs.Calls.Places.{looks_again}
@@ -51,7 +53,7 @@ pub record IsDisabling (segment : Segment) (known : Known) (counts : ℕ) (first
   pub within : CountsWithin first.me.0 known counts
   pub same : IsSame first old
   pub looks : LooksOn first.me.0 old.me.0
-  pub done : old.me.0.done ≡ first.me.0.done
+  pub keeps : KeepsBlocks first.me.0 old.me.0
   pub stands : (single : Option ℕ) × LooksAt old.me.0 known.reference single counts
 
 -- before the first attempt it has not even looked
@@ -67,7 +69,7 @@ disabling {first = first} seated may stands = record {
     units = refl;
     entries = refl;
   };
-  done = refl;
+  keeps = keeps_none first.me.0;
   stands = stands.0;
 }
 
@@ -115,8 +117,8 @@ module _ {segment : Segment} {known : Known} {counts : ℕ} {first old : Pass} (
     looks_still : LooksOn first.me.0 b
     looks_still = looks_on first.me.0 old.me.0 b attempt.looks loads
 
-    done_still : b.done ≡ first.me.0.done
-    done_still = ap (λ (x : Actor). x.done) step.view ∙ attempt.done
+    keeps_still : KeepsBlocks first.me.0 b
+    keeps_still = keeps_on first.me.0 old.me.0 b attempt.keeps (subst (KeepsBlocks old.me.0) (sym step.view) (record { done = refl; own = refl; chain = refl; words = refl }))
 
     pub same_seat : IsSame first seat
     same_seat = (step.same.0 ∙ attempt.same.0, step.same.1 ∙ attempt.same.1, step.same.2 ∙ attempt.same.2)
@@ -129,7 +131,7 @@ module _ {segment : Segment} {known : Known} {counts : ℕ} {first old : Pass} (
     )
 
     pub finds_off : 2 ^ 63 ≤ word → HasDisabled known counts first.me.0 b
-    finds_off off = record { looks = looks_still; done = done_still; stands = ((word, placed, le-leb (2 ^ 63) word off), within_on b looks_still) }
+    finds_off off = record { looks = looks_still; keeps = keeps_still; stands = ((word, placed, le-leb (2 ^ 63) word off), within_on b looks_still) }
 
     module _ (on : word < 2 ^ 63) where
       pub may_disable : MayStep segment seat (packing_event (disable known.reference word))
@@ -176,7 +178,7 @@ module _ {segment : Segment} {known : Known} {counts : ℕ} {first old : Pass} (
               let on_it = looks_on first.me.0 b after.me.0 looks_still
               (subst (LooksOn b) (sym all) (singled b (place_by false) (sight (known.reference + 9) off) refl)) in record {
                 looks = on_it;
-                done = ap (λ (x : Actor). x.done) all ∙ done_still;
+                keeps = keeps_on first.me.0 b after.me.0 keeps_still (subst (KeepsBlocks b) (sym all) (record { done = refl; own = refl; chain = refl; words = refl }));
                 stands = ((off, ap (λ (x : Actor). x.hand.place) all, off_is b.segment.version word), within_on after.me.0 on_it);
               }
 
@@ -241,7 +243,7 @@ module _ {segment : Segment} {known : Known} {counts : ℕ} {first old : Pass} (
                   entries = refl;
                 })) in record {
                   looks = on_it;
-                  done = ap (λ (x : Actor). x.done) all ∙ done_still;
+                  keeps = keeps_on first.me.0 b last.me.0 keeps_still (subst (KeepsBlocks b) (sym all) (record { done = refl; own = refl; chain = refl; words = refl }));
                   stands = ((off, ap (λ (x : Actor). x.hand.place) all, off_is b.segment.version word), within_on last.me.0 on_it);
                 }
 
@@ -261,8 +263,8 @@ module _ {segment : Segment} {known : Known} {counts : ℕ} {first old : Pass} (
           looks_after = looks_on first.me.0 b after.me.0 looks_still
               (subst (LooksOn b) (sym late) (singled b (Looking (look None)) (sight (known.reference + 9) found) refl))
 
-          pub done_after : after.me.0.done ≡ first.me.0.done
-          done_after = ap (λ (x : Actor). x.done) late ∙ done_still
+          pub keeps_after : KeepsBlocks first.me.0 after.me.0
+          keeps_after = keeps_on first.me.0 b after.me.0 keeps_still (subst (KeepsBlocks b) (sym late) (record { done = refl; own = refl; chain = refl; words = refl }))
 
           pub stands_after : (single : Option ℕ) × LooksAt after.me.0 known.reference single counts
           stands_after = (None, ap (λ (x : Actor). x.hand.place) late)

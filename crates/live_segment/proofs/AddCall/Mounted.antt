@@ -1,7 +1,8 @@
 -- How a recorder brings the counts of a histogram in use: what it knows of the counts reference, and what mounting leaves as it was.
-use Rattle.std.proofs.Common.{◌≡◌, ◌≢◌, ℕ, ◌+◌, ◌≤◌, not, Bool, true, false, true≢false, if◌then◌else◌, zero, suc, ◌-◌, ◌*◌, ◌<◌, ◌==◌, length, append-nil, Option, Ok, Err, List, [], ◌∷◌, ◌++◌, filter, Some, None, refl, sym, ap, ◌∙◌, subst, arith, eq-eqb, ne_eqb}
+use Rattle.std.proofs.Common.{◌≡◌, ◌≢◌, ℕ, ◌+◌, ◌≤◌, not, Bool, true, false, true≢false, if◌then◌else◌, zero, suc, ◌-◌, ◌*◌, ◌<◌, length, append-nil, Option, Ok, Err, List, [], ◌∷◌, ◌++◌, filter, Some, None, inl, inr, refl, sym, ap, ◌∙◌, subst, arith, eq-eqb, ne_eqb, eqb-true, ◌==◌}
 use Rattle.std.specs.Prelude.{slice_index}
 use Rattle.std.specs.List.{Contains}
+use Rattle.std.proofs.Math.ListN.{get_or}
 use Rattle.std.proofs.lemmas.List.Elements.{Contains-append_right}
 use Rattle.segment_calls.specs.declared.refusal.Refusal.{Refusal}
 use Rattle.segment_calls.specs.declared.refusal.Refusal.TheVariants.{Full, Corrupt}
@@ -17,6 +18,7 @@ use Rattle.segment_machine.specs.declared.actor.Actor.{Actor}
 use Rattle.segment_machine.specs.declared.actor.Entries.{Entries}
 use Rattle.segment_machine.specs.declared.actor.Hand.{Hand}
 use Rattle.segment_machine.specs.declared.actor.Known.{Known}
+use Rattle.segment_machine.specs.declared.actor.Own.{Own}
 use Rattle.segment_machine.specs.declared.entry.EntryProgress.{EntryProgress}
 use Rattle.segment_machine.specs.declared.place.Look.{Look}
 use Rattle.segment_machine.specs.declared.place.Place.TheVariants.{Idle, Looking, Spent}
@@ -24,7 +26,7 @@ use Rattle.segment_machine.specs.declared.seen.Seen.{Seen}
 use Rattle.segment_machine.specs.declared.seen.Sighting.{Sighting}
 use Rattle.segment_machine.specs.Actor.{has_buckets, is_bound, is_opener, known_at, word_seen}
 use Rattle.segment_machine.specs.Allocating.{new_own}
-use Rattle.segment_machine.specs.Calls.{look_of, sight, sight_counts}
+use Rattle.segment_machine.specs.Calls.{change_own, look_of, sight, sight_counts}
 use Rattle.segment_machine.specs.Counting.{load_counts}
 use Rattle.segment_machine.specs.Entry.{has_ended}
 use Rattle.segment_machine.specs.Event.{counting_event, packing_event, change, next, Ready}
@@ -36,7 +38,7 @@ use Rattle.live_segment.specs.Adding.{HasNoRoom, block_words}
 use Rattle.live_segment.specs.Allocation.{Allocates, filled, noticed, saw_free}
 use Rattle.live_segment.specs.Refusing.{given_up}
 use Rattle.live_segment.specs.Holders.{table_of, MayStep}
-use Rattle.live_segment.specs.Mounting.{SawNoNone, LoadsCounts, MayMount, HasBlank, HasMounted, HasNotMounted}
+use Rattle.live_segment.specs.Mounting.{SawNoNone, LoadsCounts, MayMount, HasBlank, HasMounted, HasNotMounted, MountsAt, MountsAtMostOne}
 use Rattle.segment_promises.specs.Onward.{Grows, SeesOn}
 use Rattle.live_segment.specs.Rule.{opened_of, Runs}
 use Rattle.live_segment.specs.Steps.{Pass, Sat, Stepped}
@@ -114,6 +116,23 @@ with_words a hand more ends longer free = record {
 
 -- ---- a block is mounted
 
+-- of its own blocks, the one at a word is purged
+abbrev purged : Own → Own
+purged own = record own { tag = 0 }
+
+purges_one : (at : ℕ) (list : List Own) (own : Own) → Contains list own → own.at ≡ at
+    → (one : Own) × Contains (change_own at purged list) one × (one.at ≡ at) × (one.tag ≡ 0)
+purges_one at [] own (i, below, is) stands = absurd (omega (arith, below))
+purges_one at (x ∷ rest) own (i, below, is) stands = by (x.at == at) refl (λ n under there. purges_one at rest own (n, under, there) stands) i below is
+  where
+    by : (here : Bool) → (x.at == at) ≡ here
+        → ((n : ℕ) → n < length rest → get_or rest n own ≡ own → (one : Own) × Contains (change_own at purged rest) one × (one.at ≡ at) × (one.tag ≡ 0))
+        → (i : ℕ) → i < length (x ∷ rest) → get_or (x ∷ rest) i own ≡ own
+        → (one : Own) × Contains (if here then purged x ∷ rest else x ∷ change_own at purged rest) one × (one.at ≡ at) × (one.tag ≡ 0)
+    by true e behind i below is = (purged x, (0, omega arith, refl), eqb-true x.at at e, refl)
+    by false e behind zero below is = absurd (true≢false (sym (eq-eqb x.at at (ap (λ (y : Own). y.at) is ∙ stands)) ∙ e))
+    by false e behind (suc n) below is = let (one, has, there, tag) = behind n (omega (arith, below)) is in (one, Contains-append_right (x ∷ []) (change_own at purged rest) one has, there, tag)
+
 module _ (segment : Segment) (known : Known) (old : Pass) (at : ℕ) (table : old.table_id ≡ table_of segment) (may : MayMount old.me.0 known)
     (blank : HasBlank old.me.0 known at) (within : CountsWithin old.me.0 known at) where
   abbrev a : Actor
@@ -138,6 +157,16 @@ module _ (segment : Segment) (known : Known) (old : Pass) (at : ℕ) (table : ol
           stands = ((None, refl), within);
         })
 
+    pub claims_first : found ≡ 0 → MountsAt known at a at mid.me.0
+    claims_first none =
+        let view : mid.me.0 ≡ after_mount true a known.reference at found =
+        step.view ∙ ap (λ (b : Bool). after_mount b a known.reference at found) (eq-eqb found 0 none) in
+        subst (λ (b : Actor). MountsAt known at a at b) (sym view) (record {
+          done = refl;
+          saw = ap (λ (b : Bool). a.seen.words ++ (if b then [] else sight (known.reference + 8) at)) (ne_eqb at 0 within.0);
+          kept = inl refl;
+        })
+
     module _ (there : found ≢ 0) where
       view : mid.me.0 ≡ after_mount false a known.reference at found
       view = step.view ∙ ap (λ (b : Bool). after_mount b a known.reference at found) (ne_eqb found 0 there)
@@ -158,6 +187,16 @@ module _ (segment : Segment) (known : Known) (old : Pass) (at : ℕ) (table : ol
             looks = with_words a (next (after_mount false a known.reference at found) (packing_event (purge_block at)) 0).hand (sight_counts known.reference found) a.seen.ends (grows_not a.seen.ends) refl;
             filled = refl;
             stands = ((None, refl), (there, step.learned.0 known may.knows there));
+          })
+
+      pub claims_late : (new : Pass) → Stepped mid (packing_event (purge_block at)) 0 new → MountsAt known at a found new.me.0
+      claims_late new step_behind =
+          let all : new.me.0 ≡ next (after_mount false a known.reference at found) (packing_event (purge_block at)) 0 =
+          step_behind.view ∙ ap (λ (b : Actor). next b (packing_event (purge_block at)) 0) view in
+          subst (λ (b : Actor). MountsAt known at a found b) (sym all) (record {
+            done = refl;
+            saw = ap (λ (b : Bool). a.seen.words ++ (if b then [] else sight (known.reference + 8) found)) (ne_eqb found 0 there);
+            kept = inr (purges_one at a.hand.own blank.0 blank.1 blank.2);
           })
 
 -- ---- how many words they take
@@ -220,6 +259,12 @@ module _ (segment : Segment) (known : Known) (old : Pass) (table : old.table_id 
           );
         })
 
+    pub claims_not : MountsAtMostOne known first seat.me.0
+    claims_not = (
+      inl (ap (λ (b : Actor). b.done) step.view),
+      subst (λ (b : Actor). Grows first.seen.words b.seen.words) (sym step.view) (grows_by first.seen.words (sight_counts known.reference found)),
+    )
+
     -- there are none, and a block is claimed
     module _ (at size : ℕ) (new : Pass) (words : size ≡ 4 + 2 * buckets_of known.spec) (unspoiled : seat.me.0.done.spoiled ≡ false)
         (made : Allocates size 2 seat.me.0 (Ok at) new.me.0) where
@@ -260,17 +305,43 @@ module _ (segment : Segment) (known : Known) (old : Pass) (table : old.table_id 
 
     -- there are none, and no block can be claimed
     module _ (none : found ≡ 0) (saw : SawNoNone first.seen known.reference) where
-      -- it has still seen none
-      none_seen : word_seen seat.me.0.seen.words (known.reference + 8) ≡ None
-      none_seen =
-          let still : seat.me.0.seen.words ≡ first.seen.words =
-          ap (λ (b : Actor). b.seen.words) step.view
-          ∙ (ap (λ (b : Bool). first.seen.words ++ (if b then [] else sight (known.reference + 8) found)) (eq-eqb found 0 none) ∙ append-nil first.seen.words) in
-          ap (λ (ws : List Sighting). word_seen ws (known.reference + 8)) still ∙ by (word_seen first.seen.words (known.reference + 8)) refl
+      words_still : seat.me.0.seen.words ≡ first.seen.words
+      words_still = ap (λ (b : Actor). b.seen.words) step.view
+          ∙ (ap (λ (b : Bool). first.seen.words ++ (if b then [] else sight (known.reference + 8) found)) (eq-eqb found 0 none) ∙ append-nil first.seen.words)
+
+      -- it had seen none
+      none_before : word_seen first.seen.words (known.reference + 8) ≡ None
+      none_before = by (word_seen first.seen.words (known.reference + 8)) refl
         where
           by : (w : Option ℕ) → word_seen first.seen.words (known.reference + 8) ≡ w → word_seen first.seen.words (known.reference + 8) ≡ None
           by None is = is
           by (Some counts) is = absurd (saw counts is (sym (step.learned.1.0 counts is) ∙ none))
+
+      -- and has still seen none
+      none_seen : word_seen seat.me.0.seen.words (known.reference + 8) ≡ None
+      none_seen = ap (λ (ws : List Sighting). word_seen ws (known.reference + 8)) words_still ∙ none_before
+
+      -- it claims one block for them, and mounts it
+      pub claims_block : (at size : ℕ) (new last : Pass) (counts : ℕ) → size ≡ block_words known → Allocates size 2 seat.me.0 (Ok at) new.me.0
+          → MountsAt known at new.me.0 counts last.me.0 → MountsAtMostOne known first last.me.0
+      claims_block at size new last counts words (to, view, behind, enough, few, place) mounts = (
+        inr (record {
+          claim = record { at = at; size = to - at };
+          block = (omega (arith, words, enough), omega (arith, words, enough, few));
+          done = mounts.done
+              ∙ (ap (λ (b : Actor). b.done) view
+              ∙ ap (λ (b : Actor). record b.done { claimed = b.done.claimed ++ record { at = at; size = to - at } ∷ [] }) step.view);
+          none = none_before;
+          counts = counts;
+          saw = saw_one;
+          kept = mounts.kept;
+        }),
+        subst (Grows first.seen.words) (sym saw_one) (grows_by first.seen.words (sight (known.reference + 8) counts)),
+      )
+        where
+          saw_one : last.me.0.seen.words ≡ first.seen.words ++ sight (known.reference + 8) counts
+          saw_one = mounts.saw
+              ∙ ap (λ (l : List Sighting). l ++ sight (known.reference + 8) counts) (ap (λ (b : Actor). b.seen.words) view ∙ words_still)
 
       -- what was refused there
       module _ (last : Actor) (free : ℕ) (filled corrupt : Bool) (lacked : List ℕ) (warned : ℕ)

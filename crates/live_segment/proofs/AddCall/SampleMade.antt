@@ -224,6 +224,12 @@ module _ (at histogram : ℕ) (value : ℤ) (old mid now new : Actor) (unspoiled
     at = at;
     published = subst (λ (l : List Published). Contains l (record { reference = at; made = Sample histogram value }))
         (sym (ap (λ (x : Actor). x.done.published) has.view)) (Contains-append_right now.done.published _ _ (0, omega arith, refl));
+    makes = record {
+      claim = record { at = at; size = allocates.0 - at };
+      block = let enough = allocates.3 in let few = allocates.4 in (omega (arith, enough), omega (arith, enough, few));
+      done = ap (λ (x : Actor). x.done) has.view
+          ∙ ap (λ (x : Actor). record x.done { published = x.done.published ++ record { reference = at; made = Sample histogram value } ∷ []; beaten = new.done.beaten }) put.is;
+    };
   }
 
 -- ---- refused

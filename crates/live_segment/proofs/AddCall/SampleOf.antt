@@ -1,5 +1,5 @@
 -- The first sample of a value is looked for, one is made where there is none, and it is looked on for: what becomes of the recorder.
-use Rattle.std.proofs.Common.{◌≡◌, ℕ, ◌+◌, ◌≤◌, ◌==◌, ◌||◌, Bool, true, false, ℤ, List, [], ◌∷◌, ◌++◌, length, slice_index, eqb-true, refl, sym, ap, subst, ◌∙◌, arith, append_assoc}
+use Rattle.std.proofs.Common.{◌≡◌, ℕ, ◌+◌, ◌≤◌, ◌==◌, ◌||◌, Bool, true, false, ℤ, List, [], ◌∷◌, ◌++◌, length, slice_index, eqb-true, inl, inr, refl, sym, ap, subst, ◌∙◌, arith, append_assoc}
 use Rattle.std.specs.List.{Contains, list_any}
 use Rattle.std.proofs.lemmas.List.{get_or_push, length_push}
 use Rattle.std.proofs.lemmas.List.Elements.{All-nil}
@@ -13,13 +13,14 @@ use Rattle.segment_machine.specs.declared.actor.Known.{Known}
 use Rattle.segment_machine.specs.declared.actor.Made.TheVariants.{Sample}
 use Rattle.segment_machine.specs.declared.actor.Published.{Published}
 use Rattle.segment_machine.specs.declared.seen.Seen.{Seen}
+use Rattle.segment_machine.specs.declared.seen.Sighting.{Sighting}
 use Rattle.segment_machine.specs.Actor.{Sparse}
 use Rattle.segment_machine.specs.Calls.{MayTurn}
 use Rattle.live_segment.specs.declared.recorder.KnownHistogram.{KnownHistogram}
 use Rattle.live_segment.specs.declared.rule.Setting.{Setting}
 use Rattle.live_segment.specs.declared.sampling.SampleSearch.TheVariants as search
 use Rattle.live_segment.specs.Known.{known_view, KnowsRight}
-use Rattle.segment_promises.specs.Onward.{DoesOn}
+use Rattle.segment_promises.specs.Onward.{DoesOn, Grows}
 use Rattle.live_segment.specs.Refusing.{MayGiveUp}
 use Rattle.live_segment.specs.Rule.{IsOf}
 use Rattle.live_segment.specs.Sampling.{FindsSample, HasMadeNoSample, HasMadeSample, HasNotMadeSample, HasSampleOf, LacksSampleOf, SawNone, WalksBehind}
@@ -31,6 +32,7 @@ use Rattle.live_segment.proofs.Walks.Ends.{all_on}
 use Rattle.live_segment.proofs.Seating.Proceeding.{does_not, looks_on}
 use Rattle.segment_promises.proofs.Growing.{grows_not, grows_same, others_still}
 use Rattle.live_segment.proofs.AddCall.Refusing.{only_given_up}
+use Rattle.live_segment.proofs.NewRecords.Blocks.{makes_between}
 use Rattle.live_segment.proofs.NewRecords.Rooms.{lacked_since}
 
 -- ---- a walk begins
@@ -142,19 +144,32 @@ met_before known value sample a b searched (free, first, within) = record {
   within = within;
   filled = ap (λ (x : Actor). x.done.filled) searched.view;
   untouched = ap (λ (x : Actor). x.seen.counts) searched.view;
+  claims = inl (ap (λ (x : Actor). x.done) searched.view);
 }
 
 module _ (known : Known) (value : ℤ) (a b : Actor) (searched : HasSearched a b) (free : MayTurn b) where
   -- it met one behind
   module _ (c d : Actor) (made : HasMadeSample known.reference value b c) (again : HasSearched c d) where
-    pub met_then : (sample : ℕ) → FindsSample known.reference value (search.Met sample) d → HasSampleOf known value sample a d
-    met_then sample finds =
+    pub met_then : (sample : ℕ) → SawNone known.reference value b → FindsSample known.reference value (search.Met sample) d → HasSampleOf known value sample a d
+    met_then sample none finds =
         let last = met_before known value sample c d again finds in record {
           looks = looks_on a b d (looks_searched a b free searched) (looks_on b c d made.looks last.looks);
           first = last.first;
           within = last.within;
           filled = last.filled ∙ (made.filled ∙ ap (λ (x : Actor). x.done.filled) searched.view);
           untouched = last.untouched ∙ (made.counts ∙ ap (λ (x : Actor). x.seen.counts) searched.view);
+          claims = inr (
+              let (front, behind, parts, others) = none in record {
+                makes = makes_between (Sample known.reference value) 8 a.done b.done c.done d.done (ap (λ (x : Actor). x.done) searched.view) made.makes (ap (λ (x : Actor). x.done) again.view);
+                front = front;
+                behind = behind;
+                more = (
+                  subst (Grows a.seen.chain) parts searched.chain,
+                  subst (λ (l : List ℕ). Grows l d.seen.chain) (made.chain ∙ parts) again.chain,
+                );
+                others = others_still b.seen d.seen (subst (λ (l : List Sighting). Grows l d.seen.words) made.words again.words) known.reference value behind others;
+              }
+              );
         }
 
     -- its own at the latest

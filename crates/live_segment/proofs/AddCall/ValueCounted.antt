@@ -17,8 +17,10 @@ use Rattle.segment_machine.specs.Entry.{fresh, key_of}
 use Rattle.segment_machine.specs.Event.{counting_event}
 use Rattle.segment_machine.specs.Made.{IsFirstSample}
 use Rattle.segment_promises.specs.Follows.{noted_by}
+use Rattle.segment_promises.specs.Onward.{Grows}
 use Rattle.live_segment.specs.declared.segment.Segment.{Segment}
 use Rattle.live_segment.specs.Adding.{HasNoRoom}
+use Rattle.live_segment.specs.Claims.{ClaimsFor}
 use Rattle.live_segment.specs.Finishing.{item_of}
 use Rattle.live_segment.specs.Refusing.{IsNotCounted}
 use Rattle.live_segment.specs.Rule.{IsOf}
@@ -27,6 +29,7 @@ use Rattle.live_segment.specs.Steps.{IsSame, Pass}
 use Rattle.live_segment.specs.GhostNotes.{HasSampled, MaySample, Noted, entry_notes, value_entry}
 use Rattle.live_segment.specs.Working.{CountsAlone, HasCounted, LooksFor}
 use Rattle.live_segment.proofs.AddCall.Beginning.{counted_behind, known_there, looks_for, may_still, may_tell, only_begun}
+use Rattle.live_segment.proofs.AddCall.Blocks.{keeps_counted, makes_kept}
 use Rattle.live_segment.proofs.AddCall.CountsAlone.{counted_at, counts_next}
 
 -- units of a value are what a sparse histogram counts for it
@@ -95,6 +98,14 @@ module _ (known : Known) (value : ℤ) (units sample : ℕ) (old mid : Pass) (ma
 
     pub same_counted : IsSame old mid → IsSame old after
     same_counted same = (told.same.0 ∙ same.0, told.same.1 ∙ same.1, told.same.2 ∙ same.2)
+
+    pub value_claims : ClaimsFor known value old.me.0 after.me.0
+    value_claims =
+        let behind = keeps_counted known entry (sample + 6) found mid after may_mid told in record {
+          buckets = λ bucketed. absurd (true≢false (sym bucketed ∙ ap has_buckets sparse));
+          values = λ is. makes_kept known.reference value old.me.0 a after.me.0 has.claims behind;
+          words = subst (Grows old.me.0.seen.words) (sym behind.words) has.looks.proceeds.seen.words;
+        }
 
     pub value_counted : HasCounted (item_of known value units) old.me.0 after.me.0
     value_counted = subst (λ (e : Entry). HasCounted e old.me.0 after.me.0) (is_value known value units sparse)

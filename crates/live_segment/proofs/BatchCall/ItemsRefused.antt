@@ -23,12 +23,15 @@ use Rattle.segment_machine.specs.Entry.{fresh, tally_noted}
 use Rattle.segment_machine.specs.Note.{refused, units_running}
 use Rattle.segment_machine.specs.Taking.{is_looking}
 use Rattle.segment_promises.specs.Follows.{noted_by}
+use Rattle.live_segment.specs.Claims.{ClaimsForEach}
 use Rattle.live_segment.specs.Batching.{HasItems, StopsAt, ended_item, holding}
 use Rattle.live_segment.specs.Finishing.{item_of}
 use Rattle.segment_promises.specs.Onward.{DoesOn, GoesOn, Grows, SeesOn}
 use Rattle.live_segment.specs.Refusing.{IsNotCounted, given_up, how_many_ended, refusing_notes}
 use Rattle.live_segment.specs.Steps.{IsAtRest}
 use Rattle.live_segment.specs.Working.{HasBegun, LooksFor, FrameOfCall}
+use Rattle.live_segment.proofs.AddCall.Blocks.{keeps_none}
+use Rattle.live_segment.proofs.BatchCall.Blocks.{claims_all}
 use Rattle.live_segment.proofs.AddCall.Ended.{how_many_before, how_many, still_open}
 use Rattle.live_segment.proofs.BatchCall.Items.{entries, items_noted, one_more}
 use Rattle.live_segment.proofs.BatchCall.ItemsCounted.{ended_items, entries_begun, entries_ended, units_begun}
@@ -152,7 +155,7 @@ module _ (known : Known) (item : ℤ × ℕ) (old a last new : Actor) (rest : Is
 
 module _ (known : Known) (all : List (ℤ × ℕ)) (k : ℕ) (d : ℤ × ℕ) (old a new : Actor) (why : Refusal) (below : k < length all) (rest : IsAtRest old)
     (has : HasItems known (take k all) old a) (one : 1 ≤ (get_or all k d).1) (enough : units_of (take k all) + (get_or all k d).1 ≤ old.units.share)
-    (not : IsNotCounted why known (get_or all k d).0 (get_or all k d).1 a new) where
+    (not : IsNotCounted why known (get_or all k d).0 (get_or all k d).1 a new) (each : ClaimsForEach known (take k all) old a) where
   abbrev items : List (ℤ × ℕ)
   items = take k all
 
@@ -207,6 +210,7 @@ module _ (known : Known) (all : List (ℤ × ℕ)) (k : ℕ) (d : ℤ × ℕ) (o
       pays = record { share = is_back.share; spent = is_back.costs };
       at = a;
       counted = (has.proceeds.done, has.proceeds.seen);
+      claims = claims_all known items old a a each (keeps_none a);
       lacks = not.lacks;
       onward = stops_onward;
     },

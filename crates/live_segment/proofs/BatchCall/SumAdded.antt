@@ -24,6 +24,7 @@ use Rattle.segment_machine.specs.Event.{counting_event, next}
 use Rattle.segment_machine.specs.Note.{Note, begins, ends, goes_on}
 use Rattle.segment_machine.specs.Taking.{is_looking}
 use Rattle.segment_promises.specs.Follows.{MayNoteAll, noted_by}
+use Rattle.live_segment.specs.Claims.{KeepsBlocks}
 use Rattle.live_segment.specs.Batching.{HasItems, IsBatched, ended_item}
 use Rattle.segment_promises.specs.Onward.{DoesOn, GoesOn, SeesOn}
 use Rattle.live_segment.specs.Steps.{IsAtRest, IsSame, Pass}
@@ -212,6 +213,9 @@ module _ (known : Known) (sum : ℤ) (old : Actor) (seat : Pass) (rest : IsAtRes
 
       abbrev new : Actor
       new = after.me.0
+
+      pub keeps_summed : KeepsBlocks a new
+      keeps_summed = subst (KeepsBlocks a) (sym sum_view) (record { done = refl; own = refl; chain = refl; words = refl })
 
       as_before : new ≡ record a { units = new.units; entries = new.entries; hand = new.hand; since = new.since }
       as_before = subst (λ (y : Actor). y ≡ record a { units = y.units; entries = y.entries; hand = y.hand; since = y.since }) (sym sum_view) refl

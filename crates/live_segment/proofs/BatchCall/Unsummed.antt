@@ -14,6 +14,7 @@ use Rattle.segment_machine.specs.declared.actor.Known.{Known}
 use Rattle.segment_machine.specs.Actor.{log_of}
 use Rattle.segment_machine.specs.Entry.{item_entry}
 use Rattle.live_segment.specs.Adding.{Pays}
+use Rattle.live_segment.specs.Claims.{ClaimsForAll}
 use Rattle.live_segment.specs.Batching.{IsBatched, IsCutShort}
 use Rattle.live_segment.proofs.BatchCall.Items.{within_all}
 use Rattle.live_segment.proofs.Seating.Proceeding.{does_not, sees_not}
@@ -61,6 +62,7 @@ cut_before known front behind refusal old new cut =
       pays = subst (λ (l : List (ℤ × ℕ)). Pays known.name (units_of l) old new) (sym same) cut.pays;
       at = cut.at;
       counted = cut.counted;
+      claims = subst (λ (l : List (ℤ × ℕ)). ClaimsForAll known l old cut.at) (sym same) cut.claims;
       lacks = cut.lacks;
       onward = cut.onward;
     }

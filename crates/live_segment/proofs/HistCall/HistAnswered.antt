@@ -70,7 +70,7 @@ pub asked_here : (setting : Setting) (a : Actor) {name : List ℕ} {kind : Spec}
 asked_here setting a {name} {kind} {asked} of asks = subst (λ (d : Dimensions). IsAskedFor d name kind asked) (sym of.shape) asks
 
 -- the words behind the header of a record: eleven, and those of the name and of the ranges
-payload_long : (s : Spec) (n : ℕ) (rest : List ℕ) → length (spec_fields s ++ 0 ∷ 0 ∷ 0 ∷ 0 ∷ 0 ∷ 0 ∷ n ∷ rest) ≡ 11 + length rest
+pub payload_long : (s : Spec) (n : ℕ) (rest : List ℕ) → length (spec_fields s ++ 0 ∷ 0 ∷ 0 ∷ 0 ∷ 0 ∷ 0 ∷ n ∷ rest) ≡ 11 + length rest
 payload_long (spec.Linear low high m) n rest = omega arith
 payload_long spec.Boolean n rest = omega arith
 payload_long (spec.Custom values) n rest = omega arith

@@ -48,6 +48,11 @@ module _ (segment : Segment) (asked : Asked) (is : IsAsked segment.setting.shape
       apart = ap (λ (a : Actor). is_looking a.hand.place) is_published.view;
       unspoiled = unspoiled;
       claimed = (record { at = at; size = behind - at } ∷ [], claimed_is);
+      makes = record {
+        claim = record { at = at; size = behind - at };
+        block = let enough = allocates.3 in let few = allocates.4 in (omega (arith, sized, enough), omega (arith, sized, enough, few));
+        done = ap (λ (a : Actor). a.done) whole;
+      };
       later = let first = allocates.2 in let enough = allocates.3 in omega (arith, first, enough, free_is);
       tails = subst (λ (a : Actor). Grows a.seen.tails new.me.0.seen.tails) full_is is_published.tails;
     }

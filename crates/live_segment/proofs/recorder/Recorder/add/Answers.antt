@@ -3,6 +3,7 @@ use Rattle.std.proofs.lemmas.Int.{to_z-of_z}
 use Rattle.std.proofs.lemmas.Result.{err_from_is_err_and}
 use Rattle.segment_machine.specs.declared.actor.Known.{Known}
 use Rattle.live_segment.specs.Adding.{IsAdded, IsRefused, LacksBlock}
+use Rattle.live_segment.specs.Claims.{ClaimsFor}
 use Rattle.live_segment.specs.Known.{known_view}
 use Rattle.live_segment.proofs.AddCall.Adds.{passes, meant, is_of_still, names_still}
 use Rattle.live_segment.proofs.Walks.Walked.{all_right, come_still}
@@ -67,3 +68,12 @@ returns-clause-answer c =
     passes old c.args.count _ _ c.if-count-eq0.false (subst (λ (n : ℕ). c.args.count ≤ n) c.args.self.now.counted c.if-count-self.false) (λ known means.
     subst (λ (k : Known). IsAdded k c.args.value c.args.count old new)
     (meant c.args.self.now.known.items old.answers.names c.args.histogram.index one known c.args.self.now.listed c.index-known.ensures c.requires means) added)
+
+pub returns-clause-claims : goal.returns-clause-claims
+returns-clause-claims c =
+    let old = c.args.self.now.seat.me.0 in
+    let new = c.add_sample.new.seat.me.0 in
+    let one = c.index-known.result.now in
+    let claims = subst (λ (v : ℤ). ClaimsFor (known_view one) v old new) (to_z-of_z w32 c.args.value c.ranges.value) c.in_ok-add_sample.ensures.claims in
+    λ known means. subst (λ (k : Known). ClaimsFor k c.args.value old new)
+    (meant c.args.self.now.known.items old.answers.names c.args.histogram.index one known c.args.self.now.listed c.index-known.ensures c.requires means) claims

@@ -5,6 +5,7 @@ use Rattle.segment_image.specs.Checks.{first_fault}
 use Rattle.segment_invariant.proofs.Lists.Elements.{below_length}
 use Rattle.segment_machine.specs.declared.actor.Known.{Known}
 use Rattle.live_segment.specs.Batching.{batch_checks, IsBatched, IsCutShort}
+use Rattle.live_segment.specs.Claims.{ClaimsForAll}
 use Rattle.live_segment.specs.Known.{known_view}
 use Rattle.live_segment.proofs.AddCall.Adds.{meant, is_of_still, names_still}
 use Rattle.live_segment.proofs.BatchCall.Batches.{passed, passes_all, fails_one}
@@ -86,3 +87,12 @@ returns-clause-answer c =
     let done = subst (λ (z : ℤ). IsBatched (known_view one) c.args.items.now z old new) (to_z-of_z w64 c.args.sum c.ranges.sum) c.in_default.ensures.outcome in
     passes_all old c.args.items.now c.args.sum _ _ none (λ known means. subst (λ (k : Known). IsBatched k c.args.items.now c.args.sum old new)
     (meant c.args.self.now.known.items old.answers.names c.args.histogram.index one known c.args.self.now.listed c.index.ensures c.requires means) done)
+
+pub returns-clause-claims : goal.returns-clause-claims
+returns-clause-claims c =
+    let old = c.args.self.now.seat.me.0 in
+    let new = c.count_batch-counted.new.seat.me.0 in
+    let one = c.index.result.now in
+    λ known means. subst (λ (k : Known). ClaimsForAll k c.args.items.now old new)
+    (meant c.args.self.now.known.items old.answers.names c.args.histogram.index one known c.args.self.now.listed c.index.ensures c.requires means)
+    c.in_default.ensures.claims

@@ -5,6 +5,7 @@ use Rattle.segment_invariant.proofs.Lists.Elements.{below_length}
 use Rattle.live_segment.specs.Known.{known_view, KnowsRight}
 use Rattle.live_segment.proofs.Walks.Walked.{all_right, come_still}
 use Rattle.live_segment.proofs.HistCall.HistAnswered.{read_known, none_known, names_still, of_still, rests_still, share_still, chain_grew, of_then, rests_then, share_same, right_then, listed_then, named_then, count_of, asked_here, may_be_asked}
+use Rattle.live_segment.proofs.HistCall.Blocks.{makes_named}
 use Rattle.live_segment.proofs.recorder.Recorder.hist.Goals as goal
 use Rattle.live_segment.proofs.recorder.Recorder.hist.Goals.{then-is_same, else-is_same}
 
@@ -97,3 +98,15 @@ returns-in_err-known-clause-answer c =
     let (looks, owes, why_is) = c.in_err-known.ensures.outcome in
     rw (p.1, p.2)
     (inr (inr (none_known me.known.items me.seat.me.0 c.args.name.now me.listed c.in_default.ensures, (c.in_ok-asked.asked, asked_here me.segment.now.setting me.seat.me.0 me.seated.of c.in_ok-asked.ensures, why_is), looks, owes ∙ sym me.rests.owes)))
+
+pub returns-clause-claims : goal.returns-clause-claims
+returns-clause-claims c =
+    let me = c.args.self.now in
+    makes_named me.segment.now.setting.shape c.args.name.now c.args.spec.now c.in_ok-asked.asked me.seat.me.0 c.ask.new.seat.me.0 c.in_ok-asked.ensures c.in_ok-known.ensures.claims
+
+pub returns-in_err-known-clause-claims : goal.returns-in_err-known-clause-claims
+returns-in_err-known-clause-claims c =
+    let me = c.args.self.now in
+    let p = err_from_is_err_and c.from_residual-in_err-known.result c.from_residual-in_err-known.ensures.1 in
+    rw (p.1, p.2) (λ is.
+    makes_named me.segment.now.setting.shape c.args.name.now c.args.spec.now c.in_ok-asked.asked me.seat.me.0 c.ask.new.seat.me.0 c.in_ok-asked.ensures (c.in_err-known.ensures.claims is))

@@ -1,11 +1,13 @@
 use Rattle.std.proofs.Common.{ℤ, ◌∷◌, [], refl, sym, subst, w32}
 use Rattle.std.proofs.lemmas.Int.{to_z-of_z}
 use Rattle.std.proofs.lemmas.Result.{err_from_is_err_and}
+use Rattle.live_segment.specs.Claims.{ClaimsFor}
 use Rattle.live_segment.specs.Finishing.{HasEnded, HasSample, item_of, sample_of}
 use Rattle.live_segment.specs.Known.{known_view}
 use Rattle.live_segment.specs.Refusing.{IsNotCounted}
 use Rattle.live_segment.specs.Working.{CountsAlone, HasCounted}
 use Rattle.live_segment.proofs.AddCall.TurnedAway.{turned_rests, turned_refused}
+use Rattle.live_segment.proofs.AddCall.Blocks.{claims_kept, keeps_ended}
 use Rattle.live_segment.proofs.AddCall.Added.{counts_alone, has_sample, added, added_rests}
 use Rattle.live_segment.proofs.segment.Segment.add_sample.Goals as goal
 
@@ -63,3 +65,11 @@ returns-clause-outcome c =
     (to_z-of_z w32 c.args.value c.ranges.value) c.finish_sample.ensures.ended in
     added known c.args.value c.args.units c.args.seat.now.me.0 c.count_value.new.seat.me.0 c.requires.rests c.requires.right.alone
     c.requires.units.0 c.requires.units.1 has c.finish_sample.new.seat.me.0 ended
+
+pub returns-clause-claims : goal.returns-clause-claims
+returns-clause-claims c =
+    let known = known_view c.args.histogram.now in
+    let claims = subst (λ (v : ℤ). ClaimsFor known v c.args.seat.now.me.0 c.count_value.new.seat.me.0)
+    (to_z-of_z w32 c.args.value c.ranges.value) c.in_ok-count_value.ensures.claims in
+    claims_kept known c.args.value c.args.seat.now.me.0 c.count_value.new.seat.me.0 c.finish_sample.new.seat.me.0 claims
+    (keeps_ended _ c.count_value.new.seat.me.0 c.finish_sample.new.seat.me.0 c.finish_sample.ensures.ended)

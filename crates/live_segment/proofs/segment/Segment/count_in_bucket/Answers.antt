@@ -1,7 +1,8 @@
 use Rattle.std.proofs.Common.{◌∙◌, rules}
 use Rattle.std.proofs.lemmas.Result.{err_from_is_err_and}
 use Rattle.live_segment.specs.Known.{known_view}
-use Rattle.live_segment.proofs.AddCall.Counted.{may_mount, may_do_without, room_here, may_add_here, same_here, counted_here, counts_off, at_counts_off, may_passed, at_counts_passed, turned}
+use Rattle.live_segment.proofs.AddCall.Counted.{may_mount, may_do_without, room_here, may_add_here, same_here, counted_here, counts_off, at_counts_off, may_passed, at_counts_passed, turned, keeps_here}
+use Rattle.live_segment.proofs.AddCall.Blocks.{keeps_on, loads_none, mounts_between, packs_none}
 use Rattle.live_segment.proofs.AddCall.Mounted.{may_load_counts, mounts_on}
 use Rattle.live_segment.proofs.segment.Segment.count_in_bucket.Goals as goal
 
@@ -76,3 +77,26 @@ returns-in_ok-counts-in-Passed-clause-outcome c =
     let at = at_counts_passed k c.args.bucket c.args.units c.args.seat.now c.pack_units.new.seat c.requires.may c.in-Passed.ensures.outcome _ c.counts_of.new.seat
     c.disable_single.new.seat c.in_ok-counts-in-Passed.ensures.outcome c.disable_single.ensures.disabled in
     counted_here at c.requires.bucket _ c.add_to_bucket_count-in-Passed.new.seat c.add_to_bucket_count-in-Passed.ensures
+
+pub returns-in-Packed-clause-outcome : goal.returns-in-Packed-clause-outcome
+returns-in-Packed-clause-outcome c = c.in-Packed.ensures.outcome.0
+
+pub returns-in-Packed-clause-claims : goal.returns-in-Packed-clause-claims
+returns-in-Packed-clause-claims c = packs_none (known_view c.args.histogram.now) c.args.seat.now.me.0 c.pack_units.new.seat.me.0 c.in-Packed.ensures.outcome.1
+
+pub returns-in-Off-clause-claims : goal.returns-in-Off-clause-claims
+returns-in-Off-clause-claims c =
+    let k = known_view c.args.histogram.now in
+    let at = at_counts_off k c.args.bucket c.args.units c.args.seat.now c.pack_units.new.seat c.requires.may c.in-Off.ensures.outcome c.load_counts-counts.ensures.step in
+    loads_none k c.args.seat.now c.pack_units.new.seat c.load_counts-counts.new.seat _ c.add_to_bucket_count.new.seat.me.0 c.in-Off.ensures.outcome.1 c.load_counts-counts.ensures.step
+    (keeps_here at c.requires.bucket _ c.add_to_bucket_count.new.seat c.add_to_bucket_count.ensures)
+
+pub returns-in_ok-counts-in-Passed-clause-claims : goal.returns-in_ok-counts-in-Passed-clause-claims
+returns-in_ok-counts-in-Passed-clause-claims c =
+    let k = known_view c.args.histogram.now in
+    let at = at_counts_passed k c.args.bucket c.args.units c.args.seat.now c.pack_units.new.seat c.requires.may c.in-Passed.ensures.outcome _ c.counts_of.new.seat
+    c.disable_single.new.seat c.in_ok-counts-in-Passed.ensures.outcome c.disable_single.ensures.disabled in
+    mounts_between k c.args.seat.now.me.0 c.pack_units.new.seat.me.0 c.counts_of.new.seat.me.0 c.add_to_bucket_count-in-Passed.new.seat.me.0 c.in-Passed.ensures.outcome.1
+    c.in_ok-counts-in-Passed.ensures.claims
+    (keeps_on c.counts_of.new.seat.me.0 c.disable_single.new.seat.me.0 c.add_to_bucket_count-in-Passed.new.seat.me.0 c.disable_single.ensures.disabled.keeps
+    (keeps_here at c.requires.bucket _ c.add_to_bucket_count-in-Passed.new.seat c.add_to_bucket_count-in-Passed.ensures))

@@ -6,7 +6,7 @@ use Rattle.live_segment.specs.Known.{known_view}
 use Rattle.live_segment.specs.Sampling.{HasSampleOf, LacksSampleOf}
 use Rattle.live_segment.specs.GhostNotes.{HasSampled, MaySample}
 use Rattle.live_segment.proofs.AddCall.CountsAlone.{may_give_up}
-use Rattle.live_segment.proofs.AddCall.ValueCounted.{may_sample, sample_within, same_counted, value_counted, value_lacks}
+use Rattle.live_segment.proofs.AddCall.ValueCounted.{may_sample, sample_within, same_counted, value_claims, value_counted, value_lacks}
 use Rattle.live_segment.proofs.segment.Segment.count_in_sample.Goals as goal
 
 pub returns-in_err-sample-clause-outcome : goal.returns-in_err-sample-clause-outcome
@@ -56,3 +56,13 @@ add_to_sample-requires-clause-room c =
     (to_z-of_z w32 c.args.value c.ranges.value) c.in_ok-sample.ensures.outcome in
     sample_within known c.args.value c.args.units c.in_ok-sample.sample c.args.seat.now c.sample_of.new.seat c.requires.may c.requires.sparse has
     c.args.self.now c.requires.seat.of
+
+pub returns-clause-claims : goal.returns-clause-claims
+returns-clause-claims c =
+    let known = known_view c.args.histogram.now in
+    let has = subst (λ (v : ℤ). HasSampleOf known v c.in_ok-sample.sample c.args.seat.now.me.0 c.sample_of.new.seat.me.0)
+    (to_z-of_z w32 c.args.value c.ranges.value) c.in_ok-sample.ensures.outcome in
+    let sampled = subst (λ (n : ℕ). HasSampled c.sample_of.new.seat c.in_ok-sample.sample n c.add_to_sample.result c.add_to_sample.new.seat) c.from.ensures
+    c.add_to_sample.ensures in
+    value_claims known c.args.value c.args.units c.in_ok-sample.sample c.args.seat.now c.sample_of.new.seat c.requires.may c.requires.sparse has
+    c.add_to_sample.result c.add_to_sample.new.seat sampled

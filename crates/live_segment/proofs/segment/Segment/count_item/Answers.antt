@@ -3,12 +3,15 @@ use Rattle.std.proofs.lemmas.Int.{to_z-of_z}
 use Rattle.std.proofs.lemmas.Result.{err_from_is_err_and}
 use Rattle.segment_machine.specs.Counting.{add_redundant}
 use Rattle.segment_machine.specs.Event.{counting_event}
+use Rattle.live_segment.specs.Claims.{ClaimsFor}
 use Rattle.live_segment.specs.Finishing.{item_of}
 use Rattle.live_segment.specs.Holders.{MayStep}
 use Rattle.live_segment.specs.Known.{known_view}
 use Rattle.live_segment.specs.Refusing.{IsNotCounted}
 use Rattle.live_segment.specs.Steps.{Stepped}
 use Rattle.live_segment.specs.Working.{CountsAlone, HasCounted}
+use Rattle.live_segment.proofs.AddCall.Blocks.{claims_kept}
+use Rattle.live_segment.proofs.BatchCall.Blocks.{keeps_noted}
 use Rattle.live_segment.proofs.BatchCall.ItemNoted.{may_note, item_noted}
 use Rattle.live_segment.proofs.segment.Segment.count_item.Goals as goal
 
@@ -40,3 +43,11 @@ returns-clause-outcome c =
     let step = subst (λ (n : ℕ). Stepped c.count_value.new.seat (counting_event (add_redundant known.reference n)) c.add_redundant.result c.add_redundant.new.seat)
     c.from.ensures c.add_redundant.ensures in
     item_noted known c.args.value c.args.units c.args.seat.now c.count_value.new.seat c.requires.may has c.add_redundant.result c.add_redundant.new.seat step
+
+pub returns-clause-claims : goal.returns-clause-claims
+returns-clause-claims c =
+    let known = known_view c.args.histogram.now in
+    let claims = subst (λ (v : ℤ). ClaimsFor known v c.args.seat.now.me.0 c.count_value.new.seat.me.0)
+    (to_z-of_z w32 c.args.value c.ranges.value) c.in_ok-count_value.ensures.claims in
+    claims_kept known c.args.value c.args.seat.now.me.0 c.count_value.new.seat.me.0 c.add_redundant.new.seat.me.0 claims
+    (keeps_noted known.reference _ c.add_redundant.result c.count_value.new.seat c.add_redundant.new.seat c.add_redundant.ensures)

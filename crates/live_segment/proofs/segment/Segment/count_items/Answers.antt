@@ -2,17 +2,19 @@ use Rattle.std.proofs.Common.{of_z, to_z, ◌≡◌, ◌∙◌, ℕ, ℤ, pos, L
 use Rattle.std.proofs.lemmas.List.{take_more}
 use Rattle.bucket_ranges.specs.Ranges.{boundaries_of}
 use Rattle.live_segment.specs.Batching.{HasItems, HasNoted}
+use Rattle.live_segment.specs.Claims.{ClaimsFor, ClaimsForEach}
 use Rattle.live_segment.specs.Finishing.{item_of}
 use Rattle.live_segment.specs.Known.{known_view}
 use Rattle.live_segment.specs.Refusing.{IsNotCounted}
 use Rattle.live_segment.specs.Working.{CountsAlone}
+use Rattle.live_segment.proofs.BatchCall.Blocks.{each_more}
 use Rattle.live_segment.proofs.BatchCall.Items.{within_all}
 use Rattle.live_segment.proofs.BatchCall.ItemsCounted.{no_items, may_next, one_counted}
 use Rattle.live_segment.proofs.BatchCall.ItemsRefused.{stops_at}
 use Rattle.live_segment.proofs.segment.Segment.count_items.Goals as goal
 
 pub loop-added-init : goal.loop-added-init
-loop-added-init c = record { same = (refl, refl, refl); counted = no_items (known_view c.args.histogram.now) c.args.seat.now.me.0 c.requires.rests }
+loop-added-init c = record { same = (refl, refl, refl); counted = no_items (known_view c.args.histogram.now) c.args.seat.now.me.0 c.requires.rests; claims = refl }
 
 pub count_item-requires-clause-may : goal.count_item-requires-clause-may
 count_item-requires-clause-may c =
@@ -42,6 +44,9 @@ loop-added-preserved c =
       counted = subst (λ (l : List (ℤ × ℕ)). HasItems known l c.args.seat.now.me.0 c.count_item.new.seat.me.0) (sym (take_more items k (pos 0, 0) c.loop-added-test.true))
           (one_counted known item c.args.seat.now.me.0 c.loop-added.seat.me.0 c.requires.rests (take k items) c.count_item.new.seat.me.0 was.counted
           (c.requires.units.0 k (pos 0, 0) c.loop-added-test.true) (omega (arith, most, enough)) noted);
+      claims = subst (λ (l : List (ℤ × ℕ)). ClaimsForEach known l c.args.seat.now.me.0 c.count_item.new.seat.me.0) (sym (take_more items k (pos 0, 0) c.loop-added-test.true))
+          (each_more known (take k items) item c.args.seat.now.me.0 c.loop-added.seat.me.0 c.count_item.new.seat.me.0 was.claims
+          (subst (λ (v : ℤ). ClaimsFor known v c.loop-added.seat.me.0 c.count_item.new.seat.me.0) trip c.in_default.ensures.claims));
     }
 
 pub returns-in-Err-clause-outcome : goal.returns-in-Err-clause-outcome
@@ -55,4 +60,4 @@ returns-in-Err-clause-outcome c =
     let enough = c.requires.units.1 in
     stops_at known items k (pos 0, 0) c.args.seat.now.me.0 c.loop-added.seat.me.0 c.count_item.new.seat.me.0 c.in-Err.why c.loop-added-test.true c.requires.rests
     c.loop-added.invariant.counted (c.requires.units.0 k (pos 0, 0) c.loop-added-test.true) (omega (arith, most, enough))
-    (subst (λ (v : ℤ). IsNotCounted c.in-Err.why known v item.1 c.loop-added.seat.me.0 c.count_item.new.seat.me.0) trip c.in-Err.ensures.outcome)
+    (subst (λ (v : ℤ). IsNotCounted c.in-Err.why known v item.1 c.loop-added.seat.me.0 c.count_item.new.seat.me.0) trip c.in-Err.ensures.outcome) c.loop-added.invariant.claims

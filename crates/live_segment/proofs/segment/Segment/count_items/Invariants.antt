@@ -1,5 +1,6 @@
 use Rattle.std.proofs.Common.{take}
 use Rattle.live_segment.specs.Batching.{HasItems}
+use Rattle.live_segment.specs.Claims.{ClaimsForEach}
 use Rattle.live_segment.specs.Known.{known_view}
 use Rattle.live_segment.specs.Steps.{IsSame}
 use Rattle.live_segment.proofs.segment.Segment.count_items.Given as goal
@@ -8,4 +9,5 @@ abbrev pub invariant-loop-added : goal.invariant-loop-added
 invariant-loop-added l = record {
   same : IsSame l.initial.seat l.seat;
   counted : HasItems (known_view l.histogram) (take l.added l.items) l.initial.seat.me.0 l.seat.me.0;
+  claims : ClaimsForEach (known_view l.histogram) (take l.added l.items) l.initial.seat.me.0 l.seat.me.0;
 }

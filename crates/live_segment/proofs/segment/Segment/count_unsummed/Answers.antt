@@ -1,15 +1,17 @@
-use Rattle.std.proofs.Common.{of_z, to_z, ◌≡◌, ◌∙◌, ◌-◌, ◌<◌, ℕ, ℤ, pos, List, [], ◌∷◌, take, drop, length, slice_index_or, rules, sym, subst, w32, arith}
+use Rattle.std.proofs.Common.{of_z, to_z, ◌≡◌, ◌∙◌, ◌-◌, ◌<◌, ℕ, ℤ, pos, List, [], ◌∷◌, ◌++◌, take, drop, length, slice_index_or, rules, sym, subst, w32, arith}
 use Rattle.std.proofs.lemmas.List.{take-append-drop, length-take-le}
 use Rattle.std.proofs.lemmas.Result.{err_from_is_err_and}
 use Rattle.segment_machine.specs.Counting.{add_redundant}
 use Rattle.segment_machine.specs.Event.{counting_event}
 use Rattle.segment_machine.specs.Note.{ends}
 use Rattle.live_segment.specs.Batching.{IsBatched, IsCutShort}
+use Rattle.live_segment.specs.Claims.{ClaimsFor, ClaimsForAll}
 use Rattle.live_segment.specs.Finishing.{item_of}
 use Rattle.live_segment.specs.Known.{known_view}
 use Rattle.live_segment.specs.Refusing.{IsNotCounted}
 use Rattle.live_segment.specs.GhostNotes.{MayDo, Noted}
 use Rattle.live_segment.specs.Working.{CountsAlone, HasCounted}
+use Rattle.live_segment.proofs.BatchCall.Blocks.{claims_all, each_more, keeps_last}
 use Rattle.live_segment.proofs.BatchCall.ItemsCounted.{may_next}
 use Rattle.live_segment.proofs.BatchCall.ItemsRefused.{stops_at}
 use Rattle.live_segment.proofs.BatchCall.LastItem.{may_end_batch, same_ended, last_rests, last_batched}
@@ -56,7 +58,7 @@ returns-in-Err-clause-outcome c =
     subst (λ (n : ℕ). IsCutShort known items (record { added = n; why = c.in-Err.why }) c.args.seat.now.me.0 c.count_value.new.seat.me.0) (sym first)
     (stops_at known items k (pos 0, 0) c.args.seat.now.me.0 c.count_items.new.seat.me.0 c.count_value.new.seat.me.0 c.in-Err.why within c.requires.rests
     c.in_ok-count_items.ensures.outcome one enough
-    (subst (λ (v : ℤ). IsNotCounted c.in-Err.why known v item.1 c.count_items.new.seat.me.0 c.count_value.new.seat.me.0) trip c.in-Err.ensures.outcome)).0
+    (subst (λ (v : ℤ). IsNotCounted c.in-Err.why known v item.1 c.count_items.new.seat.me.0 c.count_value.new.seat.me.0) trip c.in-Err.ensures.outcome) c.in_ok-count_items.ensures.claims).0
 
 pub returns-in-Err-clause-rests : goal.returns-in-Err-clause-rests
 returns-in-Err-clause-rests c =
@@ -69,7 +71,7 @@ returns-in-Err-clause-rests c =
     let (one, enough) = last_fits known items c.args.seat.now.me.0.units.share c.in-len1-up.len_at_least c.requires.units in
     (stops_at known items k (pos 0, 0) c.args.seat.now.me.0 c.count_items.new.seat.me.0 c.count_value.new.seat.me.0 c.in-Err.why within c.requires.rests
     c.in_ok-count_items.ensures.outcome one enough
-    (subst (λ (v : ℤ). IsNotCounted c.in-Err.why known v item.1 c.count_items.new.seat.me.0 c.count_value.new.seat.me.0) trip c.in-Err.ensures.outcome)).1
+    (subst (λ (v : ℤ). IsNotCounted c.in-Err.why known v item.1 c.count_items.new.seat.me.0 c.count_value.new.seat.me.0) trip c.in-Err.ensures.outcome) c.in_ok-count_items.ensures.claims).1
 
 pub add_last-requires-clause-may : goal.add_last-requires-clause-may
 add_last-requires-clause-may c =
@@ -124,3 +126,16 @@ returns-clause-outcome c =
     subst (λ (l : List (ℤ × ℕ)). IsBatched known l (pos 0) c.args.seat.now.me.0 c.add_last.new.seat.me.0) (front_and_last items (pos 0, 0) c.in-len1-up.len_at_least)
     (last_batched known (take k items) item c.args.seat.now.me.0 c.count_items.new.seat.me.0 c.count_value.new.seat c.requires.rests c.requires.right.alone c.in_ok-count_items.ensures.outcome one enough counted
     c.add_last.result c.add_last.new.seat noted)
+
+pub returns-clause-claims : goal.returns-clause-claims
+returns-clause-claims c =
+    let known = known_view c.args.histogram.now in
+    let items = c.args.items.now in
+    let k = length items - 1 in
+    let item = slice_index_or items k (pos 0, 0) in
+    let trip : to_z w32 (of_z w32 item.0) ≡ item.0 = search rules in
+    let last = subst (λ (v : ℤ). ClaimsFor known v c.count_items.new.seat.me.0 c.count_value.new.seat.me.0) trip c.in_default-count_value.ensures.claims in
+    let each = each_more known (take k items) item c.args.seat.now.me.0 c.count_items.new.seat.me.0 c.count_value.new.seat.me.0 c.in_ok-count_items.ensures.claims last in
+    subst (λ (l : List (ℤ × ℕ)). ClaimsForAll known l c.args.seat.now.me.0 c.add_last.new.seat.me.0) (front_and_last items (pos 0, 0) c.in-len1-up.len_at_least)
+    (claims_all known (take k items ++ item ∷ []) c.args.seat.now.me.0 c.count_value.new.seat.me.0 c.add_last.new.seat.me.0 each
+    (keeps_last known.reference _ c.add_last.result c.count_value.new.seat c.add_last.new.seat c.add_last.ensures))

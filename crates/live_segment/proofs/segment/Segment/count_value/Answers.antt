@@ -1,13 +1,15 @@
-use Rattle.std.proofs.Common.{◌∙◌, ℤ, sym, subst, w32, MatchResult}
+use Rattle.std.proofs.Common.{◌∙◌, ℤ, sym, subst, w32, IfOk, MatchResult}
 use Rattle.std.proofs.lemmas.Int.{to_z-of_z}
-use Rattle.std.proofs.lemmas.Result.{MatchResult-weaker}
+use Rattle.std.proofs.lemmas.Result.{IfOk-weaker, MatchResult-weaker}
 use Rattle.segment_machine.specs.declared.entry.Entry.{Entry}
+use Rattle.live_segment.specs.Claims.{ClaimsFor}
 use Rattle.live_segment.specs.Finishing.{item_of}
 use Rattle.live_segment.specs.Known.{known_view}
 use Rattle.live_segment.specs.Refusing.{IsNotCounted}
 use Rattle.live_segment.specs.Working.{CountsAlone, HasCounted}
 use Rattle.segment_promises.proofs.Calls.SpecBuckets.{below, is_bucketed, is_sparse}
 use Rattle.live_segment.proofs.DeltaCall.BucketKeys.{found_is, item_is, one_bucket}
+use Rattle.live_segment.proofs.AddCall.Blocks.{claims_mounted}
 use Rattle.live_segment.proofs.AddCall.TurnedAway.{turned_not_counted}
 use Rattle.live_segment.proofs.segment.Segment.count_value.Goals as goal
 
@@ -57,3 +59,15 @@ returns-clause-outcome c =
     (λ x has. subst (λ (e : Entry). HasCounted e c.args.seat.now.me.0 c.count_in_bucket.new.seat.me.0) is_of has)
     (λ why turned. turned_not_counted why known c.bucket-bucket.result c.args.value c.args.units c.args.seat.now.me.0 c.count_in_bucket.new.seat.me.0 bucketed
     (λ other key. one_bucket known.spec right.lawful bucketed c.args.value c.bucket-bucket.result found other key.0 key.1) is_of turned)
+
+pub returns-then-len-eq0-clause-claims : goal.returns-then-len-eq0-clause-claims
+returns-then-len-eq0-clause-claims c =
+    subst (λ (v : ℤ). IfOk c.count_in_sample.result (λ x. ClaimsFor (known_view c.args.histogram.now) v c.args.seat.now.me.0 c.count_in_sample.new.seat.me.0))
+    (to_z-of_z w32 c.args.value c.ranges.value) c.count_in_sample.ensures.claims
+
+pub returns-clause-claims : goal.returns-clause-claims
+returns-clause-claims c =
+    let known = known_view c.args.histogram.now in
+    let bucketed = is_bucketed known.spec c.args.histogram.now.ranges c.requires.right.ranges (λ none. c.if-len-eq0.false (c.len.ensures ∙ none)) in
+    IfOk-weaker c.count_in_bucket.result _ _
+    (λ x claims. claims_mounted known c.args.value c.args.seat.now.me.0 c.count_in_bucket.new.seat.me.0 bucketed claims) c.count_in_bucket.ensures.claims

@@ -1,7 +1,7 @@
 use Rattle.std.proofs.Common.{length, ap, arith}
 use Rattle.std.proofs.lemmas.Result.{err_from_is_err_and}
 use Rattle.live_segment.specs.Known.{known_view}
-use Rattle.live_segment.proofs.AddCall.Mounted.{bucket_count, words_of_block, finds_some, mounts_next, has_blank, block_within, mounted_behind, refused_block}
+use Rattle.live_segment.proofs.AddCall.Mounted.{bucket_count, words_of_block, finds_some, mounts_next, has_blank, block_within, mounted_behind, refused_block, claims_not, claims_block}
 use Rattle.live_segment.proofs.segment.Segment.counts_of.Goals as goal
 
 pub returns-then-counts-ne0-clause-outcome : goal.returns-then-counts-ne0-clause-outcome
@@ -78,3 +78,16 @@ returns-clause-outcome c =
     let count = bucket_count h.spec c.requires.right.0 c.requires.may.knows.2 in
     mounted_behind c.args.self.now (known_view h) c.args.seat.now c.requires.seat.table c.requires.may _ c.load_counts-counts.new.seat c.load_counts-counts.ensures.step
     _ _ c.allocate.new.seat (omega (arith, len, all, count.0)) c.in_ok-at.ensures.unspoiled c.in_ok-at.ensures.outcome _ c.mount.new.seat c.mount.ensures.mounted
+
+pub returns-then-counts-ne0-clause-claims : goal.returns-then-counts-ne0-clause-claims
+returns-then-counts-ne0-clause-claims c =
+    claims_not c.args.self.now (known_view c.args.histogram.now) c.args.seat.now c.requires.seat.table c.requires.may _ c.load_counts-counts.new.seat c.load_counts-counts.ensures.step
+
+pub returns-clause-claims : goal.returns-clause-claims
+returns-clause-claims c =
+    let h = c.args.histogram.now in
+    let len = c.len.ensures in let all = ap length c.requires.right.1 in
+    let count = bucket_count h.spec c.requires.right.0 c.requires.may.knows.2 in
+    let words = words_of_block (known_view h) c.requires.may.knows.2 in
+    claims_block c.args.self.now (known_view h) c.args.seat.now c.requires.seat.table c.requires.may _ c.load_counts-counts.new.seat c.load_counts-counts.ensures.step
+    c.if-counts-ne0.false c.load_counts-counts.ensures.seen c.in_ok-at.at _ c.allocate.new.seat c.mount.new.seat _ (omega (arith, len, all, count.0, words)) c.in_ok-at.ensures.outcome c.mount.ensures.claims

@@ -1,5 +1,5 @@
 use Rattle.std.proofs.Common.{sym, ◌∙◌, arith}
-use Rattle.live_segment.proofs.AddCall.Disabled.{disabling, may_load, may_disable, same_after, rests, may_move, moved, looks_after, done_after, stands_after, falls}
+use Rattle.live_segment.proofs.AddCall.Disabled.{disabling, may_load, may_disable, same_after, rests, may_move, moved, looks_after, keeps_after, stands_after, falls}
 use Rattle.live_segment.proofs.segment.Segment.disable_single.Goals as goal
 
 pub loop-counts-init : goal.loop-counts-init
@@ -42,6 +42,6 @@ loop-counts-preserved c =
       within = c.requires.stands.1;
       same = same_after c.loop-counts.invariant _ c.load_single-word.new.seat c.load_single-word.ensures (omega (arith, on)) _ c.disable.new.seat c.disable.ensures;
       looks = looks_after c.loop-counts.invariant _ c.load_single-word.new.seat c.load_single-word.ensures (omega (arith, on)) _ c.disable.new.seat c.disable.ensures c.if-disable-word.false;
-      done = done_after c.loop-counts.invariant _ c.load_single-word.new.seat c.load_single-word.ensures (omega (arith, on)) _ c.disable.new.seat c.disable.ensures c.if-disable-word.false;
+      keeps = keeps_after c.loop-counts.invariant _ c.load_single-word.new.seat c.load_single-word.ensures (omega (arith, on)) _ c.disable.new.seat c.disable.ensures c.if-disable-word.false;
       stands = stands_after c.loop-counts.invariant _ c.load_single-word.new.seat c.load_single-word.ensures (omega (arith, on)) _ c.disable.new.seat c.disable.ensures c.if-disable-word.false;
     }

@@ -1,4 +1,9 @@
+use Rattle.std.proofs.Common.{sym, subst, ◌∙◌}
+use Rattle.std.specs.Prelude.{Err}
 use Rattle.std.proofs.lemmas.Result.{err_from_is_err_and}
+use Rattle.segment_calls.specs.declared.refusal.Refusal.{Refusal}
+use Rattle.live_segment.specs.Making.{Makes}
+use Rattle.live_segment.proofs.HistCall.Blocks.{searches_none, makes_one}
 use Rattle.live_segment.proofs.HistCall.Settled.{walk_goes_on, meets_own, met_first, met_another, met_then, met_another_then, not_made}
 use Rattle.live_segment.proofs.segment.Segment.first_named.Goals as goal
 
@@ -35,3 +40,25 @@ pub returns-in-OtherSpec-find-clause-outcome : goal.returns-in-OtherSpec-find-cl
 returns-in-OtherSpec-find-clause-outcome c =
     met_another_then c.args.asked.now c.args.seat.now.me.0 c.find.new.seat.me.0 c.make_record.new.seat.me.0 c.find-2.new.seat.me.0 c.requires.rests.2 c.find.ensures.view
     c.in-End.ensures.outcome.0.free c.in_ok-make_record.ensures.outcome c.find-2.ensures.view c.in-OtherSpec-find.ensures.outcome
+
+pub returns-in-Met-clause-claims : goal.returns-in-Met-clause-claims
+returns-in-Met-clause-claims c = searches_none c.args.asked.now c.args.seat.now.me.0 c.find.new.seat.me.0 c.find.ensures.view
+
+pub returns-in-OtherSpec-clause-claims : goal.returns-in-OtherSpec-clause-claims
+returns-in-OtherSpec-clause-claims c = λ is. searches_none c.args.asked.now c.args.seat.now.me.0 c.find.new.seat.me.0 c.find.ensures.view
+
+pub returns-in_err-make_record-clause-claims : goal.returns-in_err-make_record-clause-claims
+returns-in_err-make_record-clause-claims c =
+    let p = err_from_is_err_and c.from_residual.result c.from_residual.ensures.1 in
+    rw (p.1, p.2)
+    (λ is. absurd (subst (λ (w : Refusal). Makes c.args.asked.now c.find.new.seat.me.0 (Err w) c.make_record.new.seat.me.0) is c.in_err-make_record.ensures.outcome))
+
+pub returns-in-Met-find-clause-claims : goal.returns-in-Met-find-clause-claims
+returns-in-Met-find-clause-claims c =
+    makes_one c.args.asked.now c.args.seat.now.me.0 c.find.new.seat.me.0 c.make_record.new.seat.me.0 c.find-2.new.seat.me.0 c.find.ensures.view
+    c.in-End.ensures.outcome.1 c.in_ok-make_record.ensures.outcome c.find-2.ensures.view
+
+pub returns-in-OtherSpec-find-clause-claims : goal.returns-in-OtherSpec-find-clause-claims
+returns-in-OtherSpec-find-clause-claims c = λ is.
+    makes_one c.args.asked.now c.args.seat.now.me.0 c.find.new.seat.me.0 c.make_record.new.seat.me.0 c.find-2.new.seat.me.0 c.find.ensures.view
+    c.in-End.ensures.outcome.1 c.in_ok-make_record.ensures.outcome c.find-2.ensures.view

@@ -3,6 +3,7 @@ use Rattle.segment_machine.specs.declared.actor.Actor.{Actor}
 use Rattle.segment_machine.specs.Actor.{is_opener}
 use Rattle.live_segment.specs.Searching.{asked_at}
 use Rattle.live_segment.proofs.Walks.Showing.{same_on}
+use Rattle.live_segment.proofs.HistCall.Blocks.{declined_none, knows_none, makes_kept}
 use Rattle.live_segment.proofs.HistCall.Settled.{may_decline, refused_so, known_so}
 use Rattle.live_segment.proofs.segment.Segment.settle.Goals as goal
 
@@ -33,3 +34,14 @@ decline-requires-clause-may c =
 pub returns-in-Err-clause-outcome : goal.returns-in-Err-clause-outcome
 returns-in-Err-clause-outcome c =
     refused_so c.args.asked.now c.args.seat.now.me.0 c.first_named.new.seat.me.0 c.decline.new.seat.me.0 c.in-Err.why c.in-Err.ensures.outcome c.decline.ensures.view
+
+pub returns-in-Ok-clause-claims : goal.returns-in-Ok-clause-claims
+returns-in-Ok-clause-claims c =
+    let told = c.know.ensures (asked_at c.args.asked.now c.in-Ok.reference) (c.requires.says, refl) in
+    makes_kept c.args.asked.now c.args.seat.now.me.0 c.first_named.new.seat.me.0 c.know.new.seat.me.0 c.in-Ok.ensures.claims
+    (knows_none c.first_named.new.seat.me.0 c.know.new.seat.me.0 (asked_at c.args.asked.now c.in-Ok.reference) told.1)
+
+pub returns-in-Err-clause-claims : goal.returns-in-Err-clause-claims
+returns-in-Err-clause-claims c = λ is.
+    makes_kept c.args.asked.now c.args.seat.now.me.0 c.first_named.new.seat.me.0 c.decline.new.seat.me.0 (c.in-Err.ensures.claims is)
+    (declined_none c.first_named.new.seat.me.0 c.decline.new.seat.me.0 c.decline.ensures.view)

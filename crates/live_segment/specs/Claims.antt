@@ -56,7 +56,7 @@ pub record MakesNamed (name : List ℕ) (spec : Spec) (words : ℕ) (old new : A
   pub more : Grows old.seen.chain met × Grows met new.seen.chain
   pub others : All (SawOtherName new.seen name) met
 
--- it has done nothing to the segment, or has made one record of the name
+-- it has claimed and published nothing, or has made one record of the name
 abbrev pub NamesAtMostOne : List ℕ → Spec → ℕ → Actor → Actor → Type 0
 NamesAtMostOne name spec words old new = (new.done ≡ old.done) ⊎ MakesNamed name spec words old new
 
@@ -87,7 +87,7 @@ pub record MountsOne (known : Known) (old new : Actor) : Type 0 where
 
 -- ---- for units of a value
 
--- It has done nothing to claim a block; or it has claimed one, with buckets for the counts, and without for the sample of the value.
+-- It has claimed and published nothing; or it has claimed one block, with buckets for the counts, and without for the sample of the value.
 pub record ClaimsFor (known : Known) (value : ℤ) (old new : Actor) : Type 0 where
   pub buckets : has_buckets known.spec ≡ true → (new.done ≡ old.done) ⊎ MountsOne known old new
   pub values : known.spec ≡ Sparse → (new.done ≡ old.done) ⊎ MakesSample known.reference value old new
@@ -95,7 +95,7 @@ pub record ClaimsFor (known : Known) (value : ℤ) (old new : Actor) : Type 0 wh
 
 -- ---- for a batch
 
--- it has done so for each item, in order
+-- it has claimed what it may for each item, in order
 abbrev pub ClaimsForEach : Known → List (ℤ × ℕ) → Actor → Actor → Type 0
 ClaimsForEach known [] old new = new ≡ old
 ClaimsForEach known (item ∷ rest) old new = (mid : Actor) × ClaimsFor known item.0 old mid × ClaimsForEach known rest mid new
@@ -104,7 +104,7 @@ ClaimsForEach known (item ∷ rest) old new = (mid : Actor) × ClaimsFor known i
 abbrev pub ClaimsAtMostOne : Done → Done → Type 0
 ClaimsAtMostOne old new = (new.claimed ≡ old.claimed) ⊎ ((claim : Claim) × (new.claimed ≡ old.claimed ++ claim ∷ []))
 
--- So of all items, and nothing behind them; with buckets it has claimed one block at most for all of them together.
+-- It has claimed what it may for each item of a batch, in order, and nothing behind: with buckets one block at most for all of them together.
 pub record ClaimsForAll (known : Known) (items : List (ℤ × ℕ)) (old new : Actor) : Type 0 where
   pub last : Actor
   pub each : ClaimsForEach known items old last

@@ -2,6 +2,7 @@
 
 ghost use Rattle.std.specs.Prelude.{◌≡◌, [], map};
 ghost use Rattle.segment_machine.specs.Seats.{newcomer};
+ghost use Rattle.live_segment.specs.Claims.{ClaimsFor, ClaimsForAll, NamesAtMostOne, record_words};
 ghost use Rattle.live_segment.specs.Rule.{IsOf};
 ghost use Rattle.live_segment.specs.Seated.{IsSeated};
 ghost use Rattle.live_segment.specs.Steps.{IsAtRest};
@@ -90,7 +91,6 @@ impl<'a> Recorder<'a> {
     ghost use Rattle.segment_machine.specs.declared.actor.Known.{Known};
     ghost use Rattle.live_segment.specs.Adding.{add_checks, AnswersSample};
     ghost use Rattle.live_segment.specs.Allocation.{spoiled};
-    ghost use Rattle.live_segment.specs.Claims.{ClaimsFor, ClaimsForAll, NamesAtMostOne, record_words};
     ghost use Rattle.live_segment.specs.Batching.{batch_checks, IsBatched, IsCutShort};
     ghost use Rattle.live_segment.specs.Cursors.{AnswersNext, gift};
     ghost use Rattle.live_segment.specs.Holders.{view_of_recorder, IsSameRecorder, Knows, Means};

@@ -101,7 +101,7 @@ fn merge_both(
 // The image of a new segment, of the size, the page and the id of BASE, into which both are merged.
 fn merge_inputs(alloc: Global, base: &Input, dead: &Input) -> Result<Image, CliFault>
     ensures image { IfOk result (IsMergedImage base.now.head ((reading_view base.now.reading).hists ++ (reading_view dead.now.reading).hists)) }
-    ensures fault { IfErr result (IsStopOf base.now.head.shape.page 4294967295 ((reading_view base.now.reading).hists ++ (reading_view dead.now.reading).hists)) }
+    ensures fault { IfErr result (IsStopOf base.now.head 4294967295 ((reading_view base.now.reading).hists ++ (reading_view dead.now.reading).hists)) }
 {
     let shape = base.head.shape;
     let Ok((segment, mut opener)) = Segment::create(
@@ -129,8 +129,8 @@ fn merge_inputs(alloc: Global, base: &Input, dead: &Input) -> Result<Image, CliF
 /// Its histograms are those of BASE and then of DEAD, with what deltas had not taken of them.
 ///
 /// BASE is read and checked whole before DEAD. `Read` where a read of one fails; `TooLong`, `NotWords` and `Image` as for a report, of BASE
-/// and then of DEAD; `Merge` with the name of the histogram at which the merge stopped, and why; `NoMemory` where there is none. After each of
-/// these nothing was written. `Write` where the write or the flush fails.
+/// and then of DEAD; `Merge` with the name of the histogram at which the merge stopped, and why: `Full` where its next block passes the end of
+/// the segment, behind what was merged before it; `NoMemory` where there is none. After each of these nothing was written. `Write` where the write or the flush fails.
 pub fn merge_files<A: Read, B: Read, W: Write>(
     alloc: Global,
     base: &mut Watched<A>,

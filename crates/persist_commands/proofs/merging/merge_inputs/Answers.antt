@@ -31,7 +31,8 @@ returns-in_err-merged-clause-fault c =
     c.join.ensures.takes.1 c.close-image.ensures.image c.close-image.ensures.joined c.close-image.ensures.stopped in
     let P : Actor → Type 0 = λ a. HasStopped (base ++ dead) a last c.in_err-merged.field-0.0 in
     rw (p.1, p.2)
-    (stop_told setting c.args.base.now.head.shape.page (base ++ dead) last c.close-image.result c.in_err-merged.field-0.0 c.page.ensures.value
+    (stop_told setting c.args.base.now.head (base ++ dead) last c.close-image.result c.in_err-merged.field-0.0
+    (λ i. record { size = c.size.ensures.value i; page = c.page.ensures.value i }) refl
     (subst P (theirs ∙ ap (λ (o : Actor). newcomer (offering o 4294967295)) new.view) c.in_err-merged.ensures.fault) closed)
 
 pub returns-clause-image : goal.returns-clause-image

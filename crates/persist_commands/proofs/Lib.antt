@@ -4,5 +4,6 @@ pub mod Meetings
 pub mod Runs
 mod Stops
 mod MergeClosed
+mod MergeFilled
 mod MergeFaults
 mod MergeOutcomes

@@ -1,5 +1,5 @@
 -- The faults of a merge of two images.
-use Rattle.std.proofs.Common.{◌≡◌, ℕ, ◌+◌, ◌<◌, List, [], ◌∷◌, ◌++◌, ◌⊎◌, inl, inr, take, sum_by, refl, sym, ap, ◌∙◌, subst, arith, append_assoc}
+use Rattle.std.proofs.Common.{◌≡◌, ℕ, ◌+◌, ◌<◌, List, [], ◌∷◌, ◌++◌, inl, inr, take, length, sum_by, refl, sym, ap, ◌∙◌, subst, arith, append_assoc}
 use Rattle.std.specs.Prelude.{◌≢◌, true, Result, Ok, Err, IfErr, OnOk, ⊤}
 use Rattle.std.specs.List.{Contains}
 use mathlib.Core.Option.{some}
@@ -9,6 +9,7 @@ use Rattle.std.specs.declared.vec.Vec.{Vec}
 use Rattle.std.proofs.lemmas.List.Elements.{All-contains}
 use Rattle.std.proofs.lemmas.List.Sums.{sum_by-append}
 use Rattle.segment_image.specs.Shape.{Dimensions}
+use Rattle.segment_image.specs.declared.head.SegmentHead.{SegmentHead}
 use Rattle.segment_image.specs.declared.layout.TheConstants.{BLOCK_HEADER}
 use Rattle.bucket_ranges.specs.Reading.{Histogram}
 use Rattle.bucket_ranges.specs.Spec.{SameSpec}
@@ -21,7 +22,7 @@ use Rattle.segment_machine.specs.Seats.{newcomer, offering}
 use Rattle.segment_calls.specs.declared.asked.Asked.{Asked}
 use Rattle.segment_calls.specs.declared.refusal.Refusal.{Refusal}
 use Rattle.segment_calls.specs.declared.refusal.Refusal.TheVariants as refusal
-use Rattle.segment_calls.specs.Asked.{IsRefusedFor, IsTooLarge}
+use Rattle.segment_calls.specs.Asked.{IsAskedFor, IsRefusedFor, IsTooLarge}
 use Rattle.live_segment.specs.declared.rule.Setting.{Setting}
 use Rattle.live_segment.specs.Adding.{HasNoRoom, block_words}
 use Rattle.live_segment.specs.Hist.{IsRefusedWith, KnowsNamed, KnowsNone}
@@ -35,25 +36,28 @@ use Rattle.segment_merge.specs.Merge.{HasCause, IsMerged, IsOneOf, IsStopped, co
 use Rattle.segment_merge.proofs.Merged.{merged_then}
 use Rattle.persist_report_core.specs.declared.fault.CliFault.{CliFault}
 use Rattle.persist_report_core.specs.declared.fault.CliFault.TheVariants as cli
-use Rattle.persist_commands.specs.MergeFiles.{HasStopped, HasStoppedIn, HaveOtherSpec, IsStopOf, MayStop, StopsIn, fault_of_stop}
+use Rattle.persist_commands.specs.MergeFiles.{HasStopped, HasStoppedIn, HaveOtherSpec, IsStopOf, LacksRoomFor, MayStop, StopsIn, fault_of_stop}
 use Rattle.persist_commands.proofs.MergeClosed.{IsClosed, saw_no_flag, saw_no_other}
+use Rattle.persist_commands.proofs.MergeFilled.{Lacks, counts_long, lacks_room, record_long}
 
 -- ---- one histogram
 
 -- It is asked for and counted behind others that are merged, by a recorder that knows histograms of these alone. Since its segment was new and
--- only it recorded there, it saw no record of a name that it does not know with another spec, and no corrupt flag.
-module _ (page units : ℕ) (front : List Histogram) (h : Histogram) (old new : Actor)
+-- only it recorded there, it saw no record of a name that it does not know with another spec, and no corrupt flag. Where a block passed the end,
+-- there was no room.
+module _ (first : SegmentHead) (units : ℕ) (front : List Histogram) (h : Histogram) (old new : Actor)
     (knows : (known : Known) → Contains old.answers.names known → IsOneOf front known)
-    (unseen : (asked : Asked) → SawOther asked new → KnowsNone asked.name.items new → ⊥) (sound : new.seen.corrupt ≡ true → ⊥) where
+    (unseen : (asked : Asked) → SawOther asked new → KnowsNone asked.name.items new → ⊥) (sound : new.seen.corrupt ≡ true → ⊥)
+    (full : (block : ℕ) → Lacks h new block → new.segment.shape.size < new.seen.free + block → LacksRoomFor first front h) where
   -- no block could be claimed
-  no_room : (why : Refusal) (words : ℕ) (before : Actor) → HasNoRoom why words before new → MayStop page units front h why
-  no_room refusal.Full words before has = tt
-  no_room refusal.Corrupt words before (done, corrupt, warned) = absurd (sound corrupt)
-  no_room why words before has = absurd has
+  no_room : (why : Refusal) (words : ℕ) (before : Actor) → Lacks h new words → HasNoRoom why words before new → MayStop first units front h why
+  no_room refusal.Full words before lacks (done, passes) = full words lacks passes
+  no_room refusal.Corrupt words before lacks (done, corrupt, warned) = absurd (sound corrupt)
+  no_room why words before lacks has = absurd has
 
   -- it may not be asked for
-  not_asked : (shape : Dimensions) (why : Refusal) → shape.page ≡ page → why ≢ refusal.NoMemory → IsRefusedFor shape h.name h.spec why
-      → MayStop page units front h why
+  not_asked : (shape : Dimensions) (why : Refusal) → shape.page ≡ first.shape.page → why ≢ refusal.NoMemory → IsRefusedFor shape h.name h.spec why
+      → MayStop first units front h why
   not_asked shape refusal.BadName same other is = is
   not_asked shape (refusal.BadSpec fault) same other is = is.1
   not_asked shape refusal.TooLarge same other is = subst (λ (p : ℕ). IsTooLarge p h.name h.spec) same is.2
@@ -61,12 +65,13 @@ module _ (page units : ℕ) (front : List Histogram) (h : Histogram) (old new : 
   not_asked shape why same other is = absurd is
 
   -- it was looked for
-  not_found : (asked : Asked) (why : Refusal) (before : Actor) → KnowsNone asked.name.items new → IsRefusedBy asked why before new
-      → MayStop page units front h why
-  not_found asked refusal.OtherSpec before none is = absurd (unseen asked is none)
-  not_found asked refusal.Full before none is = tt
-  not_found asked refusal.Corrupt before none (others, all, (done, corrupt, warned)) = absurd (sound corrupt)
-  not_found asked why before none is = absurd is.2
+  not_found : (asked : Asked) (why : Refusal) (before : Actor) → IsAskedFor before.segment.shape h.name h.spec asked → KnowsNone h.name new
+      → IsRefusedBy asked why before new → MayStop first units front h why
+  not_found asked refusal.OtherSpec before asks none is = absurd (unseen asked is (subst (λ (name : List ℕ). KnowsNone name new) (sym asks.named) none))
+  not_found asked refusal.Full before asks none (others, all, (done, passes)) =
+      full (BLOCK_HEADER + length asked.payload.items) (inl (record_long before.segment.shape h asked asks, none)) passes
+  not_found asked refusal.Corrupt before asks none (others, all, (done, corrupt, warned)) = absurd (sound corrupt)
+  not_found asked why before asks none is = absurd is.2
 
   -- the recorder knew one of the name, with another spec
   knew_other : (index : ℕ) (known : Known) → KnowsNamed h.name old index known → ¬ (SameSpec known.spec h.spec) → HaveOtherSpec front h
@@ -75,29 +80,33 @@ module _ (page units : ℕ) (front : List Histogram) (h : Histogram) (old new : 
       (other, among, sym its ∙ named, λ same. unlike (subst (λ (s : Spec). SameSpec s h.spec) (sym spec) same))
 
   -- its `hist` is refused
-  unfound : (why : Refusal) → old.segment.shape.page ≡ page → why ≢ refusal.NoMemory → IsRefusedWith h.name h.spec why old new
-      → MayStop page units front h why
+  unfound : (why : Refusal) → old.segment.shape.page ≡ first.shape.page → why ≢ refusal.NoMemory → IsRefusedWith h.name h.spec why old new
+      → MayStop first units front h why
   unfound why same other (inl (is, unmoved)) = not_asked old.segment.shape why same other is
   unfound why same other (inr (inl (is, (index, known, named, unlike), may, unmoved))) =
-      let P : Refusal → Type 0 = MayStop page units front h in subst P (sym is) (knew_other index known named unlike)
+      let P : Refusal → Type 0 = MayStop first units front h in subst P (sym is) (knew_other index known named unlike)
   unfound why same other (inr (inr (none, (asked, is, by), looks, owed))) =
       let names : new.answers.names ≡ old.answers.names = ap (λ (a : Actor). a.answers.names) looks.same in
-      not_found asked why old
-      (λ index known its. none index known (subst (λ (l : List Known). get_elem? l index ≡ some known) names its.0, its.1 ∙ is.named)) by
+      not_found asked why old is
+      (λ index known its. none index known (subst (λ (l : List Known). get_elem? l index ≡ some known) names its.0, its.1)) by
 
   -- its merge stops
-  caused : (items : ℕ) (why : Refusal) → old.segment.shape.page ≡ page → old.units.share + sum_by cost_left front ≡ units
+  caused : (items : ℕ) (why : Refusal) → old.segment.shape.page ≡ first.shape.page → old.units.share + sum_by cost_left front ≡ units
       → why ≢ refusal.NoMemory → new.units.share + units_of (take items (items_left h)) ≡ old.units.share → HasCause h items why old new
-      → MayStop page units front h why
+      → MayStop first units front h why
   caused items why same left other paid (inl (zero, refused)) = unfound why same other refused
   caused items why same left other paid (inr (found, known, has, inl (zero, is, short, unmoved))) =
-      let P : Refusal → Type 0 = MayStop page units front h in
+      let P : Refusal → Type 0 = MayStop first units front h in
       let none : units_of (take items (items_left h)) ≡ 0 = ap (λ (n : ℕ). units_of (take n (items_left h))) zero in
       let share : new.units.share ≡ found.units.share = ap (λ (a : Actor). a.units.share) unmoved in
       let all : sum_by cost_left (front ++ h ∷ []) ≡ sum_by cost_left front + sum_by cost_left (h ∷ []) = sum_by-append cost_left front (h ∷ []) in
       let above : units < sum_by cost_left (front ++ h ∷ []) = omega (arith, left, paid, none, share, short, all) in
       subst P (sym is) above
-  caused items why same left other paid (inr (found, known, has, inr cut)) = no_room why (block_words known) _ cut.lacks.1
+  caused items why same left other paid (inr (found, known, has, inr cut)) =
+      let names : new.answers.names ≡ found.answers.names = ap (λ (a : Actor). a.answers.names) cut.onward.same in
+      let among : Contains new.answers.names known =
+      subst (λ (l : List Known). Contains l known) (sym names) (contains_at found.answers.names has.histogram.index known has.known_is.0) in
+      no_room why (block_words known) cut.at (inr (counts_long known h.spec has.same, (known, among, has.known_is.1))) cut.lacks.1
 
 -- ---- among others
 
@@ -168,11 +177,13 @@ stop_both (Ok x) xs ys old mid new before stopped = tt
 stop_both (Err fault) xs ys old mid new before stopped = stop_second xs ys old mid new fault before stopped
 
 -- where nothing was known and nobody else records, it has its cause
-told_in : (page units : ℕ) (hists : List Histogram) (name : Vec ℕ Global) (why : Refusal) (old new : Actor) → HasStoppedIn hists name.items why old new
-    → old.segment.shape.page ≡ page → old.units.share ≡ units → old.answers.names ≡ []
+told_in : (first : SegmentHead) (units : ℕ) (hists : List Histogram) (name : Vec ℕ Global) (why : Refusal) (old new : Actor)
+    (is : HasStoppedIn hists name.items why old new)
+    → old.segment.shape.page ≡ first.shape.page → old.units.share ≡ units → old.answers.names ≡ []
     → ((asked : Asked) → SawOther asked new → KnowsNone asked.name.items new → ⊥) → (new.seen.corrupt ≡ true → ⊥)
-    → StopsIn page units hists name.items why
-told_in page units hists name why old new is pages all none unseen sound =
+    → ((block : ℕ) → Lacks is.last new block → new.segment.shape.size < new.seen.free + block → LacksRoomFor first is.front is.last)
+    → StopsIn first units hists name.items why
+told_in first units hists name why old new is pages all none unseen sound full =
     let until : Actor = is.until in
     let names : until.answers.names ≡ is.merged.onward.more = is.merged.onward.names ∙ ap (λ (l : List Known). l ++ is.merged.onward.more) none in
     let share = is.merged.share in record {
@@ -181,9 +192,9 @@ told_in page units hists name why old new is pages all none unseen sound =
       behind = is.behind;
       split = is.split;
       named = is.named;
-      cause = caused page units is.front is.last until new
+      cause = caused first units is.front is.last until new
           (λ known has. All-contains (IsOneOf is.front) is.merged.onward.more known is.merged.onward.of_these (subst (λ (l : List Known). Contains l known) names has))
-          unseen sound is.items why (ap (λ (a : Actor). a.segment.shape.page) is.merged.onward.same ∙ pages) (omega (arith, share, all)) is.other
+          unseen sound full is.items why (ap (λ (a : Actor). a.segment.shape.page) is.merged.onward.same ∙ pages) (omega (arith, share, all)) is.other
           is.stops.share is.stops.cause;
     }
 
@@ -195,12 +206,14 @@ unspoiled hists name why old new is =
 -- ---- in a new segment
 
 -- one recorder had all units of a new segment and has stopped; it is joined, and the segment is closed
-pub stop_told : (setting : Setting) (page : ℕ) (hists : List Histogram) (last : Actor) (words : List ℕ) (fault : CliFault) → setting.shape.page ≡ page
+pub stop_told : (setting : Setting) (first : SegmentHead) (hists : List Histogram) (last : Actor) (words : List ℕ) (fault : CliFault)
+    → setting.shape ≡ first.shape → setting.version ≡ 2
     → HasStopped hists (newcomer (offering (first_view setting) 4294967295)) last fault
-    → IsClosed setting last words → IsStopOf page 4294967295 hists fault
-stop_told setting page hists last words (cli.Merge name why) pages stopped closed =
+    → IsClosed setting last words → IsStopOf first 4294967295 hists fault
+stop_told setting first hists last words (cli.Merge name why) shape version stopped closed =
     let old : Actor = newcomer (offering (first_view setting) 4294967295) in
-    told_in page 4294967295 hists name why old last stopped pages refl refl (saw_no_other setting last words closed)
+    told_in first 4294967295 hists name why old last stopped (ap (λ (s : Dimensions). s.page) shape) refl refl (saw_no_other setting last words closed)
     (saw_no_flag setting last words closed (unspoiled hists name.items why old last stopped))
-stop_told setting page hists last words cli.NoMemory pages stopped closed = tt
-stop_told setting page hists last words fault pages stopped closed = absurd stopped
+    (λ block. lacks_room setting stopped.front stopped.last stopped.items why stopped.until last words stopped.merged stopped.stops closed first block shape version)
+stop_told setting first hists last words cli.NoMemory shape version stopped closed = tt
+stop_told setting first hists last words fault shape version stopped closed = absurd stopped

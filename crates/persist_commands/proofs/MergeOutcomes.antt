@@ -29,7 +29,7 @@ second_cause (Some first) (Some second) head reading fault image cause = inr (he
 -- the merge is refused
 pub merge_cause : (a b : Option (List ℕ)) (head dead_head : SegmentHead) (reading dead_reading : Reading) (fault : CliFault)
     → IfSome a (λ bytes. IsImageOf bytes head reading) → IfSome b (λ bytes. IsImageOf bytes dead_head dead_reading)
-    → IsStopOf head.shape.page 4294967295 (reading.hists ++ dead_reading.hists) fault → HasCauseIn a b fault
+    → IsStopOf head 4294967295 (reading.hists ++ dead_reading.hists) fault → HasCauseIn a b fault
 merge_cause None b head dead_head reading dead_reading fault image dead stop = tt
 merge_cause (Some first) None head dead_head reading dead_reading fault image dead stop = tt
 merge_cause (Some first) (Some second) head dead_head reading dead_reading fault image dead stop =

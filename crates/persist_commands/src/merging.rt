@@ -1,6 +1,6 @@
 //! Two images are merged into a new one.
 
-ghost use Rattle.std.specs.Prelude.{◌≡◌, ◌≢◌, ◌↔◌, ◌⊎◌, ◌++◌, ℕ, List, true, false, OnOk, IfOk, IfErr, IfSome, IsErrOf, All};
+ghost use Rattle.std.specs.Prelude.{◌≡◌, ◌≢◌, ◌↔◌, ◌⊎◌, ◌++◌, ℕ, List, true, false, OnOk, IfOk, IfErr, IfSome, IsErrOf};
 ghost use Rattle.std.specs.Io.KnownBytes.{Appends};
 ghost use Rattle.image_reader.specs.Views.{reading_view};
 ghost use Rattle.live_segment.specs.Hist.{KnowsOn};
@@ -11,7 +11,6 @@ ghost use Rattle.segment_image.specs.Watched.{has_failed, is_flushed, watched_in
 ghost use Rattle.segment_image.specs.Words.{bytes_of_words};
 ghost use Rattle.segment_merge.specs.Image.{IsMergedImage};
 ghost use Rattle.segment_merge.specs.Merge.{IsMerged};
-ghost use Rattle.segment_merge.specs.Remainder.{HasRemainder};
 
 use crate::outputs::write_image;
 use image_reader::Reading;
@@ -49,7 +48,6 @@ fn image_of_words(alloc: Global, words: &[u64]) -> Result<Input, CliFault>
 fn read_image<R: Read>(alloc: Global, reader: &mut Watched<R>) -> Result<Input, CliFault>
     requires { has_failed reader.old ≡ false }
     ensures image { IfOk result (λ input. IfSome (R.remaining (watched_inner reader.old)) (λ bytes. IsImageOf bytes input.head (reading_view input.reading))) }
-    ensures some { IfOk result (λ input. (bytes : List ℕ) × IsImageOf bytes input.head (reading_view input.reading)) }
     ensures cause { IfErr result (λ fault. IfSome (R.remaining (watched_inner reader.old)) (λ bytes. IsCausedBy bytes fault)) }
     ensures read { IsErrOf result CliFault.Read ↔ (has_failed reader.new ≡ true) }
     ensures other { IfErr result (λ fault. fault ≢ CliFault.Write) }
@@ -60,7 +58,6 @@ fn read_image<R: Read>(alloc: Global, reader: &mut Watched<R>) -> Result<Input, 
 
 // Merges a reading whole.
 fn merge_whole(alloc: Global, recorder: &mut Recorder, reading: &Reading) -> Result<(), CliFault>
-    requires { All HasRemainder reading.now.hists.items }
     ensures same { KnowsOn recorder.old recorder.new }
     ensures merged { OnOk result (IsMerged (reading_view reading.now).hists (view_of_recorder recorder.old) (view_of_recorder recorder.new)) }
     ensures fault { IfErr result (HasStopped (reading_view reading.now).hists (view_of_recorder recorder.old) (view_of_recorder recorder.new)) }
@@ -93,8 +90,6 @@ fn merge_both(
     base: &Reading,
     dead: &Reading,
 ) -> Result<(), CliFault>
-    requires base { All HasRemainder base.now.hists.items }
-    requires dead { All HasRemainder dead.now.hists.items }
     ensures beside { recorder.new.seat.table_id ≡ recorder.old.seat.table_id }
     ensures merged { OnOk result (IsMerged ((reading_view base.now).hists ++ (reading_view dead.now).hists) (view_of_recorder recorder.old) (view_of_recorder recorder.new)) }
     ensures fault { IfErr result (HasStopped ((reading_view base.now).hists ++ (reading_view dead.now).hists) (view_of_recorder recorder.old) (view_of_recorder recorder.new)) }
@@ -105,10 +100,8 @@ fn merge_both(
 
 // The image of a new segment, of the size, the page and the id of BASE, into which both are merged.
 fn merge_inputs(alloc: Global, base: &Input, dead: &Input) -> Result<Image, CliFault>
-    requires base { (bytes : List ℕ) × IsImageOf bytes base.now.head (reading_view base.now.reading) }
-    requires dead { (bytes : List ℕ) × IsImageOf bytes dead.now.head (reading_view dead.now.reading) }
     ensures image { IfOk result (IsMergedImage base.now.head ((reading_view base.now.reading).hists ++ (reading_view dead.now.reading).hists)) }
-    ensures fault { IfErr result (IsStopOf base.now.head.shape.page 4294967295 ((reading_view base.now.reading).hists ++ (reading_view dead.now.reading).hists)) }
+    ensures fault { IfErr result (IsStopOf base.now.head 4294967295 ((reading_view base.now.reading).hists ++ (reading_view dead.now.reading).hists)) }
 {
     let shape = base.head.shape;
     let Ok((segment, mut opener)) = Segment::create(
@@ -136,8 +129,8 @@ fn merge_inputs(alloc: Global, base: &Input, dead: &Input) -> Result<Image, CliF
 /// Its histograms are those of BASE and then of DEAD, with what deltas had not taken of them.
 ///
 /// BASE is read and checked whole before DEAD. `Read` where a read of one fails; `TooLong`, `NotWords` and `Image` as for a report, of BASE
-/// and then of DEAD; `Merge` with the name of the histogram at which the merge stopped, and why; `NoMemory` where there is none. After each of
-/// these nothing was written. `Write` where the write or the flush fails.
+/// and then of DEAD; `Merge` with the name of the histogram at which the merge stopped, and why: `Full` where its next block passes the end of
+/// the segment, behind what was merged before it; `NoMemory` where there is none. After each of these nothing was written. `Write` where the write or the flush fails.
 pub fn merge_files<A: Read, B: Read, W: Write>(
     alloc: Global,
     base: &mut Watched<A>,

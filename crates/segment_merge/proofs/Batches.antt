@@ -1,10 +1,15 @@
 -- What a batch of what is left of a histogram is answered.
-use Rattle.std.proofs.Common.{◌≡◌, ℕ, ◌-◌, ◌==◌, nat_lt, false, ℤ, List, [], ◌∷◌, if◌then◌else◌, Option, Some, None, Result, Ok, Err, inl, inr, refl, sym, ap, ◌∙◌, subst, arith}
+use Rattle.std.proofs.Common.{◌≡◌, ℕ, ◌-◌, ◌<◌, ◌≤◌, ◌-ℤ◌, unsigned_abs, w64, to_z, of_z, FitsSigned, ◌==◌, nat_lt, false, ℤ, List, [], ◌∷◌, if◌then◌else◌, Option, Some, None, Result, Ok, Err, inl, inr, refl, sym, ap, ◌∙◌, subst, arith}
 use Rattle.std.specs.Prelude.{MatchOption, MatchResult, ⊤}
-use Rattle.std.specs.List.{list_any, filter_map, zip, cons_option}
+use Rattle.std.specs.List.{list_any, filter_map, cons_option}
 use Rattle.std.proofs.lemmas.Bool.{ne_eqb, or_from, cases_lt, lt-ltb, le-ltb}
+use Rattle.std.proofs.lemmas.Int.{fits_signed_from_abs, to_z-of_z}
+use Rattle.std.proofs.lemmas.List.Sums.{get_or-le-sum_by}
 use Rattle.segment_image.specs.Checks.{first_fault}
 use Rattle.bucket_ranges.specs.Reading.{Histogram}
+use Rattle.bucket_ranges.specs.Tally.{units_of}
+use Rattle.image_reader.specs.Views.{histogram_view}
+use Rattle.image_reader.specs.declared.reading.HistReading.{HistReading}
 use Rattle.segment_machine.specs.declared.actor.Actor.{Actor}
 use Rattle.segment_machine.specs.declared.actor.Known.{Known}
 use Rattle.segment_calls.specs.declared.refusal.BatchRefusal.{BatchRefusal}
@@ -13,12 +18,13 @@ use Rattle.segment_calls.specs.declared.refusal.Refusal.TheVariants.{NoUnits}
 use Rattle.live_segment.specs.declared.recorder.Hist.{Hist}
 use Rattle.live_segment.specs.declared.recorder.Recorder.{Recorder}
 use Rattle.live_segment.specs.Batching.{IsBatched, IsCutShort, batch_checks}
-use Rattle.live_segment.specs.Hist.{KnowsOn}
+use Rattle.live_segment.specs.Hist.{IsAnsweredWith, IsNamed, KnowsOn}
 use Rattle.live_segment.specs.Holders.{IsSameRecorder, Means, view_of_recorder}
 use Rattle.live_segment.proofs.Seating.Callers.{same_names}
 use Rattle.segment_promises.proofs.Growing.{grows_on, grows_same}
 use Rattle.segment_merge.specs.Merge.{HasFound, IsMerged, StopsAt, cost_left, items_left, sum_left}
-use Rattle.segment_merge.specs.Remainder.{left_of}
+use Rattle.segment_merge.specs.Remainder.{HasRemainder, IsRemainderOf, left_of, marked}
+use Rattle.segment_merge.specs.declared.remainder.Remainder.{Remainder}
 use Rattle.segment_merge.proofs.Merged.{merged_one, stops_cut, stops_short}
 
 -- ---- no item is empty
@@ -37,7 +43,25 @@ none_empty (((key, units), mark) ∷ rest) = kept_some mark units key (filter_ma
 -- so the batch is refused before anything happens only where it costs more than the share has
 checks_are : (h : Histogram) (a : Actor)
     → first_fault (batch_checks a (items_left h) (sum_left h)) ≡ (if nat_lt a.units.share (cost_left h) then Some NoUnits else None)
-checks_are h a = rw (none_empty (zip h.counts h.marks)) refl
+checks_are h a = rw (none_empty (marked h.counts h.marks)) refl
+
+-- ---- what costs more than a segment has
+
+cheap : (h : HistReading) → cost_left (histogram_view h) ≤ 4294967295 → HasRemainder h
+cheap h most =
+    let items : List (ℤ × ℕ) = items_left (histogram_view h) in
+    let whole : units_of items ≤ 4294967295 = omega (arith, most) in
+    let size : unsigned_abs (h.sum -ℤ h.sum_mark) < 9223372036854775808 = omega (arith, most) in record {
+      few = λ k d within. let one = get_or-le-sum_by (λ (item : ℤ × ℕ). item.1) items k d within in omega (arith, one, whole);
+      fits = fits_signed_from_abs w64 (h.sum -ℤ h.sum_mark) size;
+    }
+
+-- what is left of a histogram and cannot be said does
+pub too_dear : (h : HistReading) (share : ℕ) → share ≤ 4294967295 → ¬ (HasRemainder h) → share < cost_left (histogram_view h)
+too_dear h share few none = elim (cases_lt share (cost_left (histogram_view h))) [
+  | inl short ↦ short
+  | inr enough ↦ absurd (none (cheap h (omega (arith, enough, few))))
+]
 
 -- ---- the answer
 
@@ -59,7 +83,7 @@ begun : (h : Histogram) (known : Known) (a b c : Actor) (result : Result ⊤ Bat
 begun h known a b c (Ok x) found batched = merged_one h known a b c found batched
 begun h known a b c (Err refusal) found cut = stops_cut h known refusal.added refusal.why a b c found cut
 
-pub batch_outcome : (h : Histogram) (known : Known) (a b c : Actor) (result : Result ⊤ BatchRefusal) → HasFound h known a b
+batch_outcome : (h : Histogram) (known : Known) (a b c : Actor) (result : Result ⊤ BatchRefusal) → HasFound h known a b
     → IsBatchAnswer h known b result c → IsAddedOrStops h a result c
 batch_outcome h known a b c result found answer = elim (cases_lt b.units.share (cost_left h)) [
   | inl short ↦
@@ -81,7 +105,7 @@ batch_outcome h known a b c result found answer = elim (cases_lt b.units.share (
 ]
 
 -- what the recorder's call says is that
-pub batch_says : (h : Histogram) (histogram : Hist) (known : Known) (items : List (ℤ × ℕ)) (sum : ℤ) (a b : Recorder) (result : Result ⊤ BatchRefusal)
+batch_says : (h : Histogram) (histogram : Hist) (known : Known) (items : List (ℤ × ℕ)) (sum : ℤ) (a b : Recorder) (result : Result ⊤ BatchRefusal)
     → items ≡ items_left h → sum ≡ sum_left h → Means a histogram known
     → MatchOption (first_fault (batch_checks (view_of_recorder a) items sum))
     ((known : Known) → Means a histogram known → MatchResult result (λ _. IsBatched known items sum (view_of_recorder a) (view_of_recorder b)) (λ refusal. IsCutShort known items refusal (view_of_recorder a) (view_of_recorder b)))
@@ -102,6 +126,34 @@ batch_says h histogram known items sum a b result items_are sum_is means says =
         (λ why. (result ≡ Err (record { added = 0; why = why })) × (view_of_recorder b ≡ view_of_recorder a))
     seen None done = done known means
     seen (Some why) (refused, same) = (refused, ap view_of_recorder same)
+
+-- a histogram that was found, by what the recorder's call says
+pub found_named : (h : HistReading) (name : List ℕ) (histogram : Hist) (old found : Recorder) → name ≡ h.name.items
+    → IsAnsweredWith name h.spec histogram (view_of_recorder old) (view_of_recorder found) → IsNamed name h.spec found histogram
+    → (known : Known) × Means found histogram known × HasFound (histogram_view h) known (view_of_recorder old) (view_of_recorder found)
+found_named h name histogram old found same answered (knows, (known, means, named, spec)) = (
+  known,
+  means,
+  record {
+    histogram = histogram;
+    answered = subst (λ (name : List ℕ). IsAnsweredWith name h.spec histogram (view_of_recorder old) (view_of_recorder found)) same answered;
+    known_is = (means, named ∙ same);
+    same = spec;
+  },
+)
+
+-- and then counted
+pub batch_comes : (h : HistReading) (remainder : Remainder) (histogram : Hist) (known : Known) (items : List (ℤ × ℕ)) (old found new : Recorder)
+    (result : Result ⊤ BatchRefusal) → IsRemainderOf h remainder → items ≡ remainder.items.items → FitsSigned w64 remainder.sum → Means found histogram known
+    → HasFound (histogram_view h) known (view_of_recorder old) (view_of_recorder found)
+    → MatchOption (first_fault (batch_checks (view_of_recorder found) items (to_z w64 (of_z w64 remainder.sum))))
+    ((known : Known) → Means found histogram known → MatchResult result (λ _. IsBatched known items (to_z w64 (of_z w64 remainder.sum)) (view_of_recorder found) (view_of_recorder new)) (λ refusal. IsCutShort known items refusal (view_of_recorder found) (view_of_recorder new)))
+    (λ why. (result ≡ Err (record { added = 0; why = why })) × (new ≡ found))
+    → IsAddedOrStops (histogram_view h) (view_of_recorder old) result (view_of_recorder new)
+batch_comes h remainder histogram known items old found new result left same fits means has says =
+    batch_outcome (histogram_view h) known (view_of_recorder old) (view_of_recorder found) (view_of_recorder new) result has
+    (batch_says (histogram_view h) histogram known items (to_z w64 (of_z w64 remainder.sum)) found new result
+    (same ∙ left.items) (to_z-of_z w64 remainder.sum fits ∙ left.sum) means says)
 
 -- ---- the recorder
 

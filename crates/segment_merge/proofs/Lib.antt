@@ -2,5 +2,4 @@ mod Items
 pub mod Merged
 mod Batches
 mod Underway
-pub mod Readings
 pub mod MergedImage

@@ -218,6 +218,10 @@ found_only h histogram a b (inr (none, index, (asked, reference, is, comes))) =
       onward = comes_on h asked reference a b is.named is.specified comes;
     }
 
+-- so the share is as before
+pub share_found : (h : Histogram) (known : Known) (a b : Actor) → HasFound h known a b → b.units.share ≡ a.units.share
+share_found h known a b found = ap (λ (u : Units). u.share) (found_only h found.histogram a b found.answered).units_are
+
 -- it is found, and goes on to count
 found_on : (h : Histogram) (a b c : Actor) → IsFoundOnly h a b → GoesOn b c → GoesOnWith (h ∷ []) a c
 found_on h a b c found on = goes_on_with (h ∷ []) [] a b c found.onward (counts_on b c on)

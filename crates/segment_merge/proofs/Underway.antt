@@ -1,12 +1,14 @@
 -- A merge that is under way: the first histograms are merged and reported.
-use Rattle.std.proofs.Common.{◌≡◌, ℕ, suc, ◌+◌, ◌≤◌, ◌<◌, List, [], ◌∷◌, ◌++◌, map, take, drop, length, get_or, refl, sym, ap, ◌∙◌, subst, arith}
+use Rattle.std.proofs.Common.{◌≡◌, ℕ, suc, ◌+◌, ◌≤◌, ◌<◌, List, [], ◌∷◌, ◌++◌, map, take, drop, length, get_or, inl, inr, refl, sym, ap, ◌∙◌, subst, arith}
 use Rattle.std.proofs.Common.{true, false}
 use Rattle.std.specs.Prelude.{None, Some, Option, MatchOption, is_some}
 use Rattle.std.specs.declared.alloc.Global.{Global}
 use Rattle.std.specs.declared.vec.Vec.{Vec}
 use Rattle.std.proofs.lemmas.List.{length-drop, length-append, map-append, take_all, take_more, take-append-drop}
 use Rattle.std.proofs.Math.Numerals.{add-one}
-use Rattle.std.proofs.Math.Seq.{drop-cons}
+use Rattle.std.proofs.Math.ListN.{get_or-append}
+use Rattle.std.proofs.Math.Seq.{drop-cons, get_or-append_seam}
+use Rattle.std.proofs.lemmas.Bool.{cases_lt}
 use Rattle.bucket_ranges.specs.Reading.{Histogram}
 use Rattle.image_reader.specs.declared.reading.HistReading.{HistReading}
 use Rattle.segment_machine.specs.declared.actor.Actor.{Actor}
@@ -37,6 +39,35 @@ next_part hists list parts rest n h part are same is here =
     let within : n < length hists = omega (arith, below, long, many) in
     let one : IsPartOf (get_or hists n h) (get_or parts n part) = are.each n h part within in
     (within, subst (λ (both : HistReading × Part). IsPartOf both.0 both.1) (λ i. (sym here i, (ap (λ (l : List Part). get_or l n part) (sym same) ∙ first) i)) one, behind)
+
+-- one histogram more has its part
+parts_pushed : (hists : List HistReading) (parts : List Part) (h : HistReading) (part : Part) → ArePartsOf hists parts → IsPartOf h part
+    → ArePartsOf (hists ++ h ∷ []) (parts ++ part ∷ [])
+parts_pushed hists parts h part are is =
+    let many = are.many in
+    let one = length-append hists (h ∷ []) in
+    let other = length-append parts (part ∷ []) in record {
+      many = omega (arith, many, one, other);
+      each = λ j d e within. elim (cases_lt j (length hists)) [
+        | inl front ↦ subst (λ (both : HistReading × Part). IsPartOf both.0 both.1)
+            (λ i. (sym (get_or-append hists (h ∷ []) d j front) i, sym (get_or-append parts (part ∷ []) e j (omega (arith, front, many))) i)) (are.each j d e front)
+        | inr past ↦
+            let last : j ≡ length hists = omega (arith, past, within, one) in
+            let its : j ≡ length parts = omega (arith, last, many) in
+            subst (λ (both : HistReading × Part). IsPartOf both.0 both.1)
+            (λ i. (
+              sym (ap (λ (k : ℕ). get_or (hists ++ h ∷ []) k d) last ∙ get_or-append_seam hists h [] d) i,
+              sym (ap (λ (k : ℕ). get_or (parts ++ part ∷ []) k e) its ∙ get_or-append_seam parts part [] e) i,
+            ))
+            is
+      ];
+    }
+
+pub parts_more : (hists : List HistReading) (parts : List Part) (n : ℕ) (h : HistReading) (part : Part) → n < length hists → h ≡ get_or hists n h
+    → ArePartsOf (take n hists) parts → IsPartOf h part → ArePartsOf (take (n + 1) hists) (parts ++ part ∷ [])
+parts_more hists parts n h part below here are is =
+    subst (λ (list : List HistReading). ArePartsOf list (parts ++ part ∷ []))
+    (sym (take_more hists n h below ∙ ap (λ (x : HistReading). take n hists ++ x ∷ []) (sym here))) (parts_pushed (take n hists) parts h part are is)
 
 -- lines as they are seen
 abbrev pub seen_lines : List (Vec ℕ Global × ℕ) → List (List ℕ × ℕ)

@@ -9,13 +9,13 @@ use Rattle.segment_machine.specs.declared.actor.Actor.{Actor}
 use Rattle.segment_merge.specs.declared.merging.MergeStop.{MergeStop}
 use Rattle.segment_merge.specs.declared.merging.Part.{Part}
 use Rattle.segment_merge.specs.Merge.{IsMerged, StopsAt, items_left, units_left}
-use Rattle.segment_merge.specs.Remainder.{IsRemainderOf}
+use Rattle.segment_merge.specs.Remainder.{IsLeftOf}
 
--- it has the name twice, and what is left
+-- it has the name twice, and what is left, where that can be said
 pub record IsPartOf (h : HistReading) (part : Part) : Type 0 where
   pub name : part.name.items ≡ h.name.items
   pub stop_name : part.stop_name.items ≡ h.name.items
-  pub remainder : IsRemainderOf h part.remainder
+  pub left : IsLeftOf h part.left
 
 -- there is one for each histogram, in their order
 pub record ArePartsOf (hists : List HistReading) (parts : List Part) : Type 0 where

@@ -1,15 +1,14 @@
 //! What a dead segment counted is added to a segment that lives.
 
 ghost use Rattle.std.specs.Prelude.{◌≡◌, ◌+◌, ◌≤◌, ◌<◌, ◌∷◌, [], vec_len, vec_capacity, IfOk, MatchResult};
-ghost use Rattle.std.specs.List.{All};
 ghost use Rattle.bucket_ranges.specs.Tally.{units_of};
 ghost use Rattle.segment_calls.specs.declared.refusal.Refusal.TheVariants.{NoMemory};
 ghost use Rattle.image_reader.specs.Views.{histogram_view, reading_view};
 ghost use Rattle.live_segment.specs.Hist.{KnowsOn};
 ghost use Rattle.live_segment.specs.Holders.{view_of_recorder};
-ghost use Rattle.segment_merge.specs.Merge.{IsMerged, Reports, StopsAt};
+ghost use Rattle.segment_merge.specs.Merge.{IsMerged, Reports, StopsAt, units_left};
 ghost use Rattle.segment_merge.specs.Parts.{ArePartsOf, IsPartOf, Merges};
-ghost use Rattle.segment_merge.specs.Remainder.{HasRemainder, IsRemainderOf};
+ghost use Rattle.segment_merge.specs.Remainder.{IsLeftOf};
 
 use crate::remainder::{Remainder, remainder_of};
 use image_reader::{HistReading, Reading};
@@ -42,7 +41,7 @@ pub struct MergeReport {
 struct Part {
     name: Vec<u8>,
     stop_name: Vec<u8>,
-    remainder: Remainder,
+    left: Option<Remainder>,
 }
 
 /// Adds what deltas have not taken of a reading to a recorder's segment: for each of its histograms in order, `hist` of its name and spec,
@@ -50,14 +49,15 @@ struct Part {
 /// the units that were added to it. The first that is refused stops the merge, also where there is no memory for its `hist`; what was
 /// added before stays. So merging a reading twice adds it twice.
 ///
-/// Each histogram of the reading has a remainder, as each that is read has. `NoMemory` where there is none for the report, before anything
-/// has happened; nothing else is refused.
+/// Any reading may be given. A histogram of which more is left than a segment has units stops the merge there with `NoUnits`, as any does
+/// whose batch costs more than the recorder has.
+///
+/// `NoMemory` where there is none for the report, before anything has happened; nothing else is refused.
 pub fn merge(
     alloc: Global,
     recorder: &mut Recorder,
     reading: &Reading,
 ) -> Result<MergeReport, Refusal>
-    requires { All HasRemainder reading.now.hists.items }
     ensures same { KnowsOn recorder.old recorder.new }
     ensures answer { MatchResult result (λ report. Reports (reading_view reading.now).hists report (view_of_recorder recorder.old) (view_of_recorder recorder.new)) (λ why. (why ≡ NoMemory) × (recorder.new ≡ recorder.old)) }
 {
@@ -78,7 +78,6 @@ pub fn merge(
 
 // What it needs for each histogram of a reading, in order.
 fn parts_of(alloc: Global, reading: &Reading) -> Result<Vec<Part>, AllocError>
-    requires { All HasRemainder reading.now.hists.items }
     ensures { IfOk result (λ parts. ArePartsOf reading.now.hists.items parts.items) }
 {
     let mut parts = Vec::with_capacity(alloc, reading.hists.len())?;
@@ -90,13 +89,12 @@ fn parts_of(alloc: Global, reading: &Reading) -> Result<Vec<Part>, AllocError>
 
 // What it needs for one.
 fn part_of(alloc: Global, histogram: &HistReading) -> Result<Part, AllocError>
-    requires { HasRemainder histogram.now }
     ensures { IfOk result (IsPartOf histogram.now) }
 {
     Ok(Part {
         name: Vec::from_slice(alloc, histogram.name.as_slice())?,
         stop_name: Vec::from_slice(alloc, histogram.name.as_slice())?,
-        remainder: remainder_of(alloc, histogram)?,
+        left: remainder_of(alloc, histogram)?,
     })
 }
 
@@ -116,12 +114,12 @@ fn merge_next(
     let Part {
         name,
         stop_name,
-        remainder,
+        left,
     } = part;
     let share = recorder.units();
-    match add_remainder(recorder, histogram, &remainder) {
-        Ok(()) => {
-            added.push_reserved((name, units_in(&remainder.items)));
+    match add_left(recorder, histogram, left) {
+        Ok(units) => {
+            added.push_reserved((name, units));
             None
         }
         Err(BatchRefusal { added: items, why }) => {
@@ -135,20 +133,27 @@ fn merge_next(
     }
 }
 
-// Adds what is left of a histogram.
-fn add_remainder(
+// Adds what is left of a histogram, and tells the units that were added.
+fn add_left(
     recorder: &mut Recorder,
     histogram: &HistReading,
-    remainder: &Remainder,
-) -> Result<(), BatchRefusal>
-    requires { IsRemainderOf histogram.now remainder.now }
+    left: Option<Remainder>,
+) -> Result<u64, BatchRefusal>
+    requires left { IsLeftOf histogram.now left }
+    requires few { (view_of_recorder recorder.old).units.share ≤ 4294967295 }
     ensures same { KnowsOn recorder.old recorder.new }
-    ensures answer { MatchResult result (λ _. IsMerged (histogram_view histogram.now ∷ []) (view_of_recorder recorder.old) (view_of_recorder recorder.new)) (λ refusal. StopsAt (histogram_view histogram.now) refusal.added refusal.why (view_of_recorder recorder.old) (view_of_recorder recorder.new)) }
+    ensures answer { MatchResult result (λ units. IsMerged (histogram_view histogram.now ∷ []) (view_of_recorder recorder.old) (view_of_recorder recorder.new) × (units ≡ units_left (histogram_view histogram.now))) (λ refusal. StopsAt (histogram_view histogram.now) refusal.added refusal.why (view_of_recorder recorder.old) (view_of_recorder recorder.new)) }
 {
-    match recorder.hist(&histogram.name, &histogram.spec) {
-        Ok(known) => recorder.batch(known, &remainder.items, remainder.sum),
-        Err(why) => Err(BatchRefusal { added: 0, why }),
-    }
+    let known = match recorder.hist(&histogram.name, &histogram.spec) {
+        Ok(known) => known,
+        Err(why) => return Err(BatchRefusal { added: 0, why }),
+    };
+    let Some(remainder) = left else {
+        let why = Refusal::NoUnits;
+        return Err(BatchRefusal { added: 0, why });
+    };
+    recorder.batch(known, &remainder.items, remainder.sum)?;
+    Ok(units_in(&remainder.items))
 }
 
 // The units of all items.

@@ -1,7 +1,7 @@
 //! What a histogram of a reading has that its deltas have not taken.
 
-ghost use Rattle.std.specs.Prelude.{◌≡◌, IfOk};
-ghost use Rattle.segment_merge.specs.Remainder.{HasRemainder, IsRemainderOf};
+ghost use Rattle.std.specs.Prelude.{◌≡◌, slice_index, IfOk};
+ghost use Rattle.segment_merge.specs.Remainder.{IsLeftOf};
 
 use image_reader::HistReading;
 use std::alloc::{AllocError, Global};
@@ -16,24 +16,33 @@ pub struct Remainder {
 }
 
 /// What deltas have not taken of a histogram: of each key that has more units than its mark, those above it, and the
-/// sum less its mark.
+/// sum less its mark. A key without a mark beside it has the mark 0.
 ///
-/// Its marks stand beside its counts, no count is above 4,294,967,295, and the sum less its mark fits 64 bits: so it is
-/// with each histogram that is read.
-pub fn remainder_of(alloc: Global, histogram: &HistReading) -> Result<Remainder, AllocError>
-    requires { HasRemainder histogram.now }
-    ensures { IfOk result (IsRemainderOf histogram.now) }
+/// None where more than 4,294,967,295 units of a key are left, or where the sum less its mark does not fit 64 bits. No histogram
+/// that is read is so: a batch of what is left of it would cost more units than a segment has.
+pub fn remainder_of(alloc: Global, histogram: &HistReading) -> Result<Option<Remainder>, AllocError>
+    ensures { IfOk result (IsLeftOf histogram.now) }
 {
+    let Some(sum) = histogram.sum.checked_sub(histogram.sum_mark) else {
+        return Ok(None);
+    };
     let mut items = Vec::with_capacity(alloc, histogram.counts.len())?;
     for i in 0..histogram.counts.len() {
         let (key, units) = histogram.counts[i];
-        let mark = histogram.marks[i];
+        let mark = mark_beside(histogram, i);
         if mark < units {
-            items.push_reserved((key, (units - mark) as u32));
+            let Ok(left) = u32::try_from(units - mark) else {
+                return Ok(None);
+            };
+            items.push_reserved((key, left));
         }
     }
-    Ok(Remainder {
-        items,
-        sum: histogram.sum - histogram.sum_mark,
-    })
+    Ok(Some(Remainder { items, sum }))
+}
+
+// The mark beside the key of an index, or 0.
+fn mark_beside(histogram: &HistReading, index: usize) -> u64
+    ensures { result ≡ slice_index histogram.now.marks.items index }
+{
+    histogram.marks.get(index).copied().unwrap_or(0)
 }

@@ -1,8 +1,5 @@
 //! A merge of two histograms, of which each has a unit that no delta took.
 
-ghost use Rattle.std.specs.Prelude.{◌≡◌, All, IfOk};
-ghost use Rattle.segment_merge.specs.Remainder.{HasRemainder};
-
 use bucket_ranges::Spec;
 use image_reader::{HistReading, Reading};
 use live_segment::Segment;
@@ -12,16 +9,14 @@ use segment_merge::{MergeReport, merge};
 use std::alloc::{AllocError, Global};
 use std::test::Fail;
 
-// A boolean histogram with the samples 0, 1 and 1, of which a delta took the two samples 1.
-fn histogram_of(alloc: Global, name: &[u8]) -> Result<HistReading, AllocError>
-    ensures { IfOk result HasRemainder }
-{
+// A boolean histogram with the samples 0, 1 and 1, of which a delta took the two samples 1. Beside the last bucket no mark stands.
+fn histogram_of(alloc: Global, name: &[u8]) -> Result<HistReading, AllocError> {
     Ok(HistReading {
         reference: 16,
         name: Vec::from_slice(alloc, name)?,
         spec: Spec::Boolean,
         counts: vec![in alloc; (0, 1), (1, 2), (2, 0)]?,
-        marks: vec![in alloc; 0, 2, 0]?,
+        marks: vec![in alloc; 0, 2]?,
         sum: 2,
         sum_mark: 2,
         redundant: 3,
@@ -29,9 +24,7 @@ fn histogram_of(alloc: Global, name: &[u8]) -> Result<HistReading, AllocError>
 }
 
 // A reading of two of them.
-fn reading_of_two(alloc: Global) -> Result<Reading, AllocError>
-    ensures { IfOk result (λ reading. All HasRemainder reading.hists.items) }
-{
+fn reading_of_two(alloc: Global) -> Result<Reading, AllocError> {
     let first = histogram_of(alloc, b"A")?;
     let second = histogram_of(alloc, b"B")?;
     Ok(Reading {
@@ -45,9 +38,7 @@ fn reading_of_two(alloc: Global) -> Result<Reading, AllocError>
 }
 
 // What is reported of a merge into a new segment, and its image. None where there is no memory before the merge begins.
-fn merge_into_new(alloc: Global, reading: &Reading) -> Option<(MergeReport, Image)>
-    requires { All HasRemainder reading.now.hists.items }
-{
+fn merge_into_new(alloc: Global, reading: &Reading) -> Option<(MergeReport, Image)> {
     let Ok((segment, mut opener)) = Segment::create(alloc, 128, 64, 7, 0, 2) else {
         return None;
     };

@@ -1,6 +1,5 @@
-use Rattle.std.proofs.Common.{List, map}
+use Rattle.std.proofs.Common.{map}
 use Rattle.std.proofs.lemmas.Result.{err_from_is_err_and}
-use Rattle.bucket_ranges.specs.Reading.{Histogram}
 use Rattle.image_reader.specs.Views.{histogram_view}
 use Rattle.live_segment.specs.Holders.{view_of_recorder}
 use Rattle.persist_commands.proofs.MergeFaults.{merged_both, stop_both, stop_first}

@@ -9,18 +9,11 @@ use Rattle.segment_machine.specs.declared.actor.Actor.{Actor}
 use Rattle.segment_machine.specs.Seats.{newcomer, offering, parent}
 use Rattle.segment_merge.specs.Merge.{IsMerged}
 use Rattle.segment_merge.proofs.MergedImage.{merged_image}
-use Rattle.segment_merge.proofs.Readings.{read_remains}
 use Rattle.persist_commands.specs.MergeFiles.{HasStopped}
 use Rattle.persist_commands.proofs.MergeClosed.{IsClosed, closed_so}
 use Rattle.persist_commands.proofs.MergeFaults.{stop_told}
 use Rattle.persist_commands.proofs.MergeOutcomes.{all_given}
 use Rattle.persist_commands.proofs.merging.merge_inputs.Goals as goal
-
-pub merge_both-merged-requires-clause-base : goal.merge_both-merged-requires-clause-base
-merge_both-merged-requires-clause-base c = let image = c.requires.base.1 in read_remains image.words c.args.base.now.head c.args.base.now.reading image.reading_is
-
-pub merge_both-merged-requires-clause-dead : goal.merge_both-merged-requires-clause-dead
-merge_both-merged-requires-clause-dead c = let image = c.requires.dead.1 in read_remains image.words c.args.dead.now.head c.args.dead.now.reading image.reading_is
 
 pub returns-in_err-merged-clause-fault : goal.returns-in_err-merged-clause-fault
 returns-in_err-merged-clause-fault c =
@@ -38,7 +31,8 @@ returns-in_err-merged-clause-fault c =
     c.join.ensures.takes.1 c.close-image.ensures.image c.close-image.ensures.joined c.close-image.ensures.stopped in
     let P : Actor → Type 0 = λ a. HasStopped (base ++ dead) a last c.in_err-merged.field-0.0 in
     rw (p.1, p.2)
-    (stop_told setting c.args.base.now.head.shape.page (base ++ dead) last c.close-image.result c.in_err-merged.field-0.0 c.page.ensures.value
+    (stop_told setting c.args.base.now.head (base ++ dead) last c.close-image.result c.in_err-merged.field-0.0
+    (λ i. record { size = c.size.ensures.value i; page = c.page.ensures.value i }) refl
     (subst P (theirs ∙ ap (λ (o : Actor). newcomer (offering o 4294967295)) new.view) c.in_err-merged.ensures.fault) closed)
 
 pub returns-clause-image : goal.returns-clause-image

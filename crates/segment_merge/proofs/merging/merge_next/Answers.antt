@@ -1,13 +1,12 @@
-use Rattle.std.proofs.Common.{ap, ◌∙◌, arith}
-use Rattle.bucket_ranges.specs.Tally.{units_of}
+use Rattle.std.proofs.Common.{arith}
 use Rattle.segment_merge.proofs.merging.merge_next.Goals as goal
 
 pub returns-in-Ok-clause-answer : goal.returns-in-Ok-clause-answer
 returns-in-Ok-clause-answer c = record {
-  line = (c.args.part.name, c.units_in.result);
+  line = (c.args.part.name, c.in-Ok.units);
   reported = c.push_reserved.ensures.items;
   named = c.requires.part.name;
-  outcome = (c.in-Ok.ensures.answer, c.units_in.ensures ∙ ap units_of (c.deref.ensures.value ∙ c.requires.part.remainder.items));
+  outcome = c.in-Ok.ensures.answer;
 }
 
 pub returns-in-Err-clause-answer : goal.returns-in-Err-clause-answer

@@ -10,5 +10,6 @@ pub mod Moving
 pub mod NewWorldStates
 pub mod Quiet
 pub mod Scheduling
+pub mod Transits
 pub mod WorldStates
 pub mod Zips

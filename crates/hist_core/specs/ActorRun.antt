@@ -23,7 +23,7 @@ use Rattle.segment_machine.specs.Seats.{giver}
 use Rattle.segment_machine.specs.declared.actor.Answered.{Answered}
 use Rattle.segment_machine.specs.declared.actor.Known.{Known as MachineKnown}
 use Rattle.hist_core.specs.StepsBy.{StepsBy, HasMet, IsFree}
-use Rattle.hist_core.specs.Add.{HasMetNoCounts, IsAdd, alone, counted_entry, IsStarted}
+use Rattle.hist_core.specs.Add.{HasMetNoCounts, IsAdd, alone, block_words, counted_entry, IsStarted}
 use Rattle.hist_core.specs.Batch.{IsBatch, IsSameBatch, counted_entries}
 use Rattle.hist_core.specs.declared.batch.Batch.{Batch as BatchCall}
 use Rattle.hist_core.specs.declared.batch.BatchStep.{BatchStep}
@@ -31,7 +31,7 @@ use Rattle.hist_core.specs.declared.batch.BatchStep.TheVariants as batch
 use Rattle.hist_core.specs.declared.add.Add.{Add as AddCall}
 use Rattle.hist_core.specs.declared.add.AddStep.{AddStep}
 use Rattle.hist_core.specs.declared.add.AddStep.TheVariants as add
-use Rattle.hist_core.specs.Hist.{HasOtherSpec, IsHist, IsBegun}
+use Rattle.hist_core.specs.Hist.{IsHist, IsBegun, IsCause as IsHistCause}
 use Rattle.hist_core.specs.Making.{IsCause}
 use Rattle.hist_core.specs.SnapshotCall.{IsSnapshotCall, IsStarted as IsSnapshotCallStarted, LooksAnew}
 use Rattle.segment_calls.specs.declared.answer.Snapshot.{Snapshot as SnapshotAnswer}
@@ -285,37 +285,34 @@ pub record IsTook (histogram : ℕ) (delta : DeltaAnswer) (a : Actor) : Type 0 w
   pub sum : delta.sum ≡ last.sum
   pub took : TookAll a known
 
--- Why a call is refused: an allocation of it has set the full flag, or its actor has seen the corrupt one; or its actor has seen that the
--- first record of the name that a `hist` asks for has another spec.
-abbrev pub IsRefusedBy : Option Running → Refusal → Actor → Type 0
-IsRefusedBy running cause b =
-    IsCause cause b
-    ⊎ ((hist : HistCall) × (running ≡ Some (Hist hist)) × (cause ≡ why.OtherSpec) × HasOtherSpec hist.asked.name.items hist.asked.spec b.seen)
+-- A call that counts in the histogram of a record is refused the block that it needs there: its counts, or the sample of a value. Its actor
+-- has met no counts, behind which alone units of another call are moved: so it has moved nothing.
+abbrev pub LacksBlock : ℕ → Refusal → Actor → Actor → Type 0
+LacksBlock histogram cause a b =
+    (known : MachineKnown) × Contains b.answers.names known × (known.reference ≡ histogram) × IsCause cause (block_words known) a b × HasMetNoCounts known b
 
--- An actor whose call counts in the histogram of a record has met no counts there.
-abbrev pub LacksCounts : ℕ → Actor → Type 0
-LacksCounts histogram b = (known : MachineKnown) × Contains b.answers.names known × (known.reference ≡ histogram) × HasMetNoCounts known b
-
--- A call that counts and is refused has met no counts, behind which alone units of another call are moved: so it has moved nothing.
-abbrev pub HasMovedNothing : Option Running → Actor → Type 0
-HasMovedNothing (Some (Add add)) b = LacksCounts add.histogram b
-HasMovedNothing (Some (Batch batch)) b = LacksCounts batch.histogram b
-HasMovedNothing running b = ⊤
+-- Why a running call is refused, by its last event: the block that it needs is refused; or its actor has seen that the first record of the
+-- name that a `hist` asks for has another spec. No other call is.
+abbrev pub IsRefusedBy : Option Running → Refusal → Actor → Actor → Type 0
+IsRefusedBy (Some (Hist hist)) cause a b = IsHistCause hist.asked.name.items hist.asked.spec cause a b
+IsRefusedBy (Some (Add add)) cause a b = LacksBlock add.histogram cause a b
+IsRefusedBy (Some (Batch batch)) cause a b = LacksBlock batch.histogram cause a b
+IsRefusedBy running cause a b = ⊥
 
 -- where its actor lands whose call is refused: it gives the units back that are left of it
 abbrev pub LandsBack : Dimensions → ℕ → ℕ → ActorRun → Actor → Type 0
 LandsBack shape version units new b = (b.hand.place ≢ Spent) × (units ≤ b.units.share) × IsRun shape version new (giver b units)
 
--- Where its actor lands: a call that is refused gives units back, has a cause, and has moved nothing; a snapshot is answered with what was
--- seen, and a delta with what it took.
-abbrev pub Lands : Dimensions → ℕ → ActorRun → ActorRun → Stepped → Actor → Type 0
-Lands shape version old new (Done (answer.Refused cause)) b =
-    LandsBack shape version (held_by old.running) new b × (IsRefusedBy old.running cause b × HasMovedNothing old.running b)
-Lands shape version old new (Done (answer.BatchRefused refusal)) b =
-    LandsBack shape version (held_by old.running) new b × (IsRefusedBy old.running refusal.why b × HasMovedNothing old.running b)
-Lands shape version old new (Done (answer.Delta delta)) b = IsRun shape version new b × IsTook (looked_by old.running) delta b
-Lands shape version old new (Done (answer.Snapshot snapshot)) b = IsRun shape version new b × IsAnswer (looked_by old.running) snapshot b
-Lands shape version old new said b = IsRun shape version new b
+-- Where its actor lands: a call that is refused gives units back, and has a cause; a snapshot is answered with what was seen, and a delta
+-- with what it took; a call that sets the corrupt flag has done so.
+abbrev pub Lands : Dimensions → ℕ → ActorRun → ActorRun → Stepped → Actor → Actor → Type 0
+Lands shape version old new (Done (answer.Refused cause)) a b = LandsBack shape version (held_by old.running) new b × IsRefusedBy old.running cause a b
+Lands shape version old new (Done (answer.BatchRefused refusal)) a b =
+    LandsBack shape version (held_by old.running) new b × IsRefusedBy old.running refusal.why a b
+Lands shape version old new (Done (answer.Delta delta)) a b = IsRun shape version new b × IsTook (looked_by old.running) delta b
+Lands shape version old new (Done (answer.Snapshot snapshot)) a b = IsRun shape version new b × IsAnswer (looked_by old.running) snapshot b
+Lands shape version old new (Done answer.Flagged) a b = IsRun shape version new b × (b.done.spoiled ≡ true)
+Lands shape version old new said a b = IsRun shape version new b
 
 -- since when a running snapshot looks: its first event looks anew, and no other does
 abbrev pub LooksSince : Option Running → Actor → Actor → Type 0
@@ -325,7 +322,7 @@ LooksSince running a b = ⊤
 -- It goes on by one event, as the actor does for which it stands.
 abbrev pub Advances : Dimensions → ℕ → ActorRun → List ℕ → ActorRun → List ℕ → Stepped → Actor → Type 0
 Advances shape version old words new new_words said a =
-    StepsBy shape.size version a words new_words (λ b. Lands shape version old new said b × LooksSince old.running a b)
+    StepsBy shape.size version a words new_words (λ b. Lands shape version old new said a b × LooksSince old.running a b)
 
 -- it asks for the same histogram as before
 abbrev pub AsksOn : Option Running → Option Running → Type 0

@@ -7,7 +7,7 @@ use Rattle.bucket_ranges.specs.Single.{single_of}
 use Rattle.bucket_ranges.specs.Spec.{buckets_of, spec_fault}
 use Rattle.bucket_ranges.specs.Reading.{is_i32}
 use Rattle.bucket_ranges.specs.declared.spec.Spec.TheVariants as spec
-use Rattle.segment_image.specs.declared.layout.TheConstants.{BLOCK_HEADER, BLOCK_LEAST, HEADER_WORDS, HISTOGRAM_COUNTS, HISTOGRAM_NAME, HISTOGRAM_SINGLE, SAMPLE_COUNT, TYPE_COUNTS}
+use Rattle.segment_image.specs.declared.layout.TheConstants.{BLOCK_HEADER, BLOCK_LEAST, HEADER_WORDS, HISTOGRAM_COUNTS, HISTOGRAM_NAME, HISTOGRAM_SINGLE, SAMPLE_COUNT, SAMPLE_LEAST, TYPE_COUNTS}
 use Rattle.segment_image.specs.Shape.{Dimensions}
 use Rattle.alloc_core.specs.Layout.{IsShape}
 use Rattle.alloc_core.specs.Alloc as alloc
@@ -149,7 +149,7 @@ StandsBefore shape known add a LoadingCounts = (word counts : ℕ) × Looks know
 StandsBefore shape known add a SeekingCounts = MayTurn a
 StandsBefore shape known add a (Allocating allocation) =
     Allocates a allocation × (is_some (alloc.next_event allocation) ≡ true) × (allocation.tag ≡ TYPE_COUNTS)
-    × (BLOCK_HEADER + 2 * add.buckets ≤ allocation.size) × HasMetNoCounts known a
+    × (allocation.size ≡ BLOCK_HEADER + 2 * add.buckets) × HasMetNoCounts known a
 StandsBefore shape known add a (Mounting at) = MayTurn a × HasBlock shape add a at
 StandsBefore shape known add a (Purging at counts) =
     AreCounts shape add counts × (a.hand.place ≡ Losing (record { histogram = known.reference; single = None; counts = counts }) at)
@@ -200,17 +200,21 @@ pub record FrameOfAdd (a b : Actor) : Type 0 where
   pub chain : IsPrefix a.seen.chain b.seen.chain
   pub words : (more : List Sighting) × (b.seen.words ≡ a.seen.words ++ more)
 
+-- the words of the block that counting in a histogram may need: its counts and their marks, or the sample of a value
+abbrev pub block_words : Known → ℕ
+block_words known = if has_buckets known.spec then BLOCK_HEADER + 2 * buckets_of known.spec else SAMPLE_LEAST
+
 -- while it goes on: units and log are as before
 abbrev pub StaysOpen : Actor → Actor → Type 0
 StaysOpen a b = (b.units ≡ a.units) × (b.entries ≡ record a.entries { running = b.entries.running })
 
--- What a step says: it goes on; all of its entry has happened; or it is refused, and nothing has, and it has met no counts. Its actor may
--- turn to another entry or another call then.
+-- What a step says: it goes on; all of its entry has happened; or its block is refused, and nothing has happened, and it has met no counts.
+-- Its actor may turn to another entry or another call then.
 abbrev pub AddGives : Dimensions → Known → Amid → Add → AddStep → Actor → Actor → Type 0
 AddGives shape known amid new More a b = FrameOfAdd a b × StaysOpen a b × IsAdd shape known amid new b
 AddGives shape known amid new Done a b = FrameOfAdd a b × StaysOpen a b × IsFree b × HasEnded known amid new b
 AddGives shape known amid new (Refused cause) a b =
-    FrameOfAdd a b × StaysOpen a b × IsFree b × IsCause cause b × HasEntry known amid new b false false × HasMetNoCounts known b
+    FrameOfAdd a b × StaysOpen a b × IsFree b × IsCause cause (block_words known) a b × HasEntry known amid new b false false × HasMetNoCounts known b
 
 -- what a step makes of the words, and of whatever actor stands so
 abbrev pub AddSteps : Add → List ℕ → Add → List ℕ → AddStep → Type 0

@@ -19,7 +19,7 @@ use Rattle.hist_core.specs.declared.add.AddStep.TheVariants as said
 use Rattle.hist_core.specs.declared.batch.Batch.{Batch}
 use Rattle.hist_core.specs.declared.batch.BatchStep.{BatchStep}
 use Rattle.hist_core.specs.declared.batch.BatchStep.TheVariants.{More, Done, Refused}
-use Rattle.hist_core.specs.Add.{Amid, IsAdd, IsCounting, FrameOfAdd, HasMetNoCounts, StaysOpen, counted_entry, ended_entry, OpensWith}
+use Rattle.hist_core.specs.Add.{Amid, IsAdd, IsCounting, FrameOfAdd, HasMetNoCounts, StaysOpen, block_words, counted_entry, ended_entry, OpensWith}
 use Rattle.hist_core.specs.Making.{IsCause}
 use Rattle.hist_core.specs.StepsBy.{StepsBy, IsFree}
 
@@ -121,13 +121,13 @@ pub record IsCutAt (added : ℕ) (entries : List Entry) (a : Actor) : Type 0 whe
   pub untouched : All (λ c. is_untouched c ≡ true) (drop added a.entries.running)
   pub unsummed : All (λ c. c.summed ≡ false) (take added a.entries.running)
 
--- What a step says: it goes on; all of it is counted; or its next item is refused, and it has met no counts. Its actor may turn to another
+-- What a step says: it goes on; all of it is counted; or the block of its next item is refused, and it has met no counts. Its actor may turn to another
 -- call then.
 abbrev pub BatchGives : Dimensions → Known → Batch → BatchStep → Actor → Actor → Type 0
 BatchGives shape known new More a b = FrameOfAdd a b × StaysOpen a b × IsBatch shape known new b
 BatchGives shape known new Done a b = FrameOfAdd a b × StaysOpen a b × IsFree b × HaveEnded (counted_entries known new) b
 BatchGives shape known new (Refused refusal) a b =
-    FrameOfAdd a b × StaysOpen a b × IsFree b × IsCause refusal.why b × IsCutAt refusal.added (counted_entries known new) b
+    FrameOfAdd a b × StaysOpen a b × IsFree b × IsCause refusal.why (block_words known) a b × IsCutAt refusal.added (counted_entries known new) b
     × (refusal.added ≤ length new.items.items) × (new.left + units_among (take refusal.added new.items.items) ≡ new.cost) × HasMetNoCounts known b
 
 -- what a step makes of the words, and of whatever actor stands so

@@ -135,9 +135,14 @@ abbrev pub HasOtherSpec : List ℕ → Spec → Seen → Type 0
 HasOtherSpec name spec seen =
     (at : ℕ) × (letters : List ℕ) × IsFirstNamed seen name at × AreNameWords name letters × SawOtherSpec seen spec (length letters) at
 
+-- the record of a name and a spec is refused, which has so many words
+abbrev pub LacksRecord : List ℕ → Spec → Refusal → Actor → Actor → Type 0
+LacksRecord name spec cause a b =
+    (letters : List ℕ) × AreNameWords name letters × making.IsCause cause (BLOCK_HEADER + length (payload_words name spec letters)) a b
+
 -- why a `hist` of a name and a spec is refused: for that, or for what refuses its record
-abbrev pub IsCause : List ℕ → Spec → Refusal → Actor → Type 0
-IsCause name spec cause b = making.IsCause cause b ⊎ ((cause ≡ why.OtherSpec) × HasOtherSpec name spec b.seen)
+abbrev pub IsCause : List ℕ → Spec → Refusal → Actor → Actor → Type 0
+IsCause name spec cause a b = LacksRecord name spec cause a b ⊎ ((cause ≡ why.OtherSpec) × HasOtherSpec name spec b.seen)
 
 -- What a step says: it goes on; the record that was compared last, which lies in the segment, is the one that is asked for; or the call is
 -- refused, and its actor may turn to another.
@@ -145,7 +150,7 @@ abbrev pub HistGives : Dimensions → Hist → HistStep → Actor → Actor → 
 HistGives shape new More a b = FrameOfStep a b × IsHist shape new b
 HistGives shape new Done a b =
     FrameOfStep a b × IsFree b × MayNote b (knows (asked_of new)) × IsAsking shape new × (new.reference + HISTOGRAM_NAME ≤ shape.size)
-HistGives shape new (Refused cause) a b = FrameOfStep a b × IsFree b × IsCause new.asked.name.items new.asked.spec cause b
+HistGives shape new (Refused cause) a b = FrameOfStep a b × IsFree b × IsCause new.asked.name.items new.asked.spec cause a b
 
 -- what a step makes of the words, and of whatever actor stands so
 abbrev pub HistSteps : Hist → List ℕ → Hist → List ℕ → HistStep → Type 0

@@ -7,6 +7,7 @@ pub mod Add
 pub mod Batch
 pub mod ActorRun
 pub mod WorldState
+pub mod Transit
 pub mod World
 pub mod Moves
 pub mod Mounted

@@ -1,5 +1,5 @@
 -- The making of a record: its words are claimed, its payload is stored there, and it is put on the list.
-use Rattle.std.specs.Prelude.{◌≡◌, ◌≢◌, ℕ, ◌+◌, ◌-◌, ◌<◌, ◌≤◌, nat_lt, true, List, ◌++◌, length, replicate, take, slice_index, is_some, ⊤, Some, if◌then◌else◌}
+use Rattle.std.specs.Prelude.{◌≡◌, ◌≢◌, ℕ, ◌+◌, ◌-◌, ◌<◌, ◌≤◌, nat_lt, true, List, [], ◌∷◌, ◌++◌, length, replicate, take, slice_index, is_some, ⊤, Some, if◌then◌else◌}
 use Rattle.segment_image.specs.declared.layout.TheConstants.{BLOCK_HEADER, HEADER_WORDS, TYPE_HISTOGRAM, TYPE_SAMPLE}
 use Rattle.segment_image.specs.Shape.{Dimensions}
 use Rattle.alloc_core.specs.Layout.{IsShape}
@@ -15,6 +15,7 @@ use Rattle.segment_machine.specs.declared.actor.Actor.{Actor}
 use Rattle.segment_machine.specs.declared.actor.Made.{Made}
 use Rattle.segment_machine.specs.declared.actor.Made.TheVariants.{Histogram, Sample}
 use Rattle.segment_machine.specs.declared.actor.Own.{Own}
+use Rattle.segment_machine.specs.declared.place.Place.TheVariants.{FreeLoaded}
 use Rattle.segment_machine.specs.Made.{IsPayload}
 use Rattle.segment_machine.specs.Publishing.{own_at, MayPublish}
 use Rattle.segment_machine.specs.Stages.{Allocates, PublishesAt}
@@ -74,7 +75,7 @@ HasBlock wanted at a own =
 abbrev pub StandsAtStage : Dimensions → Wanted → Actor → Stage → Type 0
 StandsAtStage shape wanted a (Allocating allocation) =
     Allocates a allocation × (is_some (alloc.next_event allocation) ≡ true) × (allocation.tag ≡ tag_of wanted.made)
-    × (BLOCK_HEADER + wanted.room ≤ allocation.size)
+    × (allocation.size ≡ BLOCK_HEADER + wanted.room)
 StandsAtStage shape wanted a (Filling at index) =
     IsFree a × (index < length wanted.payload) × (slice_index wanted.payload index ≢ 0)
     × ((HEADER_WORDS ≤ at) × (at + (BLOCK_HEADER + wanted.room) ≤ shape.size))
@@ -90,17 +91,21 @@ pub record IsMaking (shape : Dimensions) (wanted : Wanted) (m : Making) (a : Act
   pub draft : MayMake shape wanted a
   pub stands : StandsAtStage shape wanted a m.stage
 
--- what its actor has done or seen that is refused: an allocation has set the full flag, or has seen the corrupt one
-abbrev pub IsCause : Refusal → Actor → Type 0
-IsCause why.Full b = b.done.filled ≡ true
-IsCause why.Corrupt b = b.seen.corrupt ≡ true
-IsCause cause b = ⊥
+-- Why a block of so many words is refused, as the last event of the call makes it: the actor stood at a free pointer from which the words
+-- pass the end of the segment, and has set the full flag for that; or it has loaded flags with the corrupt one. It has claimed and
+-- published nothing by that.
+abbrev pub IsCause : Refusal → ℕ → Actor → Actor → Type 0
+IsCause why.Full words a b =
+    (free : ℕ) × (a.hand.place ≡ FreeLoaded free) × (a.segment.shape.size < free + words)
+    × (b.done ≡ record a.done { filled = true; lacked = a.done.lacked ++ free ∷ [] })
+IsCause why.Corrupt words a b = (b.done ≡ a.done) × (b.seen.corrupt ≡ true) × (b.seen.warned ≡ a.seen.warned + 1)
+IsCause cause words a b = ⊥
 
 -- what a step says: it goes on; the record is on the list; or it is refused. Its actor may turn to another call then
 abbrev pub MakingGives : Dimensions → Wanted → Making → MakingStep → Actor → Actor → Type 0
 MakingGives shape wanted new More a b = FrameOfStep a b × IsMaking shape wanted new b
 MakingGives shape wanted new Done a b = FrameOfStep a b × IsFree b
-MakingGives shape wanted new (Refused cause) a b = FrameOfStep a b × IsFree b × IsCause cause b
+MakingGives shape wanted new (Refused cause) a b = FrameOfStep a b × IsFree b × IsCause cause (BLOCK_HEADER + wanted.room) a b
 
 -- what a step makes of the words, and of whatever actor stands so
 abbrev pub MakingSteps : List ℕ → Making → List ℕ → Making → List ℕ → MakingStep → Type 0

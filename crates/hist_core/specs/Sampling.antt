@@ -74,7 +74,7 @@ pub record IsSampling (shape : Dimensions) (s : Sampling) (a : Actor) : Type 0 w
 abbrev pub SamplingGives : Dimensions → Sampling → SamplingStep → Actor → Actor → Type 0
 SamplingGives shape new More a b = FrameOfStep a b × IsSampling shape new b
 SamplingGives shape new (Found at) a b = FrameOfStep a b × IsFree b × IsFirstSample b.seen new.histogram new.value at × (at + SAMPLE_LEAST ≤ shape.size)
-SamplingGives shape new (Refused cause) a b = FrameOfStep a b × IsFree b × IsCause cause b
+SamplingGives shape new (Refused cause) a b = FrameOfStep a b × IsFree b × IsCause cause SAMPLE_LEAST a b
 
 -- what a step makes of the words, and of whatever actor stands so
 abbrev pub SamplingSteps : Sampling → List ℕ → Sampling → List ℕ → SamplingStep → Type 0

@@ -1,12 +1,12 @@
 -- How an actor goes on by one event.
-use Rattle.std.specs.Prelude.{◌≡◌, ◌≢◌, Bool, false, ◌||◌, ℕ, List, ◌++◌}
+use Rattle.std.specs.Prelude.{◌≡◌, ◌≢◌, Bool, true, false, ◌||◌, ℕ, List, ◌++◌}
 use Rattle.std.specs.List.{Contains}
 use Rattle.segment_image.specs.Words.{word_at}
 use Rattle.list_core.specs.Walk.{IsPrefix}
 use Rattle.segment_machine.specs.declared.actor.Actor.{Actor}
 use Rattle.segment_machine.specs.declared.actor.Known.{Known}
 use Rattle.segment_machine.specs.declared.place.Place.{Place}
-use Rattle.segment_machine.specs.declared.place.Place.TheVariants.{Spent}
+use Rattle.segment_machine.specs.declared.place.Place.TheVariants.{FreeLoaded, Spent}
 use Rattle.segment_machine.specs.Actor.{AreApart, is_bound}
 use Rattle.segment_machine.specs.declared.seen.Sighting.{Sighting}
 use Rattle.segment_machine.specs.Event.{Event, spot, after, next, Ready, Learned}
@@ -39,9 +39,14 @@ pub record StepsBy (size version : ℕ) (a : Actor) (words new_words : List ℕ)
   pub goes : Learned at event (word_at words (spot size event)) → AreApart (next at event (word_at words (spot size event)))
       → (behind : List Note) × (then_is : Actor) × Notes (next at event (word_at words (spot size event))) behind then_is × holds then_is
 
--- in the midst of a part of a call, or at the single word or the counts of a histogram
+-- it has loaded a free pointer, and has not gone on from there
+abbrev pub has_pointer : Place → Bool
+has_pointer (FreeLoaded free) = true
+has_pointer place = false
+
+-- in the midst of a part of a call, at the single word or the counts of a histogram, or at a free pointer
 abbrev pub is_tied : Place → Bool
-is_tied place = is_bound place || is_looking place
+is_tied place = is_bound place || (is_looking place || has_pointer place)
 
 -- it may turn to any other call
 abbrev pub IsFree : Actor → Type 0

@@ -1,5 +1,5 @@
 -- The words of a segment with its actors, and the states of the machine that they stand for.
-use Rattle.std.specs.Prelude.{◌≡◌, ◌≢◌, ◌⊎◌, ◌<◌, ◌≤◌, ℕ, ℤ, pos, map, ◌+◌, true, List, [], ◌∷◌, take, bit_and, IsSome, Option, Some, None, Result, Ok, Err, All, vec_len, ⊤}
+use Rattle.std.specs.Prelude.{◌≡◌, ◌≢◌, ◌⊎◌, ◌<◌, ◌≤◌, ℕ, ℤ, pos, map, ◌+◌, true, false, List, [], ◌∷◌, take, bit_and, IsSome, Option, Some, None, Result, Ok, Err, All, vec_len, ⊤}
 use mathlib.Core.Option.{some}
 use lib.ListN.{get_elem?}
 use Rattle.std.specs.List.{Contains}
@@ -40,11 +40,12 @@ use Rattle.segment_calls.specs.declared.refusal.Refusal.TheVariants as refusal
 use Rattle.hist_core.specs.declared.actor_run.Running.{Running}
 use Rattle.hist_core.specs.declared.actor_run.Running.TheVariants.{Hist, Add, Delta, Snapshot, Batch, SetCorrupt}
 use Rattle.segment_calls.specs.Asked.{IsRefusedFor}
-use Rattle.hist_core.specs.ActorRun.{IsFresh, IsRun, IsAsItWas, IsAnswer, IsTook, HasMovedNothing, IsKnownAnswer, IsRefusedBy, LooksSince, NoneHasName, Answers, entry_of, looked_by, pending_by, ended_by, begun_by}
+use Rattle.hist_core.specs.ActorRun.{IsFresh, IsRun, IsAsItWas, IsAnswer, IsTook, IsKnownAnswer, IsRefusedBy, LooksSince, NoneHasName, Answers, entry_of, looked_by, pending_by, ended_by, begun_by}
 use Rattle.segment_machine.specs.Entry.{batch_cost, batch_entries, sample_entry, tally_noted}
 use Rattle.segment_machine.specs.declared.entry.Entry.{Entry as MachineEntry}
 use Rattle.hist_core.specs.Batch.{sample_of}
 use Rattle.hist_core.specs.SnapshotCall.{HasJustBegun}
+use Rattle.hist_core.specs.StepsBy.{has_pointer}
 use Rattle.segment_calls.specs.declared.refusal.Refusal.{Refusal}
 use Rattle.bucket_ranges.specs.Ranges.{boundaries_of}
 
@@ -139,26 +140,36 @@ IsFlagSet refusal.Full words = bit_and (word_at words FLAGS_WORD) FLAG_FULL ≡ 
 IsFlagSet refusal.Corrupt words = bit_and (word_at words FLAGS_WORD) FLAG_CORRUPT ≡ FLAG_CORRUPT
 IsFlagSet cause words = ⊤
 
--- A running call is refused for what its actor has done or seen; of a full or a corrupt segment the words show it. One that counts has
--- moved no units of another call.
-pub record IsDue (actor : ℕ) (running : Option Running) (cause : Refusal) (world_state : WorldState) (state : State) : Type 0 where
+-- A running call is refused for what its last event has told its actor; of a full or a corrupt segment the words show it.
+pub record IsDue (actor : ℕ) (running : Option Running) (cause : Refusal) (state : State) (world_state : WorldState) (last : State) : Type 0 where
+  pub before : Actor
+  pub was : get_elem? state.actors (actor + 1) ≡ some before
   pub recorder : Actor
-  pub there : get_elem? state.actors (actor + 1) ≡ some recorder
-  pub refused : IsRefusedBy running cause recorder
+  pub there : get_elem? last.actors (actor + 1) ≡ some recorder
+  pub refused : IsRefusedBy running cause before recorder
   pub flagged : IsFlagSet cause world_state.words.items
-  pub moved : HasMovedNothing running recorder
 
--- what an answer promises of the state behind it, by what the call was to do
-abbrev pub IsPromised : WorldState → ℕ → Stepped → (new : WorldState) (last : State) → IsReachedAs new last → Type 0
-IsPromised old actor (Done (answer.Delta delta)) new last reach =
+-- the recorder of the actor has set the corrupt flag
+abbrev pub HasSpoiled : ℕ → State → Type 0
+HasSpoiled actor state = (recorder : Actor) × (get_elem? state.actors (actor + 1) ≡ some recorder) × (recorder.done.spoiled ≡ true)
+
+-- Once the recorder of the actor has set the corrupt flag, an event of it claims no block.
+abbrev pub ClaimsNothing : ℕ → State → State → Type 0
+ClaimsNothing actor state last = (a b : Actor) → get_elem? state.actors (actor + 1) ≡ some a → get_elem? last.actors (actor + 1) ≡ some b
+    → a.done.spoiled ≡ true → (b.done.spoiled ≡ true) × (b.done.claimed ≡ a.done.claimed)
+
+-- what an answer promises of the states before and behind it, by what the call was to do
+abbrev pub IsPromised : WorldState → ℕ → State → Stepped → (new : WorldState) (last : State) → IsReachedAs new last → Type 0
+IsPromised old actor state (Done (answer.Delta delta)) new last reach =
     (before : ActorRun) → get_elem? old.actor_runs.items actor ≡ some before → HasTaken actor (looked_by before.running) delta new last reach
-IsPromised old actor (Done (answer.Snapshot snapshot)) new last reach =
+IsPromised old actor state (Done (answer.Snapshot snapshot)) new last reach =
     (before : ActorRun) → get_elem? old.actor_runs.items actor ≡ some before → HasSeen actor (looked_by before.running) snapshot new last reach
-IsPromised old actor (Done (answer.Refused cause)) new last reach =
-    (before : ActorRun) → get_elem? old.actor_runs.items actor ≡ some before → IsDue actor before.running cause new last
-IsPromised old actor (Done (answer.BatchRefused refused)) new last reach =
-    (before : ActorRun) → get_elem? old.actor_runs.items actor ≡ some before → IsDue actor before.running refused.why new last
-IsPromised old actor said new last reach = ⊤
+IsPromised old actor state (Done (answer.Refused cause)) new last reach =
+    (before : ActorRun) → get_elem? old.actor_runs.items actor ≡ some before → IsDue actor before.running cause state new last
+IsPromised old actor state (Done (answer.BatchRefused refused)) new last reach =
+    (before : ActorRun) → get_elem? old.actor_runs.items actor ≡ some before → IsDue actor before.running refused.why state new last
+IsPromised old actor state (Done answer.Flagged) new last reach = HasSpoiled actor last
+IsPromised old actor state said new last reach = ⊤
 
 -- since when the actor looks whose running call is a snapshot, in a state and behind an event of it
 abbrev pub LooksFrom : WorldState → ℕ → State → State → Type 0
@@ -166,11 +177,12 @@ LooksFrom old actor state last = (before : ActorRun) (a b : Actor) → get_elem?
     → get_elem? state.actors (actor + 1) ≡ some a → get_elem? last.actors (actor + 1) ≡ some b → LooksSince before.running a b
 
 -- One event of the actor leads from a state to another; then the units of a call that is refused come back. What the call says is as it
--- promises, of the state that it leads to. A snapshot looks since its first event.
+-- promises, of the state that it leads to. A snapshot looks since its first event. Behind its own corrupt flag an actor claims nothing.
 abbrev pub StepsTo : WorldState → ℕ → State → WorldState → Stepped → Type 0
 StepsTo old actor state new said =
     (event : Event) × (then_is : State) × IsStep old.version state (actor + 1) event then_is
-    × ((last : State) × GivesBack actor then_is last × ((reach : IsReachedAs new last) × IsPromised old actor said new last reach × LooksFrom old actor state last))
+    × ((last : State) × GivesBack actor then_is last
+    × ((reach : IsReachedAs new last) × IsPromised old actor state said new last reach × LooksFrom old actor state last × ClaimsNothing actor state last))
 
 -- the shape and the version stay, and so do all other actors
 pub record OthersStay (actor : ℕ) (old new : WorldState) : Type 0 where
@@ -188,6 +200,13 @@ pub record IsAsBefore (old new : WorldState) : Type 0 where
   pub count : vec_len new.actor_runs ≡ vec_len old.actor_runs
   pub actor_runs : (i : ℕ) (before behind : ActorRun) → get_elem? old.actor_runs.items i ≡ some before → get_elem? new.actor_runs.items i ≡ some behind
       → IsAsItWas before behind
+
+-- ---- the begin of a call
+
+-- The actor holds no free pointer. So where a call of it stands at one, it has loaded that itself.
+abbrev pub HoldsNoPointer : ℕ → WorldState → Type 0
+HoldsNoPointer actor world_state = (state : State) → IsReachedAs world_state state → (recorder : Actor) → get_elem? state.actors (actor + 1) ≡ some recorder
+    → has_pointer recorder.hand.place ≡ false
 
 -- ---- what an actor knows
 

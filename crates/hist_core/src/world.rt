@@ -29,7 +29,8 @@ impl World {
     ghost use Rattle.alloc_core.specs.Layout.{IsShape};
     ghost use Rattle.segment_machine.specs.State.{State};
     ghost use Rattle.segment_promises.specs.Calls.{AreUnits};
-    ghost use Rattle.hist_core.specs.WorldState.{IsReachedAs, IsNewWorldState, BeginsFrom, StepsTo, IsAsBefore, OthersStay, Says, IsConsistentAs, IsReadAs, AreKnownFirst};
+    ghost use Rattle.hist_core.specs.WorldState.{IsReachedAs, IsNewWorldState, BeginsFrom, HoldsNoPointer, StepsTo, IsAsBefore, OthersStay, Says, IsConsistentAs, IsReadAs, AreKnownFirst};
+    ghost use Rattle.hist_core.specs.Transit.{MoveTheirOwn};
     ghost use Rattle.hist_core.specs.Moves.{Makes, FaultsAt};
     ghost use Rattle.hist_core.specs.World.{world_checks, begin_checks, TakesMemory, BeginSays, step_checks, ChangesOneWord, ended_of, begun_of, taken_of};
 
@@ -78,13 +79,15 @@ impl World {
 
     /// The words of the segment. Their header has no fault, and what they show is consistent; and whenever the world is looked at, they read back as exactly
     /// the published histograms, each once, with no unit that was not begun and all ended ones but those in transit. What a `Hist`
-    /// was answered with is the first histogram of its name, and has the same spec.
+    /// was answered with is the first histogram of its name, and has the same spec. Units that are on their way out of a single word are
+    /// in the hands of a call that counts in just that histogram.
     pub fn words(&self) -> &[u64]
         ensures words { result.now ≡ self.now.world_state.words.items }
         ensures header { header_of self.now.world_state.words.items ≡ Ok (head_of self.now.world_state.words.items) }
         ensures consistent { ∥ IsConsistentAs self.now.world_state ∥₁ }
         ensures reads { ∥ IsReadAs self.now.world_state ∥₁ }
         ensures names { AreKnownFirst self.now.world_state }
+        ensures moves { MoveTheirOwn self.now.world_state }
     {
         self.world_state.words.as_slice()
     }
@@ -122,13 +125,15 @@ impl World {
     /// no item counted, and one of no items and sum 0, which is `Added`. All actors draw on one pool of 4,294,967,295 units: a call
     /// takes its units with its begin, and gives them back where it is refused later. A `Batch` costs the units of its items, and
     /// no fewer than its sum has times 2^31 in size, rounded up. A `Snapshot` or a `Delta` is refused here alone, for want of memory,
-    /// and a `SetCorrupt` never. No word of the segment changes.
+    /// and a `SetCorrupt` never. No word of the segment changes. The actor holds no free pointer then: where its call stands at one, it has
+    /// loaded that itself.
     pub fn begin(&mut self, actor: usize, call: &Call) -> Result<Begun, WorldFault>
         ensures faults { MatchOption (first_fault (begin_checks self.old.world_state actor call.now)) (IfErr result (λ fault. (fault ≡ WorldFault.NoMemory) × TakesMemory call.now)) (λ fault. result ≡ Err fault) }
         ensures fault { OnErr result (IsAsBefore self.old.world_state self.new.world_state) }
         ensures words { self.new.world_state.words.items ≡ self.old.world_state.words.items }
         ensures begins { (state : State) → IsReachedAs self.old.world_state state → BeginsFrom state actor self.new.world_state }
         ensures others { OthersStay actor self.old.world_state self.new.world_state }
+        ensures loads { OnOk result (HoldsNoPointer actor self.old.world_state) }
         ensures says { IfOk result (λ said. BeginSays actor call.now self.old.world_state self.new.world_state said) }
     {
         let world_state = &mut self.world_state;
@@ -173,11 +178,13 @@ impl World {
 
     /// An actor goes on with its call by one event. `Added` puts what the call counted at the end of `ended`; a `BatchRefused` puts
     /// the entries of the items there that are counted, and their units are spent; nothing else changes that. The other units of a
-    /// call that is refused come back to the pool. A call is refused `Full` where the full flag is set and an allocation of the actor
-    /// has set it, `Corrupt` where the corrupt flag is set and the actor has seen it, and a `Hist` `OtherSpec` where the actor has
+    /// call that is refused come back to the pool. `Full` comes with an event that sets the full flag: the block that the call needs
+    /// passes the end of the segment from a free pointer that it has loaded. `Corrupt` comes with an event that loads flags with the
+    /// corrupt one. What an earlier call saw or set is no cause. A `Hist` is also refused `OtherSpec`, where the actor has
     /// seen that the first record of the name has another spec. `Refused` is answered by a `Hist` or an `Add` alone, `BatchRefused` by a
     /// `Batch`, with 0 where no item is counted. An `Add` or a `Batch` that is refused has met no counts of its histogram, so it has moved
-    /// no units of other calls. A `SetCorrupt` ends with its one event, as `Flagged`, which nothing else answers.
+    /// no units of other calls. A `SetCorrupt` ends with its one event, as `Flagged`, which nothing else answers; from then on no call of
+    /// the actor claims a block.
     ///
     /// A `Snapshot` answers what the actor saw since its first event: of each key at least the units that it had accepted and those that
     /// it had seen before; so does its redundant count. Of a sparse histogram the values ascend, each with a count above 0.

@@ -15,7 +15,7 @@ use Rattle.segment_machine.specs.declared.place.Place.TheVariants.{Spent, Idle}
 use Rattle.segment_machine.specs.Actor.{is_bound, is_opener}
 use Rattle.segment_machine.specs.Calls.{back}
 use Rattle.segment_machine.specs.Event.{Event, Ready, Learned, next, allocating_event, publishing_event, walking_event, counting_event, taking_event, packing_event, cursor_event}
-use Rattle.segment_machine.specs.Allocating.{load_flags, load_free, exchange_free, store_size, store_cookie, store_type, store_payload, set_corrupt, set_full}
+use Rattle.segment_machine.specs.Allocating.{load_flags, load_free, exchange_free, store_size, store_cookie, store_type, store_payload, set_corrupt, set_full, after_free}
 use Rattle.segment_machine.specs.Publishing.{store_own_next, load_tail, link, move_tail, after_link}
 use Rattle.segment_machine.specs.Walking.{load_next, load_published, behind}
 use Rattle.segment_machine.specs.Counting.{load_counts, add_count, add_sum, add_redundant}
@@ -23,14 +23,18 @@ use Rattle.segment_machine.specs.Taking.{load_count, raise_mark, load_sum, swap_
 use Rattle.segment_machine.specs.Packing.{load_single, pack, mount_counts, purge_block, disable, add_moved, after_pack, after_mount, after_disable}
 use Rattle.segment_machine.specs.Cursors.{load_cursor, move_cursor, after_cursor}
 use Rattle.segment_machine.specs.Note.{Note, Notes, noted, begins, goes_on, amounts, asks, knows, takes, has_taken, looks, answers, ends, refused, declines}
-use Rattle.segment_machine.specs.Reached.{IsReached, started, stepped, announced, offered, split, lent, returned, joined_in}
-use Rattle.segment_machine.specs.Seats.{parent}
-use Rattle.segment_machine.specs.State.{State}
+use Rattle.segment_machine.specs.Reached.{IsReached, IsState, new_state, started, stepped, announced, offered, split, lent, returned, joined_in}
+use Rattle.segment_machine.specs.Seats.{joined, newcomer, offering, opener_of, parent, spent}
+use Rattle.segment_machine.specs.State.{State, IsStep}
+use Rattle.segment_invariant.specs.Body.{blank}
 use Rattle.segment_invariant.specs.Invariant.{Invariant}
 use Rattle.segment_invariant.specs.Keeps.{found_at}
-use Rattle.segment_invariant.proofs.Lists.Elements.{below_length}
+use Rattle.segment_image.specs.Shape.{Dimensions}
+use Rattle.segment_invariant.proofs.Lists.Elements.{all_at, below_length}
+use Rattle.std.proofs.lemmas.List.Elements.{All-cons, All-nil, All-push, All-set}
+use Rattle.std.specs.List.{All}
 use Rattle.segment_promises.specs.Spoilers.{SpoilersClaimNothing}
-use Rattle.segment_promises.proofs.Reached.{reached_states_follow}
+use Rattle.segment_promises.proofs.Reached.{reached_states_follow, states_are_kept}
 use Rattle.segment_promises.proofs.Steps.{steps_follow}
 
 -- ---- places
@@ -69,78 +73,98 @@ either : (p q : Place) → allocates p ≡ false → allocates q ≡ false → (
 either p q one other true = one
 either p q one other false = other
 
--- ---- an event of who has set the corrupt flag
+-- ---- an event of who stands at no allocation once it has set the corrupt flag
 
--- it stands at no allocation, and has claimed these
-abbrev Quiet : List Claim → Place → Done → Type 0
-Quiet claimed p d = (allocates p ≡ false) × (d.spoiled ≡ true) × (d.claimed ≡ claimed)
+-- it stands at none then
+abbrev Rests : Actor → Type 0
+Rests x = x.done.spoiled ≡ true → allocates x.hand.place ≡ false
 
-module _ (a : Actor) (rests : allocates a.hand.place ≡ false) (spoiled : a.done.spoiled ≡ true) where
-  abbrev StillQuiet : Actor → Type 0
-  StillQuiet b = Quiet a.done.claimed b.hand.place b.done
+module _ (a : Actor) (rests : Rests a) where
+  -- so it does behind an event, which claims nothing
+  abbrev Steady : Actor → Type 0
+  Steady b = Rests b × (a.done.spoiled ≡ true → (b.done.spoiled ≡ true) × (b.done.claimed ≡ a.done.claimed))
 
   -- it stands at no place of an allocation
-  never : {X : Type 0} (p : Place) → allocates p ≡ true → a.hand.place ≡ p → X
-  never p is at = absurd (true≢false (sym is ∙ (sym (ap allocates at) ∙ rests)))
+  never : {X : Type 0} (p : Place) → allocates p ≡ true → a.hand.place ≡ p → a.done.spoiled ≡ true → X
+  never p is at spoiled = absurd (true≢false (sym is ∙ (sym (ap allocates at) ∙ rests spoiled)))
 
-  linked : (b : Bool) (tail at found : ℕ) → StillQuiet (after_link b a tail at found)
-  linked true tail at found = (refl, spoiled, refl)
-  linked false tail at found = (refl, spoiled, refl)
+  -- it has done the same, and stands at none
+  at_rest : (b : Actor) → b.done ≡ a.done → (a.done.spoiled ≡ true → allocates b.hand.place ≡ false) → Steady b
+  at_rest b same stands =
+      (λ spoiled. stands (ap (λ (d : Done). d.spoiled) (sym same) ∙ spoiled), λ spoiled. (ap (λ (d : Done). d.spoiled) same ∙ spoiled, ap (λ (d : Done). d.claimed) same))
 
-  packed : (b : Bool) (histogram new found : ℕ) → StillQuiet (after_pack b a histogram new found)
-  packed true histogram new found = (refl, spoiled, refl)
-  packed false histogram new found = (refl, spoiled, refl)
+  -- an event of an allocation, at none of which it stands then
+  out_of : (b : Actor) (p : Place) → allocates p ≡ true → a.hand.place ≡ p → b.done.spoiled ≡ a.done.spoiled → Steady b
+  out_of b p is at same = (λ spoiled. never p is at (sym same ∙ spoiled), λ spoiled. never p is at spoiled)
 
-  mounted : (b : Bool) (histogram at found : ℕ) → StillQuiet (after_mount b a histogram at found)
-  mounted true histogram at found = (refl, spoiled, refl)
-  mounted false histogram at found = (refl, spoiled, refl)
+  linked : (b : Bool) (tail at found : ℕ) → Steady (after_link b a tail at found)
+  linked true tail at found = (λ spoiled. refl, λ spoiled. (spoiled, refl))
+  linked false tail at found = (λ spoiled. refl, λ spoiled. (spoiled, refl))
 
-  disabled : (b : Bool) (histogram old found : ℕ) → StillQuiet (after_disable b a histogram old found)
-  disabled true histogram old found = (either (place.Moving _ _ _) (place.Looking _) refl refl ((a.segment.version == 1) && nat_lt 0 old), spoiled, refl)
-  disabled false histogram old found = (refl, spoiled, refl)
+  freed : (b : Bool) (old new found : ℕ) → (after_free b a old new found).done.spoiled ≡ a.done.spoiled
+  freed true old new found = refl
+  freed false old new found = refl
 
-  gave : (b : Bool) (cursor new found : ℕ) → StillQuiet (after_cursor b a cursor new found)
-  gave true cursor new found = (refl, spoiled, refl)
-  gave false cursor new found = (refl, spoiled, refl)
+  packed : (b : Bool) (histogram new found : ℕ) → Steady (after_pack b a histogram new found)
+  packed true histogram new found = at_rest (after_pack true a histogram new found) refl (λ spoiled. refl)
+  packed false histogram new found = at_rest (after_pack false a histogram new found) refl (λ spoiled. refl)
+
+  mounted : (b : Bool) (histogram at found : ℕ) → Steady (after_mount b a histogram at found)
+  mounted true histogram at found = at_rest (after_mount true a histogram at found) refl (λ spoiled. refl)
+  mounted false histogram at found = at_rest (after_mount false a histogram at found) refl (λ spoiled. refl)
+
+  disabled : (b : Bool) (histogram old found : ℕ) → Steady (after_disable b a histogram old found)
+  disabled true histogram old found = at_rest (after_disable true a histogram old found) refl
+      (λ spoiled. either (place.Moving _ _ _) (place.Looking _) refl refl ((a.segment.version == 1) && nat_lt 0 old))
+  disabled false histogram old found = at_rest (after_disable false a histogram old found) refl (λ spoiled. refl)
+
+  gave : (b : Bool) (cursor new found : ℕ) → Steady (after_cursor b a cursor new found)
+  gave true cursor new found = (λ spoiled. refl, λ spoiled. (spoiled, refl))
+  gave false cursor new found = (λ spoiled. refl, λ spoiled. (spoiled, refl))
 
   -- the flags that it loads have the corrupt one
   flags_loaded : (found : ℕ) → bit_and found 1 ≡ 1 → allocates (if bit_and found 1 == 0 then place.FlagsLoaded else Idle) ≡ false
   flags_loaded found is = ap (λ (n : ℕ). allocates (if n == 0 then place.FlagsLoaded else Idle)) is
 
-  quiet_on : (event : Event) (found : ℕ) → Ready a event → Learned a event found → StillQuiet (next a event found)
-  quiet_on (allocating_event load_flags) found ready learned = (flags_loaded found (learned spoiled), spoiled, refl)
-  quiet_on (allocating_event load_free) found ready learned = never place.FlagsLoaded refl ready
-  quiet_on (allocating_event (exchange_free old new)) found ready learned = never (place.FreeLoaded old) refl ready.0
-  quiet_on (allocating_event (store_size at size)) found ready learned = never (place.Raised at size) refl ready
-  quiet_on (allocating_event (store_cookie at cookie)) found ready learned = never (place.Sized at ready.0.0) refl ready.0.1
-  quiet_on (allocating_event (store_type at tag)) found ready learned = never (place.Marked at ready.0.0) refl ready.0.1
-  quiet_on (allocating_event (store_payload at index value)) found ready learned = (rests, spoiled, refl)
-  quiet_on (allocating_event set_corrupt) found ready learned = (refl, refl, refl)
-  quiet_on (allocating_event (set_full wanted)) found ready learned = (refl, spoiled, refl)
-  quiet_on (publishing_event (store_own_next at)) found ready learned = (rests, spoiled, refl)
-  quiet_on (publishing_event load_tail) found ready learned = (refl, spoiled, refl)
-  quiet_on (publishing_event (link tail at)) found ready learned = linked (found == 12) tail at found
-  quiet_on (publishing_event (move_tail old new)) found ready learned = (refl, spoiled, refl)
-  quiet_on (walking_event (load_next at)) found ready learned = (behind_rests a.hand.place at found rests, spoiled, refl)
-  quiet_on (walking_event (load_published at index)) found ready learned = (rests, spoiled, refl)
-  quiet_on (counting_event (load_counts histogram)) found ready learned = (refl, spoiled, refl)
-  quiet_on (counting_event (add_count at units)) found ready learned = (refl, spoiled, refl)
-  quiet_on (counting_event (add_sum histogram amount)) found ready learned = (refl, spoiled, refl)
-  quiet_on (counting_event (add_redundant histogram units)) found ready learned = (refl, spoiled, refl)
-  quiet_on (taking_event (load_count at)) found ready learned = (counted_rests a.hand.place at found, spoiled, refl)
-  quiet_on (taking_event (raise_mark at least)) found ready learned = (back_rests a.hand.place, spoiled, refl)
-  quiet_on (taking_event (load_sum histogram)) found ready learned = (refl, spoiled, refl)
-  quiet_on (taking_event (swap_sum_mark histogram sum)) found ready learned = (refl, spoiled, refl)
-  quiet_on (taking_event (load_redundant histogram)) found ready learned = (rests, spoiled, refl)
-  quiet_on (taking_event (raise_single_mark histogram least)) found ready learned = (back_rests a.hand.place, spoiled, refl)
-  quiet_on (packing_event (load_single histogram)) found ready learned = (refl, spoiled, refl)
-  quiet_on (packing_event (pack histogram old new)) found ready learned = packed (found == old) histogram new found
-  quiet_on (packing_event (mount_counts histogram at)) found ready learned = mounted (found == 0) histogram at found
-  quiet_on (packing_event (purge_block at)) found ready learned = (back_rests a.hand.place, spoiled, refl)
-  quiet_on (packing_event (disable histogram old)) found ready learned = disabled (found == old) histogram old found
-  quiet_on (packing_event (add_moved counts bucket units)) found ready learned = (back_rests a.hand.place, spoiled, refl)
-  quiet_on (cursor_event (load_cursor cursor)) found ready learned = (refl, spoiled, refl)
-  quiet_on (cursor_event (move_cursor cursor old new)) found ready learned = gave (found == old) cursor new found
+  steady_on : (event : Event) (found : ℕ) → Ready a event → Learned a event found → Steady (next a event found)
+  steady_on (allocating_event load_flags) found ready learned =
+      at_rest (next a (allocating_event load_flags) found) refl (λ spoiled. flags_loaded found (learned spoiled))
+  steady_on (allocating_event load_free) found ready learned = out_of (next a (allocating_event load_free) found) place.FlagsLoaded refl ready refl
+  steady_on (allocating_event (exchange_free old new)) found ready learned =
+      out_of (next a (allocating_event (exchange_free old new)) found) (place.FreeLoaded old) refl ready.0 (freed (found == old) old new found)
+  steady_on (allocating_event (store_size at size)) found ready learned = out_of (next a (allocating_event (store_size at size)) found) (place.Raised at size) refl ready refl
+  steady_on (allocating_event (store_cookie at cookie)) found ready learned =
+      out_of (next a (allocating_event (store_cookie at cookie)) found) (place.Sized at ready.0.0) refl ready.0.1 refl
+  steady_on (allocating_event (store_type at tag)) found ready learned =
+      out_of (next a (allocating_event (store_type at tag)) found) (place.Marked at ready.0.0) refl ready.0.1 refl
+  steady_on (allocating_event (store_payload at index value)) found ready learned = (rests, λ spoiled. (spoiled, refl))
+  steady_on (allocating_event set_corrupt) found ready learned = (λ spoiled. refl, λ spoiled. (refl, refl))
+  steady_on (allocating_event (set_full wanted)) found ready learned = (λ spoiled. refl, λ spoiled. (spoiled, refl))
+  steady_on (publishing_event (store_own_next at)) found ready learned = (rests, λ spoiled. (spoiled, refl))
+  steady_on (publishing_event load_tail) found ready learned = (λ spoiled. refl, λ spoiled. (spoiled, refl))
+  steady_on (publishing_event (link tail at)) found ready learned = linked (found == 12) tail at found
+  steady_on (publishing_event (move_tail old new)) found ready learned = (λ spoiled. refl, λ spoiled. (spoiled, refl))
+  steady_on (walking_event (load_next at)) found ready learned =
+      at_rest (next a (walking_event (load_next at)) found) refl (λ spoiled. behind_rests a.hand.place at found (rests spoiled))
+  steady_on (walking_event (load_published at index)) found ready learned = (rests, λ spoiled. (spoiled, refl))
+  steady_on (counting_event (load_counts histogram)) found ready learned = (λ spoiled. refl, λ spoiled. (spoiled, refl))
+  steady_on (counting_event (add_count at units)) found ready learned = (λ spoiled. refl, λ spoiled. (spoiled, refl))
+  steady_on (counting_event (add_sum histogram amount)) found ready learned = (λ spoiled. refl, λ spoiled. (spoiled, refl))
+  steady_on (counting_event (add_redundant histogram units)) found ready learned = (λ spoiled. refl, λ spoiled. (spoiled, refl))
+  steady_on (taking_event (load_count at)) found ready learned = (λ spoiled. counted_rests a.hand.place at found, λ spoiled. (spoiled, refl))
+  steady_on (taking_event (raise_mark at least)) found ready learned = (λ spoiled. back_rests a.hand.place, λ spoiled. (spoiled, refl))
+  steady_on (taking_event (load_sum histogram)) found ready learned = (λ spoiled. refl, λ spoiled. (spoiled, refl))
+  steady_on (taking_event (swap_sum_mark histogram sum)) found ready learned = (λ spoiled. refl, λ spoiled. (spoiled, refl))
+  steady_on (taking_event (load_redundant histogram)) found ready learned = (rests, λ spoiled. (spoiled, refl))
+  steady_on (taking_event (raise_single_mark histogram least)) found ready learned = (λ spoiled. back_rests a.hand.place, λ spoiled. (spoiled, refl))
+  steady_on (packing_event (load_single histogram)) found ready learned = (λ spoiled. refl, λ spoiled. (spoiled, refl))
+  steady_on (packing_event (pack histogram old new)) found ready learned = packed (found == old) histogram new found
+  steady_on (packing_event (mount_counts histogram at)) found ready learned = mounted (found == 0) histogram at found
+  steady_on (packing_event (purge_block at)) found ready learned = (λ spoiled. back_rests a.hand.place, λ spoiled. (spoiled, refl))
+  steady_on (packing_event (disable histogram old)) found ready learned = disabled (found == old) histogram old found
+  steady_on (packing_event (add_moved counts bucket units)) found ready learned = (λ spoiled. back_rests a.hand.place, λ spoiled. (spoiled, refl))
+  steady_on (cursor_event (load_cursor cursor)) found ready learned = (λ spoiled. refl, λ spoiled. (spoiled, refl))
+  steady_on (cursor_event (move_cursor cursor old new)) found ready learned = gave (found == old) cursor new found
 
 -- ---- an event of who was joined
 
@@ -237,6 +261,10 @@ notes_leave (note ∷ rest) a b (may, more) =
 
 -- ---- whatever happens
 
+-- it stands at no allocation, and has claimed these
+abbrev Quiet : List Claim → Place → Done → Type 0
+Quiet claimed p d = (allocates p ≡ false) × (d.spoiled ≡ true) × (d.claimed ≡ claimed)
+
 -- it was joined, or has claimed no more
 abbrev Still : List Claim → Place → Done → Type 0
 Still claimed p d = (p ≡ Spent) ⊎ Quiet claimed p d
@@ -249,8 +277,9 @@ still_on : (claimed : List Claim) (a : Actor) (event : Event) (found : ℕ) → 
     → Still claimed (next a event found).hand.place (next a event found).done
 still_on claimed a event found ready learned (inl gone) = inl (gone_on a gone event found ready)
 still_on claimed a event found ready learned (inr (rests, spoiled, is)) =
-    let (still, sets, same) = quiet_on a rests spoiled event found ready learned in
-    inr (still, sets, same ∙ is)
+    let steady = steady_on a (λ sets. rests) event found ready learned in
+    let (sets, same) = steady.1 spoiled in
+    inr (steady.0 sets, sets, same ∙ is)
 
 -- one stands in a list of actors that is still
 abbrev IsStill : List Claim → List Actor → ℕ → Type 0
@@ -327,3 +356,65 @@ spoilers_claim_nothing shape opened start state who a b kept there records spoil
         all old new _ (ap (λ (s : State). s.actors) is)
         (another claimed _ other who y _ (set_else old.actors id other _ (λ e. apart (sym e)) ∙ beside) (λ still. inl refl)
         (c, set_else old.actors id who _ other_one ∙ here, still))
+
+-- ---- in the states that are reached from a new segment
+
+-- a recorder stands at no allocation once it has set the corrupt flag
+abbrev RecorderRests : Actor → Type 0
+RecorderRests x = is_opener x.role ≡ false → Rests x
+
+-- its step
+module _ (shape : Dimensions) (version id cursors : ℕ) (old new : State) (who : ℕ) (event : Event) (state : IsState shape version id cursors old)
+    (step : IsStep version old who event new) (rests : RecorderRests step.actor) where
+  step_of : Rests step.then_is × (step.actor.done.spoiled ≡ true → (step.then_is.done.spoiled ≡ true) × (step.then_is.done.claimed ≡ step.actor.done.claimed))
+  step_of =
+      let first = notes_leave step.before step.actor step.at step.notes_before in
+      let last = notes_leave step.behind (next step.at event (found_at old event)) step.then_is step.notes_behind in
+      let learned = (steps_follow shape (blank version id shape.size) old new who event step (states_are_kept shape version id cursors old state)).1 in
+      let stood : Rests step.at = subst (λ (x : Place × Done). x.1.spoiled ≡ true → allocates x.0 ≡ false) (λ i. (sym first.0 i, sym first.1 i)) (rests step.is_recorder) in
+      let steady = steady_on step.at stood event (found_at old event) step.ready learned in
+      subst (λ (x : Place × Done × Done). (x.1.spoiled ≡ true → allocates x.0 ≡ false) × (x.2.spoiled ≡ true → (x.1.spoiled ≡ true) × (x.1.claimed ≡ x.2.claimed)))
+      (λ i. (sym last.0 i, sym last.1 i, first.1 i)) steady
+
+module _ (shape : Dimensions) (version id cursors : ℕ) where
+  -- so it is of all of them
+  all_rest : (state : State) → IsState shape version id cursors state → All RecorderRests state.actors
+  all_rest state (shaped, versions, few, reached) = go state reached
+    where
+      opens : (x : Actor) → is_opener x.role ≡ true → RecorderRests x
+      opens x is records = absurd (true≢false (sym is ∙ records))
+
+      go : (state : State) → IsReached version (new_state shape version id cursors) state → All RecorderRests state.actors
+      go state started = All-cons RecorderRests (opener_of shape version cursors) [] (opens (opener_of shape version cursors) refl) (All-nil RecorderRests)
+      go state (stepped old new who event before step) =
+          let all = go old before in
+          subst (All RecorderRests) (sym step.actors_are) (All-set RecorderRests old.actors who step.then_is
+          (λ records. (step_of shape version id cursors old new who event (shaped, versions, few, before) step (all_at RecorderRests old.actors who step.actor all step.there)).0) all)
+      go state (announced old new who before (x, y, notes, there, recorder, noting, is)) =
+          let same = notes_leave notes x y noting in
+          let all = go old before in
+          let stood = all_at RecorderRests old.actors who x all there recorder in
+          subst (All RecorderRests) (sym (ap (λ (s : State). s.actors) is)) (All-set RecorderRests old.actors who y
+          (λ records. subst (λ (p : Place × Done). p.1.spoiled ≡ true → allocates p.0 ≡ false) (λ i. (sym same.0 i, sym same.1 i)) stood) all)
+      go state (offered old new who units before (x, there, may, is)) =
+          subst (All RecorderRests) (sym (ap (λ (s : State). s.actors) is)) (All-set RecorderRests old.actors who _ (opens (offering x units) refl) (go old before))
+      go state (split old new who before (x, there, may, is)) =
+          subst (All RecorderRests) (sym (ap (λ (s : State). s.actors) is)) (All-push RecorderRests _ (newcomer x)
+          (All-set RecorderRests old.actors who _ (opens (parent x) refl) (go old before)) (λ records spoiled. refl))
+      go state (lent old new who other units before (x, y, apart, there, beside, may, is)) =
+          let all = go old before in
+          subst (All RecorderRests) (sym (ap (λ (s : State). s.actors) is)) (All-set RecorderRests _ other _ (all_at RecorderRests old.actors other y all beside)
+          (All-set RecorderRests old.actors who _ (all_at RecorderRests old.actors who x all there) all))
+      go state (returned old new who other units before (x, y, apart, there, beside, may, is)) =
+          let all = go old before in
+          subst (All RecorderRests) (sym (ap (λ (s : State). s.actors) is)) (All-set RecorderRests _ other _ (all_at RecorderRests old.actors other y all beside)
+          (All-set RecorderRests old.actors who _ (all_at RecorderRests old.actors who x all there) all))
+      go state (joined_in old new who other before (x, y, apart, there, beside, may, is)) =
+          subst (All RecorderRests) (sym (ap (λ (s : State). s.actors) is)) (All-set RecorderRests _ other spent (λ records spoiled. refl)
+          (All-set RecorderRests old.actors who _ (opens (joined x y) refl) (go old before)))
+
+  -- a recorder that has set the corrupt flag has still set it behind a step, which claims nothing
+  pub spoilers_step_on : (old new : State) (who : ℕ) (event : Event) (state : IsState shape version id cursors old) (step : IsStep version old who event new)
+      → step.actor.done.spoiled ≡ true → (step.then_is.done.spoiled ≡ true) × (step.then_is.done.claimed ≡ step.actor.done.claimed)
+  spoilers_step_on old new who event state step =
+      (step_of shape version id cursors old new who event state step (all_at RecorderRests old.actors who step.actor (all_rest old state) step.there)).1

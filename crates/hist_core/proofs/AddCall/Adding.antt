@@ -21,12 +21,14 @@ use Rattle.hist_core.specs.declared.call.Stepped.{Stepped}
 use Rattle.hist_core.specs.declared.actor_run.Running.{Running}
 use Rattle.hist_core.specs.declared.actor_run.Running.TheVariants.{Add}
 use Rattle.hist_core.specs.declared.actor_run.ActorRun.{ActorRun}
-use Rattle.hist_core.specs.Add.{Amid, alone, counted_entry, ended_entry, FrameOfAdd, HasEntry, HasMetNoCounts, HasEnded, StandsAtStage, IsAdd, IsSomeAdd, AddSteps, AddGives}
+use Rattle.hist_core.specs.Add.{Amid, alone, block_words, counted_entry, ended_entry, FrameOfAdd, HasEntry, HasMetNoCounts, HasEnded, StandsAtStage, IsAdd, IsSomeAdd, AddSteps, AddGives}
 use Rattle.hist_core.specs.Batch.{Runs, HaveEnded, IsCutAt}
 use Rattle.hist_core.specs.StepsBy.{StepsBy}
 use Rattle.hist_core.proofs.Worlds.Landing.{Landing}
-use Rattle.hist_core.specs.ActorRun.{ended_by, begun_by, pending_by, held_by, IsGhostNoting, IsAdding, StandsIn, IsRun, IsAddAnnounced, HasMovedNothing, LandsBack, MayBeRefused, Answers, IsRefusedBy}
-use Rattle.hist_core.proofs.Worlds.Causes.{refused_still}
+use Rattle.hist_core.specs.ActorRun.{ended_by, begun_by, pending_by, held_by, IsGhostNoting, IsAdding, StandsIn, IsRun, IsAddAnnounced, LandsBack, MayBeRefused, Answers, IsRefusedBy}
+use Rattle.segment_calls.specs.declared.refusal.Refusal.{Refusal}
+use Rattle.hist_core.specs.Making.{IsCause}
+use Rattle.hist_core.proofs.AddCall.Refusals.{HasOnlyNoted, cause_noted}
 use Rattle.hist_core.proofs.Parts.Allocations.{goes_with}
 use Rattle.hist_core.proofs.AddCall.Entries.{ended_is_over}
 use Rattle.hist_core.proofs.Worlds.Apart.{asks_not, looks_not, batches_not, sets_not}
@@ -106,10 +108,16 @@ module _ (shape : Dimensions) (version : ℕ) (old : ActorRun) (add : AddCall) (
             unsummed = subst (All (λ (c : EntryProgress). c.summed ≡ false)) (sym none) (All-nil (λ (c : EntryProgress). c.summed ≡ false));
           }
 
-      -- it has moved nothing
-      moved_none : (b : Actor) → FrameOfAdd a b → HasMetNoCounts known b → HasMovedNothing old.running (noted b (refused 0))
-      moved_none b aside met = subst (λ running. HasMovedNothing running (noted b (refused 0))) (sym is)
-          (known, subst (λ (l : List MachineKnown). Contains l known) (sym aside.names) counts.counting.knows, counts.counting.counting.reference, met)
+      -- why it is refused
+      refused_by : (first b : Actor) → HasOnlyNoted first a → FrameOfAdd a b → (why : Refusal) → IsCause why (block_words known) a b → HasMetNoCounts known b
+          → IsRefusedBy old.running why first (noted b (refused 0))
+      refused_by first b from aside why cause met = subst (λ running. IsRefusedBy running why first (noted b (refused 0))) (sym is) (
+        known,
+        subst (λ (l : List MachineKnown). Contains l known) (sym aside.names) counts.counting.knows,
+        counts.counting.counting.reference,
+        cause_noted why (block_words known) first a b (noted b (refused 0)) from refl refl cause,
+        met,
+      )
 
       its_steps : (words new_words : List ℕ) (said : AddStep) → length words ≡ shape.size → AddSteps add words now new_words said
           → StepsBy shape.size version a words new_words (AddGives shape known (alone add) now said a)
@@ -122,28 +130,26 @@ module _ (shape : Dimensions) (version : ℕ) (old : ActorRun) (add : AddCall) (
     abbrev its : MachineKnown
     its = (adding a run).0
 
-    goes : {holds : Actor → Type 0} → ((b : Actor) → Tells its b → StepsBy shape.size version b words new_words holds) → StepsBy shape.size version a words new_words holds
+    goes : {holds : Actor → Type 0} → ((b : Actor) → HasOnlyNoted a b → Tells its b → StepsBy shape.size version b words new_words holds)
+        → StepsBy shape.size version a words new_words holds
     goes = goes_from shape version old its.name add.units (entries its) (standing its) (runs its) (into its) a run (adding a run).1
 
     goes_so : (said : AddStep) (result : Stepped) → AddSteps add words (record add { stage = at }) new_words said
         → IsAddAnnounced (record old { running = Some (Add (record add { stage = at })) }) said new result → Landing shape version old words new new_words result a
     goes_so More result steps (new_is, result_is) =
-        subst (λ said. Landing shape version old words new new_words said a) (sym result_is) (goes (λ b counts. goes_with (its_steps its at b counts words new_words More long steps)
+        subst (λ said. Landing shape version old words new new_words said a) (sym result_is) (goes (λ b from counts. goes_with (its_steps its at b counts words new_words More long steps)
         (λ c gives. subst (λ (r : ActorRun). IsRun shape version r c) (sym new_is) (goes_on its at b counts c gives))))
     goes_so Done result steps (new_is, result_is) =
-        subst (λ said. Landing shape version old words new new_words said a) (sym result_is) (goes (λ b counts. goes_noting (its_steps its at b counts words new_words Done long steps)
+        subst (λ said. Landing shape version old words new new_words said a) (sym result_is) (goes (λ b from counts. goes_noting (its_steps its at b counts words new_words Done long steps)
         (λ c (aside, stays, turns, over). subst (λ (r : ActorRun). (notes : List Note) × (d : Actor) × Notes c notes d × IsRun shape version r d) (sym new_is)
         (has_counted shape version old its.name add.units (entries its) (standing its) (runs its) (into its) b counts c aside stays turns counts.counting.rests (ends_so its at b counts c over)))))
     goes_so (Refused why) result steps (new_is, items, result_is) =
-        subst (λ said. Landing shape version old words new new_words said a) (sym result_is) (goes (λ b counts. goes_noting (its_steps its at b counts words new_words (Refused why) long steps)
+        subst (λ said. Landing shape version old words new new_words said a) (sym result_is) (goes (λ b from counts. goes_noting (its_steps its at b counts words new_words (Refused why) long steps)
         (λ c (aside, stays, turns, cause, has, met). subst (λ (units : ℕ). (notes : List Note) × (d : Actor) × Notes c notes d
-        × (LandsBack shape version units new d × (IsRefusedBy old.running why d × HasMovedNothing old.running d))) (sym (ap held_by is))
+        × (LandsBack shape version units new d × IsRefusedBy old.running why a d)) (sym (ap held_by is))
         (is_cut shape version old its.name add.units (entries its) (standing its) (runs its) (into its) b counts c aside stays turns counts.counting.rests counts.counting.held
         0 add.units (omega arith) (nothing_yet its at b counts c has) (let none : tally_noted (take 0 (entries its)) its.name ≡ 0 = refl in omega (arith, none)) new old.ended (omega arith) new_is items
-        (λ d. IsRefusedBy old.running why d × HasMovedNothing old.running d) (
-          refused_still old.running why c (noted c (refused 0)) refl refl (inl cause),
-          moved_none its at b counts c aside met,
-        )))))
+        (λ d. IsRefusedBy old.running why a d) (refused_by its at b counts a c from aside why cause met)))))
 
   pub add_goes : (a : Actor) (run : IsRun shape version old a) (now : AddCall) → now ≡ record add { stage = now.stage } → (words new_words : List ℕ) → length words ≡ shape.size
       → (said : AddStep) (new : ActorRun) (result : Stepped) → AddSteps add words now new_words said → IsAddAnnounced (record old { running = Some (Add now) }) said new result

@@ -20,6 +20,7 @@ use Rattle.hist_core.specs.Add.{FrameOfAdd, StaysOpen}
 use Rattle.hist_core.specs.Batch.{Runs, HaveEnded, IsCutAt}
 use Rattle.hist_core.specs.StepsBy.{StepsBy, IsFree}
 use Rattle.hist_core.specs.ActorRun.{entry_of, ended_by, pending_by, AreShown, HasDraft, HasRoom, IsBefore, IsGhostNoting, StandsIn, IsRun, LandsBack}
+use Rattle.hist_core.proofs.AddCall.Refusals.{HasOnlyNoted}
 use Rattle.hist_core.proofs.Worlds.Free.{free_turns}
 use Rattle.hist_core.proofs.Worlds.Quiet.{met_on, not_spent, started, logged}
 
@@ -118,11 +119,11 @@ module _ (shape : Dimensions) (version : ℕ) (old : ActorRun) (name : List ℕ)
             omega (arith, many, both, ended, begun, within)
 
     -- it goes on from there
-    pub goes_from : {words new_words : List ℕ} {holds : Actor → Type 0} → ((b : Actor) → Counts b → StepsBy shape.size version b words new_words holds)
+    pub goes_from : {words new_words : List ℕ} {holds : Actor → Type 0} → ((b : Actor) → HasOnlyNoted a b → Counts b → StepsBy shape.size version b words new_words holds)
         → StepsBy shape.size version a words new_words holds
     goes_from go = ⊎_elim
-        (λ before. goes_after (begins name cost entries) before.may (go (noted a (begins name cost entries)) (before_that before)))
-        (λ behind. go a (behind_that behind))
+        (λ before. goes_after (begins name cost entries) before.may (go (noted a (begins name cost entries)) (refl, refl, refl, refl) (before_that before)))
+        (λ behind. go a (refl, refl, refl, refl) (behind_that behind))
         telling.stands
 
     -- it stands so somewhere

@@ -32,9 +32,11 @@ use Rattle.hist_core.specs.declared.add.AddStep.{AddStep}
 use Rattle.hist_core.specs.declared.add.AddStep.TheVariants.{More, Done, Refused}
 use Rattle.hist_core.specs.declared.add.Stage.{Stage}
 use Rattle.hist_core.specs.declared.add.Stage.TheVariants.{SeekingCounts, Allocating, Mounting, Purging, LoadingAgain}
+use Rattle.segment_calls.specs.declared.refusal.Refusal.{Refusal}
 use Rattle.segment_calls.specs.declared.refusal.Refusal.TheVariants as why
 use Rattle.hist_core.specs.StepsBy.{FrameOfStep, StepsBy, is_tied}
-use Rattle.hist_core.specs.Add.{Amid, HasEntry, HasMetNoCounts, AreCounts, StandsAtStage, IsAdd, AddGives, BeginsToAllocate, IsAllocated}
+use Rattle.hist_core.specs.Add.{Amid, HasEntry, HasMetNoCounts, AreCounts, StandsAtStage, IsAdd, AddGives, BeginsToAllocate, IsAllocated, block_words}
+use Rattle.hist_core.specs.Making.{IsCause}
 use Rattle.hist_core.proofs.AddCall.Counts.{counts_in}
 use Rattle.hist_core.proofs.AddCall.Entries.{counting_of}
 use Rattle.hist_core.proofs.AddCall.Going.{acts_on, packs_on, goes_still, aside_counts}
@@ -42,7 +44,7 @@ use Rattle.hist_core.proofs.AddCall.Packs.{has_them}
 use Rattle.hist_core.proofs.AddCall.Refusals.{refuses, beside_aside}
 use Rattle.hist_core.proofs.Parts.Allocations.{allocates_on, goes_with}
 use Rattle.hist_core.proofs.Parts.Alone.{makes_so}
-use Rattle.hist_core.proofs.Parts.Claims.{claimed_suits, claimed_of, goes_noting, rests_at, ended_so}
+use Rattle.hist_core.proofs.Parts.Claims.{IsEnd, claimed_suits, claimed_of, goes_noting, rests_at}
 use Rattle.std.proofs.lemmas.Bool.{eq-eqb}
 
 module _ (shape : Dimensions) (known : Known) (amid : Amid) (add : Add) (a : Actor) (words : List ℕ) (is : IsAdd shape known amid add a) where
@@ -139,10 +141,10 @@ module _ (shape : Dimensions) (known : Known) (amid : Amid) (add : Add) (a : Act
     stood_allocating = subst (StandsAtStage shape known amid add a) allocates is.stands
 
     module _ (long : length words ≡ shape.size) (y : Allocation) (new_words : List ℕ) (says : AllocStep) (step : alloc.IsStep x words y new_words says) where
-      claims : StepsBy shape.size add.version a words new_words (λ b. FrameOfStep a b × AreApart b × Allocates b y × (b.seen.words ≡ a.seen.words))
+      claims : StepsBy shape.size add.version a words new_words (λ b. FrameOfStep a b × AreApart b × Allocates b y × (b.seen.words ≡ a.seen.words) × IsEnd says x.size a b)
       claims =
           let size = ap (λ (d : Dimensions). d.size) is.segment in
-          subst (λ (n : ℕ). StepsBy n add.version a words new_words (λ b. FrameOfStep a b × AreApart b × Allocates b y × (b.seen.words ≡ a.seen.words))) size
+          subst (λ (n : ℕ). StepsBy n add.version a words new_words (λ b. FrameOfStep a b × AreApart b × Allocates b y × (b.seen.words ≡ a.seen.words) × IsEnd says x.size a b)) size
           (allocates_on add.version a x y words new_words says stood_allocating.2.0 (long ∙ sym size) step)
 
       -- its entry is as it was
@@ -160,7 +162,7 @@ module _ (shape : Dimensions) (known : Known) (amid : Amid) (add : Add) (a : Act
 
       -- it goes on
       still_claims : is_some (alloc.next_event y) ≡ true → StepsBy shape.size add.version a words new_words (AddGives shape known amid (record add { stage = Allocating y }) More a)
-      still_claims more = goes_noting claims (λ b (beside, apart, goes, same). (
+      still_claims more = goes_noting claims (λ b (beside, apart, goes, same, ends). (
         [],
         b,
         refl,
@@ -171,7 +173,7 @@ module _ (shape : Dimensions) (known : Known) (amid : Amid) (add : Add) (a : Act
             goes,
             more,
             ap (λ (z : Allocation). z.tag) step.new_is ∙ stood_allocating.2.2,
-            subst (λ (n : ℕ). 4 + 2 * add.buckets ≤ n) (sym (ap (λ (z : Allocation). z.size) step.new_is)) stood_allocating.2.3,
+            ap (λ (z : Allocation). z.size) step.new_is ∙ stood_allocating.2.3,
             none_still b same,
           ),
         ),
@@ -179,7 +181,7 @@ module _ (shape : Dimensions) (known : Known) (amid : Amid) (add : Add) (a : Act
 
       -- it has a block, which it mounts
       has_claimed : (at : ℕ) → says ≡ said.Done at → StepsBy shape.size add.version a words new_words (AddGives shape known amid (record add { stage = Mounting at }) More a)
-      has_claimed at done = goes_noting claims (λ b (beside, apart, goes, same). claimed b beside goes (claimed_of y.stage at (sym done ∙ step.answers)))
+      has_claimed at done = goes_noting claims (λ b (beside, apart, goes, same, ends). claimed b beside goes (claimed_of y.stage at (sym done ∙ step.answers)))
         where
           claimed : (b : Actor) → FrameOfStep a b → Allocates b y → (size : ℕ) × (y.stage ≡ Claimed at size)
               → (notes : List Note) × (c : Actor) × Notes b notes c × AddGives shape known amid (record add { stage = Mounting at }) More a c
@@ -207,6 +209,12 @@ module _ (shape : Dimensions) (known : Known) (amid : Amid) (add : Add) (a : Act
                 ),
               )
 
+    -- it is refused for the words of the counts
+    needed : (why : Refusal) (b : Actor) → IsCause why x.size a b → IsCause why (block_words known) a b
+    needed why b = subst (λ (n : ℕ). IsCause why n a b)
+        (stood_allocating.2.3 ∙ (ap (λ (n : ℕ). 4 + 2 * n) is.counting.buckets
+        ∙ ap (λ (t : Bool). if t then 4 + 2 * buckets_of known.spec else 8) (sym stood_allocating.0)))
+
     -- whatever the allocation says
     pub allocates_so : length words ≡ shape.size → (y : Allocation) (new_words : List ℕ) (says : AllocStep) (new : Add) (result : AddStep) → alloc.IsStep x words y new_words says
         → (says ≡ said.More → is_some (alloc.next_event y) ≡ true) → IsAllocated (record add { stage = Allocating y }) says new result
@@ -219,14 +227,14 @@ module _ (shape : Dimensions) (known : Known) (amid : Amid) (add : Add) (a : Act
         (has_claimed long y new_words (said.Done at) step at refl)
     allocates_so long y new_words said.Full new result step more (new_is, result_is) =
         subst (λ (r : AddStep). StepsBy shape.size add.version a words new_words (AddGives shape known amid new r a)) (sym result_is)
-        (goes_with (claims long y new_words said.Full step) (λ b (beside, apart, goes, same).
+        (goes_with (claims long y new_words said.Full step) (λ b (beside, apart, goes, same, ends).
         refuses shape known amid add new a stood_allocating.1 b beside (none_still long y new_words said.Full step b same) why.Full (ap (λ (n : Add). counting_of known n false false) new_is)
-        (ap is_tied (rests_at b y y.stage (λ e. cc (step.answers ∙ e)) goes.stands)) (ended_so b y said.Full step.answers goes.stands)))
+        (ap is_tied (rests_at b y y.stage (λ e. cc (step.answers ∙ e)) goes.stands)) (needed why.Full b ends)))
     allocates_so long y new_words said.Corrupt new result step more (new_is, result_is) =
         subst (λ (r : AddStep). StepsBy shape.size add.version a words new_words (AddGives shape known amid new r a)) (sym result_is)
-        (goes_with (claims long y new_words said.Corrupt step) (λ b (beside, apart, goes, same).
+        (goes_with (claims long y new_words said.Corrupt step) (λ b (beside, apart, goes, same, ends).
         refuses shape known amid add new a stood_allocating.1 b beside (none_still long y new_words said.Corrupt step b same) why.Corrupt (ap (λ (n : Add). counting_of known n false false) new_is)
-        (ap is_tied (rests_at b y y.stage (λ e. cc (step.answers ∙ e)) goes.stands)) (ended_so b y said.Corrupt step.answers goes.stands)))
+        (ap is_tied (rests_at b y y.stage (λ e. cc (step.answers ∙ e)) goes.stands)) (needed why.Corrupt b ends)))
 
     -- what the step of its allocation asks for
     pub asks_long : length words ≡ shape.size → length words ≡ x.shape.size

@@ -1,14 +1,19 @@
 -- An `add` is refused: nothing was counted.
-use Rattle.std.proofs.Common.{◌≡◌, false, ◌∷◌, ◌++◌, map, sym, ap, ◌∙◌}
+use Rattle.std.proofs.Common.{◌≡◌, ℕ, ◌+◌, ◌<◌, true, false, [], ◌∷◌, ◌++◌, map, sym, ap, subst, ◌∙◌}
 use Rattle.segment_image.specs.Shape.{Dimensions}
 use Rattle.segment_machine.specs.declared.actor.Actor.{Actor}
+use Rattle.segment_machine.specs.declared.actor.Done.{Done}
+use Rattle.segment_machine.specs.declared.actor.Hand.{Hand}
 use Rattle.segment_machine.specs.declared.actor.Known.{Known}
+use Rattle.segment_machine.specs.declared.actor.Segment.{Segment}
+use Rattle.segment_machine.specs.declared.seen.Seen.{Seen}
 use Rattle.segment_machine.specs.Entry.{fresh}
 use Rattle.hist_core.specs.declared.add.Add.{Add}
 use Rattle.hist_core.specs.declared.add.AddStep.TheVariants.{Refused}
 use Rattle.segment_calls.specs.declared.refusal.Refusal.{Refusal}
+use Rattle.segment_calls.specs.declared.refusal.Refusal.TheVariants as why
 use Rattle.hist_core.specs.StepsBy.{FrameOfStep, IsFree}
-use Rattle.hist_core.specs.Add.{Amid, HasEntry, HasMetNoCounts, FrameOfAdd, AddGives}
+use Rattle.hist_core.specs.Add.{Amid, HasEntry, HasMetNoCounts, FrameOfAdd, AddGives, block_words}
 use Rattle.hist_core.specs.Making.{IsCause}
 use Rattle.hist_core.proofs.AddCall.Entries.{counting_of}
 
@@ -17,7 +22,7 @@ pub beside_aside : (a b : Actor) → FrameOfStep a b → FrameOfAdd a b
 beside_aside a b beside = record { role = beside.role; segment = beside.segment; deltas = beside.deltas; names = beside.names; chain = beside.chain; words = beside.words }
 
 pub refuses : (shape : Dimensions) (known : Known) (amid : Amid) (add new : Add) (a : Actor) → HasEntry known amid add a false false → (b : Actor) → FrameOfStep a b
-    → HasMetNoCounts known b → (why : Refusal) → counting_of known new false false ≡ counting_of known add false false → IsFree b → IsCause why b
+    → HasMetNoCounts known b → (why : Refusal) → counting_of known new false false ≡ counting_of known add false false → IsFree b → IsCause why (block_words known) a b
     → AddGives shape known amid new (Refused why) a b
 refuses shape known amid add new a entry b beside met why same turns cause = (
   beside_aside a b beside,
@@ -27,3 +32,24 @@ refuses shape known amid add new a entry b beside met why same turns cause = (
   ap (λ e. e.running) beside.entries ∙ entry ∙ ap (λ c. amid.before ++ c ∷ map fresh amid.behind) (sym same),
   met,
 )
+
+-- ---- why
+
+-- it stands where it stood, and has done and seen the same
+abbrev pub HasOnlyNoted : Actor → Actor → Type 0
+HasOnlyNoted a b = (b.segment ≡ a.segment) × (b.hand ≡ a.hand) × (b.done ≡ a.done) × (b.seen ≡ a.seen)
+
+-- why a block is refused does not hang on what is noted before and behind
+pub cause_noted : (cause : Refusal) (words : ℕ) (a b c d : Actor) → HasOnlyNoted a b → d.done ≡ c.done → d.seen ≡ c.seen → IsCause cause words b c → IsCause cause words a d
+cause_noted why.Full words a b c d (segment, hand, done, seen) then_done then_seen (free, at, beyond, is) = (
+  free,
+  ap (λ (h : Hand). h.place) (sym hand) ∙ at,
+  subst (λ (s : Segment). s.shape.size < free + words) segment beyond,
+  then_done ∙ (is ∙ ap (λ (x : Done). record x { filled = true; lacked = x.lacked ++ free ∷ [] }) done),
+)
+cause_noted why.Corrupt words a b c d (segment, hand, done, seen) then_done then_seen (is, saw, more) = (
+  then_done ∙ (is ∙ done),
+  ap (λ (s : Seen). s.corrupt) then_seen ∙ saw,
+  ap (λ (s : Seen). s.warned) then_seen ∙ (more ∙ ap (λ (s : Seen). s.warned + 1) seen),
+)
+cause_noted _ words a b c d from then_done then_seen none = absurd none

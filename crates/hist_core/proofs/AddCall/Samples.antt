@@ -1,6 +1,7 @@
 -- An `add` looks for the sample of its value.
-use Rattle.std.proofs.Common.{◌≡◌, ℕ, ◌+◌, ◌%◌, ◌^◌, true, false, true≢false, List, ◌∷◌, ◌++◌, inr, refl, sym, ap, subst, ◌∙◌, arith}
+use Rattle.std.proofs.Common.{◌≡◌, ℕ, ◌+◌, ◌*◌, ◌%◌, ◌^◌, Bool, true, false, true≢false, List, ◌∷◌, ◌++◌, inr, refl, sym, ap, subst, ◌∙◌, arith}
 use Rattle.std.specs.List.{Contains}
+use Rattle.std.specs.Prelude.{if◌then◌else◌}
 use Rattle.segment_image.specs.Shape.{Dimensions}
 use Rattle.alloc_core.specs.Layout.{IsShape}
 use Rattle.list_core.specs.Chain.{is_reference}
@@ -18,6 +19,8 @@ use Rattle.hist_core.specs.declared.sampling.SamplingStep.TheVariants as found
 use Rattle.hist_core.specs.Add.{Amid, HasEntry, IsAdd, IsSampled, OpensWith, StandsAtStage, StaysOpen, AddGives}
 use Rattle.hist_core.specs.StepsBy.{FrameOfStep, StepsBy, IsFree}
 use Rattle.hist_core.specs.Sampling.{SamplingGives}
+use Rattle.hist_core.specs.Making.{IsCause}
+use Rattle.bucket_ranges.specs.Spec.{buckets_of}
 use Rattle.hist_core.proofs.AddCall.Entries.{counting_of}
 use Rattle.hist_core.proofs.AddCall.Going.{goes_still}
 use Rattle.hist_core.proofs.AddCall.Refusals.{beside_aside, refuses}
@@ -101,4 +104,5 @@ module _ (shape : Dimensions) (known : Known) (amid : Amid) (add : Add) (a : Act
   samples_so x same new_words (found.Refused cause) new result goes (new_is, result_is) =
       subst (λ (r : AddStep). StepsBy shape.size add.version a words new_words (AddGives shape known amid new r a)) (sym result_is)
       (goes_with goes (λ b (beside, free, is_cause).
-      refuses shape known amid add new a stood_sampling.0 b beside (λ bucketed. absurd (true≢false (sym bucketed ∙ ap has_buckets stood_sampling.1))) cause (ap (λ (n : Add). counting_of known n false false) new_is) free is_cause))
+      refuses shape known amid add new a stood_sampling.0 b beside (λ bucketed. absurd (true≢false (sym bucketed ∙ ap has_buckets stood_sampling.1))) cause (ap (λ (n : Add). counting_of known n false false) new_is) free
+      (subst (λ (n : ℕ). IsCause cause n a b) (sym (ap (λ (t : Bool). if t then 4 + 2 * buckets_of known.spec else 8) (ap has_buckets stood_sampling.1))) is_cause)))

@@ -1,5 +1,5 @@
 -- What becomes of an actor by what its `batch` says.
-use Rattle.std.proofs.Common.{◌≡◌, ◌≤◌, ◌+◌, ◌-◌, ℕ, List, ◌++◌, map, length, take, inr, refl, sym, ap, subst, ◌∙◌, arith, length-append, inl}
+use Rattle.std.proofs.Common.{◌≡◌, ◌≤◌, ◌+◌, ◌-◌, ℕ, List, ◌++◌, map, length, take, inr, refl, sym, ap, subst, ◌∙◌, arith, length-append}
 use Rattle.std.specs.Prelude.{Option, Some, vec_len}
 use Rattle.std.proofs.lemmas.List.{length-map, length-drop, take-append-drop, take-take, take_all, drop-take}
 use Rattle.segment_image.specs.Shape.{Dimensions}
@@ -15,13 +15,15 @@ use Rattle.hist_core.specs.declared.actor_run.Running.{Running}
 use Rattle.hist_core.specs.declared.actor_run.Running.TheVariants.{Batch}
 use Rattle.hist_core.specs.declared.actor_run.ActorRun.{ActorRun}
 use Rattle.std.specs.List.{Contains}
-use Rattle.hist_core.specs.Add.{FrameOfAdd, HasMetNoCounts, counted_entry}
+use Rattle.hist_core.specs.Add.{FrameOfAdd, HasMetNoCounts, block_words, counted_entry}
 use Rattle.segment_machine.specs.Entry.{tally_noted}
 use Rattle.hist_core.specs.Batch.{IsBatch, IsCutAt, HaveEnded, IsSomeBatch, IsSameBatch, IsRefusedAt, BatchSteps, BatchGives, added_of, counted_entries, sum_entries, units_among}
 use Rattle.hist_core.specs.StepsBy.{StepsBy}
 use Rattle.hist_core.proofs.Worlds.Landing.{Landing}
-use Rattle.hist_core.specs.ActorRun.{ended_by, begun_by, pending_by, entry_of, held_by, IsGhostNoting, IsBatching, StandsIn, IsRun, IsBatchAnnounced, HasMovedNothing, LandsBack, Answers, IsRefusedBy}
-use Rattle.hist_core.proofs.Worlds.Causes.{refused_still}
+use Rattle.hist_core.specs.ActorRun.{ended_by, begun_by, pending_by, entry_of, held_by, IsGhostNoting, IsBatching, StandsIn, IsRun, IsBatchAnnounced, LandsBack, Answers, IsRefusedBy}
+use Rattle.segment_calls.specs.declared.refusal.Refusal.{Refusal}
+use Rattle.hist_core.specs.Making.{IsCause}
+use Rattle.hist_core.proofs.AddCall.Refusals.{HasOnlyNoted, cause_noted}
 use Rattle.hist_core.proofs.Parts.Allocations.{goes_with}
 use Rattle.hist_core.proofs.Worlds.Apart.{asks_not, adds_not, looks_not, sets_not}
 use Rattle.hist_core.proofs.BatchCall.Batching.{runs_so, first_units}
@@ -60,10 +62,16 @@ module _ (shape : Dimensions) (version : ℕ) (old : ActorRun) (batch : BatchCal
           (known, record { pending_are = counts.pending_are ∙ sym same_entries; stands = inr (ap (λ u. u.share) stays.0 ∙ counts.share, counting) })
           tt tt
 
-      -- it has moved nothing
-      moved_none : (added : ℕ) (b : Actor) → FrameOfAdd a b → HasMetNoCounts known b → HasMovedNothing old.running (noted b (refused added))
-      moved_none added b aside met = subst (λ running. HasMovedNothing running (noted b (refused added))) (sym is)
-          (known, subst (λ (l : List MachineKnown). Contains l known) (sym aside.names) counts.counting.knows, counts.counting.reference, met)
+      -- why it is refused
+      refused_by : (added : ℕ) (first b : Actor) → HasOnlyNoted first a → FrameOfAdd a b → (why : Refusal) → IsCause why (block_words known) a b → HasMetNoCounts known b
+          → IsRefusedBy old.running why first (noted b (refused added))
+      refused_by added first b from aside why cause met = subst (λ running. IsRefusedBy running why first (noted b (refused added))) (sym is) (
+        known,
+        subst (λ (l : List MachineKnown). Contains l known) (sym aside.names) counts.counting.knows,
+        counts.counting.reference,
+        cause_noted why (block_words known) first a b (noted b (refused added)) from refl refl cause,
+        met,
+      )
 
       its_steps : (words new_words : List ℕ) (said : BatchStep) → length words ≡ shape.size → BatchSteps batch words now new_words said
           → StepsBy shape.size version a words new_words (BatchGives shape known now said a)
@@ -93,29 +101,27 @@ module _ (shape : Dimensions) (version : ℕ) (old : ActorRun) (batch : BatchCal
     still_same : counted_entries its now ≡ entries its
     still_same = entries_same its now same
 
-    goes : {holds : Actor → Type 0} → ((b : Actor) → Tells its b → StepsBy shape.size version b words new_words holds) → StepsBy shape.size version a words new_words holds
+    goes : {holds : Actor → Type 0} → ((b : Actor) → HasOnlyNoted a b → Tells its b → StepsBy shape.size version b words new_words holds)
+        → StepsBy shape.size version a words new_words holds
     goes = goes_from shape version old its.name batch.cost (entries its) (standing its) (runs its) (into its) a run (batching a run).1
 
     pub batch_goes : (said : BatchStep) (result : Stepped) → BatchSteps batch words now new_words said → IsRefusedAt batch now said
         → IsBatchAnnounced (record old { running = Some (Batch now) }) said new result → Landing shape version old words new new_words result a
     batch_goes More result steps at (new_is, result_is) =
-        subst (λ said. Landing shape version old words new new_words said a) (sym result_is) (goes (λ b counts. goes_with (its_steps its now same still_same b counts words new_words More long steps)
+        subst (λ said. Landing shape version old words new new_words said a) (sym result_is) (goes (λ b from counts. goes_with (its_steps its now same still_same b counts words new_words More long steps)
         (λ c gives. subst (λ (r : ActorRun). IsRun shape version r c) (sym new_is) (goes_on its now same still_same b counts c gives))))
     batch_goes Done result steps at (new_is, result_is) =
-        subst (λ said. Landing shape version old words new new_words said a) (sym result_is) (goes (λ b counts. goes_noting (its_steps its now same still_same b counts words new_words Done long steps)
+        subst (λ said. Landing shape version old words new new_words said a) (sym result_is) (goes (λ b from counts. goes_noting (its_steps its now same still_same b counts words new_words Done long steps)
         (λ c (aside, stays, turns, over). subst (λ (r : ActorRun). (notes : List Note) × (d : Actor) × Notes c notes d × IsRun shape version r d) (sym new_is)
         (has_counted shape version old its.name batch.cost (entries its) (standing its) (runs its) (into its) b counts c aside stays turns counts.counting.rests
         (subst (λ (l : List MachineEntry). HaveEnded l c) still_same over)))))
     batch_goes (Refused refusal) result steps at (new_is, items, result_is) =
-        subst (λ said. Landing shape version old words new new_words said a) (sym result_is) (goes (λ b counts. goes_noting (its_steps its now same still_same b counts words new_words (Refused refusal) long steps)
+        subst (λ said. Landing shape version old words new new_words said a) (sym result_is) (goes (λ b from counts. goes_noting (its_steps its now same still_same b counts words new_words (Refused refusal) long steps)
         (λ c (aside, stays, turns, cause, cut, few, spent, met). subst (λ (units : ℕ). (notes : List Note) × (d : Actor) × Notes c notes d
-        × (LandsBack shape version units new d × (IsRefusedBy old.running refusal.why d × HasMovedNothing old.running d))) (sym (ap held_by is))
+        × (LandsBack shape version units new d × IsRefusedBy old.running refusal.why a d)) (sym (ap held_by is))
         (is_cut shape version old its.name batch.cost (entries its) (standing its) (runs its) (into its) b counts c aside stays turns counts.counting.rests counts.counting.held
         refusal.added batch.left (few_entries few) (subst (λ (l : List MachineEntry). IsCutAt refusal.added l c) still_same cut) (left_so few spent) new (old.ended + refusal.added) refl new_is items
-        (λ d. IsRefusedBy old.running refusal.why d × HasMovedNothing old.running d) (
-          refused_still old.running refusal.why c (noted c (refused refusal.added)) refl refl (inl cause),
-          moved_none its now same still_same b counts refusal.added c aside met,
-        )))))
+        (λ d. IsRefusedBy old.running refusal.why a d) (refused_by its now same still_same b counts refusal.added a c from aside refusal.why cause met)))))
       where
         few_entries : refusal.added ≤ length now.items.items → refusal.added ≤ length (entries its)
         few_entries few =

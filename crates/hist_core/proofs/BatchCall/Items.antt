@@ -24,7 +24,7 @@ use Rattle.hist_core.specs.declared.batch.Batch.{Batch}
 use Rattle.hist_core.specs.declared.batch.BatchStep.{BatchStep}
 use Rattle.hist_core.specs.declared.batch.BatchStep.TheVariants.{More, Done, Refused}
 use Rattle.segment_calls.specs.declared.refusal.Refusal.{Refusal}
-use Rattle.hist_core.specs.Add.{IsAdd, FrameOfAdd, HasMetNoCounts, StaysOpen, HasEntry, HasEnded, AddSteps, AddGives, counted_entry, ended_entry}
+use Rattle.hist_core.specs.Add.{IsAdd, FrameOfAdd, HasMetNoCounts, StaysOpen, HasEntry, HasEnded, AddSteps, AddGives, block_words, counted_entry, ended_entry}
 use Rattle.hist_core.specs.Making.{IsCause}
 use Rattle.hist_core.specs.Batch.{IsBatch, IsItem, CountsItem, SumsUp, HaveEnded, BatchGives, IsItemSaid, Waits, amid_of, counted_entries, sum_entries, units_among}
 use Rattle.hist_core.specs.StepsBy.{StepsBy, IsFree}
@@ -246,7 +246,7 @@ module _ (shape : Dimensions) (known : Known) (batch : Batch) (a : Actor) (is : 
     others = counting_of known item false false ∷ map fresh (map (counted_entry known) c.rest ++ sum_entries known.name batch.sum)
 
     -- it is refused
-    pub refused_so : (why : Refusal) → IsFree b → IsCause why b → HasEntry known (amid_of known batch c.done c.rest) item b false false → HasMetNoCounts known b
+    pub refused_so : (why : Refusal) → IsFree b → IsCause why (block_words known) a b → HasEntry known (amid_of known batch c.done c.rest) item b false false → HasMetNoCounts known b
         → BatchGives shape known now (Refused (record { added = batch.added; why = why })) a b
     refused_so why turns cause has met = (
       aside,

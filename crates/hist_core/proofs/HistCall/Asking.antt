@@ -38,10 +38,10 @@ use Rattle.hist_core.proofs.Worlds.Free.{free_turns}
 use Rattle.hist_core.proofs.Worlds.Quiet.{met_on, quiet_on, gives_none, begun_there, takes_none, takes_not}
 use Rattle.hist_core.specs.declared.actor_run.ActorRun.{ActorRun}
 use Rattle.hist_core.specs.StepsBy.{FrameOfStep, StepsBy, IsFree}
-use Rattle.hist_core.specs.Hist.{HasOtherSpec, IsCause, IsSomeHist, HistSteps, asked_of}
+use Rattle.hist_core.specs.Hist.{IsCause, IsSomeHist, HistSteps, asked_of}
 use Rattle.segment_calls.specs.declared.refusal.Refusal.{Refusal}
 use Rattle.hist_core.proofs.Worlds.Landing.{Landing}
-use Rattle.hist_core.specs.ActorRun.{known_of, AreShown, HasDraft, IsKnown, NoneHasName, HaveOwnNames, StandsIn, HasRoom, IsRun, IsSomeRun, IsHistAnnounced, HasMovedNothing, IsRefusedBy, MayBeRefused, BeginsHist, IsAsItWas, IsQuiet, Answers, held_by, entry_of, ended_by, begun_by, pending_by}
+use Rattle.hist_core.specs.ActorRun.{known_of, AreShown, HasDraft, IsKnown, NoneHasName, HaveOwnNames, StandsIn, HasRoom, IsRun, IsSomeRun, IsHistAnnounced, IsRefusedBy, MayBeRefused, BeginsHist, IsAsItWas, IsQuiet, Answers, held_by, entry_of, ended_by, begun_by, pending_by}
 
 -- ---- a note more
 
@@ -163,9 +163,8 @@ module _ (shape : Dimensions) (version : ℕ) (old : ActorRun) (a : Actor) (run 
   still_quiet b beside = quiet_on (pending_by old) a b beside.units beside.entries beside.deltas stands.1
 
   -- why it is refused
-  refused_by : (cause : Refusal) (b : Actor) → IsCause now.asked.name.items now.asked.spec cause b → IsRefusedBy old.running cause b
-  refused_by cause b its =
-      ⊎_elim (λ own. inl own) (λ (other, saw). inr (h, is, other, subst (λ (k : Known). HasOtherSpec k.name.items k.spec b.seen) same saw)) its
+  refused_by : (cause : Refusal) (b : Actor) → IsCause now.asked.name.items now.asked.spec cause a b → IsRefusedBy old.running cause a b
+  refused_by cause b its = subst (λ running. IsRefusedBy running cause a b) (sym is) (subst (λ (k : Known). IsCause k.name.items k.spec cause a b) same its)
 
   -- what the machine's actor does, and what becomes of that at run time
   pub hist_goes : (said : HistStep) (new : ActorRun) (result : Stepped) → HistSteps h words now new_words said
@@ -188,7 +187,7 @@ module _ (shape : Dimensions) (version : ℕ) (old : ActorRun) (a : Actor) (run 
       subst (λ said. Landing shape version old words new new_words said a) (sym result_is) (goes_with (steps shape version a long stands.0) (λ b (beside, may, cause). (
         gives_none shape version new b (held_by old.running) (ap held_by is) (free_turns b.hand.place may) (subst (λ (r : ActorRun). IsRun shape version r b) (sym new_is)
             (runs_on shape version old a run b None beside (may, still_quiet b beside) tt tt)),
-        (refused_by why b cause, subst (λ running. HasMovedNothing running b) (sym is) tt),
+        refused_by why b cause,
       )))
 
 -- what is answered

@@ -28,7 +28,7 @@ use Rattle.hist_core.specs.StepsBy.{FrameOfStep, StepsBy, is_tied}
 use Rattle.hist_core.specs.Making.{Wanted, IsMaking, StandsAtStage, MakingGives, IsAllocated, IsCause}
 use Rattle.hist_core.proofs.Makes.Drafts.{may_still}
 use Rattle.hist_core.proofs.Parts.Allocations.{allocates_on, goes_with}
-use Rattle.hist_core.proofs.Parts.Claims.{changed_at, claimed_of, claimed_suits, ended_so, goes_noting, rests_at}
+use Rattle.hist_core.proofs.Parts.Claims.{IsEnd, changed_at, claimed_of, claimed_suits, goes_noting, rests_at}
 
 module _ (shape : Dimensions) (version : ℕ) (wanted : Wanted) (m : Making) (a : Actor) (words : List ℕ) (long : length words ≡ shape.size)
     (is : IsMaking shape wanted m a) (x : Allocation) (allocates : m.stage ≡ Allocating x) where
@@ -36,15 +36,15 @@ module _ (shape : Dimensions) (version : ℕ) (wanted : Wanted) (m : Making) (a 
   stands = subst (StandsAtStage shape wanted a) allocates is.stands
 
   module _ (y : Allocation) (new_words : List ℕ) (says : AllocStep) (step : alloc.IsStep x words y new_words says) where
-    claims : StepsBy shape.size version a words new_words (λ b. FrameOfStep a b × AreApart b × Allocates b y × (b.seen.words ≡ a.seen.words))
+    claims : StepsBy shape.size version a words new_words (λ b. FrameOfStep a b × AreApart b × Allocates b y × (b.seen.words ≡ a.seen.words) × IsEnd says x.size a b)
     claims =
         let size = ap (λ (d : Dimensions). d.size) is.segment in
-        subst (λ (n : ℕ). StepsBy n version a words new_words (λ b. FrameOfStep a b × AreApart b × Allocates b y × (b.seen.words ≡ a.seen.words))) size
+        subst (λ (n : ℕ). StepsBy n version a words new_words (λ b. FrameOfStep a b × AreApart b × Allocates b y × (b.seen.words ≡ a.seen.words) × IsEnd says x.size a b)) size
         (allocates_on version a x y words new_words says stands.0 (long ∙ sym size) step)
 
     -- it goes on
     still_claims : is_some (alloc.next_event y) ≡ true → StepsBy shape.size version a words new_words (MakingGives shape wanted (record { stage = Allocating y }) More a)
-    still_claims more = goes_with claims (λ b (beside, apart, goes, words_same). (
+    still_claims more = goes_with claims (λ b (beside, apart, goes, words_same, ends). (
       beside,
       record {
         segment = ap (λ s. s.shape) beside.segment ∙ is.segment;
@@ -54,19 +54,20 @@ module _ (shape : Dimensions) (version : ℕ) (wanted : Wanted) (m : Making) (a 
           goes,
           more,
           ap (λ (z : Allocation). z.tag) step.new_is ∙ stands.2,
-          subst (λ (n : ℕ). 4 + wanted.room ≤ n) (sym (ap (λ (z : Allocation). z.size) step.new_is)) stands.3,
+          ap (λ (z : Allocation). z.size) step.new_is ∙ stands.3,
         );
       },
     ))
 
     -- it is refused
-    is_refused : (why : Refusal) (new : Making) → ((b : Actor) → Allocates b y → b.hand.place ≡ Idle) → ((b : Actor) → Allocates b y → IsCause why b)
+    is_refused : (why : Refusal) (new : Making) → ((b : Actor) → Allocates b y → b.hand.place ≡ Idle) → ((b : Actor) → IsEnd says x.size a b → IsCause why x.size a b)
         → StepsBy shape.size version a words new_words (MakingGives shape wanted new (Refused why) a)
-    is_refused why new idle cause = goes_with claims (λ b (beside, apart, goes, words_same). (beside, ap is_tied (idle b goes), cause b goes))
+    is_refused why new idle cause = goes_with claims (λ b (beside, apart, goes, words_same, ends).
+        (beside, ap is_tied (idle b goes), subst (λ (n : ℕ). IsCause why n a b) stands.3 (cause b ends)))
 
     -- it has a block, which is to be the record: it stores the payload there
     has_claimed : (at : ℕ) → says ≡ said.Done at → StepsBy shape.size version a words new_words (MakingGives shape wanted (record { stage = Filling at 0 }) More a)
-    has_claimed at done = goes_noting claims (λ b (beside, apart, goes, words_same). claimed b beside apart goes (claimed_of y.stage at (sym done ∙ step.answers)))
+    has_claimed at done = goes_noting claims (λ b (beside, apart, goes, words_same, ends). claimed b beside apart goes (claimed_of y.stage at (sym done ∙ step.answers)))
       where
         claimed : (b : Actor) → FrameOfStep a b → AreApart b → Allocates b y → (size : ℕ) × (y.stage ≡ Claimed at size)
             → (notes : List Note) × (c : Actor) × Notes b notes c × MakingGives shape wanted (record { stage = Filling at 0 }) More a c
@@ -133,11 +134,10 @@ module _ (shape : Dimensions) (version : ℕ) (wanted : Wanted) (m : Making) (a 
       (has_claimed y new_words (said.Done at) step at refl)
   allocates_so y new_words said.Full new result step more result_is =
       subst (λ (r : MakingStep). StepsBy shape.size version a words new_words (MakingGives shape wanted new r a)) (sym result_is)
-      (is_refused y new_words said.Full step why.Full new (λ b goes. rests_at b y y.stage (λ e. cc (step.answers ∙ e)) goes.stands)
-      (λ b goes. ended_so b y said.Full step.answers goes.stands))
+      (is_refused y new_words said.Full step why.Full new (λ b goes. rests_at b y y.stage (λ e. cc (step.answers ∙ e)) goes.stands) (λ b ends. ends))
   allocates_so y new_words said.Corrupt new result step more result_is =
       subst (λ (r : MakingStep). StepsBy shape.size version a words new_words (MakingGives shape wanted new r a)) (sym result_is)
-      (is_refused y new_words said.Corrupt step why.Corrupt new (λ b goes. rests_at b y y.stage (λ e. cc (step.answers ∙ e)) goes.stands) (λ b goes. ended_so b y said.Corrupt step.answers goes.stands))
+      (is_refused y new_words said.Corrupt step why.Corrupt new (λ b goes. rests_at b y y.stage (λ e. cc (step.answers ∙ e)) goes.stands) (λ b ends. ends))
 
   -- what the step of its allocation asks for
   pub asks_long : length words ≡ x.shape.size

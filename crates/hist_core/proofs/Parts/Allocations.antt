@@ -8,7 +8,7 @@ use Rattle.list_core.specs.declared.walk.WalkStep.{WalkStep}
 use Rattle.segment_image.specs.Shape.{Dimensions}
 use Rattle.list_core.specs.Walk.{IsPrefix, said_of, given_after, stands_behind}
 use Rattle.segment_image.specs.Words.{word_at}
-use Rattle.alloc_core.specs.Alloc.{Allocation}
+use Rattle.alloc_core.specs.Alloc.{Allocation, answer}
 use Rattle.alloc_core.specs.Alloc as alloc
 use Rattle.alloc_core.specs.declared.alloc.AllocStep.{AllocStep}
 use Rattle.list_core.specs.Publish.{Publishing}
@@ -25,10 +25,9 @@ use Rattle.segment_machine.proofs.Stages.Allocations.{allocations_agree}
 use Rattle.segment_machine.proofs.Stages.Publishes.{publishes_agree}
 use Rattle.segment_machine.proofs.Stages.Walks.{walks_agree}
 use Rattle.hist_core.proofs.Parts.Alone.{acts_there, makes_so, allocating_beside, allocating_words, publishing_beside}
-use Rattle.segment_promises.specs.Onward.{StaysApart}
-use Rattle.segment_promises.proofs.Calls.Places.{behind_apart}
 use Rattle.hist_core.specs.StepsBy.{FrameOfStep, StepsBy, IsFree}
-use Rattle.hist_core.proofs.Worlds.Free.{free_apart, free_of_both, free_turns}
+use Rattle.hist_core.proofs.Parts.Claims.{IsEnd, stage_ends}
+use Rattle.hist_core.proofs.Worlds.Free.{free_behind, free_turns}
 use Rattle.segment_machine.specs.Actor.{AreApart}
 
 -- what holds then may be more than is asked
@@ -68,7 +67,7 @@ allocating_alike (set_full wanted) size version = refl
 
 pub allocates_on : (version : ℕ) (a : Actor) (old new : Allocation) (words new_words : List ℕ) (said : AllocStep) → Allocates a old
     → length words ≡ a.segment.shape.size → alloc.IsStep old words new new_words said
-    → StepsBy a.segment.shape.size version a words new_words (λ b. FrameOfStep a b × AreApart b × Allocates b new × (b.seen.words ≡ a.seen.words))
+    → StepsBy a.segment.shape.size version a words new_words (λ b. FrameOfStep a b × AreApart b × Allocates b new × (b.seen.words ≡ a.seen.words) × IsEnd said old.size a b)
 allocates_on version a old new words new_words said goes long step =
     let size : ℕ = a.segment.shape.size in
     let agrees = allocations_agree size 1 a old step.event goes step.next in
@@ -94,6 +93,9 @@ allocates_on version a old new words new_words said goes long step =
           subst (Allocates (next a (allocating_event act) found))
               (ap (λ (n : ℕ). alloc.moved old (word_at words n)) there ∙ sym step.new_is) (agrees.4 found learned),
           allocating_words a act found,
+          subst (λ (s : AllocStep). IsEnd s old.size a (next a (allocating_event act) found))
+              (ap (λ (n : ℕ). answer (alloc.moved old (word_at words n)).stage) there ∙ (ap (λ (y : Allocation). answer y.stage) (sym step.new_is) ∙ sym step.answers))
+              (stage_ends a old goes.shape found old.stage act agrees.1 agrees.3 learned),
         ),
       );
     }
@@ -141,7 +143,7 @@ publishes_on version a made old new words new_words said stands long step =
 -- the next of the record where a walk stands
 pub walks_on : (version : ℕ) (a : Actor) (given words : List ℕ) → Walks a given → length words ≡ a.segment.shape.size
     → StepsBy a.segment.shape.size version a words words
-    (λ b. FrameOfStep a b × StaysApart a b × Walks b (given_after given (said_of (length words) (word_at words (stands_behind given + 3)))))
+    (λ b. FrameOfStep a b × (IsFree a → IsFree b) × Walks b (given_after given (said_of (length words) (word_at words (stands_behind given + 3)))))
 walks_on version a given words walks long =
     let size : ℕ = a.segment.shape.size in
     let agrees = walks_agree size 1 a given walks in
@@ -169,7 +171,7 @@ walks_on version a given words walks long =
             chain = extended_behind a.seen.chain (stands_behind given) found;
             words = ([], sym (append-nil a.seen.words));
           },
-          behind_apart a.hand.place (stands_behind given) found,
+          free_behind a.hand.place (stands_behind given) found,
           subst (λ (n : ℕ). Walks (next a event found) (given_after given (said_of n found))) (sym long) (agrees.2 found learned),
         ),
       );
@@ -183,6 +185,6 @@ walks_saying shape version a given words walk segment long stands free front sai
     let size = ap (λ (d : Dimensions). d.size) segment in
     let same : said_of (length words) (word_at words (stands_behind given + 3)) ≡ said =
     ap (λ (w : ℕ). said_of (length words) (word_at words (w + 3))) (sym stands) ∙ sym says in
-    goes_with (subst (λ (p : ℕ × WalkStep). StepsBy p.0 version a words words (λ b. FrameOfStep a b × StaysApart a b × Walks b (given_after given p.1))) (λ i. (size i, same i))
+    goes_with (subst (λ (p : ℕ × WalkStep). StepsBy p.0 version a words words (λ b. FrameOfStep a b × (IsFree a → IsFree b) × Walks b (given_after given p.1))) (λ i. (size i, same i))
     (walks_on version a given words (free_turns a.hand.place free, front) (long ∙ sym size)))
-    (λ b (beside, apart, walks). (beside, free_of_both b.hand.place walks.0 (apart (free_apart a.hand.place free)), walks.1))
+    (λ b (beside, stays, walks). (beside, stays free, walks.1))

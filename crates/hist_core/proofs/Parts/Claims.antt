@@ -1,23 +1,29 @@
 -- A block is claimed.
-use Rattle.std.proofs.Common.{◌≡◌, ◌≢◌, ℕ, ◌-◌, ◌≤◌, ◌==◌, Bool, true, false, List, [], ◌∷◌, ◌++◌, refl, sym, ap, subst, ◌∙◌}
+use Rattle.std.proofs.Common.{◌≡◌, ◌≢◌, ℕ, ◌+◌, ◌-◌, ◌≤◌, ◌==◌, Bool, true, false, true≢false, List, [], ◌∷◌, ◌++◌, refl, sym, ap, subst, ◌∙◌}
 use Rattle.std.specs.Prelude.{Some, if◌then◌else◌, bit_and, ⊤}
 use Rattle.alloc_core.specs.declared.alloc.AllocStep.{AllocStep}
 use Rattle.alloc_core.specs.declared.alloc.AllocStep.TheVariants as said
+use Rattle.alloc_core.specs.declared.alloc.Purpose.{Purpose}
 use Rattle.alloc_core.specs.declared.alloc.Purpose.TheVariants as purpose
 use Rattle.alloc_core.specs.declared.alloc.Stage.{Stage as AllocStage}
 use Rattle.alloc_core.specs.declared.alloc.Stage.TheVariants.{LoadFlags, LoadFree, ExchangeFree, StoreSize, StoreCookie, StoreType, SetFull, Claimed, Full, Corrupt}
 use Rattle.alloc_core.specs.declared.planned.Planned.{Planned}
 use Rattle.alloc_core.specs.declared.planned.Planned.TheVariants as plan
-use Rattle.alloc_core.specs.Alloc.{Allocation, IsAimed, event_at, answer, stage_after, stage_of_plan}
+use Rattle.alloc_core.specs.Alloc.{Allocation, IsAimed, event_at, answer, stage_after, stage_of_cookie, stage_of_plan}
 use Rattle.alloc_core.specs.Planned.{planned, is_pointer}
 use Rattle.alloc_core.specs.Event as atomic
 use Rattle.segment_machine.specs.declared.actor.Actor.{Actor}
 use Rattle.segment_machine.specs.declared.actor.Own.{Own}
-use Rattle.segment_machine.specs.declared.place.Place.TheVariants.{Idle}
+use Rattle.segment_machine.specs.declared.place.Place.{Place}
+use Rattle.segment_machine.specs.declared.place.Place.TheVariants.{FlagsLoaded, Idle}
+use Rattle.segment_image.specs.Shape.{Dimensions}
+use Rattle.segment_machine.specs.Allocating.{AllocatingEvent, Learned, Ready, free_at, load_flags, load_free, next, set_full}
 use Rattle.segment_machine.specs.Calls.{change_own}
 use Rattle.segment_machine.specs.Note.{Note, Notes, noted}
 use Rattle.segment_machine.specs.Publishing.{own_at}
-use Rattle.segment_machine.specs.Stages.{StandsAt}
+use Rattle.segment_machine.specs.Stages.{StandsAt, allocates}
+use Rattle.segment_calls.specs.declared.refusal.Refusal.TheVariants as why
+use Rattle.hist_core.specs.Making.{IsCause}
 use Rattle.hist_core.specs.StepsBy.{StepsBy}
 
 -- ---- a block that is claimed
@@ -106,23 +112,56 @@ rests_at b y (StoreCookie at n wants) ends stands = absurd (ends refl)
 rests_at b y (StoreType at n) ends stands = absurd (ends refl)
 rests_at b y SetFull ends stands = absurd (ends refl)
 
--- what its actor has done or seen where an allocation ends so: it has set the full flag, or has seen the corrupt one
-abbrev pub IsEnd : AllocStep → Actor → Type 0
-IsEnd said.Full b = b.done.filled ≡ true
-IsEnd said.Corrupt b = b.seen.corrupt ≡ true
-IsEnd says b = ⊤
+-- why an allocation has ended, by its last event: what refuses its block
+abbrev pub IsEnd : AllocStep → ℕ → Actor → Actor → Type 0
+IsEnd said.Full words a b = IsCause why.Full words a b
+IsEnd said.Corrupt words a b = IsCause why.Corrupt words a b
+IsEnd says words a b = ⊤
 
-stands_so : (b : Actor) (y : Allocation) (stage : AllocStage) → StandsAt b y stage → IsEnd (answer stage) b
-stands_so b y Full stands = stands.1
-stands_so b y Corrupt stands = stands.1
-stands_so b y (Claimed at size) stands = tt
-stands_so b y LoadFlags stands = tt
-stands_so b y LoadFree stands = tt
-stands_so b y (ExchangeFree next wants) stands = tt
-stands_so b y (StoreSize at n wants) stands = tt
-stands_so b y (StoreCookie at n wants) stands = tt
-stands_so b y (StoreType at n) stands = tt
-stands_so b y SetFull stands = tt
+module _ (a : Actor) (x : Allocation) (shaped : x.shape ≡ a.segment.shape) (found : ℕ) where
+  flags_end : (clear : Bool) → IsEnd (answer (if clear then LoadFree else Corrupt)) x.size a (record a {
+    hand = record a.hand { place = if clear then FlagsLoaded else Idle };
+    seen = record a.seen { corrupt = if clear then a.seen.corrupt else true; warned = if clear then a.seen.warned else a.seen.warned + 1 };
+  })
+  flags_end true = tt
+  flags_end false = (refl, refl, refl)
 
-pub ended_so : (b : Actor) (y : Allocation) (says : AllocStep) → says ≡ answer y.stage → StandsAt b y y.stage → IsEnd says b
-ended_so b y says is stands = subst (λ (end : AllocStep). IsEnd end b) (sym is) (stands_so b y y.stage stands)
+  plan_end : (way : Planned) (b : Actor) → IsEnd (answer (stage_of_plan found way)) x.size a b
+  plan_end (plan.Claim n end) b = tt
+  plan_end (plan.Waste room) b = tt
+  plan_end plan.Full b = tt
+
+  pointer_end : (good : Bool) → good ≡ true → (way : Planned) (b : Actor) → IsEnd (answer (if good then stage_of_plan found way else Corrupt)) x.size a b
+  pointer_end true e way b = plan_end way b
+  pointer_end false e way b = absurd (true≢false (sym e))
+
+  exchange_end : (hit : Bool) (next : ℕ) (wants : Purpose) (b : Actor) → IsEnd (answer (if hit then StoreSize found (next - found) wants else LoadFlags)) x.size a b
+  exchange_end true next wants b = tt
+  exchange_end false next wants b = tt
+
+  cookie_end : (at size : ℕ) (wants : Purpose) (b : Actor) → IsEnd (answer (stage_of_cookie at size wants)) x.size a b
+  cookie_end at size purpose.Claim b = tt
+  cookie_end at size purpose.Waste b = tt
+
+  full_end : Ready a (set_full x.size) → IsCause why.Full x.size a (next a (set_full x.size) found)
+  full_end (free, at, fits, beyond) = (free, at, beyond, ap (λ (p : Place). record a.done { filled = true; lacked = a.done.lacked ++ free_at p ∷ [] }) at)
+
+  pub stage_ends : (stage : AllocStage) (act : AllocatingEvent) → allocates x stage ≡ Some act → Ready a act → Learned a act found
+      → IsEnd (answer (stage_after x found stage)) x.size a (next a act found)
+  stage_ends LoadFlags act is ready learned =
+      subst (λ (e : AllocatingEvent). IsEnd (answer (stage_after x found LoadFlags)) x.size a (next a e found)) (let same : load_flags ≡ act = cc is in same)
+      (flags_end (bit_and found 1 == 0))
+  stage_ends LoadFree act is ready learned =
+      let same : load_free ≡ act = cc is in
+      pointer_end (is_pointer x.shape found) (ap (λ (shape : Dimensions). is_pointer shape found) shaped ∙ (subst (λ (e : AllocatingEvent). Learned a e found) (sym same) learned).1)
+      (planned found x.size x.shape) (next a act found)
+  stage_ends (ExchangeFree to wants) act is ready learned = exchange_end (found == x.seen) to wants (next a act found)
+  stage_ends (StoreSize at n wants) act is ready learned = tt
+  stage_ends (StoreCookie at n wants) act is ready learned = cookie_end at n wants (next a act found)
+  stage_ends (StoreType at n) act is ready learned = tt
+  stage_ends SetFull act is ready learned =
+      let same : set_full x.size ≡ act = cc is in
+      subst (λ (e : AllocatingEvent). IsEnd said.Full x.size a (next a e found)) same (full_end (subst (Ready a) (sym same) ready))
+  stage_ends (Claimed at n) act is ready learned = tt
+  stage_ends Full act is ready learned = cc is
+  stage_ends Corrupt act is ready learned = cc is

@@ -310,7 +310,7 @@ module _ (shape : Dimensions) (h : Hist) (a : Actor) (is : IsHist shape h a) (k 
         does new (Refused cause) (λ learned. (
           beside,
           stands.0,
-          subst (λ (p : Hist × Refusal). IsCause p.0.asked.name.items p.0.asked.spec p.1 acted) (λ i. (sym new_is i, sym why_is i)) (inr (refl, declined learned)),
+          subst (λ (p : Hist × Refusal). IsCause p.0.asked.name.items p.0.asked.spec p.1 a acted) (λ i. (sym new_is i, sym why_is i)) (inr (refl, declined learned)),
         ))
       where
         declined : Learns → HasOtherSpec h.asked.name.items h.asked.spec acted.seen

@@ -1,5 +1,5 @@
 -- A `hist` makes its record.
-use Rattle.std.proofs.Common.{◌≡◌, ℕ, List, inl, sym, ap, subst, ◌∙◌}
+use Rattle.std.proofs.Common.{◌≡◌, ℕ, ◌+◌, List, length, inl, sym, ap, subst, ◌∙◌}
 use Rattle.segment_image.specs.Shape.{Dimensions}
 use Rattle.list_core.proofs.Prefixes.{prefix_of_prefix}
 use Rattle.segment_machine.specs.declared.actor.Actor.{Actor}
@@ -12,7 +12,7 @@ use Rattle.hist_core.specs.declared.making.MakingStep.{MakingStep}
 use Rattle.hist_core.specs.declared.making.MakingStep.TheVariants as made
 use Rattle.hist_core.specs.StepsBy.{FrameOfStep, StepsBy}
 use Rattle.hist_core.specs.Hist.{wanted_of, IsHist, StandsAtStage, HistGives, IsMade}
-use Rattle.hist_core.specs.Making.{MakingGives}
+use Rattle.hist_core.specs.Making.{IsCause, MakingGives}
 use Rattle.hist_core.proofs.Parts.Allocations.{goes_with}
 use Rattle.hist_core.proofs.Parts.Walks.{others_still, asks_on}
 
@@ -44,5 +44,6 @@ module _ (shape : Dimensions) (version : ℕ) (h : Hist) (a : Actor) (words : Li
       subst (λ (p : Hist × HistStep). StepsBy shape.size version a words new_words (HistGives shape p.0 p.1 a)) (λ i. (sym new_is i, sym result_is i))
       (goes_with goes (λ b (beside, turns). (beside, on Walking b beside (turns, others_still a b beside h is.given stood_making.0))))
   makes_so x new_words (made.Refused cause) new result goes (new_is, result_is) =
-      subst (λ (r : HistStep). StepsBy shape.size version a words new_words (HistGives shape new r a)) (sym result_is)
-      (goes_with goes (λ b (beside, turns, is_cause). (beside, turns, inl is_cause)))
+      subst (λ (p : Hist × HistStep). StepsBy shape.size version a words new_words (HistGives shape p.0 p.1 a)) (λ i. (sym new_is i, sym result_is i))
+      (goes_with goes (λ b (beside, turns, is_cause).
+      (beside, turns, inl (is.asking.letters, is.asking.spells, subst (λ (l : List ℕ). IsCause cause (4 + length l) a b) is.asking.payload is_cause))))

@@ -1,5 +1,5 @@
 -- How the running call of an actor goes on, by what its next event is.
-use Rattle.std.proofs.Common.{◌≡◌, ◌≤◌, ℕ, List, [], inl, refl, subst}
+use Rattle.std.proofs.Common.{◌≡◌, ◌≤◌, ℕ, List, [], refl, subst}
 use Rattle.std.specs.Prelude.{Some, None}
 use Rattle.segment_image.specs.Shape.{Dimensions}
 use Rattle.segment_image.specs.Words.{word_at}
@@ -34,22 +34,25 @@ sets_corrupt shape version a old words new_words long run is stored =
         [],
         next a (allocating_event set_corrupt) (word_at words 6),
         refl,
-        record {
-          records = run.records;
-          segment = run.segment;
-          first = run.first;
-          within = run.within;
-          ended = run.ended;
-          begun = run.begun;
-          taken = run.taken;
-          names = run.names;
-          lawful = run.lawful;
-          once = run.once;
-          met = run.met;
-          stands = (refl, quiet_on (pending_by old) a (next a (allocating_event set_corrupt) (word_at words 6)) refl refl refl stands.1);
-          room = tt;
-          draft = tt;
-        },
+        (
+          record {
+            records = run.records;
+            segment = run.segment;
+            first = run.first;
+            within = run.within;
+            ended = run.ended;
+            begun = run.begun;
+            taken = run.taken;
+            names = run.names;
+            lawful = run.lawful;
+            once = run.once;
+            met = run.met;
+            stands = (refl, quiet_on (pending_by old) a (next a (allocating_event set_corrupt) (word_at words 6)) refl refl refl stands.1);
+            room = tt;
+            draft = tt;
+          },
+          refl,
+        ),
       );
     }
 

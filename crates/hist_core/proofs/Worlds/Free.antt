@@ -1,22 +1,32 @@
 -- Who stands where it may turn to any other call.
-use Rattle.std.proofs.Common.{◌≡◌, Bool, true, false, true≢false, refl}
-use Rattle.std.specs.Prelude.{◌||◌}
+use Rattle.std.proofs.Common.{◌≡◌, ℕ, ◌==◌, Bool, true, false, true≢false, refl}
+use Rattle.std.specs.Prelude.{◌||◌, if◌then◌else◌}
 use Rattle.segment_machine.specs.declared.place.Place.{Place}
 use Rattle.segment_machine.specs.declared.place.Place.TheVariants as place
 use Rattle.segment_machine.specs.Actor.{is_bound}
 use Rattle.segment_machine.specs.Taking.{is_looking}
-use Rattle.hist_core.specs.StepsBy.{is_tied}
+use Rattle.segment_machine.specs.Walking.{behind}
+use Rattle.hist_core.specs.StepsBy.{has_pointer, is_tied}
 
 neither : (a b : Bool) → (a || b) ≡ false → (a ≡ false) × (b ≡ false)
 neither true b none = absurd (true≢false none)
 neither false b none = (refl, none)
 
 pub free_turns : (p : Place) → is_tied p ≡ false → is_bound p ≡ false
-free_turns p free = (neither (is_bound p) (is_looking p) free).0
+free_turns p free = (neither (is_bound p) (is_looking p || has_pointer p) free).0
 
 pub free_apart : (p : Place) → is_tied p ≡ false → is_looking p ≡ false
-free_apart p free = (neither (is_bound p) (is_looking p) free).1
+free_apart p free = (neither (is_looking p) (has_pointer p) (neither (is_bound p) (is_looking p || has_pointer p) free).1).0
 
--- so is who stands at none of both
-pub free_of_both : (p : Place) → is_bound p ≡ false → is_looking p ≡ false → is_tied p ≡ false
-free_of_both p turns apart = (λ i. turns i || apart i)
+pub free_holds_none : (p : Place) → is_tied p ≡ false → has_pointer p ≡ false
+free_holds_none p free = (neither (is_looking p) (has_pointer p) (neither (is_bound p) (is_looking p || has_pointer p) free).1).1
+
+-- so does who has loaded a next there
+pub free_behind : (p : Place) (from found : ℕ) → is_tied p ≡ false → is_tied (behind p from found) ≡ false
+free_behind (place.CursorLoaded cursor at) from found free = by (from == at) (found == 12)
+  where
+    by : (b e : Bool) → is_tied (if b then (if e then place.Idle else place.BehindCursor cursor at found) else place.CursorLoaded cursor at) ≡ false
+    by true true = refl
+    by true false = refl
+    by false e = refl
+free_behind p from found free = free

@@ -18,7 +18,7 @@ use Rattle.hist_core.proofs.Worlds.Apart.{looks_not}
 
 -- it goes on by one event, and lands so
 abbrev pub Landing : Dimensions → ℕ → ActorRun → List ℕ → ActorRun → List ℕ → Stepped → Actor → Type 0
-Landing shape version old words new new_words said a = StepsBy shape.size version a words new_words (Lands shape version old new said)
+Landing shape version old words new new_words said a = StepsBy shape.size version a words new_words (Lands shape version old new said a)
 
 looks_none : (running : Option Running) (a b : Actor) → looks_not running → LooksSince running a b
 looks_none None a b none = tt

@@ -17,6 +17,7 @@ use Rattle.segment_machine.specs.Reached.{IsState, IsLent, IsReturned, new_state
 use Rattle.segment_machine.specs.Reached as machine
 use Rattle.segment_machine.specs.Seats.{giver, getter}
 use Rattle.segment_machine.specs.declared.actor.Answered.{Answered}
+use Rattle.segment_machine.specs.declared.actor.Done.{Done as Deeds}
 use Rattle.segment_machine.specs.Actor.{is_opener, units_listed, units_of, AreApart}
 use Rattle.segment_invariant.proofs.Lists.Elements.{all_at, sum_at_least}
 use Rattle.alloc_core.proofs.Layouts.{length_shown}
@@ -32,6 +33,7 @@ use Rattle.segment_promises.proofs.Deltas.{deltas_take_accepted}
 use Rattle.segment_promises.proofs.Snapshots.{snapshots_see_accepted}
 use Rattle.segment_promises.proofs.Steps.{happens}
 use Rattle.segment_promises.proofs.Names.{names_are_first}
+use Rattle.segment_promises.proofs.Spoilers.{spoilers_step_on}
 use Rattle.std.specs.List.{Contains}
 use Rattle.bucket_ranges.specs.Reading.{spec_of}
 use Rattle.bucket_ranges.specs.Spec.{SameSpec}
@@ -49,17 +51,17 @@ use Rattle.segment_calls.specs.declared.answer.Snapshot.{Snapshot}
 use Rattle.hist_core.specs.declared.call.Stepped.{Stepped}
 use Rattle.hist_core.specs.declared.call.Stepped.TheVariants.{More, Done}
 use Rattle.hist_core.specs.declared.call.Answer.TheVariants as answer
-use Rattle.hist_core.specs.StepsBy.{StepsBy, WalksInOrder}
-use Rattle.hist_core.specs.ActorRun.{HasMovedNothing, IsAnswer, IsTook, IsKnown, IsRun, IsSomeRun, Lands, Advances, held_by, looked_by, returned_by, LooksSince, StandsIn, known_of, pending_by, IsRefusedBy}
-use Rattle.hist_core.specs.WorldState.{AreRun, IsReachedAs, IsReached, IsConsistentAs, IsReadAs, AreKnownFirst, HasSeen, HasTaken, IsPromised, StepsTo, BeginsFrom, IsDue, LooksFrom}
+use Rattle.hist_core.specs.StepsBy.{StepsBy, WalksInOrder, has_pointer}
+use Rattle.hist_core.specs.ActorRun.{IsAnswer, IsTook, IsKnown, IsRun, IsSomeRun, Lands, Advances, held_by, looked_by, returned_by, LooksSince, StandsIn, known_of, pending_by, IsRefusedBy}
+use Rattle.hist_core.specs.WorldState.{AreRun, IsReachedAs, IsReached, IsConsistentAs, IsReadAs, AreKnownFirst, HasSeen, HasTaken, ClaimsNothing, HoldsNoPointer, IsPromised, StepsTo, Rests, BeginsFrom, IsDue, LooksFrom}
 use Rattle.bucket_ranges.specs.Ranges.{boundaries_of}
 use Rattle.bucket_ranges.specs.Spec.{spec_fault}
 use Rattle.std.specs.Prelude.{None, Ok}
 use Rattle.hist_core.specs.World.{of_actor}
 use Rattle.hist_core.proofs.Walks.Orders.{walks_in_order}
-use Rattle.hist_core.proofs.Worlds.Free.{free_turns}
+use Rattle.hist_core.proofs.Worlds.Free.{free_holds_none, free_turns}
 use Rattle.hist_core.proofs.Worlds.Landing.{looks_still}
-use Rattle.hist_core.proofs.Worlds.Causes.{is_due, moved_still, refused_still}
+use Rattle.hist_core.proofs.Worlds.Causes.{flagged, refused_still}
 use Rattle.segment_calls.specs.declared.refusal.Refusal.{Refusal}
 use Rattle.hist_core.proofs.Worlds.Quiet.{not_spent, counts_none, some_quiet}
 
@@ -239,10 +241,22 @@ module _ (old : WorldState) (state : State) (reach : IsReachedAs old state) (siz
         subst (λ (p : ActorRun × Actor × Actor). LooksSince p.0.running p.1 p.2)
         (λ i. (some-injective r before (sym at ∙ was) i, some-injective its.0 a (sym there ∙ is_a) i, some-injective b c (sym is_last ∙ is_c) i)) looks
 
+    -- once it has set the corrupt flag, it claims nothing
+    claims_none : (event : Event) (b : Actor) → IsStep old.version state (actor + 1) event (changed b) → (last : State) (c : Actor) → get_elem? last.actors (actor + 1) ≡ some c
+        → c.done ≡ b.done → ClaimsNothing actor state last
+    claims_none event b step last c is_last done a d is_a is_d spoiled =
+        let first : step.actor ≡ a = some-injective _ _ (sym step.there ∙ is_a) in
+        let then_is : step.then_is ≡ b = some-injective _ _
+        (sym (set_at state.actors (actor + 1) its.0 step.then_is there) ∙ (ap (λ l. get_elem? l (actor + 1)) (sym step.actors_are) ∙ set_at state.actors (actor + 1) its.0 b there)) in
+        let ends : d.done ≡ step.then_is.done = ap (λ (x : Actor). x.done) (sym (some-injective c d (sym is_last ∙ is_d))) ∙ (done ∙ ap (λ (x : Actor). x.done) (sym then_is)) in
+        let (sets, claimed) = spoilers_step_on old.shape old.version reach.id 0 state (changed b) (actor + 1) event reach.reached step
+        (ap (λ (x : Actor). x.done.spoiled) first ∙ spoiled) in
+        (ap (λ (x : Deeds). x.spoiled) ends ∙ sets, ap (λ (x : Deeds). x.claimed) ends ∙ (claimed ∙ ap (λ (x : Actor). x.done.claimed) first))
+
     -- it lands there, where no units come back
     lands : (event : Event) (b : Actor) (step : IsStep old.version state (actor + 1) event (changed b)) (pooled : new.units ≡ old.units)
         (run : IsRun old.shape old.version r' b) → LooksSince r.running its.0 b → (said : Stepped)
-        → IsPromised old actor said new (changed b) (reached_so event b step pooled run) → StepsTo old actor state new said
+        → IsPromised old actor state said new (changed b) (reached_so event b step pooled run) → StepsTo old actor state new said
     lands event b step pooled run looks said promised = (
       event,
       changed b,
@@ -250,7 +264,12 @@ module _ (old : WorldState) (state : State) (reach : IsReachedAs old state) (siz
       (
         changed b,
         inl refl,
-        (reached_so event b step pooled run, promised, looks_from (changed b) b (set_at state.actors (actor + 1) its.0 b there) looks),
+        (
+          reached_so event b step pooled run,
+          promised,
+          looks_from (changed b) b (set_at state.actors (actor + 1) its.0 b there) looks,
+          claims_none event b step (changed b) b (set_at state.actors (actor + 1) its.0 b there) refl,
+        ),
       ),
     )
 
@@ -280,7 +299,7 @@ module _ (old : WorldState) (state : State) (reach : IsReachedAs old state) (siz
     -- it lands there once its units have come back
     lands_back : (event : Event) (b : Actor) (units : ℕ) → IsStep old.version state (actor + 1) event (changed b) → new.units ≡ old.units + units
         → b.hand.place ≢ Spent → is_opener b.role ≡ false → units ≤ b.units.share → IsRun old.shape old.version r' (giver b units) → LooksSince r.running its.0 b → (said : Stepped)
-        → ((there : IsReachedAs new (traded b (getter reach.shows.opener units) (giver b units))) → IsPromised old actor said new _ there) → StepsTo old actor state new said
+        → ((there : IsReachedAs new (traded b (getter reach.shows.opener units) (giver b units))) → IsPromised old actor state said new _ there) → StepsTo old actor state new said
     lands_back event b units step pooled living recorder fits run looks said promised =
         let opener : Actor = reach.shows.opener in
         let last : State = traded b (getter opener units) (giver b units) in
@@ -308,26 +327,38 @@ module _ (old : WorldState) (state : State) (reach : IsReachedAs old state) (siz
           (
             last,
             inr (units, back),
-            (there, promised there, looks_from last (giver b units) (mine_last b units) (looks_still r.running its.0 b (giver b units) refl looks)),
+            (
+              there,
+              promised there,
+              looks_from last (giver b units) (mine_last b units) (looks_still r.running its.0 b (giver b units) refl looks),
+              claims_none event b step last (giver b units) (mine_last b units) refl,
+            ),
           ),
         )
 
     -- why it was refused shows there
-    due_back : (b : Actor) (units : ℕ) (cause : Refusal) → b.hand.place ≢ Spent → IsRefusedBy r.running cause b → HasMovedNothing r.running b
+    due_back : (b : Actor) (units : ℕ) (cause : Refusal) → b.hand.place ≢ Spent → IsRefusedBy r.running cause its.0 b
         → (there : IsReachedAs new (traded b (getter reach.shows.opener units) (giver b units))) (before : ActorRun) → get_elem? old.actor_runs.items actor ≡ some before
-        → IsDue actor before.running cause new (traded b (getter reach.shows.opener units) (giver b units))
-    due_back b units cause living is moved reaches_it before was =
+        → IsDue actor before.running cause state new (traded b (getter reach.shows.opener units) (giver b units))
+    due_back b units cause living is reaches_it before was =
         let last : State = traded b (getter reach.shows.opener units) (giver b units) in
-        subst (λ (x : ActorRun). IsDue actor x.running cause new last) (some-injective r before (sym at ∙ was))
-        (is_due new last reaches_it actor (giver b units) (mine_last b units) living r.running cause (refused_still r.running cause b (giver b units) refl refl is)
-        (moved_still r.running b (giver b units) refl refl moved))
+        let still = refused_still cause its.0 b (giver b units) refl refl refl r.running is in
+        subst (λ (x : ActorRun). IsDue actor x.running cause state new last) (some-injective r before (sym at ∙ was)) (record {
+          before = its.0;
+          was = there;
+          recorder = giver b units;
+          there = mine_last b units;
+          refused = still;
+          flagged = flagged new last reaches_it actor its.0 (giver b units) (mine_last b units) living r.running cause still;
+        })
 
     -- where its actor lands by what its call says
     lands_so : (event : Event) (b : Actor) → IsStep old.version state (actor + 1) event (changed b) → (said : Stepped)
-        → new.units ≡ old.units + returned_by said (held_by r.running) → Lands old.shape old.version r r' said b → LooksSince r.running its.0 b → StepsTo old actor state new said
+        → new.units ≡ old.units + returned_by said (held_by r.running) → Lands old.shape old.version r r' said its.0 b → LooksSince r.running its.0 b → StepsTo old actor state new said
     lands_so event b step More pooled run looks = lands event b step (omega (arith, pooled)) run looks More tt
     lands_so event b step (Done answer.Added) pooled run looks = lands event b step (omega (arith, pooled)) run looks (Done answer.Added) tt
-    lands_so event b step (Done answer.Flagged) pooled run looks = lands event b step (omega (arith, pooled)) run looks (Done answer.Flagged) tt
+    lands_so event b step (Done answer.Flagged) pooled (run, spoiled) looks =
+        lands event b step (omega (arith, pooled)) run looks (Done answer.Flagged) (b, set_at state.actors (actor + 1) its.0 b there, spoiled)
     lands_so event b step (Done (answer.Hist reference)) pooled run looks = lands event b step (omega (arith, pooled)) run looks (Done (answer.Hist reference)) tt
     lands_so event b step (Done (answer.Delta delta)) pooled (run, is) looks =
         let same : new.units ≡ old.units = omega (arith, pooled) in
@@ -339,11 +370,10 @@ module _ (old : WorldState) (state : State) (reach : IsReachedAs old state) (siz
         lands event b step same run looks (Done (answer.Snapshot snapshot)) (λ before was.
         subst (λ (x : ActorRun). HasSeen actor (looked_by x.running) snapshot new (changed b) (reached_so event b step same run)) (some-injective r before (sym at ∙ was))
         (has_seen new (changed b) (reached_so event b step same run) actor b (set_at state.actors (actor + 1) its.0 b there) run.records (looked_by r.running) snapshot is))
-    lands_so event b step (Done (answer.BatchRefused refused)) pooled ((living, fits, run), (cause, moved)) looks =
-        lands_back event b (held_by r.running) step pooled living run.records fits run looks (Done (answer.BatchRefused refused))
-        (due_back b (held_by r.running) refused.why living cause moved)
-    lands_so event b step (Done (answer.Refused why)) pooled ((living, fits, run), (cause, moved)) looks =
-        lands_back event b (held_by r.running) step pooled living run.records fits run looks (Done (answer.Refused why)) (due_back b (held_by r.running) why living cause moved)
+    lands_so event b step (Done (answer.BatchRefused refused)) pooled ((living, fits, run), cause) looks =
+        lands_back event b (held_by r.running) step pooled living run.records fits run looks (Done (answer.BatchRefused refused)) (due_back b (held_by r.running) refused.why living cause)
+    lands_so event b step (Done (answer.Refused why)) pooled ((living, fits, run), cause) looks =
+        lands_back event b (held_by r.running) step pooled living run.records fits run looks (Done (answer.Refused why)) (due_back b (held_by r.running) why living cause)
 
     -- an actor that goes on by an event leads to the next state
     pub steps : (said : Stepped) → ((a : Actor) → WalksInOrder a → IsRun old.shape old.version r a → Advances old.shape old.version r words r' new.words.items said a)
@@ -499,6 +529,20 @@ are_known_first world_state reached chain is_chain i r known at rests inside = �
     let first = names_are_first world_state.shape (blank world_state.version reach.id world_state.shape.size) state chain kept
     (subst (λ (l : List ℕ). IsChain l (head_of l) chain) (sym words) is_chain) (i + 1) a there (not_spent a.hand.place may) (known_of known) knows in
     ∣ subst (λ (l : List ℕ). IsHistogram l chain known.name.items known.reference × SameSpec (spec_of l known.reference) known.spec) words first ∣₁)
+
+-- the recorder of an actor that is there
+pub its_recorder : (world_state : WorldState) (state : State) → IsReachedAs world_state state → (actor : ℕ) (r : ActorRun) → get_elem? world_state.actor_runs.items actor ≡ some r
+    → (a : Actor) × (get_elem? state.actors (actor + 1) ≡ some a) × IsRun world_state.shape world_state.version r a
+its_recorder world_state state reach actor r at =
+    let found = recorder_at world_state.shape world_state.version world_state.actor_runs.items reach.shows.recorders actor r reach.shows.runs at in
+    (found.0, ap (λ actors. get_elem? actors (actor + 1)) reach.shows.actors ∙ behind_first reach.shows.opener reach.shows.recorders actor ∙ found.1, found.2)
+
+-- an actor that rests holds no free pointer
+pub rests_without : (world_state : WorldState) (actor : ℕ) (r : ActorRun) → get_elem? world_state.actor_runs.items actor ≡ some r → Rests world_state actor → HoldsNoPointer actor world_state
+rests_without world_state actor r at rests state reach a there =
+    let (b, mine, run) = its_recorder world_state state reach actor r at in
+    let free = (subst (λ running. StandsIn world_state.shape r.known.items (pending_by r) running b) (rests r at) run.stands).0 in
+    ap (λ (x : Actor). has_pointer x.hand.place) (some-injective a b (sym there ∙ mine)) ∙ free_holds_none b.hand.place free
 
 -- the pool has no more than all units
 pub pool_fits : (world_state : WorldState) → ∥ IsReached world_state ∥₁ → world_state.units ≤ 4294967295

@@ -9,7 +9,7 @@ use Rattle.std.proofs.lemmas.Bool.{lt-leb}
 use Rattle.std.proofs.Props.{props}
 use Rattle.std.proofs.Math.Logic.{∥∥₁_elim}
 use Rattle.hist_core.proofs.Worlds.Moving.{no_word, no_word_alone}
-use Rattle.hist_core.proofs.Worlds.WorldStates.{is_there}
+use Rattle.hist_core.proofs.Worlds.WorldStates.{is_there, rests_without}
 use Rattle.hist_core.proofs.Worlds.Faults.{second_of_three, third_of_three, none_of_three, none_named, by_name, knows_it, lacks_it, runs_as, is_resting}
 use Rattle.hist_core.proofs.world.World.begin.Goals as goal
 
@@ -283,3 +283,39 @@ returns-in_ok-begin_delta-in-Delta-clause-words c =
 pub returns-in-SetCorrupt-clause-words : goal.returns-in-SetCorrupt-clause-words
 returns-in-SetCorrupt-clause-words c =
     no_word_alone c.args.self.now.world_state c.begin_set_corrupt.new.self c.args.self.now.reached c.begin_set_corrupt.ensures.begins
+
+pub returns-in_ok-begin_hist-in-Hist-clause-loads : goal.returns-in_ok-begin_hist-in-Hist-clause-loads
+returns-in_ok-begin_hist-in-Hist-clause-loads c =
+    let world_state = c.args.self.now.world_state in let r = c.index.result.now in
+    let at = is_there world_state.actor_runs.items (vec_len world_state.actor_runs) c.args.actor r world_state.actor_runs.ok.0 (omega (arith, c.if-actor-len.false, c.len.ensures)) c.index.ensures in
+    rests_without world_state c.args.actor r at (is_resting world_state c.args.actor r at (sym c.is_some.ensures ∙ c.if-is_some.false))
+
+pub returns-in_ok-begin_add-in-Add-clause-loads : goal.returns-in_ok-begin_add-in-Add-clause-loads
+returns-in_ok-begin_add-in-Add-clause-loads c =
+    let world_state = c.args.self.now.world_state in let r = c.index.result.now in
+    let at = is_there world_state.actor_runs.items (vec_len world_state.actor_runs) c.args.actor r world_state.actor_runs.ok.0 (omega (arith, c.if-actor-len.false, c.len.ensures)) c.index.ensures in
+    rests_without world_state c.args.actor r at (is_resting world_state c.args.actor r at (sym c.is_some.ensures ∙ c.if-is_some.false))
+
+pub returns-in_ok-begin_snapshot-in-Snapshot-clause-loads : goal.returns-in_ok-begin_snapshot-in-Snapshot-clause-loads
+returns-in_ok-begin_snapshot-in-Snapshot-clause-loads c =
+    let world_state = c.args.self.now.world_state in let r = c.index.result.now in
+    let at = is_there world_state.actor_runs.items (vec_len world_state.actor_runs) c.args.actor r world_state.actor_runs.ok.0 (omega (arith, c.if-actor-len.false, c.len.ensures)) c.index.ensures in
+    rests_without world_state c.args.actor r at (is_resting world_state c.args.actor r at (sym c.is_some.ensures ∙ c.if-is_some.false))
+
+pub returns-in_ok-begin_delta-in-Delta-clause-loads : goal.returns-in_ok-begin_delta-in-Delta-clause-loads
+returns-in_ok-begin_delta-in-Delta-clause-loads c =
+    let world_state = c.args.self.now.world_state in let r = c.index.result.now in
+    let at = is_there world_state.actor_runs.items (vec_len world_state.actor_runs) c.args.actor r world_state.actor_runs.ok.0 (omega (arith, c.if-actor-len.false, c.len.ensures)) c.index.ensures in
+    rests_without world_state c.args.actor r at (is_resting world_state c.args.actor r at (sym c.is_some.ensures ∙ c.if-is_some.false))
+
+pub returns-in_ok-begin_batch-in-Batch-clause-loads : goal.returns-in_ok-begin_batch-in-Batch-clause-loads
+returns-in_ok-begin_batch-in-Batch-clause-loads c =
+    let world_state = c.args.self.now.world_state in let r = c.index.result.now in
+    let at = is_there world_state.actor_runs.items (vec_len world_state.actor_runs) c.args.actor r world_state.actor_runs.ok.0 (omega (arith, c.if-actor-len.false, c.len.ensures)) c.index.ensures in
+    rests_without world_state c.args.actor r at (is_resting world_state c.args.actor r at (sym c.is_some.ensures ∙ c.if-is_some.false))
+
+pub returns-in-SetCorrupt-clause-loads : goal.returns-in-SetCorrupt-clause-loads
+returns-in-SetCorrupt-clause-loads c =
+    let world_state = c.args.self.now.world_state in let r = c.index.result.now in
+    let at = is_there world_state.actor_runs.items (vec_len world_state.actor_runs) c.args.actor r world_state.actor_runs.ok.0 (omega (arith, c.if-actor-len.false, c.len.ensures)) c.index.ensures in
+    rests_without world_state c.args.actor r at (is_resting world_state c.args.actor r at (sym c.is_some.ensures ∙ c.if-is_some.false))

@@ -7,6 +7,7 @@ use Rattle.bucket_ranges.specs.declared.spec.Spec.{Spec}
 use Rattle.bucket_ranges.specs.declared.spec.Spec.TheVariants.{Sparse}
 use Rattle.bucket_ranges.specs.Reading.{name_words}
 use Rattle.bucket_ranges.specs.Spec.{spec_ranges}
+use Rattle.list_core.specs.Walk.{stands_behind}
 use Rattle.segment_machine.specs.declared.actor.Actor.{Actor}
 use Rattle.segment_machine.specs.declared.actor.Claim.{Claim}
 use Rattle.segment_machine.specs.declared.actor.Done.{Done}
@@ -19,15 +20,18 @@ use Rattle.segment_machine.specs.Calls.{sight}
 use Rattle.segment_machine.specs.Made.{SawOther, SawOtherName}
 use Rattle.segment_promises.specs.Onward.{Grows}
 use Rattle.live_segment.specs.Adding.{block_words}
+use Rattle.live_segment.specs.Ends.{FoundEndAt, FoundNoCounts}
 
 -- ---- none
 
--- What it has done, its own blocks, and what it has seen of the list and of the words of records are as they were.
+-- What it has done, its own blocks, and what it has seen of the list and of the words of records are as they were. It has found no fewer words
+-- to lead to no block.
 pub record KeepsBlocks (old new : Actor) : Type 0 where
   pub done : new.done ≡ old.done
   pub own : new.hand.own ≡ old.hand.own
   pub chain : new.seen.chain ≡ old.seen.chain
   pub words : new.seen.words ≡ old.seen.words
+  pub ends : Grows old.seen.ends new.seen.ends
 
 -- ---- one for a record
 
@@ -49,23 +53,27 @@ pub record MakesOne (made : Made) (words : ℕ) (old new : Done) : Type 0 where
 abbrev pub record_words : List ℕ → Spec → ℕ
 record_words name spec = HISTOGRAM_NAME + (name_words (length name) + length (spec_ranges spec))
 
--- It has made a record of a name, of so many words, behind records that it had met: none of those has the name.
+-- It has made a record of a name, of so many words, where the list has none: the records that it had met were all of the list when it loaded
+-- the end of that, in the same call, and none of those has the name.
 pub record MakesNamed (name : List ℕ) (spec : Spec) (words : ℕ) (old new : Actor) : Type 0 where
   pub makes : MakesOne (Histogram name spec) words old.done new.done
   pub met : List ℕ
   pub more : Grows old.seen.chain met × Grows met new.seen.chain
+  pub all : FoundEndAt (stands_behind met) old.seen new.seen
   pub others : All (SawOtherName new.seen name) met
 
 -- it has claimed and published nothing, or has made one record of the name
 abbrev pub NamesAtMostOne : List ℕ → Spec → ℕ → Actor → Actor → Type 0
 NamesAtMostOne name spec words old new = (new.done ≡ old.done) ⊎ MakesNamed name spec words old new
 
--- It has made a sample of a value, behind records that it had met: none of those behind the histogram's is a sample of the value.
+-- It has made a sample of a value, where the list has none: the records that it had met were all of the list when it loaded the end of that,
+-- in the same call, and none of those behind the histogram's is a sample of the value.
 pub record MakesSample (histogram : ℕ) (value : ℤ) (old new : Actor) : Type 0 where
   pub makes : MakesOne (Sample histogram value) SAMPLE_LEAST old.done new.done
   pub front : List ℕ
   pub behind : List ℕ
   pub more : Grows old.seen.chain (front ++ histogram ∷ behind) × Grows (front ++ histogram ∷ behind) new.seen.chain
+  pub all : FoundEndAt (stands_behind (front ++ histogram ∷ behind)) old.seen new.seen
   pub others : All (SawOther new.seen histogram value) behind
 
 -- ---- one for counts
@@ -74,24 +82,27 @@ pub record MakesSample (histogram : ℕ) (value : ℤ) (old new : Actor) : Type 
 abbrev pub IsPurged : ℕ → Actor → Type 0
 IsPurged at a = (own : Own) × Contains a.hand.own own × (own.at ≡ at) × (own.tag ≡ TYPE_PURGED)
 
--- It has claimed one block for the counts of a histogram, where it had seen no counts reference, and has done nothing else. The one that it
--- has seen since is that block; or it is another recorder's, which was first, and the block was purged.
+-- It has claimed one block for the counts of a histogram, where it had seen no counts reference and has loaded that as 0, and has done nothing
+-- else. The one that it has seen since is that block; or it is another recorder's, which was first, and the block was purged.
 pub record MountsOne (known : Known) (old new : Actor) : Type 0 where
   pub claim : Claim
   pub block : IsBlockFor (block_words known) claim
   pub done : new.done ≡ record old.done { claimed = old.done.claimed ++ claim ∷ [] }
   pub none : word_seen old.seen.words (known.reference + HISTOGRAM_COUNTS) ≡ None
+  pub loaded : FoundNoCounts known.reference old.seen new.seen
   pub counts : ℕ
   pub saw : new.seen.words ≡ old.seen.words ++ sight (known.reference + HISTOGRAM_COUNTS) counts
   pub kept : (counts ≡ claim.at) ⊎ IsPurged claim.at new
 
 -- ---- for units of a value
 
--- It has claimed and published nothing; or it has claimed one block, with buckets for the counts, and without for the sample of the value.
+-- It has claimed and published nothing; or it has claimed one block, with buckets for the counts, and without for the sample of the value. It
+-- has seen no fewer words of records, and found no fewer that lead to no block: so of a batch each item has found its own.
 pub record ClaimsFor (known : Known) (value : ℤ) (old new : Actor) : Type 0 where
   pub buckets : has_buckets known.spec ≡ true → (new.done ≡ old.done) ⊎ MountsOne known old new
   pub values : known.spec ≡ Sparse → (new.done ≡ old.done) ⊎ MakesSample known.reference value old new
   pub words : Grows old.seen.words new.seen.words
+  pub ends : Grows old.seen.ends new.seen.ends
 
 -- ---- for a batch
 

@@ -67,9 +67,10 @@ pub record MountsAt (known : Known) (at : ℕ) (old : Actor) (counts : ℕ) (new
   pub saw : new.seen.words ≡ old.seen.words ++ sight (known.reference + HISTOGRAM_COUNTS) counts
   pub kept : (counts ≡ at) ⊎ IsPurged at new
 
--- it has claimed no block for the counts that it found or mounted, or one; of the words of records it has seen no fewer
+-- it has claimed no block for the counts that it found or mounted, or one; of the words of records, and of those that lead to no block, it has
+-- seen no fewer
 abbrev pub MountsAtMostOne : Known → Actor → Actor → Type 0
-MountsAtMostOne known old new = ((new.done ≡ old.done) ⊎ MountsOne known old new) × Grows old.seen.words new.seen.words
+MountsAtMostOne known old new = ((new.done ≡ old.done) ⊎ MountsOne known old new) × Grows old.seen.words new.seen.words × Grows old.seen.ends new.seen.ends
 
 -- There were none, and no block could be claimed for them: the call has ended.
 pub record HasNotMounted (why : Refusal) (known : Known) (old new : Actor) : Type 0 where

@@ -46,10 +46,11 @@ use Rattle.live_segment.specs.Working.{CountsWithin, LooksOn}
 use Rattle.live_segment.proofs.Seating.Allowed.{does_at}
 use Rattle.live_segment.proofs.NewRecords.Claimed.{looks_claimed, looks_refused}
 use Rattle.live_segment.proofs.Seating.Proceeding.{does_not, looks_on}
-use Rattle.segment_promises.proofs.Growing.{ended_grows, grows_by, grows_not, grows_same}
+use Rattle.segment_promises.proofs.Growing.{ended_grows, grows_by, grows_not, grows_on, grows_same}
 use Rattle.segment_promises.proofs.Calls.Places.{looks_there}
 use Rattle.live_segment.proofs.AddCall.Refusing.{only_given_up}
 use Rattle.live_segment.proofs.NewRecords.Rooms.{lacked_since, lacks_room}
+use Rattle.live_segment.specs.Ends.{FoundNoCounts}
 use Rattle.live_segment.proofs.Walks.Ends.{found_now, found_on}
 
 -- ---- the counts reference
@@ -263,6 +264,7 @@ module _ (segment : Segment) (known : Known) (old : Pass) (table : old.table_id 
     claims_not = (
       inl (ap (λ (b : Actor). b.done) step.view),
       subst (λ (b : Actor). Grows first.seen.words b.seen.words) (sym step.view) (grows_by first.seen.words (sight_counts known.reference found)),
+      subst (λ (b : Actor). Grows first.seen.ends b.seen.ends) (sym step.view) ends_more,
     )
 
     -- there are none, and a block is claimed
@@ -321,10 +323,18 @@ module _ (segment : Segment) (known : Known) (old : Pass) (table : old.table_id 
       none_seen : word_seen seat.me.0.seen.words (known.reference + 8) ≡ None
       none_seen = ap (λ (ws : List Sighting). word_seen ws (known.reference + 8)) words_still ∙ none_before
 
+      -- it has just loaded it so
+      loaded_none : FoundNoCounts known.reference first.seen seat.me.0.seen
+      loaded_none = found_now first.seen seat.me.0.seen (known.reference + 8) (found == 0) (ap (λ (b : Actor). b.seen.ends) step.view) (eq-eqb found 0 none)
+
+      -- and still has, whatever else it finds
+      loaded_on : (a : Actor) → Grows seat.me.0.seen.ends a.seen.ends → FoundNoCounts known.reference first.seen a.seen
+      loaded_on a more = found_on first.seen first.seen seat.me.0.seen a.seen (grows_not first.seen.ends) looks_loaded.proceeds.seen.ends more (known.reference + 8) loaded_none
+
       -- it claims one block for them, and mounts it
       pub claims_block : (at size : ℕ) (new last : Pass) (counts : ℕ) → size ≡ block_words known → Allocates size 2 seat.me.0 (Ok at) new.me.0
-          → MountsAt known at new.me.0 counts last.me.0 → MountsAtMostOne known first last.me.0
-      claims_block at size new last counts words (to, view, behind, enough, few, place) mounts = (
+          → MountsAt known at new.me.0 counts last.me.0 → Grows new.me.0.seen.ends last.me.0.seen.ends → MountsAtMostOne known first last.me.0
+      claims_block at size new last counts words (to, view, behind, enough, few, place) mounts more = (
         inr (record {
           claim = record { at = at; size = to - at };
           block = (omega (arith, words, enough), omega (arith, words, enough, few));
@@ -332,13 +342,18 @@ module _ (segment : Segment) (known : Known) (old : Pass) (table : old.table_id 
               ∙ (ap (λ (b : Actor). b.done) view
               ∙ ap (λ (b : Actor). record b.done { claimed = b.done.claimed ++ record { at = at; size = to - at } ∷ [] }) step.view);
           none = none_before;
+          loaded = loaded_on last.me.0 more_yet;
           counts = counts;
           saw = saw_one;
           kept = mounts.kept;
         }),
         subst (Grows first.seen.words) (sym saw_one) (grows_by first.seen.words (sight (known.reference + 8) counts)),
+        grows_on first.seen.ends seat.me.0.seen.ends last.me.0.seen.ends looks_loaded.proceeds.seen.ends more_yet,
       )
         where
+          more_yet : Grows seat.me.0.seen.ends last.me.0.seen.ends
+          more_yet = subst (λ (l : List ℕ). Grows l last.me.0.seen.ends) (ap (λ (b : Actor). b.seen.ends) view) more
+
           saw_one : last.me.0.seen.words ≡ first.seen.words ++ sight (known.reference + 8) counts
           saw_one = mounts.saw
               ∙ ap (λ (l : List Sighting). l ++ sight (known.reference + 8) counts) (ap (λ (b : Actor). b.seen.words) view ∙ words_still)
@@ -365,9 +380,7 @@ module _ (segment : Segment) (known : Known) (old : Pass) (table : old.table_id 
               idle = ap (λ (b : Actor). b.hand.place) (ends ∙ only_given_up last) ∙ ap (λ (b : Actor). b.hand.place) is;
               none = ap (λ (s : Seen). word_seen s.words (known.reference + 8)) seen
                   ∙ (ap (λ (b : Actor). word_seen b.seen.words (known.reference + 8)) is ∙ none_seen);
-              loaded = found_on first.seen first.seen seat.me.0.seen new.seen (grows_not first.seen.ends) looks_loaded.proceeds.seen.ends
-                  (grows_same seat.me.0.seen.ends new.seen.ends (ap (λ (s : Seen). s.ends) seen ∙ ap (λ (b : Actor). b.seen.ends) is)) (known.reference + 8)
-                  (found_now first.seen seat.me.0.seen (known.reference + 8) (found == 0) (ap (λ (b : Actor). b.seen.ends) step.view) (eq-eqb found 0 none));
+              loaded = loaded_on new (grows_same seat.me.0.seen.ends new.seen.ends (ap (λ (s : Seen). s.ends) seen ∙ ap (λ (b : Actor). b.seen.ends) is));
               room = lacked_since why (block_words known) first seat.me.0 new (ap (λ (b : Actor). b.done) step.view) looks_loaded.proceeds.seen.warned room;
             }
 

@@ -6,7 +6,7 @@ use Rattle.std.proofs.lemmas.List.Elements.{All-nil}
 use Rattle.segment_image.specs.Shape.{Dimensions}
 use Rattle.bucket_ranges.specs.declared.spec.Spec.TheVariants as spec
 use Rattle.list_core.specs.Chain.{stops}
-use Rattle.list_core.specs.Walk.{IsPrefix}
+use Rattle.list_core.specs.Walk.{IsPrefix, stands_behind}
 use Rattle.segment_calls.specs.declared.refusal.Refusal.{Refusal}
 use Rattle.segment_machine.specs.declared.actor.Actor.{Actor}
 use Rattle.segment_machine.specs.declared.actor.Known.{Known}
@@ -24,13 +24,13 @@ use Rattle.segment_promises.specs.Onward.{DoesOn, Grows}
 use Rattle.live_segment.specs.Refusing.{MayGiveUp}
 use Rattle.live_segment.specs.Rule.{IsOf}
 use Rattle.live_segment.specs.Sampling.{FindsSample, HasMadeNoSample, HasMadeSample, HasNotMadeSample, HasSampleOf, LacksSampleOf, SawNone, WalksBehind}
-use Rattle.live_segment.specs.Ends.{SawAllOfList}
+use Rattle.live_segment.specs.Ends.{FoundEndAt, SawAllOfList}
 use Rattle.live_segment.specs.Searching.{HasSearched}
 use Rattle.live_segment.specs.Working.{LooksOn}
 use Rattle.live_segment.proofs.AddCall.Beginning.{known_there}
-use Rattle.live_segment.proofs.Walks.Ends.{all_on}
+use Rattle.live_segment.proofs.Walks.Ends.{all_on, found_on}
 use Rattle.live_segment.proofs.Seating.Proceeding.{does_not, looks_on}
-use Rattle.segment_promises.proofs.Growing.{grows_not, grows_same, others_still}
+use Rattle.segment_promises.proofs.Growing.{grows_not, grows_on, grows_same, others_still}
 use Rattle.live_segment.proofs.AddCall.Refusing.{only_given_up}
 use Rattle.live_segment.proofs.NewRecords.Blocks.{makes_between}
 use Rattle.live_segment.proofs.NewRecords.Rooms.{lacked_since}
@@ -150,8 +150,9 @@ met_before known value sample a b searched (free, first, within) = record {
 module _ (known : Known) (value : ℤ) (a b : Actor) (searched : HasSearched a b) (free : MayTurn b) where
   -- it met one behind
   module _ (c d : Actor) (made : HasMadeSample known.reference value b c) (again : HasSearched c d) where
-    pub met_then : (sample : ℕ) → SawNone known.reference value b → FindsSample known.reference value (search.Met sample) d → HasSampleOf known value sample a d
-    met_then sample none finds =
+    pub met_then : (sample : ℕ) → SawNone known.reference value b → SawAllOfList a.seen b.seen → FindsSample known.reference value (search.Met sample) d
+        → HasSampleOf known value sample a d
+    met_then sample none all finds =
         let last = met_before known value sample c d again finds in record {
           looks = looks_on a b d (looks_searched a b free searched) (looks_on b c d made.looks last.looks);
           first = last.first;
@@ -167,6 +168,9 @@ module _ (known : Known) (value : ℤ) (a b : Actor) (searched : HasSearched a b
                   subst (Grows a.seen.chain) parts searched.chain,
                   subst (λ (l : List ℕ). Grows l d.seen.chain) (made.chain ∙ parts) again.chain,
                 );
+                all = found_on a.seen a.seen b.seen d.seen (grows_not a.seen.ends) searched.ends
+                    (grows_on b.seen.ends c.seen.ends d.seen.ends made.looks.proceeds.seen.ends again.ends) (stands_behind (front ++ known.reference ∷ behind) + 3)
+                    (subst (λ (l : List ℕ). FoundEndAt (stands_behind l) a.seen b.seen) parts all);
                 others = others_still b.seen d.seen (subst (λ (l : List Sighting). Grows l d.seen.words) made.words again.words) known.reference value behind others;
               }
               );

@@ -18,6 +18,7 @@ use Rattle.segment_machine.specs.Event.{counting_event}
 use Rattle.segment_machine.specs.Made.{IsFirstSample}
 use Rattle.segment_promises.specs.Follows.{noted_by}
 use Rattle.segment_promises.specs.Onward.{Grows}
+use Rattle.segment_promises.proofs.Growing.{grows_on}
 use Rattle.live_segment.specs.declared.segment.Segment.{Segment}
 use Rattle.live_segment.specs.Adding.{HasNoRoom}
 use Rattle.live_segment.specs.Claims.{ClaimsFor}
@@ -103,8 +104,9 @@ module _ (known : Known) (value : ℤ) (units sample : ℕ) (old mid : Pass) (ma
     value_claims =
         let behind = keeps_counted known entry (sample + 6) found mid after may_mid told in record {
           buckets = λ bucketed. absurd (true≢false (sym bucketed ∙ ap has_buckets sparse));
-          values = λ is. makes_kept known.reference value old.me.0 a after.me.0 has.claims behind;
+          values = λ is. makes_kept known.reference value old.me.0 a after.me.0 has.looks.proceeds.seen.ends has.claims behind;
           words = subst (Grows old.me.0.seen.words) (sym behind.words) has.looks.proceeds.seen.words;
+          ends = grows_on old.me.0.seen.ends a.seen.ends after.me.0.seen.ends has.looks.proceeds.seen.ends behind.ends;
         }
 
     pub value_counted : HasCounted (item_of known value units) old.me.0 after.me.0

@@ -27,6 +27,7 @@ use Rattle.segment_promises.specs.Follows.{MayNoteAll, noted_by}
 use Rattle.live_segment.specs.Claims.{KeepsBlocks}
 use Rattle.live_segment.specs.Batching.{HasItems, IsBatched, ended_item}
 use Rattle.segment_promises.specs.Onward.{DoesOn, GoesOn, SeesOn}
+use Rattle.segment_promises.proofs.Growing.{grows_not}
 use Rattle.live_segment.specs.Steps.{IsAtRest, IsSame, Pass}
 use Rattle.live_segment.specs.GhostNotes.{HasSum, KnowsAlone, MaySum, Noted, opening_notes, sum_cost, sum_notes}
 use Rattle.live_segment.proofs.AddCall.Beginning.{known_there}
@@ -215,7 +216,7 @@ module _ (known : Known) (sum : ℤ) (old : Actor) (seat : Pass) (rest : IsAtRes
       new = after.me.0
 
       pub keeps_summed : KeepsBlocks a new
-      keeps_summed = subst (KeepsBlocks a) (sym sum_view) (record { done = refl; own = refl; chain = refl; words = refl })
+      keeps_summed = subst (KeepsBlocks a) (sym sum_view) (record { done = refl; own = refl; chain = refl; words = refl; ends = grows_not a.seen.ends })
 
       as_before : new ≡ record a { units = new.units; entries = new.entries; hand = new.hand; since = new.since }
       as_before = subst (λ (y : Actor). y ≡ record a { units = y.units; entries = y.entries; hand = y.hand; since = y.since }) (sym sum_view) refl

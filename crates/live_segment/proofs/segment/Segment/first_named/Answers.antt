@@ -56,9 +56,9 @@ returns-in_err-make_record-clause-claims c =
 pub returns-in-Met-find-clause-claims : goal.returns-in-Met-find-clause-claims
 returns-in-Met-find-clause-claims c =
     makes_one c.args.asked.now c.args.seat.now.me.0 c.find.new.seat.me.0 c.make_record.new.seat.me.0 c.find-2.new.seat.me.0 c.find.ensures.view
-    c.in-End.ensures.outcome.1 c.in_ok-make_record.ensures.outcome c.find-2.ensures.view
+    c.in-End.ensures.outcome.1 c.in-End.ensures.ended c.in_ok-make_record.ensures.outcome c.find-2.ensures.view
 
 pub returns-in-OtherSpec-find-clause-claims : goal.returns-in-OtherSpec-find-clause-claims
 returns-in-OtherSpec-find-clause-claims c = λ is.
     makes_one c.args.asked.now c.args.seat.now.me.0 c.find.new.seat.me.0 c.make_record.new.seat.me.0 c.find-2.new.seat.me.0 c.find.ensures.view
-    c.in-End.ensures.outcome.1 c.in_ok-make_record.ensures.outcome c.find-2.ensures.view
+    c.in-End.ensures.outcome.1 c.in-End.ensures.ended c.in_ok-make_record.ensures.outcome c.find-2.ensures.view

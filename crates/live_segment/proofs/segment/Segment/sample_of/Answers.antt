@@ -45,4 +45,4 @@ returns-clause-outcome c =
     subst (λ (v : ℤ). HasSampleOf k v c.in-Met-find_sample.sample c.args.seat.now.me.0 c.find_sample-2.new.seat.me.0) (to_z-of_z w32 c.args.value c.ranges.value)
     (met_then k _ c.args.seat.now.me.0 c.find_sample.new.seat.me.0 c.find_sample.ensures.view c.in-End.ensures.outcome.0.way.free
     c.make_sample.new.seat.me.0 c.find_sample-2.new.seat.me.0 c.in_ok-make_sample.ensures.outcome c.find_sample-2.ensures.view
-    c.in-Met-find_sample.sample c.in-End.ensures.outcome.1 c.in-Met-find_sample.ensures.outcome)
+    c.in-Met-find_sample.sample c.in-End.ensures.outcome.1 c.in-End.ensures.ended c.in-Met-find_sample.ensures.outcome)

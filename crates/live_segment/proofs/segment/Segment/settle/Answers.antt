@@ -38,10 +38,10 @@ returns-in-Err-clause-outcome c =
 pub returns-in-Ok-clause-claims : goal.returns-in-Ok-clause-claims
 returns-in-Ok-clause-claims c =
     let told = c.know.ensures (asked_at c.args.asked.now c.in-Ok.reference) (c.requires.says, refl) in
-    makes_kept c.args.asked.now c.args.seat.now.me.0 c.first_named.new.seat.me.0 c.know.new.seat.me.0 c.in-Ok.ensures.claims
+    makes_kept c.args.asked.now c.args.seat.now.me.0 c.first_named.new.seat.me.0 c.know.new.seat.me.0 c.in-Ok.ensures.outcome.0.seen.ends c.in-Ok.ensures.claims
     (knows_none c.first_named.new.seat.me.0 c.know.new.seat.me.0 (asked_at c.args.asked.now c.in-Ok.reference) told.1)
 
 pub returns-in-Err-clause-claims : goal.returns-in-Err-clause-claims
 returns-in-Err-clause-claims c = λ is.
-    makes_kept c.args.asked.now c.args.seat.now.me.0 c.first_named.new.seat.me.0 c.decline.new.seat.me.0 (c.in-Err.ensures.claims is)
+    makes_kept c.args.asked.now c.args.seat.now.me.0 c.first_named.new.seat.me.0 c.decline.new.seat.me.0 c.in-Err.ensures.outcome.0.seen.ends (c.in-Err.ensures.claims is)
     (declined_none c.first_named.new.seat.me.0 c.decline.new.seat.me.0 c.decline.ensures.view)

@@ -10,7 +10,7 @@ use Rattle.bucket_ranges.specs.declared.spec.Spec.{Spec}
 use Rattle.segment_calls.specs.declared.refusal.Refusal.{Refusal}
 use Rattle.segment_machine.specs.declared.actor.Actor.{Actor}
 use Rattle.segment_machine.specs.declared.actor.Known.{Known}
-use Rattle.segment_machine.specs.Actor.{outstanding_of}
+use Rattle.segment_machine.specs.Actor.{made_of, outstanding_of}
 use Rattle.segment_machine.specs.Seats.{joined, newcomer, offering, parent}
 use Rattle.segment_invariant.proofs.Lists.Elements.{contains_at}
 use Rattle.segment_invariant.proofs.Lists.Maps.{contains_map}
@@ -28,8 +28,8 @@ use Rattle.persist_commands.specs.Entries.{Deed, deeds_in, deeds_of, deeds_of_ca
 use Rattle.persist_commands.specs.Parts.{part_from, part_of}
 use Rattle.persist_commands.proofs.Parts.{part_append}
 use Rattle.persist_report_core.specs.declared.script.ScriptCall.{ScriptCall}
-use Rattle.persist_commands.specs.Recording.{HandsOut, HasAsked, HasOpened, HaveMet, IsFresh, KnowsOf, WentOn}
-use Rattle.persist_commands.proofs.Went.{knows_of_recorder, went_adding, went_asking, went_handing, went_joining, went_twice}
+use Rattle.persist_commands.specs.Recording.{HandsOut, HasAsked, HasOpened, HasRecorded, HaveMet, IsFresh, KnowsOf, WentOn}
+use Rattle.persist_commands.proofs.Went.{knows_of_recorder, recorded_adding, recorded_twice, went_asking, went_handing, went_joining, went_twice}
 
 -- ---- lists
 
@@ -147,13 +147,16 @@ hands_more n units first old new hands is = record {
   answers = ap (λ (a : Actor). a.answers) is ∙ hands.answers;
   done = ap (λ (a : Actor). a.done) is ∙ hands.done;
   deltas = ap (λ (a : Actor). a.deltas) is ∙ hands.deltas;
+  made =
+      let one : made_of new.role ≡ made_of old.role + 1 = ap (λ (a : Actor). made_of a.role) is in
+      let before = hands.made in omega (arith, one, before);
   outstanding =
       let one : outstanding_of new.role ≡ outstanding_of old.role + 1 = ap (λ (a : Actor). outstanding_of a.role) is in
       let before = hands.outstanding in omega (arith, one, before);
 }
 
 pub hands_none : (a : Actor) → HandsOut 0 a a
-hands_none a = record { entries = refl; answers = refl; done = refl; deltas = refl; outstanding = omega arith }
+hands_none a = record { entries = refl; answers = refl; done = refl; deltas = refl; made = omega arith; outstanding = omega arith }
 
 pub opened_so : (hists : List HistRecord) (units : ℕ) (old mid recorder asked new : Actor) → mid ≡ parent (offering old units) → recorder ≡ newcomer (offering old units)
     → HasAsked hists recorder asked → new ≡ joined mid asked → HasOpened hists old new
@@ -200,20 +203,20 @@ pub added_so : (fault : Option Refusal) (old new : Recorder) (histogram : Hist) 
     → MatchOption fault ((known : Known) → Means old histogram known → AnswersSample known value count (view_of_recorder old) result (view_of_recorder new))
     (λ why. (result ≡ Err why) × (new ≡ old))
     → OnOk result ((hists : List HistRecord) (hist : HistRecord) → IsNamed hist.name hist.spec old histogram
-    → WentOn hists (deeds_in (Some hist) (kind.Add value count)) (view_of_recorder old) (view_of_recorder new))
+    → HasRecorded hists (deeds_in (Some hist) (kind.Add value count)) (view_of_recorder old) (view_of_recorder new))
 added_so fault old new histogram value count (Err why) answer = tt
 added_so None old new histogram value count (Ok done) answer = λ hists hist named.
     let (knows, rest) = named in
     let (known, means, is, same) = rest in
-    went_adding hists hist known value count (view_of_recorder old) (view_of_recorder new) is same (answer known means)
+    recorded_adding hists hist known value count (view_of_recorder old) (view_of_recorder new) is same (answer known means)
 added_so (Some why) old new histogram value count (Ok done) answer = absurd (cc answer.0)
 
 -- ---- the calls of a worker
 
 pub calls_next : (hists : List HistRecord) (calls : List ScriptCall) (number workers part : ℕ) (x : ScriptCall) (old mid new : Actor) → number < length calls
-    → x ≡ get_or calls number x → WentOn hists (deeds_of hists (part_of workers part (take number calls))) old mid
-    → WentOn hists (deeds_of hists (part_from number workers part (x ∷ []))) mid new
-    → WentOn hists (deeds_of hists (part_of workers part (take (number + 1) calls))) old new
+    → x ≡ get_or calls number x → HasRecorded hists (deeds_of hists (part_of workers part (take number calls))) old mid
+    → HasRecorded hists (deeds_of hists (part_from number workers part (x ∷ []))) mid new
+    → HasRecorded hists (deeds_of hists (part_of workers part (take (number + 1) calls))) old new
 calls_next hists calls number workers part x old mid new below is went one =
     let front : List ScriptCall = take number calls in
     let many : length front ≡ number = length-take-le number calls (omega (arith, below)) in
@@ -221,8 +224,8 @@ calls_next hists calls number workers part x old mid new below is went one =
     ap (part_of workers part) (take_more calls number x below ∙ ap (λ (y : ScriptCall). front ++ y ∷ []) (sym is))
     ∙ (part_append 0 workers part front (x ∷ [])
     ∙ ap (λ n. part_of workers part front ++ part_from n workers part (x ∷ [])) (omega (arith, many))) in
-    subst (λ (l : List Deed). WentOn hists l old new) (sym (ap (deeds_of hists) parts ∙ flat_map-append (deeds_of_call hists) (part_of workers part front) (part_from number workers part (x ∷ []))))
-    (went_twice hists (deeds_of hists (part_of workers part front)) (deeds_of hists (part_from number workers part (x ∷ []))) old mid new went one)
+    subst (λ (l : List Deed). HasRecorded hists l old new) (sym (ap (deeds_of hists) parts ∙ flat_map-append (deeds_of_call hists) (part_of workers part front) (part_from number workers part (x ∷ []))))
+    (recorded_twice hists (deeds_of hists (part_of workers part front)) (deeds_of hists (part_from number workers part (x ∷ []))) old mid new went one)
 
 got_anyway : {X : Type 0} (xs : List X) (i : ℕ) (d e : X) → i < length xs → get_or xs i d ≡ get_or xs i e
 got_anyway [] i d e below = absurd (omega (arith, below))
@@ -231,8 +234,8 @@ got_anyway (x ∷ xs) (suc i) d e below = got_anyway xs i d e (omega (arith, bel
 
 -- the same, where the element is read so
 pub calls_next_at : (hists : List HistRecord) (calls : List ScriptCall) (number workers part : ℕ) (d : ScriptCall) (old mid new : Actor) → number < length calls
-    → WentOn hists (deeds_of hists (part_of workers part (take number calls))) old mid
-    → WentOn hists (deeds_of hists (part_from number workers part (get_or calls number d ∷ []))) mid new
-    → WentOn hists (deeds_of hists (part_of workers part (take (number + 1) calls))) old new
+    → HasRecorded hists (deeds_of hists (part_of workers part (take number calls))) old mid
+    → HasRecorded hists (deeds_of hists (part_from number workers part (get_or calls number d ∷ []))) mid new
+    → HasRecorded hists (deeds_of hists (part_of workers part (take (number + 1) calls))) old new
 calls_next_at hists calls number workers part d old mid new below went one =
     calls_next hists calls number workers part (get_or calls number d) old mid new below (got_anyway calls number d (get_or calls number d) below) went one

@@ -1,12 +1,13 @@
 -- What all workers of a run have recorded, and what their image is read as.
-use Rattle.std.proofs.Common.{◌≡◌, ℕ, ◌+◌, ◌<◌, ◌≤◌, List, [], ◌∷◌, ◌++◌, map, length, get_or, All, Contains, Option, Some, None, IfSome, Ok, Err, Result, IfErr, OnOk, refl, sym, ap, ◌∙◌, subst, arith}
-use Rattle.std.specs.Prelude.{◌+ℤ◌, Bool, true, false, suc, ℤ, pos, if◌then◌else◌, sum_by, fold}
+use Rattle.std.proofs.Common.{◌≡◌, ℕ, ◌+◌, ◌<◌, ◌≤◌, List, [], ◌∷◌, ◌++◌, map, length, get_or, All, Contains, Option, Some, None, IfSome, Ok, Err, Result, IfErr, OnOk, drop, refl, sym, ap, ◌∙◌, subst, arith, append-nil}
+use Rattle.std.specs.Prelude.{◌==◌, ◌%◌, ◌+ℤ◌, Bool, true, false, suc, ℤ, pos, if◌then◌else◌, sum_by, fold}
 use Rattle.std.specs.List.{flat_map, range_with_len}
 use Rattle.std.specs.Str.{bytes_eq}
 use Rattle.std.proofs.lemmas.Slice.Eq.{bytes_eq-Decides}
-use Rattle.std.proofs.lemmas.List.Elements.{filter_map-append}
+use Rattle.std.proofs.lemmas.List.Elements.{All-contains, All-map, filter_map-append}
 use Rattle.std.proofs.lemmas.List.Sums.{sum_by-append}
-use Rattle.std.proofs.lemmas.List.{get_or-map, length-map}
+use Rattle.std.proofs.Math.Seq.{drop-append_seam}
+use Rattle.std.proofs.lemmas.List.{get_or-map, length-map, nil_from_length}
 use Rattle.std.proofs.lemmas.List.Concat.{flat_map-append}
 use Rattle.atomic_table.specs.Seated.{TableId}
 use Rattle.bucket_ranges.specs.Spec.{SameSpec}
@@ -16,14 +17,14 @@ use Rattle.segment_machine.specs.declared.actor.Portion.{Portion}
 use Rattle.segment_machine.specs.declared.actor.Taken.{Taken}
 use Rattle.segment_machine.specs.declared.entry.EntryProgress.{EntryProgress}
 use Rattle.segment_machine.specs.declared.entry.Entry.{Entry}
-use Rattle.segment_machine.specs.Actor.{log_of, outstanding_of, portion_of, taken_of, taken_sum, taken_units, units_listed}
-use Rattle.segment_machine.specs.Seats.{joined}
-use Rattle.segment_machine.specs.Entry.{tally_units, tally_sum, tally_noted}
+use Rattle.segment_machine.specs.Actor.{IsFinal, log_of, made_of, outstanding_of, portion_of, taken_of, taken_sum, taken_units, units_listed}
+use Rattle.segment_machine.specs.Seats.{joined, shifted, shifted_taken}
+use Rattle.segment_machine.specs.Entry.{is_of, tally_units, tally_sum, tally_noted}
 use Rattle.segment_invariant.proofs.Lists.Countings.{units_total, sum_total, noted_total}
 use Rattle.segment_invariant.proofs.Lists.Sums.{IsAddition, IsTotal, numbers, amounts}
 use Rattle.live_segment.specs.declared.recorder.Recorder.{Recorder}
 use Rattle.live_segment.specs.declared.rule.Setting.{Setting}
-use Rattle.live_segment.specs.Closing.{IsImageOf, ReadsJoined}
+use Rattle.live_segment.specs.Closing.{DeltasAddUp, IsImageOf, ReadsJoined}
 use Rattle.live_segment.specs.declared.opener.Opener.{Opener}
 use Rattle.live_segment.specs.declared.segment.Segment.{Segment}
 use Rattle.live_segment.specs.Holders.{IsMadeWith, IsSameOpener, view_of_opener, view_of_recorder}
@@ -34,23 +35,28 @@ use Rattle.persist_report_core.specs.declared.fault.CliFault.{CliFault}
 use Rattle.persist_report_core.specs.Script.{HistRecord, Script, script_of, script_view}
 use Rattle.persist_commands.specs.declared.worker.Ended.{Ended}
 use Rattle.persist_commands.specs.declared.worker.Part.{Part}
-use Rattle.persist_commands.specs.Entries.{Deed, deeds_of, deeds_of_call, delta_in, deltas_among, deltas_of, entries_among, entries_of, entry_in}
-use Rattle.persist_commands.specs.Parts.{part_of}
-use Rattle.persist_commands.specs.Recording.{EndedAt, EndedWell, HandsOut, HasEnded, HasOpened, HasRun, HasWorked, IsAskedIn, IsReady, KnowsOf, WentOn, all_joined, deeds_of_all, deeds_of_part, names_taken, view_of_ended}
+use Rattle.persist_commands.specs.Entries.{Deed, Takes, deeds_of, deeds_of_call, delta_in, deltas_among, deltas_of, entries_among, entries_of, entry_in}
+use Rattle.persist_commands.specs.Parts.{part_from, part_of}
+use Rattle.persist_commands.specs.Recording.{AreOf, EndedAt, EndedWell, HandsOut, HasEnded, HasOpened, HasRun, HasWorked, IsAskedIn, IsReady, KnowsOf, WentOn, all_joined, deeds_of_all, deeds_of_part, names_taken, view_of_ended}
 use Rattle.persist_commands.specs.Run.{IsImageOfRun, IsReportOfImage, IsRunOf}
 use Rattle.persist_commands.specs.Stop.{StopTellsWant}
-use Rattle.persist_commands.proofs.Parts.{parts_add_up}
+use Rattle.persist_commands.proofs.Parts.{part_first, parts_add_up}
 use Rattle.persist_commands.proofs.Went.{Worked, knows_joining_all, outstanding_joining, went_handing, went_joining_all, went_twice}
 
 -- ---- the workers
+
+single : {X : Type 0} (xs : List X) → length xs ≡ 1 → (x : X) × (xs ≡ x ∷ [])
+single [] one = absurd (omega (arith, one))
+single (x ∷ []) one = (x, refl)
+single (x ∷ (y ∷ xs)) one = absurd (omega (arith, one))
 
 one_of : {X : Type 0} (xs : List X) (k : ℕ) → k < length xs → X
 one_of [] k below = absurd (omega (arith, below))
 one_of (x ∷ rest) k below = x
 
-module _ {W : Type 0} (part : W → Part) (has : W → code.Script) (recorder : W → Recorder) (segment : TableId) (script : code.Script) (workers : ℕ)
+module _ {W : Type 0} (part : W → Part) (has : W → code.Script) (recorder : W → Recorder) (segment : TableId) (opener : Actor) (script : code.Script) (workers : ℕ)
     (all : List W) (ended : List Ended)
-    (ready : (k : ℕ) (d : W) → k < length all → IsReady segment script workers k (part (get_or all k d)) (has (get_or all k d)) (recorder (get_or all k d)))
+    (ready : (k : ℕ) (d : W) → k < length all → IsReady segment opener script workers k (part (get_or all k d)) (has (get_or all k d)) (recorder (get_or all k d)))
     (same : length ended ≡ length all)
     (gives : (k : ℕ) (d : W) (e : Ended) → k < length all → HasEnded (has (get_or all k d)) (part (get_or all k d)) (recorder (get_or all k d)) (get_or ended k e)) where
   -- they may be started
@@ -73,13 +79,11 @@ module _ {W : Type 0} (part : W → Part) (has : W → code.Script) (recorder : 
       let here : k < length all = omega (arith, below, same) in
       (gives k (one_of all k here) e here).tells
 
-  worked : (mine : All EndedWell ended) (k : ℕ) (a : Actor) → k < length views → Worked (script_view script).hists (deeds_of_part (script_view script) workers) (0 + k) (get_or views k a)
-  worked mine k a below =
-      let count : length views ≡ length ended = length-map ended view_of_ended in
-      let there : k < length ended = omega (arith, below, count) in
-      let here : k < length all = omega (arith, there, same) in
-      let d = one_of all k here in
-      let e = one_of ended k there in
+  -- each has made all of its calls
+  worked_at : (mine : All EndedWell ended) (k : ℕ) (d : W) (e : Ended) → k < length all
+      → HasWorked (script_view script) workers k (view_of_recorder (recorder (get_or all k d))) (view_of_ended (get_or ended k e))
+  worked_at mine k d e here =
+      let there : k < length ended = omega (arith, here, same) in
       let is = ready k d here in
       let gave = gives k d e here in
       let well : (get_or ended k e).outcome ≡ Ok tt = mine k e there in
@@ -87,16 +91,56 @@ module _ {W : Type 0} (part : W → Part) (has : W → code.Script) (recorder : 
       subst (λ (r : Result (Unit {0}) _). OnOk r (HasWorked (script_view (has (get_or all k d))) (part (get_or all k d)).workers (part (get_or all k d)).part (view_of_recorder (recorder (get_or all k d))) (view_of_ended (get_or ended k e)))) well gave.worked in
       let by_script = subst (λ (s : code.Script). HasWorked (script_view s) (part (get_or all k d)).workers (part (get_or all k d)).part (view_of_recorder (recorder (get_or all k d))) (view_of_ended (get_or ended k e))) is.script_is done in
       let by_workers = subst (λ n. HasWorked (script_view script) n (part (get_or all k d)).part (view_of_recorder (recorder (get_or all k d))) (view_of_ended (get_or ended k e))) is.workers_are by_script in
-      let by_number = subst (λ n. HasWorked (script_view script) workers n (view_of_recorder (recorder (get_or all k d))) (view_of_ended (get_or ended k e))) is.number_is by_workers in
+      subst (λ n. HasWorked (script_view script) workers n (view_of_recorder (recorder (get_or all k d))) (view_of_ended (get_or ended k e))) is.number_is by_workers
+
+  worked : (mine : All EndedWell ended) (k : ℕ) (a : Actor) → k < length views → Worked (script_view script).hists (deeds_of_part (script_view script) workers) (0 + k) (get_or views k a)
+  worked mine k a below =
+      let count : length views ≡ length ended = length-map ended view_of_ended in
+      let there : k < length ended = omega (arith, below, count) in
+      let here : k < length all = omega (arith, there, same) in
+      let d = one_of all k here in
+      let e = one_of ended k there in
+      let did = worked_at mine k d e here in
       let view : get_or views k a ≡ view_of_ended (get_or ended k e) = get_or-map view_of_ended ended k e a there in
       let number : k ≡ 0 + k = omega arith in
       subst (λ n. Worked (script_view script).hists (deeds_of_part (script_view script) workers) n (get_or views k a)) number
       (subst (λ (v : Actor). Worked (script_view script).hists (deeds_of_part (script_view script) workers) k v) (sym view)
-      (view_of_recorder (recorder (get_or all k d)), is.fresh, by_number))
+      (view_of_recorder (recorder (get_or all k d)), (ready k d here).fresh, did.went))
+
+  -- a single one is the youngest, and alone as far as the opener was
+  alone_so : (mid new : Actor) → length all ≡ workers → HandsOut workers opener mid → new ≡ all_joined mid views → All EndedWell ended → workers ≡ 1
+      → opener.deltas.taken ≡ [] → All (λ t. (t.moment.before + 1 ≡ made_of new.role) × (t.moment.outstanding ≡ outstanding_of opener.role)) new.deltas.taken
+  alone_so mid new count hands joins mine one none =
+      let (e, only) = single ended (omega (arith, same, count, one)) in
+      let here : 0 < length all = omega (arith, count, one) in
+      let d = one_of all 0 here in
+      let is = ready 0 d here in
+      let fresh : Actor = view_of_recorder (recorder (get_or all 0 d)) in
+      let last : Actor = view_of_ended e in
+      let did : HasWorked (script_view script) workers 0 fresh last =
+      subst (λ (l : List Ended). HasWorked (script_view script) workers 0 fresh (view_of_ended (get_or l 0 e))) only (worked_at mine 0 d e here) in
+      let own : AreOf fresh.role last.deltas.taken =
+      did.own (subst (AreOf fresh.role) (sym is.fresh.taken) (λ k t below. absurd (omega (arith, below)))) in
+      let new_is : new ≡ joined mid last = joins ∙ ap (λ (l : List Ended). all_joined mid (map view_of_ended l)) only in
+      let n : ℕ = length (log_of mid) in
+      let taken : new.deltas.taken ≡ shifted_taken n last.deltas.taken =
+      ap (λ (a : Actor). a.deltas.taken) new_is
+      ∙ ap (λ (l : List Taken). l ++ shifted_taken n last.deltas.taken) (ap (λ d. d.taken) hands.deltas ∙ none) in
+      let made : made_of new.role ≡ made_of mid.role = ap (λ (a : Actor). made_of a.role) new_is in
+      let more = hands.made in
+      let before = is.before in
+      let outstanding = is.outstanding in
+      let P : Taken → Type 0 = λ t. (t.moment.before + 1 ≡ made_of new.role) × (t.moment.outstanding ≡ outstanding_of opener.role) in
+      subst (All P) (sym taken)
+      (All-map P (λ (t : Taken). record t { moment = shifted n t.moment }) last.deltas.taken (λ k t below.
+      let mine_is = (own k t below).0 in
+      let alone_is = (own k t below).1 in
+      (omega (arith, mine_is, before, made, more, one), omega (arith, alone_is, outstanding))))
 
   -- all have made their calls, and are joined
-  pub has_run : (old mid new : Actor) → length all ≡ workers → HandsOut workers old mid → new ≡ all_joined mid views → All EndedWell ended → HasRun (script_view script) workers old new
-  has_run old mid new count hands joins mine =
+  pub has_run : (mid new : Actor) → length all ≡ workers → HandsOut workers opener mid → new ≡ all_joined mid views → All EndedWell ended → HasRun (script_view script) workers opener new
+  has_run mid new count hands joins mine =
+      let old : Actor = opener in
       let hists = (script_view script).hists in
       let many : length views ≡ workers = length-map ended view_of_ended ∙ (same ∙ count) in
       let together : WentOn hists (flat_map (deeds_of_part (script_view script) workers) (range_with_len 0 (length views))) mid (all_joined mid views) =
@@ -111,7 +155,24 @@ module _ {W : Type 0} (part : W → Part) (has : W → code.Script) (recorder : 
             let out = outstanding_joining mid views in
             let after : outstanding_of new.role ≡ outstanding_of (all_joined mid views).role = ap (λ (a : Actor). outstanding_of a.role) joins in
             let before = hands.outstanding in omega (arith, out, after, before, many);
+        alone = alone_so mid new count hands joins mine;
       }
+
+-- ---- one worker alone
+
+-- each number leaves 0 when it is divided by 1
+leaves_none : (n : ℕ) → (n % 1 == 0) ≡ true
+leaves_none n = let none : n % 1 ≡ 0 = omega arith in subst (λ (m : ℕ). (m == 0) ≡ true) (sym none) refl
+
+all_in_one : {X : Type 0} (first : ℕ) (xs : List X) → part_from first 1 0 xs ≡ xs
+all_in_one first [] = refl
+all_in_one first (x ∷ xs) = part_first first 1 0 x xs true (leaves_none first) ∙ ap (λ l. x ∷ l) (all_in_one (first + 1) xs)
+
+-- it does all deeds of the script
+does_all : (script : Script) (workers : ℕ) → workers ≡ 1 → deeds_of_all script workers ≡ deeds_of script.hists script.calls
+does_all script workers one =
+    ap (deeds_of_all script) one
+    ∙ (append-nil (deeds_of script.hists (part_of 1 0 script.calls)) ∙ ap (deeds_of script.hists) (all_in_one 0 script.calls))
 
 -- ---- the tally
 
@@ -191,12 +252,27 @@ takes_none name key (t ∷ taken) none = by (takes_none name key taken) (bytes_e
 
 -- ---- the image
 
+-- a delta is a final one, behind which nothing of its name stands in the log
+final_behind : (ran : Actor) (front behind : List Deed) (name : List ℕ) (t : Taken) → log_of ran ≡ entries_among (front ++ Takes name ∷ behind)
+    → t.name ≡ name → t.moment.log ≡ length (entries_among front) → t.moment.outstanding ≡ 0 → t.moment.before + 1 ≡ made_of ran.role
+    → All (λ entry. is_of name entry ≡ false) (entries_among behind) → IsFinal (made_of ran.role) (log_of ran) t.name t.moment
+final_behind ran front behind name t log named begun alone youngest quiet =
+    let parts : log_of ran ≡ entries_among front ++ entries_among behind = log ∙ filter_map-append entry_in front (Takes name ∷ behind) in
+    let rest : drop t.moment.log (log_of ran) ≡ entries_among behind =
+    (λ i. drop (begun i) (parts i)) ∙ drop-append_seam (entries_among front) (entries_among behind) in record {
+      alone = alone;
+      youngest = youngest;
+      quiet = subst (λ (l : List Entry). All (λ entry. is_of t.name entry ≡ false) l) (sym rest)
+          (subst (λ (n : List ℕ). All (λ entry. is_of n entry ≡ false) (entries_among behind)) (sym named) quiet);
+    }
+
 -- the image of a segment in which a script was run
 pub is_image_of_run : (script : Script) (workers : ℕ) (setting : Setting) (opened ran : Actor) (words : List ℕ) → 0 < workers
     → setting.shape ≡ script.shape → setting.version ≡ 2 → setting.id ≡ script.id
     → HasOpened script.hists (first_view setting) opened → HasRun script workers opened ran
-    → IsImageOf setting words → (outstanding_of ran.role ≡ 0 → ReadsJoined setting ran words) → IsImageOfRun script words
-is_image_of_run script workers setting opened ran words some shape version id opens runs image joined =
+    → IsImageOf setting words → (outstanding_of ran.role ≡ 0 → ReadsJoined setting ran words) → (outstanding_of ran.role ≡ 0 → DeltasAddUp ran)
+    → IsImageOfRun script workers words
+is_image_of_run script workers setting opened ran words some shape version id opens runs image joined deltas =
     let first : Actor = first_view setting in
     let went = went_twice script.hists [] (deeds_of_all script workers) first opened ran opens.went runs.recorded in
     let outstanding : outstanding_of ran.role ≡ 0 = runs.back ∙ opens.back in
@@ -260,6 +336,22 @@ is_image_of_run script workers setting opened ran words some shape version id op
                   sum_mark = tally.sum_mark
                       ∙ (ap (λ (l : List Portion). taken_sum l h.name) portions ∙ (takes_none h.name (pos 0) ran.deltas.taken count).1);
                 };
+            taken = λ one h there ends.
+                let tally = read.tallies h there in
+                let deeds : deeds_of_all script workers ≡ ends.front ++ Takes h.name ∷ ends.behind = does_all script workers one ∙ ends.split in
+                let (t, among, named, begun) = went.deltas ends.front ends.behind h.name deeds in
+                let names : length (names_taken opened) ≡ 0 = ap length opens.went.took in
+                let none : opened.deltas.taken ≡ [] =
+                nil_from_length opened.deltas.taken (omega (arith, names, length-map opened.deltas.taken (λ (t : Taken). t.name))) in
+                let (youngest, alone) = All-contains (λ (t : Taken). (t.moment.before + 1 ≡ made_of ran.role) × (t.moment.outstanding ≡ outstanding_of opened.role))
+                ran.deltas.taken t (runs.alone one none) among in
+                let (units, sum) = deltas outstanding t among
+                (final_behind ran ends.front ends.behind h.name t (log ∙ ap entries_among deeds) named (omega (arith, begun)) (alone ∙ opens.back) youngest ends.quiet) in record {
+                  marks = λ key. tally.marks key
+                      ∙ (subst (λ (name : List ℕ). taken_units (taken_of ran) name key ≡ tally_units (log_of ran) name key) named (units key) ∙ sym (tally.units key));
+                  sum_mark = tally.sum_mark
+                      ∙ (subst (λ (name : List ℕ). taken_sum (taken_of ran) name ≡ tally_sum (log_of ran) name) named sum ∙ sym tally.sum);
+                };
           };
     }
 
@@ -281,20 +373,20 @@ where_well (Err why) f a = tt
 where_well (Ok done) f a = f a
 
 -- what a run that ended well has written
-pub written_so : (r : Result (Unit {0}) CliFault) (remaining : Option (List ℕ)) (script : code.Script) (image words again text : List ℕ) (A B : List ℕ → Type 0)
+pub written_so : (r : Result (Unit {0}) CliFault) (remaining : Option (List ℕ)) (script : code.Script) (workers : ℕ) (image words again text : List ℕ) (A B : List ℕ → Type 0)
     → OnOk r (A again) → OnOk r (B text) → IfSome remaining (λ bytes. (length bytes ≤ 16777216) × (script_of 4294967295 bytes ≡ Ok (script_view script)))
-    → IsImageOfRun (script_view script) image → IsReportOfImage words text → words ≡ image → again ≡ image
-    → OnOk r (IfSome remaining (λ bytes. (words : List ℕ) × (text : List ℕ) × IsRunOf bytes words text × A words × B text))
-written_so (Err why) remaining script image words again text A B a b is run report one two = tt
-written_so (Ok done) None script image words again text A B a b is run report one two = tt
-written_so (Ok done) (Some bytes) script image words again text A B a b is run report one two = (
+    → IsImageOfRun (script_view script) workers image → IsReportOfImage words text → words ≡ image → again ≡ image
+    → OnOk r (IfSome remaining (λ bytes. (words : List ℕ) × (text : List ℕ) × IsRunOf workers bytes words text × A words × B text))
+written_so (Err why) remaining script workers image words again text A B a b is run report one two = tt
+written_so (Ok done) None script workers image words again text A B a b is run report one two = tt
+written_so (Ok done) (Some bytes) script workers image words again text A B a b is run report one two = (
   again,
   text,
   record {
     few = is.0;
     script = script_view script;
     script_is = is.1;
-    image = subst (IsImageOfRun (script_view script)) (sym two) run;
+    image = subst (IsImageOfRun (script_view script) workers) (sym two) run;
     report = subst (λ (l : List ℕ). IsReportOfImage l text) (one ∙ sym two) report;
   },
   a,

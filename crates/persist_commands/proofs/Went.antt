@@ -1,7 +1,7 @@
 -- How recorders and openers go on, step by step.
-use Rattle.std.proofs.Common.{◌≡◌, ℕ, suc, ◌+◌, ◌-◌, ◌<◌, Bool, true, false, ◌||◌, ℤ, List, [], ◌∷◌, ◌++◌, map, length, slice_index_or, All, Contains, Some, inl, inr, refl, sym, ap, ◌∙◌, subst, arith, append_assoc, append-nil}
+use Rattle.std.proofs.Common.{◌≡◌, ℕ, suc, ◌+◌, ◌-◌, ◌<◌, Bool, true, false, ◌||◌, ℤ, List, [], ◌∷◌, ◌++◌, map, length, slice_index_or, All, Contains, Some, ◌⊎◌, ⊎_elim, inl, inr, refl, sym, ap, ◌∙◌, subst, arith, append_assoc, append-nil}
 use Rattle.std.specs.List.{flat_map, range_with_len}
-use Rattle.std.proofs.lemmas.List.{map-append}
+use Rattle.std.proofs.lemmas.List.{length-append, map-append}
 use Rattle.std.proofs.lemmas.List.Elements.{All-append, All-cons, Contains-append_left, Contains-append_right, filter_map-append}
 use Rattle.bucket_ranges.specs.Spec.{SameSpec}
 use Rattle.bucket_ranges.specs.declared.spec.Spec.{Spec}
@@ -10,18 +10,46 @@ use Rattle.segment_machine.specs.declared.actor.Known.{Known}
 use Rattle.segment_machine.specs.declared.actor.Taken.{Taken}
 use Rattle.segment_machine.specs.declared.entry.EntryProgress.{EntryProgress}
 use Rattle.segment_machine.specs.declared.entry.Entry.{Entry}
-use Rattle.segment_machine.specs.Actor.{log_of, outstanding_of}
+use Rattle.segment_machine.specs.declared.actor.Role.{Role}
+use Rattle.segment_machine.specs.Actor.{log_of, made_of, outstanding_of}
 use Rattle.segment_machine.specs.Entry.{sample_entry}
-use Rattle.segment_machine.specs.Seats.{joined, shifted_taken}
+use Rattle.segment_machine.specs.Seats.{joined, shifted, shifted_taken}
 use Rattle.segment_invariant.proofs.Consistency.Keys.{same_boundaries}
+use Rattle.segment_invariant.proofs.Lists.Maps.{contains_map}
 use Rattle.live_segment.specs.declared.recorder.Hist.{Hist}
 use Rattle.live_segment.specs.Adding.{IsAdded}
 use Rattle.live_segment.specs.Deltas.{HasTaken, taken_as}
 use Rattle.live_segment.specs.Hist.{IsAnsweredWith}
 use Rattle.persist_report_core.specs.declared.script.CallKind.TheVariants as kind
 use Rattle.persist_report_core.specs.Script.{HistRecord}
-use Rattle.persist_commands.specs.Entries.{Deed, deeds_in, delta_in, deltas_among, entries_among, entry_in}
-use Rattle.persist_commands.specs.Recording.{HandsOut, IsAskedIn, IsFresh, KnowsOf, WentOn, all_joined, names_taken}
+use Rattle.bucket_ranges.specs.Ranges.{boundaries_of}
+use Rattle.persist_commands.specs.Entries.{Deed, Records, Takes, deeds_in, delta_in, deltas_among, entries_among, entry_in}
+use Rattle.persist_commands.specs.Recording.{AreOf, HandsOut, HasRecorded, IsAskedIn, IsFresh, KnowsOf, WentOn, all_joined, names_taken}
+
+-- ---- deeds among deeds
+
+-- no deeds have none
+none_among : (front behind : List Deed) (deed : Deed) → [] ≡ front ++ deed ∷ behind → ⊥
+none_among [] behind deed is = cc is
+none_among (x ∷ front) behind deed is = cc is
+
+-- one deed is the only one
+one_among : (front behind : List Deed) (one deed : Deed) → one ∷ [] ≡ front ++ deed ∷ behind → (front ≡ []) × (one ≡ deed)
+one_among [] behind one deed is = (refl, cc is)
+one_among (x ∷ front) behind one deed is = absurd (none_among front behind deed (cc is))
+
+-- one of two lists of deeds stands in the first or in the second
+in_either : (xs ys front behind : List Deed) (deed : Deed) → xs ++ ys ≡ front ++ deed ∷ behind
+    → ((more : List Deed) × (xs ≡ front ++ deed ∷ more)) ⊎ ((back : List Deed) × (front ≡ xs ++ back) × (ys ≡ back ++ deed ∷ behind))
+in_either [] ys front behind deed is = inr (front, refl, is)
+in_either (x ∷ xs) ys [] behind deed is = let same : x ≡ deed = cc is in inl (xs, ap (λ (d : Deed). d ∷ xs) same)
+in_either (x ∷ xs) ys (y ∷ front) behind deed is =
+    let same : x ≡ y = cc is in
+    let rest : xs ++ ys ≡ front ++ deed ∷ behind = cc is in
+    ⊎_elim
+    (λ first. inl (first.0, λ i. same i ∷ first.1 i))
+    (λ second. inr (second.0, (λ i. sym same i ∷ second.1 i), second.2))
+    (in_either xs ys front behind deed rest)
 
 -- ---- one after the other
 
@@ -31,6 +59,8 @@ went_nowhere hists old new still = record {
   logged = ap log_of still ∙ sym (append-nil (log_of old));
   first_taken = ap (λ (a : Actor). a.deltas.first_taken) still;
   took = ap names_taken still ∙ sym (append-nil (names_taken old));
+  kept = subst (λ (a : Actor). (t : Taken) → Contains old.deltas.taken t → Contains a.deltas.taken t) (sym still) (λ t has. has);
+  deltas = λ front behind name is. absurd (none_among front behind (Takes name) is);
   names = subst (λ (a : Actor). All (IsAskedIn hists) old.answers.names → All (IsAskedIn hists) a.answers.names) (sym still) (λ all. all);
   spoiled = ap (λ (a : Actor). a.done.spoiled) still;
   filled = ap (λ (a : Actor). a.done.filled) still;
@@ -48,6 +78,17 @@ went_twice hists xs ys a b c one two = record {
       ∙ (ap (λ (l : List (List ℕ)). l ++ deltas_among ys) one.took
       ∙ (append_assoc (names_taken a) (deltas_among xs) (deltas_among ys)
       ∙ ap (λ (l : List (List ℕ)). names_taken a ++ l) (sym (filter_map-append delta_in xs ys))));
+  kept = λ t has. two.kept t (one.kept t has);
+  deltas = λ front behind name is. ⊎_elim
+      (λ first.
+      let (t, has, named, log) = one.deltas front first.0 name first.1 in (t, two.kept t has, named, log))
+      (λ second.
+      let (t, has, named, log) = two.deltas second.0 behind name second.2 in
+      let before = ap length one.logged ∙ length-append (log_of a) (entries_among xs) in
+      let all = ap (λ (deeds : List Deed). length (entries_among deeds)) second.1 ∙ ap length (filter_map-append entry_in xs second.0) in
+      let both = length-append (entries_among xs) (entries_among second.0) in
+      (t, has, named, omega (arith, log, before, all, both)))
+      (in_either xs ys front behind (Takes name) is);
   names = λ all. two.names (one.names all);
   spoiled = two.spoiled ∙ one.spoiled;
   filled = two.filled ∙ one.filled;
@@ -60,6 +101,8 @@ went_handing hists n old new hands = record {
   logged = ap (λ e. e.first ++ map (λ (c : EntryProgress). c.entry) e.log) hands.entries ∙ sym (append-nil (log_of old));
   first_taken = ap (λ d. d.first_taken) hands.deltas;
   took = ap (λ d. map (λ (t : Taken). t.name) d.taken) hands.deltas ∙ sym (append-nil (names_taken old));
+  kept = subst (λ d. (t : Taken) → Contains old.deltas.taken t → Contains d.taken t) (sym hands.deltas) (λ t has. has);
+  deltas = λ front behind name is. absurd (none_among front behind (Takes name) is);
   names = subst (λ a. All (IsAskedIn hists) old.answers.names → All (IsAskedIn hists) a.names) (sym hands.answers) (λ all. all);
   spoiled = ap (λ d. d.spoiled) hands.done;
   filled = ap (λ d. d.filled) hands.done;
@@ -85,6 +128,8 @@ went_asking hists hist histogram old new has (inr comes_to) =
       logged = ap (λ e. e.first ++ map (λ (c : EntryProgress). c.entry) e.log) entries ∙ sym (append-nil (log_of old));
       first_taken = ap (λ d. d.first_taken) deltas;
       took = ap (λ d. map (λ (t : Taken). t.name) d.taken) deltas ∙ sym (append-nil (names_taken old));
+      kept = subst (λ d. (t : Taken) → Contains old.deltas.taken t → Contains d.taken t) (sym deltas) (λ t has. has);
+      deltas = λ front behind name is. absurd (none_among front behind (Takes name) is);
       names = λ all. subst (All (IsAskedIn hists)) (sym names)
           (All-append (IsAskedIn hists) old.answers.names (record { name = asked.name.items; spec = asked.spec; reference = reference } ∷ []) all
           (All-cons (IsAskedIn hists) (record { name = asked.name.items; spec = asked.spec; reference = reference }) [] mine (λ k d below. absurd (omega (arith, below)))));
@@ -102,6 +147,10 @@ went_adding hists hist known value count old new named same added =
           ∙ (λ i. log_of old ++ sample_entry (named i) (same_boundaries known.spec hist.spec same i) (value, count) ∷ []);
       first_taken = ap (λ (a : Actor). a.deltas.first_taken) on.same;
       took = ap names_taken on.same ∙ sym (append-nil (names_taken old));
+      kept = subst (λ (a : Actor). (t : Taken) → Contains old.deltas.taken t → Contains a.deltas.taken t) (sym on.same) (λ t has. has);
+      deltas = λ front behind name is.
+          let apart : Records (sample_entry hist.name (boundaries_of hist.spec) (value, count)) ≡ Takes name =
+          (one_among front behind (Records (sample_entry hist.name (boundaries_of hist.spec) (value, count))) (Takes name) is).1 in absurd (cc apart);
       names = subst (λ (l : List Known). All (IsAskedIn hists) old.answers.names → All (IsAskedIn hists) l) (sym (ap (λ (a : Actor). a.answers.names) on.same)) (λ all. all);
       spoiled = ap (λ d. d.spoiled) on.done.same;
       filled = added.filled;
@@ -117,9 +166,72 @@ went_taking hists hist known counts sum old new named taken = record {
   took = ap names_taken taken.same
       ∙ (map-append (λ (t : Taken). t.name) old.deltas.taken (taken_as old known taken.counts sum ∷ [])
       ∙ ap (λ (name : List ℕ). names_taken old ++ name ∷ []) named);
+  kept = λ t has. subst (λ (l : List Taken). Contains l t) (sym (ap (λ (a : Actor). a.deltas.taken) taken.same))
+      (Contains-append_left old.deltas.taken (taken_as old known taken.counts sum ∷ []) t has);
+  deltas = λ front behind name is.
+      let (none, same) = one_among front behind (Takes hist.name) (Takes name) is in
+      let called : hist.name ≡ name = cc same in
+      let nothing : length (entries_among front) ≡ 0 = ap (λ (deeds : List Deed). length (entries_among deeds)) none in (
+        taken_as old known taken.counts sum,
+        subst (λ (l : List Taken). Contains l (taken_as old known taken.counts sum)) (sym (ap (λ (a : Actor). a.deltas.taken) taken.same))
+            (Contains-append_right old.deltas.taken (taken_as old known taken.counts sum ∷ []) (taken_as old known taken.counts sum) (0, omega arith, refl)),
+        named ∙ called,
+        omega (arith, nothing),
+      );
   names = subst (λ (l : List Known). All (IsAskedIn hists) old.answers.names → All (IsAskedIn hists) l) (sym (ap (λ (a : Actor). a.answers.names) taken.same)) (λ all. all);
   spoiled = ap (λ (a : Actor). a.done.spoiled) taken.same;
   filled = ap (λ (a : Actor). a.done.filled) taken.same;
+}
+
+-- ---- a recorder is who it was
+
+pub recorded_nowhere : (hists : List HistRecord) (a : Actor) → HasRecorded hists [] a a
+recorded_nowhere hists a = record { went = went_nowhere hists a a refl; role = refl; own = λ all. all }
+
+pub recorded_twice : (hists : List HistRecord) (xs ys : List Deed) (a b c : Actor) → HasRecorded hists xs a b → HasRecorded hists ys b c → HasRecorded hists (xs ++ ys) a c
+recorded_twice hists xs ys a b c one two = record {
+  went = went_twice hists xs ys a b c one.went two.went;
+  role = two.role ∙ one.role;
+  own = λ all.
+      subst (λ (r : Role). AreOf r c.deltas.taken) one.role
+      (two.own (subst (λ (r : Role). AreOf r b.deltas.taken) (sym one.role) (one.own all)));
+}
+
+-- where it took no delta
+recorded_still : (hists : List HistRecord) (deeds : List Deed) (old new : Actor) → WentOn hists deeds old new → new.role ≡ old.role → new.deltas.taken ≡ old.deltas.taken
+    → HasRecorded hists deeds old new
+recorded_still hists deeds old new went role taken = record { went = went; role = role; own = subst (λ (l : List Taken). AreOf old.role old.deltas.taken → AreOf old.role l) (sym taken) (λ all. all) }
+
+pub recorded_asking : (hists : List HistRecord) (hist : HistRecord) (histogram : Hist) (old new : Actor) → Contains hists hist
+    → IsAnsweredWith hist.name hist.spec histogram old new → HasRecorded hists [] old new
+recorded_asking hists hist histogram old new has answer =
+    let (role, taken) = same_by answer in recorded_still hists [] old new (went_asking hists hist histogram old new has answer) role taken
+  where
+    same_by : IsAnsweredWith hist.name hist.spec histogram old new → (new.role ≡ old.role) × (new.deltas.taken ≡ old.deltas.taken)
+    same_by (inl (known, named, same, may, still)) = (ap (λ (a : Actor). a.role) still, ap (λ (a : Actor). a.deltas.taken) still)
+    same_by (inr (none, at, (asked, reference, is_asked, comes))) =
+        let looks = comes.looks in (
+          ap (λ (a : Actor). a.role) comes.view ∙ ap (λ (a : Actor). a.role) looks.same,
+          ap (λ (a : Actor). a.deltas.taken) comes.view ∙ ap (λ (a : Actor). a.deltas.taken) looks.same,
+        )
+
+pub recorded_adding : (hists : List HistRecord) (hist : HistRecord) (known : Known) (value : ℤ) (count : ℕ) (old new : Actor) → known.name ≡ hist.name
+    → SameSpec known.spec hist.spec → IsAdded known value count old new → HasRecorded hists (deeds_in (Some hist) (kind.Add value count)) old new
+recorded_adding hists hist known value count old new named same added =
+    let on = added.onward in
+    recorded_still hists (deeds_in (Some hist) (kind.Add value count)) old new (went_adding hists hist known value count old new named same added)
+    (ap (λ (a : Actor). a.role) on.same) (ap (λ (a : Actor). a.deltas.taken) on.same)
+
+pub recorded_taking : (hists : List HistRecord) (hist : HistRecord) (known : Known) (counts : List (ℤ × ℕ)) (sum : ℤ) (old new : Actor) → known.name ≡ hist.name
+    → HasTaken known counts sum old new → HasRecorded hists (deeds_in (Some hist) kind.Delta) old new
+recorded_taking hists hist known counts sum old new named taken = record {
+  went = went_taking hists hist known counts sum old new named taken;
+  role = ap (λ (a : Actor). a.role) taken.same;
+  own = λ all.
+      let mine : Taken = taken_as old known taken.counts sum in
+      let own : Taken → Type 0 = λ t. (t.moment.before ≡ made_of old.role) × (t.moment.outstanding ≡ outstanding_of old.role) in
+      subst (AreOf old.role) (sym (ap (λ (a : Actor). a.deltas.taken) taken.same))
+      (All-append own old.deltas.taken (mine ∷ []) all (All-cons own mine [] (refl, refl) (λ k d below. absurd (omega (arith, below)))));
 }
 
 -- ---- joins
@@ -151,6 +263,17 @@ went_joining hists deeds opener fresh recorder is went =
       first_taken = refl;
       took = map-append name opener.deltas.taken (shifted_taken (length (log_of opener)) recorder.deltas.taken)
           ∙ ap (λ (l : List (List ℕ)). names_taken opener ++ l) (names_shifted (length (log_of opener)) recorder.deltas.taken ∙ took);
+      kept = λ t has. Contains-append_left opener.deltas.taken (shifted_taken (length (log_of opener)) recorder.deltas.taken) t has;
+      deltas = λ front behind name split.
+          let (t, has, named, log) = went.deltas front behind name split in
+          let later : Taken = record t { moment = shifted (length (log_of opener)) t.moment } in
+          let empty = ap length begun in (
+            later,
+            Contains-append_right opener.deltas.taken (shifted_taken (length (log_of opener)) recorder.deltas.taken) later
+                (contains_map (λ (t : Taken). record t { moment = shifted (length (log_of opener)) t.moment }) recorder.deltas.taken t has),
+            named,
+            omega (arith, log, empty),
+          );
       names = λ all. All-append (IsAskedIn hists) opener.answers.names recorder.answers.names all
           (went.names (subst (All (IsAskedIn hists)) (sym is.names) (λ k d below. absurd (omega (arith, below)))));
       spoiled = unset opener.done.spoiled recorder.done.spoiled (went.spoiled ∙ is.spoiled);

@@ -1,11 +1,13 @@
 -- What the recorders of a run have done.
-use Rattle.std.specs.Prelude.{◌≡◌, false, ℕ, ◌+◌, List, [], ◌∷◌, ◌++◌, map, slice_get, Option, Some, Ok, IfErr, OnOk}
+use Rattle.std.specs.Prelude.{◌≡◌, false, ℕ, ◌+◌, List, [], ◌∷◌, ◌++◌, map, length, slice_get, Option, Some, Ok, IfErr, OnOk}
 use Rattle.std.specs.List.{All, Contains, flat_map, range_with_len}
 use Rattle.atomic_table.specs.Seated.{TableId}
 use Rattle.bucket_ranges.specs.Spec.{SameSpec}
 use Rattle.segment_machine.specs.declared.actor.Actor.{Actor}
 use Rattle.segment_machine.specs.declared.actor.Known.{Known}
-use Rattle.segment_machine.specs.Actor.{log_of, outstanding_of}
+use Rattle.segment_machine.specs.declared.actor.Role.{Role}
+use Rattle.segment_machine.specs.declared.actor.Taken.{Taken}
+use Rattle.segment_machine.specs.Actor.{log_of, made_of, outstanding_of}
 use Rattle.segment_machine.specs.Seats.{joined}
 use Rattle.live_segment.specs.declared.recorder.Hist.{Hist}
 use Rattle.live_segment.specs.declared.recorder.Recorder.{Recorder}
@@ -15,7 +17,7 @@ use Rattle.persist_report_core.specs.declared.script.Script as code
 use Rattle.persist_report_core.specs.Script.{HistRecord, Script, script_view}
 use Rattle.persist_commands.specs.declared.worker.Part.{Part}
 use Rattle.persist_commands.specs.declared.worker.Ended.{Ended}
-use Rattle.persist_commands.specs.Entries.{Deed, deeds_of, deltas_among, entries_among}
+use Rattle.persist_commands.specs.Entries.{Deed, Takes, deeds_of, deltas_among, entries_among}
 use Rattle.persist_commands.specs.Parts.{part_of}
 use Rattle.persist_commands.specs.Stop.{StopTellsWant}
 
@@ -39,16 +41,33 @@ IsAskedIn hists known = (hist : HistRecord) × Contains hists hist × (known.nam
 abbrev pub names_taken : Actor → List (List ℕ)
 names_taken a = map (λ t. t.name) a.deltas.taken
 
+-- it has taken a delta of a name, which began when so many entries stood in its log
+abbrev pub HasDelta : List ℕ → ℕ → Actor → Type 0
+HasDelta name entries a = (t : Taken) × Contains a.deltas.taken t × (t.name ≡ name) × (t.moment.log ≡ entries)
+
+-- deltas began at a recorder of this role
+abbrev pub AreOf : Role → List Taken → Type 0
+AreOf role taken = All (λ t. (t.moment.before ≡ made_of role) × (t.moment.outstanding ≡ outstanding_of role)) taken
+
 -- A recorder, or an opener, has gone on and done these deeds: the entries stand at the end of its log, and the deltas behind those that it
--- had taken. All histograms that it came to know are those of `hist` records, and it has set no flag.
+-- had taken, each with what stood in the log when it began. All histograms that it came to know are those of `hist` records, and it has set no flag.
 pub record WentOn (hists : List HistRecord) (deeds : List Deed) (old new : Actor) : Type 0 where
   pub first : new.entries.first ≡ old.entries.first
   pub logged : log_of new ≡ log_of old ++ entries_among deeds
   pub first_taken : new.deltas.first_taken ≡ old.deltas.first_taken
   pub took : names_taken new ≡ names_taken old ++ deltas_among deeds
+  pub kept : (t : Taken) → Contains old.deltas.taken t → Contains new.deltas.taken t
+  pub deltas : (front behind : List Deed) (name : List ℕ) → deeds ≡ front ++ Takes name ∷ behind
+      → HasDelta name (length (log_of old) + length (entries_among front)) new
   pub names : All (IsAskedIn hists) old.answers.names → All (IsAskedIn hists) new.answers.names
   pub spoiled : new.done.spoiled ≡ old.done.spoiled
   pub filled : new.done.filled ≡ old.done.filled
+
+-- a recorder has gone on so, and is who it was: each delta that it took is its own
+pub record HasRecorded (hists : List HistRecord) (deeds : List Deed) (old new : Actor) : Type 0 where
+  pub went : WentOn hists deeds old new
+  pub role : new.role ≡ old.role
+  pub own : AreOf old.role old.deltas.taken → AreOf old.role new.deltas.taken
 
 -- it knows the histogram of a `hist` record
 abbrev pub KnowsOf : Actor → HistRecord → Type 0
@@ -71,6 +90,7 @@ pub record HandsOut (recorders : ℕ) (old new : Actor) : Type 0 where
   pub answers : new.answers ≡ old.answers
   pub done : new.done ≡ old.done
   pub deltas : new.deltas ≡ old.deltas
+  pub made : made_of new.role ≡ made_of old.role + recorders
   pub outstanding : outstanding_of new.role ≡ outstanding_of old.role + recorders
 
 -- the histograms of `hist` records were made, by a recorder that is joined
@@ -87,15 +107,18 @@ deeds_of_part script workers part = deeds_of script.hists (part_of workers part 
 
 -- a worker has made all of its calls
 abbrev pub HasWorked : Script → ℕ → ℕ → Actor → Actor → Type 0
-HasWorked script workers part old new = WentOn script.hists (deeds_of_part script workers part) old new
+HasWorked script workers part old new = HasRecorded script.hists (deeds_of_part script workers part) old new
 
--- a worker that is to be started: its number, the script, and a recorder of a segment that has done nothing
-pub record IsReady (segment : TableId) (script : code.Script) (workers number : ℕ) (part : Part) (has : code.Script) (recorder : Recorder) : Type 0 where
+-- a worker that is to be started: its number, the script, and a recorder of a segment that has done nothing; so many were made before it
+-- and are outstanding, beside those that its opener had made
+pub record IsReady (segment : TableId) (opener : Actor) (script : code.Script) (workers number : ℕ) (part : Part) (has : code.Script) (recorder : Recorder) : Type 0 where
   pub number_is : part.part ≡ number
   pub workers_are : part.workers ≡ workers
   pub script_is : has ≡ script
   pub at : recorder.seat.table_id ≡ segment
   pub fresh : IsFresh (view_of_recorder recorder)
+  pub before : made_of (view_of_recorder recorder).role ≡ made_of opener.role + number
+  pub outstanding : outstanding_of (view_of_recorder recorder).role ≡ outstanding_of opener.role + number
 
 -- a worker that was started has ended: its recorder is of the same segment, and where it ended well it has made all of its calls; else it
 -- tells want of memory as such
@@ -127,8 +150,11 @@ all_joined opener (recorder ∷ rest) = all_joined (joined opener recorder) rest
 abbrev pub deeds_of_all : Script → ℕ → List Deed
 deeds_of_all script workers = flat_map (deeds_of_part script workers) (range_with_len 0 workers)
 
--- the calls of a script were made by so many workers, whose recorders are joined
+-- The calls of a script were made by so many workers, whose recorders are joined. Of a single one each delta is that of the youngest recorder, made
+-- when no more were outstanding than before.
 pub record HasRun (script : Script) (workers : ℕ) (old new : Actor) : Type 0 where
   pub recorded : WentOn script.hists (deeds_of_all script workers) old new
   pub knows : All (KnowsOf old) script.hists → All (KnowsOf new) script.hists
   pub back : outstanding_of new.role ≡ outstanding_of old.role
+  pub alone : workers ≡ 1 → old.deltas.taken ≡ []
+      → All (λ t. (t.moment.before + 1 ≡ made_of new.role) × (t.moment.outstanding ≡ outstanding_of old.role)) new.deltas.taken

@@ -1,14 +1,14 @@
 -- What a script that was run leaves.
-use Rattle.std.specs.Prelude.{◌≡◌, ◌↔◌, ◌<◌, ◌≤◌, false, ℕ, ℤ, List, length, Ok, MatchResult, ⊤}
-use Rattle.std.specs.List.{Contains}
+use Rattle.std.specs.Prelude.{◌≡◌, ◌↔◌, ◌<◌, ◌≤◌, false, ℕ, ℤ, List, ◌∷◌, ◌++◌, length, Ok, MatchResult, ⊤}
+use Rattle.std.specs.List.{All, Contains}
 use mathlib.Core.Option.{some}
 use lib.ListN.{get_elem?}
 use Rattle.segment_image.specs.Head.{header_of, head_of}
 use Rattle.bucket_ranges.specs.Spec.{SameSpec}
 use Rattle.bucket_ranges.specs.Reading.{Histogram, Reading, IsReading}
 use Rattle.segment_machine.specs.declared.entry.Entry.{Entry}
-use Rattle.segment_machine.specs.Entry.{tally_units, tally_sum, tally_noted}
-use Rattle.segment_promises.specs.Reads.{units_read, HasNoFault}
+use Rattle.segment_machine.specs.Entry.{is_of, tally_units, tally_sum, tally_noted}
+use Rattle.segment_promises.specs.Reads.{mark_read, units_read, HasNoFault}
 use Rattle.segment_merge.specs.Image.{HasNoMarks}
 use Rattle.segment_calls.specs.declared.refusal.Refusal.TheVariants as refusal
 use Rattle.persist_report_core.specs.declared.fault.CliFault.{CliFault}
@@ -17,7 +17,7 @@ use Rattle.persist_report_core.specs.declared.script.fault.ScriptFault.{ScriptFa
 use Rattle.persist_report_core.specs.declared.script.fault.ScriptFault.TheVariants as told
 use Rattle.persist_report_core.specs.Script.{HistRecord, Script, script_of}
 use Rattle.persist_report_core.specs.Text.{IsTextOf}
-use Rattle.persist_commands.specs.Entries.{deltas_of, entries_of}
+use Rattle.persist_commands.specs.Entries.{Deed, Takes, deeds_of, deltas_of, entries_among, entries_of}
 
 -- a histogram that is read has what entries add up to: the units of each key, the sum, and all units as its redundant count
 pub record IsTallyOf (entries : List Entry) (h : Histogram) : Type 0 where
@@ -25,10 +25,22 @@ pub record IsTallyOf (entries : List Entry) (h : Histogram) : Type 0 where
   pub sum : h.sum ≡ tally_sum entries h.name
   pub redundant : h.redundant ≡ tally_noted entries h.name
 
--- A reading of what a script records: no record is bad, the list does not stop, and no flag is set. The names are
+-- a delta of a name is taken, and behind it nothing is recorded of the name
+pub record EndsTaken (deeds : List Deed) (name : List ℕ) : Type 0 where
+  pub front : List Deed
+  pub behind : List Deed
+  pub split : deeds ≡ front ++ Takes name ∷ behind
+  pub quiet : All (λ entry. is_of name entry ≡ false) (entries_among behind)
+
+-- deltas have taken all of a histogram: the mark of each key is its units, and the sum mark is the sum
+pub record IsTakenWhole (h : Histogram) : Type 0 where
+  pub marks : (key : ℤ) → mark_read h key ≡ units_read h key
+  pub sum_mark : h.sum_mark ≡ h.sum
+
+-- A reading of what a script records by so many workers: no record is bad, the list does not stop, and no flag is set. The names are
 -- exactly those of the `hist` records, each once and with their spec. Each histogram has the tally of the `add` records. One of which no
--- `delta` record takes has no marks.
-pub record IsRecordingOf (script : Script) (reading : Reading) : Type 0 where
+-- `delta` record takes has no marks. Of one with a `delta` record behind all of its `add` records a single worker has taken all.
+pub record IsRecordingOf (script : Script) (workers : ℕ) (reading : Reading) : Type 0 where
   pub lawful : HasNoFault reading
   pub named : (name : List ℕ) → ((h : Histogram) × Contains reading.hists h × (h.name ≡ name)) ↔ ((hist : HistRecord) × Contains script.hists hist × (hist.name ≡ name))
   pub specified : (h : Histogram) (hist : HistRecord) → Contains reading.hists h → Contains script.hists hist → h.name ≡ hist.name → SameSpec h.spec hist.spec
@@ -38,26 +50,27 @@ pub record IsRecordingOf (script : Script) (reading : Reading) : Type 0 where
   pub corrupt : reading.corrupt ≡ false
   pub full : reading.full ≡ false
   pub unmarked : (h : Histogram) → Contains reading.hists h → ¬ (Contains (deltas_of script.hists script.calls) h.name) → HasNoMarks h
+  pub taken : workers ≡ 1 → (h : Histogram) → Contains reading.hists h → EndsTaken (deeds_of script.hists script.calls) h.name → IsTakenWhole h
 
--- Words are the image of a segment in which a script was run: it has the script's shape and id and is of version 2, and is read as what
+-- Words are the image of a segment in which a script was run by so many workers: it has the script's shape and id and is of version 2, and is read as what
 -- the script records.
-pub record IsImageOfRun (script : Script) (words : List ℕ) : Type 0 where
+pub record IsImageOfRun (script : Script) (workers : ℕ) (words : List ℕ) : Type 0 where
   pub header : header_of words ≡ Ok (head_of words)
   pub shape : (head_of words).shape ≡ script.shape
   pub version : (head_of words).version ≡ 2
   pub id : (head_of words).id ≡ script.id
-  pub reads : (reading : Reading) → IsReading words (head_of words) reading → IsRecordingOf script reading
+  pub reads : (reading : Reading) → IsReading words (head_of words) reading → IsRecordingOf script workers reading
 
 -- a text is the report of an image
 abbrev pub IsReportOfImage : List ℕ → List ℕ → Type 0
 IsReportOfImage words text = (reading : Reading) × IsReading words (head_of words) reading × IsTextOf reading text
 
--- The bytes are a script that was run, and not too many: the words are the image of the segment in which it was, and the text is their report.
-pub record IsRunOf (bytes words text : List ℕ) : Type 0 where
+-- The bytes are a script that was run by so many workers, and not too many: the words are the image of the segment in which it was, and the text is their report.
+pub record IsRunOf (workers : ℕ) (bytes words text : List ℕ) : Type 0 where
   pub few : length bytes ≤ 16777216
   pub script : Script
   pub script_is : script_of 4294967295 bytes ≡ Ok script
-  pub image : IsImageOfRun script words
+  pub image : IsImageOfRun script workers words
   pub report : IsReportOfImage words text
 
 -- ---- faults

@@ -43,7 +43,7 @@ fn make_workers<'w, G: Gate>(
     ensures handed { OnOk result (HandsOut workers (view_of_opener opener.old) (view_of_opener opener.new)) }
     ensures tells { IfErr result StopTellsWant }
     ensures len { IfOk result (λ all. length all.items ≡ workers) }
-    ensures each { IfOk result (λ all. (k : ℕ) (d : _) → k < length all.items → IsReady (table_of segment.entry.now) script.entry.now workers k (slice_index_or all.items k d).part (slice_index_or all.items k d).script.now (slice_index_or all.items k d).recorder) }
+    ensures each { IfOk result (λ all. (k : ℕ) (d : _) → k < length all.items → IsReady (table_of segment.entry.now) (view_of_opener opener.old) script.entry.now workers k (slice_index_or all.items k d).part (slice_index_or all.items k d).script.now (slice_index_or all.items k d).recorder) }
 {
     let mut all = Vec::new(alloc);
     for number in 0..workers {
@@ -119,7 +119,7 @@ fn record_script<R: Threads + Wait, G: Gate + Sync>(
     gate: &G,
 ) -> Result<Image, Stop>
     requires { 0 < workers }
-    ensures image { IfOk result (IsImageOfRun (script_view script.now)) }
+    ensures image { IfOk result (IsImageOfRun (script_view script.now) workers) }
     ensures tells { IfErr result StopTellsWant }
 {
     let (size, page) = (script.shape.size(), script.shape.page());
@@ -192,8 +192,8 @@ fn write_both<I: Write, W: Write>(
 /// the worker's, less 1, when it is divided by the number of workers. The gate is asked before each, and told of it afterwards.
 ///
 /// On `Ok`, the image has the script's shape and id and is of version 2. It is read as exactly the histograms of the script, each
-/// with its spec and with the counts and the sum that the `add` records add up to, whatever the number of workers. Both outputs are
-/// flushed.
+/// with its spec and with the counts and the sum that the `add` records add up to, whatever the number of workers. A single worker has taken
+/// all of a histogram with a `delta` record behind all of its `add` records: its marks are its counts. Both outputs are flushed.
 ///
 /// `Read` where a read fails; `TooLong` where more than 16,777,216 bytes come; `BadLine` with the first record that has no lawful form;
 /// `Refused` with the first that adds no unit, or more than a segment has. Then, by the first of these that is met: `NoThread` where a
@@ -213,7 +213,7 @@ pub fn run_script<R: Threads + Wait, S: Read, I: Write, W: Write, G: Gate + Sync
     requires image_sound { has_failed image_out.old ≡ false }
     requires report_sound { has_failed report_out.old ≡ false }
     requires workers { (1 ≤ workers) × (workers ≤ 16) }
-    ensures recorded { OnOk result (IfSome (S.remaining (watched_inner script.old)) (λ bytes. (words : List ℕ) × (text : List ℕ) × IsRunOf bytes words text
+    ensures recorded { OnOk result (IfSome (S.remaining (watched_inner script.old)) (λ bytes. (words : List ℕ) × (text : List ℕ) × IsRunOf workers bytes words text
         × Appends (I.contents (watched_inner image_out.old)) (I.contents (watched_inner image_out.new)) (bytes_of_words words)
         × Appends (W.contents (watched_inner report_out.old)) (W.contents (watched_inner report_out.new)) text)) }
     ensures cause { IfErr result (λ fault. IfSome (S.remaining (watched_inner script.old)) (λ bytes. IsFaultOfRun bytes fault)) }

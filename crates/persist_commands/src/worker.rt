@@ -6,7 +6,7 @@ ghost use Rattle.live_segment.specs.Holders.{IsSameRecorder, Knows, view_of_reco
 ghost use Rattle.persist_report_core.specs.Script.{HistRecord, hist_view, script_view};
 ghost use Rattle.persist_commands.specs.Entries.{deeds_in, deeds_of, deeds_of_call};
 ghost use Rattle.persist_commands.specs.Parts.{part_from, part_of};
-ghost use Rattle.persist_commands.specs.Recording.{HasEnded, HasWorked, HaveMet, WentOn};
+ghost use Rattle.persist_commands.specs.Recording.{HasEnded, HasRecorded, HasWorked, HaveMet};
 ghost use Rattle.persist_commands.specs.Stop.{StopTellsWant};
 
 use crate::beside::Job;
@@ -74,7 +74,7 @@ fn meet(
     requires len { length met.old ≡ length hists.now }
     requires met { HaveMet (map hist_view hists.now) recorder.old met.old }
     ensures beside { recorder.new.seat.table_id ≡ recorder.old.seat.table_id }
-    ensures went { OnOk result (WentOn (map hist_view hists.now) [] (view_of_recorder recorder.old) (view_of_recorder recorder.new)) }
+    ensures went { OnOk result (HasRecorded (map hist_view hists.now) [] (view_of_recorder recorder.old) (view_of_recorder recorder.new)) }
     ensures met { OnOk result (HaveMet (map hist_view hists.now) recorder.new met.new) }
     ensures found { IfOk result (λ histogram. (hist : HistRecord) × (slice_get (map hist_view hists.now) index ≡ Some hist) × IsNamed hist.name hist.spec recorder.new histogram) }
 {
@@ -93,7 +93,7 @@ fn meet(
 fn record_call(recorder: &mut Recorder, histogram: Hist, kind: CallKind) -> Result<(), Refusal>
     requires { Knows recorder.old histogram }
     ensures same { IsSameRecorder recorder.old recorder.new }
-    ensures went { OnOk result ((hists : List HistRecord) (hist : HistRecord) → IsNamed hist.name hist.spec recorder.old histogram → WentOn hists (deeds_in (Some hist) kind) (view_of_recorder recorder.old) (view_of_recorder recorder.new)) }
+    ensures went { OnOk result ((hists : List HistRecord) (hist : HistRecord) → IsNamed hist.name hist.spec recorder.old histogram → HasRecorded hists (deeds_in (Some hist) kind) (view_of_recorder recorder.old) (view_of_recorder recorder.new)) }
 {
     match kind {
         CallKind::Add { value, count } => recorder.add(histogram, value, count),
@@ -117,7 +117,7 @@ fn make_call<G: Gate>(
     requires met { HaveMet (map hist_view hists.now) recorder.old met.old }
     ensures beside { recorder.new.seat.table_id ≡ recorder.old.seat.table_id }
     ensures tells { IfErr result StopTellsWant }
-    ensures went { OnOk result (WentOn (map hist_view hists.now) (deeds_of_call (map hist_view hists.now) call.now) (view_of_recorder recorder.old) (view_of_recorder recorder.new)) }
+    ensures went { OnOk result (HasRecorded (map hist_view hists.now) (deeds_of_call (map hist_view hists.now) call.now) (view_of_recorder recorder.old) (view_of_recorder recorder.new)) }
     ensures met { OnOk result (HaveMet (map hist_view hists.now) recorder.new met.new) }
 {
     let histogram = match meet(recorder, hists, met, call.hist as usize) {
@@ -150,7 +150,7 @@ fn make_if_own<G: Gate>(
     requires met { HaveMet (map hist_view hists.now) recorder.old met.old }
     ensures beside { recorder.new.seat.table_id ≡ recorder.old.seat.table_id }
     ensures tells { IfErr result StopTellsWant }
-    ensures went { OnOk result (WentOn (map hist_view hists.now) (deeds_of (map hist_view hists.now) (part_from number part.workers part.part (call.now ∷ []))) (view_of_recorder recorder.old) (view_of_recorder recorder.new)) }
+    ensures went { OnOk result (HasRecorded (map hist_view hists.now) (deeds_of (map hist_view hists.now) (part_from number part.workers part.part (call.now ∷ []))) (view_of_recorder recorder.old) (view_of_recorder recorder.new)) }
     ensures met { OnOk result (HaveMet (map hist_view hists.now) recorder.new met.new) }
 {
     if !is_in(number, part) {
@@ -184,7 +184,7 @@ fn make_own<G: Gate>(
     requires met { HaveMet (map hist_view hists.now) recorder.old met.old }
     ensures beside { recorder.new.seat.table_id ≡ recorder.old.seat.table_id }
     ensures tells { IfErr result StopTellsWant }
-    ensures went { OnOk result (WentOn (map hist_view hists.now) (deeds_of (map hist_view hists.now) (part_of part.workers part.part calls.now)) (view_of_recorder recorder.old) (view_of_recorder recorder.new)) }
+    ensures went { OnOk result (HasRecorded (map hist_view hists.now) (deeds_of (map hist_view hists.now) (part_of part.workers part.part calls.now)) (view_of_recorder recorder.old) (view_of_recorder recorder.new)) }
 {
     for (number, call) in calls.iter().enumerate() {
         make_if_own(recorder, hists, met, gate, part, number, call)?;

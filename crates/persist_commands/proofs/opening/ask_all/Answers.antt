@@ -1,4 +1,4 @@
-use Rattle.std.proofs.Common.{◌≡◌, ◌∙◌, List, ℕ, All, map, subst, sym, take, length, arith}
+use Rattle.std.proofs.Common.{◌≡◌, ◌∙◌, List, ℕ, All, map, refl, subst, sym, take, length, arith}
 use Rattle.std.proofs.Math.Seq.{take-length}
 use Rattle.live_segment.specs.Hist.{IsAnsweredWith, IsNamed}
 use Rattle.live_segment.specs.Holders.{view_of_recorder}
@@ -6,7 +6,15 @@ use Rattle.persist_report_core.specs.declared.script.ScriptHist.{ScriptHist}
 use Rattle.persist_report_core.specs.Script.{hist_view}
 use Rattle.persist_commands.specs.Recording.{KnowsOf}
 use Rattle.persist_commands.proofs.Meetings.{asked_next}
+use Rattle.persist_commands.proofs.Went.{went_nowhere}
 use Rattle.persist_commands.proofs.opening.ask_all.Goals as goal
+
+pub loop-hist-init : goal.loop-hist-init
+loop-hist-init c = (
+  refl,
+  went_nowhere (map hist_view c.args.hists.now) (view_of_recorder c.args.recorder.now) (view_of_recorder c.args.recorder.now) refl,
+  λ k d below. absurd (omega (arith, below)),
+)
 
 pub loop-hist-preserved : goal.loop-hist-preserved
 loop-hist-preserved c =

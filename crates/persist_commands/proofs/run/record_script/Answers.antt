@@ -25,4 +25,4 @@ returns-clause-image g c =
     let shape : c.in-Ok.made.0.setting.shape ≡ script.shape =
     ap (λ (s : Setting). s.shape) new.setting_is ∙ (λ i. record { size = c.size-size.ensures.value i; page = c.page-page.ensures.value i }) in
     is_image_of_run (script_view script) c.args.workers c.in-Ok.made.0.setting (view_of_opener c.make_histograms.new.opener) (view_of_opener c.work.new.opener) c.close.result
-    c.requires shape (ap (λ (s : Setting). s.version) new.setting_is) (ap (λ (s : Setting). s.id) new.setting_is) opened c.in_ok-work.ensures.run c.close.ensures.image c.close.ensures.joined
+    c.requires shape (ap (λ (s : Setting). s.version) new.setting_is) (ap (λ (s : Setting). s.id) new.setting_is) opened c.in_ok-work.ensures.run c.close.ensures.image c.close.ensures.joined c.close.ensures.deltas

@@ -6,7 +6,7 @@ use Rattle.persist_commands.proofs.Runs.{written_so}
 use Rattle.persist_commands.proofs.run.run_script.Goals as goal
 
 pub returns-clause-recorded : goal.returns-clause-recorded
-returns-clause-recorded g c = written_so c.write_both.result (g.S.Read.remaining (watched_inner c.args.script.now)) c.in_ok-script.script c.in_ok-image.image c.words.result.now c.words-2.result.now c.in_ok-text.text.items
+returns-clause-recorded g c = written_so c.write_both.result (g.S.Read.remaining (watched_inner c.args.script.now)) c.in_ok-script.script c.args.workers c.in_ok-image.image c.words.result.now c.words-2.result.now c.in_ok-text.text.items
     (λ (words : List ℕ). Appends (g.I.Write.contents (watched_inner c.args.image_out.now)) (g.I.Write.contents (watched_inner c.write_both.new.image_out)) (bytes_of_words words))
     (λ (text : List ℕ). Appends (g.W.Write.contents (watched_inner c.args.report_out.now)) (g.W.Write.contents (watched_inner c.write_both.new.report_out)) text)
     c.write_both.ensures.image (subst (λ (t : List ℕ). OnOk c.write_both.result (Appends (g.W.Write.contents (watched_inner c.args.report_out.now)) (g.W.Write.contents (watched_inner c.write_both.new.report_out)) t)) c.deref.ensures.value c.write_both.ensures.report) c.in_ok-script.ensures.script c.in_ok-image.ensures.image c.in_ok-text.ensures.text c.words.ensures c.words-2.ensures

@@ -2,8 +2,8 @@ use Rattle.std.proofs.Common.{[], map, sym, subst, Option}
 use Rattle.live_segment.specs.Holders.{view_of_recorder}
 use Rattle.persist_report_core.specs.Script.{HistRecord, hist_view}
 use Rattle.persist_commands.specs.Entries.{deeds_in}
-use Rattle.persist_commands.specs.Recording.{WentOn}
-use Rattle.persist_commands.proofs.Went.{went_twice}
+use Rattle.persist_commands.specs.Recording.{HasRecorded}
+use Rattle.persist_commands.proofs.Went.{recorded_twice}
 use Rattle.persist_commands.proofs.worker.make_call.Goals as goal
 
 pub returns-in-Ok-answer-clause-went : goal.returns-in-Ok-answer-clause-went
@@ -12,5 +12,5 @@ returns-in-Ok-answer-clause-went g c =
     let (hist, at, named) = c.in-Ok.ensures.found in
     let old = view_of_recorder c.args.recorder.now in
     let new = view_of_recorder c.record_call-answer.new.recorder in
-    subst (λ (o : Option HistRecord). WentOn hists (deeds_in o c.args.call.now.kind) old new) (sym at)
-    (went_twice hists [] _ old (view_of_recorder c.meet.new.recorder) new c.in-Ok.ensures.went (c.in-Ok-answer.ensures.went hists hist named))
+    subst (λ (o : Option HistRecord). HasRecorded hists (deeds_in o c.args.call.now.kind) old new) (sym at)
+    (recorded_twice hists [] _ old (view_of_recorder c.meet.new.recorder) new c.in-Ok.ensures.went (c.in-Ok-answer.ensures.went hists hist named))

@@ -5,13 +5,13 @@ use Rattle.persist_report_core.specs.declared.script.ScriptCall.{ScriptCall}
 use Rattle.persist_report_core.specs.Script.{hist_view}
 use Rattle.persist_commands.specs.Entries.{deeds_of}
 use Rattle.persist_commands.specs.Parts.{part_of}
-use Rattle.persist_commands.specs.Recording.{WentOn}
+use Rattle.persist_commands.specs.Recording.{HasRecorded}
 use Rattle.persist_commands.proofs.Meetings.{calls_next_at}
-use Rattle.persist_commands.proofs.Went.{went_nowhere}
+use Rattle.persist_commands.proofs.Went.{recorded_nowhere}
 use Rattle.persist_commands.proofs.worker.make_own.Goals as goal
 
 pub loop-number-init : goal.loop-number-init
-loop-number-init g c = (refl, c.requires.len, c.requires.met, went_nowhere (map hist_view c.args.hists.now) (view_of_recorder c.args.recorder.now) (view_of_recorder c.args.recorder.now) refl)
+loop-number-init g c = (refl, c.requires.len, c.requires.met, recorded_nowhere (map hist_view c.args.hists.now) (view_of_recorder c.args.recorder.now))
 
 pub loop-number-preserved : goal.loop-number-preserved
 loop-number-preserved g c =
@@ -29,5 +29,5 @@ returns-clause-went g c =
     let at = c.loop-number.invariant in
     let last : c.loop-number.number ≡ length c.args.calls.now = omega arith in
     let whole : take c.loop-number.number c.args.calls.now ≡ c.args.calls.now = subst (λ n. take n c.args.calls.now ≡ c.args.calls.now) (sym last) (take-length c.args.calls.now) in
-    subst (λ (l : List ScriptCall). WentOn (map hist_view c.args.hists.now) (deeds_of (map hist_view c.args.hists.now) (part_of c.args.part.workers c.args.part.part l)) (view_of_recorder c.args.recorder.now) (view_of_recorder c.loop-number.recorder))
+    subst (λ (l : List ScriptCall). HasRecorded (map hist_view c.args.hists.now) (deeds_of (map hist_view c.args.hists.now) (part_of c.args.part.workers c.args.part.part l)) (view_of_recorder c.args.recorder.now) (view_of_recorder c.loop-number.recorder))
     whole at.3

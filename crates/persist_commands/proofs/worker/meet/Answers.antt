@@ -6,14 +6,17 @@ use Rattle.live_segment.specs.Hist.{IsAnsweredWith, IsNamed}
 use Rattle.live_segment.specs.Holders.{view_of_recorder}
 use Rattle.persist_report_core.specs.Script.{hist_view}
 use Rattle.persist_commands.proofs.Meetings.{met_more}
-use Rattle.persist_commands.proofs.Went.{went_asking}
+use Rattle.persist_commands.proofs.Went.{recorded_asking, recorded_nowhere}
 use Rattle.persist_commands.proofs.worker.meet.Goals as goal
+
+pub returns-in-Some-met-clause-went : goal.returns-in-Some-met-clause-went
+returns-in-Some-met-clause-went c = recorded_nowhere (map hist_view c.args.hists.now) (view_of_recorder c.args.recorder.now)
 
 pub returns-clause-went : goal.returns-clause-went
 returns-clause-went c =
     let x = c.in-Some.hist.now in
     let look = c.in-Some.ensures.lookup in
-    went_asking (map hist_view c.args.hists.now) (hist_view x) c.in_ok-histogram.histogram (view_of_recorder c.args.recorder.now) (view_of_recorder c.hist.new.self)
+    recorded_asking (map hist_view c.args.hists.now) (hist_view x) c.in_ok-histogram.histogram (view_of_recorder c.args.recorder.now) (view_of_recorder c.hist.new.self)
     (contains_map hist_view c.args.hists.now x (c.args.index, look.3.0, sym look.1))
     (subst (λ (name : List ℕ). IsAnsweredWith name x.spec c.in_ok-histogram.histogram (view_of_recorder c.args.recorder.now) (view_of_recorder c.hist.new.self)) c.deref.ensures.value
     c.in_ok-histogram.ensures.answer)

@@ -1,22 +1,146 @@
-"""Each growth of memory of the commands and of `stepped` is refused in turn, and memory is there again behind it: they answer
-`NoMemory`, with no output but what `stepped` had told before, and OUT as it was.
+"""Each growth of memory is refused in turn, and memory is there again behind it.
 
-For this the programs are traced (tracer.py). Where that is not allowed, nothing is tried, and a line says so.
+Of the calls of the libraries, which `trials` makes, each allocation is refused (allocations.py): the call says so, its next answers
+as if nothing had been, and so does all that comes behind. Calls that take no memory ask for none.
+
+The commands and `stepped` answer `NoMemory`, with no output but what `stepped` had told before, and OUT as it was. Of them each
+growth is refused for which the C library asks the system (tracer.py).
+
+For this the programs are traced. Where that is not allowed, nothing is tried, and a line says so.
 """
 
 import collections
 import errno
 import pathlib
+import re
 import tempfile
 
 from parts import failing
-from support import tracer
-from support.program import ROOT, Answer, built, difference
+from support import allocations, tracer
+from support.program import ROOT, Answer, answer, built, difference
 
-PROGRAM = "persist_report"
+PROGRAM = "trials"
 GROWTH = {"numbers": tracer.GROWTHS, "growth": True, "error": errno.ENOMEM}
 SCHEDULE = ROOT / "examples" / "pack_before_disabling.csv"
 STEPPED_OUT_OF_MEMORY = b"stepped: NoMemory\n"
+
+# The calls that `trials` makes, those that take memory and those that take none.
+BEGINS = tuple(f"begin {kind}" for kind in ("Hist", "Add", "Batch", "Snapshot", "Delta"))
+OF_RECORDERS = ("hist", "delta", "snapshot", "records", "fresh_records")
+TAKING = ("blank", "ranges", "tally", "world", *BEGINS, "run_schedule", "create", *OF_RECORDERS, "read", "report_of", "report", "merge")
+TAKING_NONE = ("begin SetCorrupt", "step", "recorder", "add", "batch", "units", "knows", "next_shared", "set_corrupt", "join", "close")
+# How each says that memory was refused.
+NO_MEMORY = "NoMemory"
+OTHER_WORDS = {"tally": "memory allocation failed"}
+
+# The units of a segment.
+UNITS = 2**32 - 1
+
+# What calls of a recorder may ask for: 16 bytes for each key that the histogram may have, and 8 for each record that fits.
+SIZE = 1024
+FITTING = (SIZE - 16) // 5
+KEYS = (3, 4, FITTING, 4)
+ASKED = {
+    "delta": [16 * keys for keys in KEYS],
+    "snapshot": [16 * keys for keys in KEYS],
+    "records": [8 * FITTING],
+    "fresh_records": [8 * FITTING] * 2,
+}
+
+
+def name_of(call):
+    """The name of a call that `trials` makes: without what it is passed."""
+    return call.split("(")[0]
+
+
+def wrong_list(asked, lines):
+    """What is wrong with the calls that a run makes and with what they ask for, or None."""
+    made = {name_of(line[len("try "):]) for line in lines if line.startswith("try ")}
+    if made != {*TAKING, *TAKING_NONE}:
+        return f"the calls {sorted(made ^ {*TAKING, *TAKING_NONE})} are made or wanted, and not both"
+    takers = {name_of(one.call) for one in asked}
+    if takers != {*TAKING}:
+        return f"the calls {sorted(takers ^ {*TAKING})} take memory or are to take some, and not both"
+    for name, sizes in ASKED.items():
+        came = [one.size for one in asked if name_of(one.call) == name]
+        if came != sizes:
+            return f"{name} asks for {came} bytes, wanted {sizes}"
+    return None
+
+
+def refused_line(name):
+    return f"refused {name.split()[0]} {OTHER_WORDS.get(name, NO_MEMORY)}"
+
+
+def with_line(lines, place, line):
+    """The lines of a run, and a line behind the line `try` of this place."""
+    tries = [at for at, one in enumerate(lines) if one.startswith("try ")]
+    return [*lines[:tries[place] + 1], line, *lines[tries[place] + 1:]]
+
+
+def wrong_refusal(lines, one, came):
+    """What is wrong with a run in which an allocation of a call was refused, or None."""
+    name = name_of(one.call)
+    if name == "merge":
+        return wrong_merge(lines, came)
+    right = with_line(lines, one.place, refused_line(name))
+    return difference(Answer("".join(f"{line}\n" for line in right).encode()), came)
+
+
+def merges_of(lines):
+    """The lines before the merges of a run, and those of each merge."""
+    starts = [at for at, line in enumerate(lines) if line == "try merge"]
+    return lines[:starts[0]], [lines[at + 1:end] for at, end in zip(starts, [*starts[1:], None])]
+
+
+def stopped_merge(whole, reached):
+    """The lines of a merge that was refused when it had reached so many histograms, where these are the lines of a whole one: what it
+    added before stays, and of the one where it stopped nothing is added."""
+    added = [re.fullmatch(r"added (\[.*\]) (\d+)", line).groups() for line in whole if line.startswith("added ")]
+    if not reached:
+        return [refused_line("merge"), f"{UNITS} units"]
+    before, (name, _) = added[:reached - 1], added[reached - 1]
+    stayed = {bytes(map(int, one[1:-1].split(", "))).decode() for one, _ in before}
+    return [
+        *(f"added {one} {units}" for one, units in before),
+        f"added {name} 0",
+        f"MergeStop {{ name: {name}, items: 0, why: {NO_MEMORY} }}",
+        f"{UNITS - sum(int(units) for _, units in before)} units",
+        *(line for line in whole if line.split(",")[0] in stayed),
+    ]
+
+
+def wrong_merge(lines, came):
+    """What is wrong with a run in which a merge was refused and made once more, or None."""
+    before, (whole,) = merges_of(lines)
+    came_before, merges = merges_of(came.output.decode().splitlines())
+    if came.status != 0 or came_before != before or len(merges) != 2 or merges[1] != whole:
+        return f"status {came.status}, {came.error[:200]!r}, or other lines before or behind the merge that was refused"
+    reached = sum(line.startswith("added ") for line in merges[0])
+    right = stopped_merge(whole, reached)
+    return None if merges[0] == right else f"wanted {right}, came {merges[0]}"
+
+
+def wrong_allocation(program, plain, place, one):
+    """What is wrong where an allocation of a call is refused, or None. A call may do with another one in its place; then that is refused
+    too."""
+    lines = plain.output.decode().splitlines()
+    came, asked = allocations.answer(program, ["growths"], place)
+    if came == plain and any(other.place == one.place for other in asked[place + 1:]):
+        came, _ = allocations.answer(program, ["growths"], place, lasting=True)
+    return wrong_refusal(lines, one, came)
+
+
+def library_cases(program, refused):
+    """Each allocation of the calls of the libraries is refused; `refused` counts those of each call."""
+    plain = answer(program, ["growths"])
+    seen, asked = allocations.answer(program, ["growths"])
+    wrong = wrong_list(asked, plain.output.decode().splitlines())
+    yield "what calls ask for", difference(Answer(plain.output), plain) or difference(plain, seen) or wrong
+    for place, one in enumerate(asked):
+        wrong = wrong_allocation(program, plain, place, one)
+        refused[name_of(one.call)] += 1
+        yield f"allocation {place}, {one.size} bytes of {name_of(one.call)}", wrong
 
 
 def wrong_command(command, wrong_answer):
@@ -51,18 +175,28 @@ def commands(program, stepped, folder):
         yield failing.Command(stepped, " ".join(["stepped", *words]), [SCHEDULE, *words]), wrong_of_stepped
 
 
+def command_cases(refused):
+    """Each growth of the commands is refused; `refused` counts those of each."""
+    with tempfile.TemporaryDirectory() as scratch:
+        for command, wrong_answer in commands(built(failing.PROGRAM), built("stepped"), pathlib.Path(scratch).resolve()):
+            wrong, refused[command.name] = wrong_command(command, wrong_answer)
+            yield command.name, wrong
+
+
+def told(refused):
+    return ", ".join(f"{count} of {name}" for name, count in refused.items())
+
+
 def cases(program, _options):
     if not tracer.can_trace():
         print("growths: NOTHING WAS TRIED, since no program may be traced here")
         yield "nothing", None
         return
-    stepped = built("stepped")
-    if not stepped.is_file():
-        yield "stepped", f"{stepped}: no such program; 'rt run' in crates/stepped builds it"
-        return
+    for name in (failing.PROGRAM, "stepped"):
+        if not built(name).is_file():
+            yield name, f"{built(name)}: no such program; 'rt run' in crates/{name} builds it"
+            return
     refused = collections.Counter()
-    with tempfile.TemporaryDirectory() as scratch:
-        for command, wrong_answer in commands(program, stepped, pathlib.Path(scratch).resolve()):
-            wrong, refused[command.name] = wrong_command(command, wrong_answer)
-            yield command.name, wrong
-    print(f"growths: refused {', '.join(f'{count} of {name}' for name, count in refused.items())}")
+    yield from library_cases(program, refused)
+    yield from command_cases(refused)
+    print(f"growths: refused {told(refused)}")

@@ -10,7 +10,7 @@ import collections
 from support import plain_tally
 from support.program import answer
 
-PROGRAM = "recording_threads"
+PROGRAM = "trials"
 THREADS = (2, 3, 4, 8, 16)
 ROUNDS = 200
 RECORDS = 100

@@ -1,5 +1,5 @@
 //! The tests of the libraries through their public calls: worked examples with the words that the format gives them, calls that
-//! no program makes, texts that no program prints, and calls whose memory or devices fail.
+//! no program makes, texts that no program prints, and calls whose devices fail.
 //!
 //! They stand above all libraries, so that no other crate is proved once more for its tests.
 #![tactic(auto)]
@@ -18,8 +18,6 @@ mod foreign_words;
 mod images;
 #[cfg(test)]
 mod records;
-#[cfg(test)]
-mod refused_memory;
 #[cfg(test)]
 mod streams;
 #[cfg(test)]

@@ -1,4 +1,5 @@
-//! Runs that tests look at: of threads that record beside one another, and of calls whose memory is refused from outside.
+//! Runs that tests and measurements look at: of threads that record beside one another, of calls whose memory is refused from
+//! outside, and of calls that are timed.
 //!
 //! `trials record THREADS SEED ROUNDS`: each round is a new segment, in which each of THREADS threads makes some
 //! hundred calls by its own recorder, which SEED decides: samples and batches of all kinds of histograms, deltas and
@@ -16,67 +17,32 @@
 //! a thread was given, those of a thread in their order.
 //!
 //! `trials growths`: each call that takes memory is made, and once more where it is refused. The module `growths` has what it prints.
+//!
+//! `trials time record FORM SHARING THREADS BURSTS`: how long threads take to record samples into a running segment.
+//! `trials time step ADDS TURNS`: how long a world takes for its steps.
+//! `trials time script BYTES STEP TURNS`: how long a script takes to be read.
 #![tactic(auto)]
 
 mod growths;
 mod threads;
+mod timing;
 
-use crate::threads::{round, walk};
-use anyhow::{Context, Result, bail};
+use anyhow::{Result, bail};
 use std::env;
-use std::env::Env;
-
-// What the program is to do.
-#[derive(Clone, Copy)]
-enum Task {
-    Record { seed: u32 },
-    Walk { records: u32 },
-}
-
-// How many threads do it, and how often.
-struct Parameters {
-    task: Task,
-    threads: u8,
-    rounds: u32,
-}
-
-// What threads are to do; none where growths are to be refused.
-fn read_parameters(rt: &(impl Env + Alloc)) -> Result<Option<Parameters>> {
-    let mut words = env::args(rt)?.skip(1);
-    let name = words.next().context("give record, walk or growths")?;
-    if name.as_str() == "growths" {
-        return Ok(None);
-    }
-    let threads = words.next().context("give the number of threads")?;
-    let number = words.next().context("give a seed, or how many records")?;
-    let rounds = words.next().context("give the number of rounds")?;
-    let number = number.parse::<u32>()?;
-    let task = match name.as_str() {
-        "record" => Task::Record { seed: number },
-        "walk" => Task::Walk { records: number },
-        _ => bail!("give record, walk or growths"),
-    };
-    Ok(Some(Parameters {
-        task,
-        threads: threads.parse::<u8>()?,
-        rounds: rounds.parse::<u32>()?,
-    }))
-}
 
 fn main(rt: HostRuntime) -> Result<()> {
-    let Some(parameters) = read_parameters(&rt)? else {
-        return growths::show(&rt);
-    };
-    let Parameters {
-        task,
-        threads,
-        rounds,
-    } = parameters;
-    for number in 0..rounds {
-        match task {
-            Task::Record { seed } => round::show(&rt, number, seed, threads)?,
-            Task::Walk { records } => walk::show(&rt, number, records, threads)?,
-        }
+    let mut words = Vec::new(rt.alloc());
+    for word in env::args(&rt)?.skip(1) {
+        words.push(word)?;
     }
-    Ok(())
+    let [what, parameters @ ..] = words.as_slice() else {
+        bail!("give record, walk, growths or time");
+    };
+    match what.as_str() {
+        "record" => threads::record(&rt, parameters),
+        "walk" => threads::walk(&rt, parameters),
+        "growths" => growths::show(&rt),
+        "time" => timing::run(&rt, parameters),
+        _ => bail!("give record, walk, growths or time"),
+    }
 }

@@ -2,7 +2,7 @@
 
 ghost use Rattle.live_segment.specs.Holders.{IsMadeWith, Knows};
 
-use crate::record::plan::{Plan, VALUES};
+use crate::timing::record::plan::{Plan, VALUES};
 use anyhow::{Result, bail};
 use live_segment::{Hist, Opener, Recorder, Refusal, Segment, VERSION_MOVING};
 use std::alloc::Global;

@@ -1,6 +1,6 @@
 //! One turn: a new world, and the time that its adds take.
 
-use crate::step::adding::Adding;
+use crate::timing::step::adding::Adding;
 use anyhow::Result;
 use std::alloc::Global;
 use std::rt::Clock;

@@ -1,5 +1,5 @@
 use Rattle.live_segment.proofs.Seating.Callers.{knows_same}
-use Rattle.timing.proofs.record.burst.record_into.Goals as goal
+use Rattle.trials.proofs.timing.record.burst.record_into.Goals as goal
 
 pub loop-i-preserved : goal.loop-i-preserved
 loop-i-preserved c = knows_same c.loop-i.recorder c.add.new.self c.args.histogram c.add.ensures.same c.loop-i.invariant

@@ -1,0 +1,25 @@
+//! How long the calls of the libraries take, for the scripts of `bench/`.
+
+mod record;
+mod script;
+mod step;
+
+use anyhow::{Result, bail};
+use std::rt::Clock;
+use std::thread::Threads;
+
+/// Measures what the first word says, with the parameters behind it.
+pub(crate) fn run<R: Threads + Clock + Print + AllocGlobal + Sync>(
+    rt: &R,
+    words: &[String],
+) -> Result<()> {
+    let [what, parameters @ ..] = words else {
+        bail!("give record, step or script");
+    };
+    match what.as_str() {
+        "record" => record::run(rt, parameters),
+        "step" => step::run(rt, parameters),
+        "script" => script::run(rt, parameters),
+        _ => bail!("give record, step or script"),
+    }
+}

@@ -11,7 +11,7 @@ use Rattle.segment_machine.specs.declared.seen.Sighting.{Sighting}
 use Rattle.segment_machine.specs.Actor.{has_buckets, word_seen}
 use Rattle.segment_machine.specs.Calls.{sight, sight_counts}
 use Rattle.segment_machine.specs.Counting.{add_count, load_counts}
-use Rattle.segment_machine.specs.Event.{counting_event, next}
+use Rattle.segment_machine.specs.Event.{counting_event}
 use Rattle.segment_promises.specs.Follows.{noted_by}
 use Rattle.segment_promises.specs.Onward.{Grows}
 use Rattle.segment_promises.proofs.Growing.{ended_grows, grows_by, grows_not, grows_on, grows_same, others_still}

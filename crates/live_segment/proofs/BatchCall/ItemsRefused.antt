@@ -1,11 +1,9 @@
 -- A batch that stops at an item: those before it are in the log and their units are spent, and it takes back what it had begun with.
-use Rattle.std.proofs.Common.{◌≡◌, ◌⊎◌, ℕ, ◌+◌, ◌-◌, ◌<◌, ◌≤◌, Bool, true, false, if◌then◌else◌, ℤ, List, [], ◌∷◌, ◌++◌, map, take, drop, length, get_or, inl, inr, refl, sym, ap, ◌∙◌, subst, arith}
-use Rattle.std.specs.List.{Contains}
+use Rattle.std.proofs.Common.{◌≡◌, ◌⊎◌, ℕ, ◌+◌, ◌-◌, ◌<◌, ◌≤◌, Bool, true, false, if◌then◌else◌, ℤ, List, [], ◌∷◌, ◌++◌, map, take, length, get_or, inl, inr, refl, sym, ap, ◌∙◌, subst, arith}
 use Rattle.std.specs.Str.{bytes_eq}
 use Rattle.std.proofs.lemmas.List.{append_assoc, append-nil, map-append}
-use Rattle.std.proofs.lemmas.List.Elements.{Contains-append_right}
 use Rattle.std.proofs.lemmas.List.Sums.{sum_by-append}
-use Rattle.std.proofs.Math.Seq.{drop-append_seam, take-append_seam}
+use Rattle.std.proofs.Math.Seq.{take-append_seam}
 use Rattle.segment_invariant.proofs.Lists.Pairs.{element_at}
 use Rattle.segment_calls.specs.declared.refusal.Refusal.{Refusal}
 use Rattle.bucket_ranges.specs.Ranges.{boundaries_of}
@@ -17,7 +15,6 @@ use Rattle.segment_machine.specs.declared.actor.Known.{Known}
 use Rattle.segment_machine.specs.declared.actor.Units.{Units}
 use Rattle.segment_machine.specs.declared.entry.EntryProgress.{EntryProgress}
 use Rattle.segment_machine.specs.declared.entry.Entry.{Entry}
-use Rattle.segment_machine.specs.declared.seen.Sighting.{Sighting}
 use Rattle.segment_machine.specs.Actor.{cost_of, is_bound, is_opener}
 use Rattle.segment_machine.specs.Entry.{fresh, tally_noted}
 use Rattle.segment_machine.specs.Note.{refused, units_running}
@@ -26,7 +23,7 @@ use Rattle.segment_promises.specs.Follows.{noted_by}
 use Rattle.live_segment.specs.Claims.{ClaimsForEach}
 use Rattle.live_segment.specs.Batching.{HasItems, StopsAt, ended_item, holding}
 use Rattle.live_segment.specs.Finishing.{item_of}
-use Rattle.segment_promises.specs.Onward.{DoesOn, GoesOn, Grows, SeesOn}
+use Rattle.segment_promises.specs.Onward.{DoesOn, GoesOn, SeesOn}
 use Rattle.live_segment.specs.Refusing.{IsNotCounted, given_up, how_many_ended, refusing_notes}
 use Rattle.live_segment.specs.Steps.{IsAtRest}
 use Rattle.live_segment.specs.Working.{HasBegun, LooksFor, FrameOfCall}

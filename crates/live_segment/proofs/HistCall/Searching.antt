@@ -1,6 +1,6 @@
 -- A search for a name: what a recorder knows once it has loaded the next of the block where its walk stands, and once it has compared the
 -- record that it met.
-use Rattle.std.proofs.Common.{◌≡◌, ◌≢◌, ℕ, ◌+◌, ◌<◌, ◌≤◌, ◌==◌, Bool, true, false, List, [], ◌∷◌, ◌++◌, length, slice_index, inl, inr, refl, sym, ap, subst, ◌∙◌, arith, ne_eqb, length-append, eq-eqb, ◌-◌, map, not}
+use Rattle.std.proofs.Common.{◌≡◌, ◌≢◌, ℕ, ◌+◌, ◌<◌, ◌≤◌, ◌==◌, Bool, true, false, List, [], ◌∷◌, ◌++◌, length, slice_index, inl, inr, refl, sym, ap, subst, ◌∙◌, arith, ne_eqb, length-append, eq-eqb, map, not}
 use Rattle.std.specs.Prelude.{if◌then◌else◌}
 use Rattle.std.specs.List.{All, Contains, filter}
 use Rattle.std.proofs.Math.ListN.{get_or}
@@ -36,9 +36,8 @@ use Rattle.segment_promises.specs.Values.{NoRepeats}
 use Rattle.live_segment.specs.Records.{KnowsOwnNames}
 use Rattle.live_segment.specs.Finding.{IsAsked, Meets, SeesWords, ShowsName, ShowsSpec}
 use Rattle.live_segment.specs.Searching.{WalksAt, HasSearched, Searches, HasMadeNone}
-use Rattle.segment_promises.proofs.Growing.{extended_end, extended_grows, reference_behind, grows_on, still}
+use Rattle.segment_promises.proofs.Growing.{extended_end, reference_behind, grows_on, still}
 use Rattle.segment_promises.proofs.Furthest.{last_of, last_least, last_most, last_stands}
-use Rattle.segment_promises.proofs.Calls.Places.{behind_apart}
 use Rattle.live_segment.proofs.Walks.Showing.{sees_on}
 use Rattle.live_segment.proofs.Walks.WalkProgress as way
 use Rattle.live_segment.proofs.Walks.Walked.{all_given}

@@ -1,5 +1,5 @@
 -- A `hist` looks for the first record of its name, makes one where there is none, and looks on: what becomes of its recorder.
-use Rattle.std.proofs.Common.{◌≡◌, ◌≢◌, ℕ, ◌+◌, ◌<◌, ◌≤◌, Bool, false, List, [], ◌∷◌, ◌++◌, length, map, not, ◌&&◌, ◌==◌, if◌then◌else◌, eq-eqb, All, inl, inr, refl, sym, ap, subst, ◌∙◌, arith, true}
+use Rattle.std.proofs.Common.{◌≡◌, ◌≢◌, ℕ, ◌+◌, ◌≤◌, Bool, false, List, [], ◌∷◌, ◌++◌, length, map, not, ◌&&◌, ◌==◌, if◌then◌else◌, eq-eqb, All, inl, inr, refl, sym, ap, subst, ◌∙◌, arith, true}
 use Rattle.std.specs.Prelude.{Ok, Err}
 use Rattle.std.specs.List.{Contains, filter}
 use Rattle.std.specs.Str.{bytes_eq}

@@ -1,5 +1,5 @@
 -- A snapshot is answered: its recorder has looked anew, has loaded the sum and the redundant count, and notes what it saw.
-use Rattle.std.proofs.Common.{◌≡◌, ◌≢◌, ℕ, ◌+◌, ◌-◌, ◌≤◌, true, true≢false, ℤ, List, [], ◌∷◌, ◌++◌, drop, length, map, Some, inl, inr, ⊎_elim, refl, sym, ap, ◌∙◌, subst, arith, length-append}
+use Rattle.std.proofs.Common.{◌≡◌, ◌≢◌, ℕ, ◌+◌, ◌≤◌, true, true≢false, ℤ, List, [], ◌∷◌, ◌++◌, drop, length, map, Some, inl, inr, ⊎_elim, refl, sym, ap, ◌∙◌, subst, arith, length-append}
 use Rattle.std.specs.List.{Contains, range_with_len}
 use Rattle.std.proofs.lemmas.List.{drop-append-le}
 use Rattle.std.proofs.lemmas.List.Elements.{Contains-append_left}

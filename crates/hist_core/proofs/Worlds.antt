@@ -9,6 +9,7 @@ pub mod Free
 pub mod Moving
 pub mod NewWorldStates
 pub mod Quiet
+pub mod Pointers
 pub mod Scheduling
 pub mod Transits
 pub mod WorldStates

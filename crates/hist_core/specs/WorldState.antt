@@ -7,10 +7,10 @@ use Rattle.segment_image.specs.Shape.{Dimensions}
 use Rattle.segment_image.specs.Head.{head_of}
 use Rattle.bucket_ranges.specs.Reading.{Histogram, Reading, IsReading}
 use Rattle.alloc_core.specs.Layout.{render, fresh}
-use Rattle.segment_machine.specs.declared.place.Place.TheVariants.{Idle}
+use Rattle.segment_machine.specs.declared.place.Place.TheVariants.{FreeLoaded, Idle}
 use Rattle.segment_machine.specs.declared.actor.Actor.{Actor}
 use Rattle.segment_image.specs.Words.{word_at}
-use Rattle.segment_image.specs.declared.layout.TheConstants.{FLAG_CORRUPT, FLAG_FULL, FLAGS_WORD, HISTOGRAM_REDUNDANT}
+use Rattle.segment_image.specs.declared.layout.TheConstants.{FLAG_CORRUPT, FLAG_FULL, FLAGS_WORD, FREE_WORD, HISTOGRAM_REDUNDANT}
 use Rattle.segment_machine.specs.Actor.{accepted_since, is_opener, offered_of, units_listed}
 use Rattle.segment_machine.specs.Event.{Event}
 use Rattle.segment_machine.specs.State.{State, IsStep}
@@ -158,6 +158,11 @@ abbrev pub ClaimsNothing : ℕ → State → State → Type 0
 ClaimsNothing actor state last = (a b : Actor) → get_elem? state.actors (actor + 1) ≡ some a → get_elem? last.actors (actor + 1) ≡ some b
     → a.done.spoiled ≡ true → (b.done.spoiled ≡ true) × (b.done.claimed ≡ a.done.claimed)
 
+-- Where the recorder of the actor stands at a free pointer behind an event, it stood there before, or has loaded that from the words.
+abbrev pub LoadsPointer : ℕ → List ℕ → State → State → Type 0
+LoadsPointer actor words state last = (a b : Actor) → get_elem? state.actors (actor + 1) ≡ some a → get_elem? last.actors (actor + 1) ≡ some b
+    → (free : ℕ) → b.hand.place ≡ FreeLoaded free → (a.hand.place ≡ FreeLoaded free) ⊎ (word_at words FREE_WORD ≡ free)
+
 -- what an answer promises of the states before and behind it, by what the call was to do
 abbrev pub IsPromised : WorldState → ℕ → State → Stepped → (new : WorldState) (last : State) → IsReachedAs new last → Type 0
 IsPromised old actor state (Done (answer.Delta delta)) new last reach =
@@ -177,12 +182,14 @@ LooksFrom old actor state last = (before : ActorRun) (a b : Actor) → get_elem?
     → get_elem? state.actors (actor + 1) ≡ some a → get_elem? last.actors (actor + 1) ≡ some b → LooksSince before.running a b
 
 -- One event of the actor leads from a state to another; then the units of a call that is refused come back. What the call says is as it
--- promises, of the state that it leads to. A snapshot looks since its first event. Behind its own corrupt flag an actor claims nothing.
+-- promises, of the state that it leads to. A snapshot looks since its first event. Behind its own corrupt flag an actor claims nothing, and
+-- it stands at no free pointer that it has not loaded.
 abbrev pub StepsTo : WorldState → ℕ → State → WorldState → Stepped → Type 0
 StepsTo old actor state new said =
     (event : Event) × (then_is : State) × IsStep old.version state (actor + 1) event then_is
     × ((last : State) × GivesBack actor then_is last
-    × ((reach : IsReachedAs new last) × IsPromised old actor state said new last reach × LooksFrom old actor state last × ClaimsNothing actor state last))
+    × ((reach : IsReachedAs new last) × IsPromised old actor state said new last reach × LooksFrom old actor state last × ClaimsNothing actor state last
+    × LoadsPointer actor old.words.items state last))
 
 -- the shape and the version stay, and so do all other actors
 pub record OthersStay (actor : ℕ) (old new : WorldState) : Type 0 where
@@ -203,7 +210,7 @@ pub record IsAsBefore (old new : WorldState) : Type 0 where
 
 -- ---- the begin of a call
 
--- The actor holds no free pointer. So where a call of it stands at one, it has loaded that itself.
+-- The actor holds no free pointer. So where a call of it stands at one, it has loaded that itself (`LoadsPointer`).
 abbrev pub HoldsNoPointer : ℕ → WorldState → Type 0
 HoldsNoPointer actor world_state = (state : State) → IsReachedAs world_state state → (recorder : Actor) → get_elem? state.actors (actor + 1) ≡ some recorder
     → has_pointer recorder.hand.place ≡ false

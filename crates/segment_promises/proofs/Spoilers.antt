@@ -252,7 +252,7 @@ note_leaves a (answers answered) = (refl, refl)
 note_leaves a ends = (refl, refl)
 note_leaves a (refused added) = (refl, refl)
 
-notes_leave : (notes : List Note) (a b : Actor) → Notes a notes b → (b.hand.place ≡ a.hand.place) × (b.done ≡ a.done)
+pub notes_leave : (notes : List Note) (a b : Actor) → Notes a notes b → (b.hand.place ≡ a.hand.place) × (b.done ≡ a.done)
 notes_leave [] a b same = (ap (λ (x : Actor). x.hand.place) (sym same), ap (λ (x : Actor). x.done) (sym same))
 notes_leave (note ∷ rest) a b (may, more) =
     let one = note_leaves a note in

@@ -25,7 +25,7 @@ same_memory actor old new (inr (units, (a, b, apart, there, other, may, is))) = 
 -- a step changes one word at most
 pub one_word : (old : WorldState) (actor : ℕ) (state : State) (new : WorldState) (said : Stepped) → IsReachedAs old state → StepsTo old actor state new said
     → ChangesOneWord old.words.items new.words.items
-one_word old actor state new said reach (event, then_is, step, (last, gives, (reached, promised, looks, claims))) =
+one_word old actor state new said reach (event, then_is, step, (last, gives, (reached, promised, looks, claims, loads))) =
     let at = spot (length state.words) event in let word = change old.version event (word_at (memory state) at) in (
       at,
       word,

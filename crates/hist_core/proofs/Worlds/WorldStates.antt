@@ -1,5 +1,5 @@
 -- A step of a world is one event of the machine.
-use Rattle.std.proofs.Common.{◌≡◌, ◌≢◌, false, ℕ, ℤ, zero, suc, ◌+◌, ◌<◌, ◌≤◌, List, [], ◌∷◌, ◌++◌, length, get_or, set, take, inl, inr, refl, sym, ap, ◌∙◌, subst, arith, length-set}
+use Rattle.std.proofs.Common.{◌≡◌, ◌≢◌, false, ℕ, ℤ, zero, suc, ◌+◌, ◌<◌, ◌≤◌, List, [], ◌∷◌, ◌++◌, length, get_or, set, take, inl, inr, ⊎_elim, refl, sym, ap, ◌∙◌, subst, arith, length-set}
 use Rattle.std.proofs.Math.Numerals.{add-one}
 use Rattle.std.proofs.lemmas.List.{append-nil, length-take-le, set-set}
 use Rattle.std.proofs.Math.Logic.{∥∥₁_elim}
@@ -18,6 +18,7 @@ use Rattle.segment_machine.specs.Reached as machine
 use Rattle.segment_machine.specs.Seats.{giver, getter}
 use Rattle.segment_machine.specs.declared.actor.Answered.{Answered}
 use Rattle.segment_machine.specs.declared.actor.Done.{Done as Deeds}
+use Rattle.segment_machine.specs.declared.actor.Hand.{Hand}
 use Rattle.segment_machine.specs.Actor.{is_opener, units_listed, units_of, AreApart}
 use Rattle.segment_invariant.proofs.Lists.Elements.{all_at, sum_at_least}
 use Rattle.alloc_core.proofs.Layouts.{length_shown}
@@ -33,14 +34,14 @@ use Rattle.segment_promises.proofs.Deltas.{deltas_take_accepted}
 use Rattle.segment_promises.proofs.Snapshots.{snapshots_see_accepted}
 use Rattle.segment_promises.proofs.Steps.{happens}
 use Rattle.segment_promises.proofs.Names.{names_are_first}
-use Rattle.segment_promises.proofs.Spoilers.{spoilers_step_on}
+use Rattle.segment_promises.proofs.Spoilers.{notes_leave, spoilers_step_on}
 use Rattle.std.specs.List.{Contains}
 use Rattle.bucket_ranges.specs.Reading.{spec_of}
 use Rattle.bucket_ranges.specs.Spec.{SameSpec}
 use Rattle.list_core.specs.Chain.{IsChain}
 use Rattle.segment_image.specs.Head.{head_of, header_of}
 use Rattle.segment_machine.specs.declared.actor.Known.{Known as MachineKnown}
-use Rattle.segment_machine.specs.declared.place.Place.TheVariants.{Spent}
+use Rattle.segment_machine.specs.declared.place.Place.TheVariants.{FreeLoaded, Spent}
 use Rattle.segment_invariant.specs.Consistent.{IsHistogram}
 use Rattle.segment_invariant.proofs.Lists.Maps.{contains_map}
 use Rattle.hist_core.specs.declared.hist.Known.{Known}
@@ -53,13 +54,14 @@ use Rattle.hist_core.specs.declared.call.Stepped.TheVariants.{More, Done}
 use Rattle.hist_core.specs.declared.call.Answer.TheVariants as answer
 use Rattle.hist_core.specs.StepsBy.{StepsBy, WalksInOrder, has_pointer}
 use Rattle.hist_core.specs.ActorRun.{IsAnswer, IsTook, IsKnown, IsRun, IsSomeRun, Lands, Advances, held_by, looked_by, returned_by, LooksSince, StandsIn, known_of, pending_by, IsRefusedBy}
-use Rattle.hist_core.specs.WorldState.{AreRun, IsReachedAs, IsReached, IsConsistentAs, IsReadAs, AreKnownFirst, HasSeen, HasTaken, ClaimsNothing, HoldsNoPointer, IsPromised, StepsTo, Rests, BeginsFrom, IsDue, LooksFrom}
+use Rattle.hist_core.specs.WorldState.{AreRun, IsReachedAs, IsReached, IsConsistentAs, IsReadAs, AreKnownFirst, HasSeen, HasTaken, ClaimsNothing, HoldsNoPointer, LoadsPointer, IsPromised, StepsTo, Rests, BeginsFrom, IsDue, LooksFrom}
 use Rattle.bucket_ranges.specs.Ranges.{boundaries_of}
 use Rattle.bucket_ranges.specs.Spec.{spec_fault}
 use Rattle.std.specs.Prelude.{None, Ok}
 use Rattle.hist_core.specs.World.{of_actor}
 use Rattle.hist_core.proofs.Walks.Orders.{walks_in_order}
 use Rattle.hist_core.proofs.Worlds.Free.{free_holds_none, free_turns}
+use Rattle.hist_core.proofs.Worlds.Pointers.{pointer_from}
 use Rattle.hist_core.proofs.Worlds.Landing.{looks_still}
 use Rattle.hist_core.proofs.Worlds.Causes.{flagged, refused_still}
 use Rattle.segment_calls.specs.declared.refusal.Refusal.{Refusal}
@@ -241,13 +243,35 @@ module _ (old : WorldState) (state : State) (reach : IsReachedAs old state) (siz
         subst (λ (p : ActorRun × Actor × Actor). LooksSince p.0.running p.1 p.2)
         (λ i. (some-injective r before (sym at ∙ was) i, some-injective its.0 a (sym there ∙ is_a) i, some-injective b c (sym is_last ∙ is_c) i)) looks
 
+    -- its record before a step and behind it
+    stepped_from : (event : Event) (b : Actor) (step : IsStep old.version state (actor + 1) event (changed b)) (a : Actor) → get_elem? state.actors (actor + 1) ≡ some a
+        → (step.actor ≡ a) × (step.then_is ≡ b)
+    stepped_from event b step a is_a = (
+      some-injective _ _ (sym step.there ∙ is_a),
+      some-injective _ _
+          (sym (set_at state.actors (actor + 1) its.0 step.then_is there)
+          ∙ (ap (λ l. get_elem? l (actor + 1)) (sym step.actors_are) ∙ set_at state.actors (actor + 1) its.0 b there)),
+    )
+
+    -- it stands at no free pointer that it has not loaded
+    loads_pointer : (event : Event) (b : Actor) → IsStep old.version state (actor + 1) event (changed b) → (last : State) (c : Actor) → get_elem? last.actors (actor + 1) ≡ some c
+        → c.hand ≡ b.hand → LoadsPointer actor words state last
+    loads_pointer event b step last c is_last hand a d is_a is_d free at =
+        let (first, then_is) = stepped_from event b step a is_a in
+        let found : ℕ = found_at state event in
+        let begins = notes_leave step.before step.actor step.at step.notes_before in
+        let ends = notes_leave step.behind (next step.at event found) step.then_is step.notes_behind in
+        let behind : (next step.at event found).hand.place ≡ FreeLoaded free =
+        sym ends.0 ∙ (ap (λ (x : Actor). x.hand.place) then_is ∙ (ap (λ (h : Hand). h.place) (sym hand) ∙ (ap (λ (x : Actor). x.hand.place) (some-injective c d (sym is_last ∙ is_d)) ∙ at))) in
+        ⊎_elim (λ stood. inl (ap (λ (x : Actor). x.hand.place) (sym first) ∙ (sym begins.0 ∙ stood)))
+        (λ (loads, same). inr (sym (same ∙ (finds event ∙ ap (λ (e : Event). word_at words (spot old.shape.size e)) loads))))
+        (pointer_from free step.at event found behind)
+
     -- once it has set the corrupt flag, it claims nothing
     claims_none : (event : Event) (b : Actor) → IsStep old.version state (actor + 1) event (changed b) → (last : State) (c : Actor) → get_elem? last.actors (actor + 1) ≡ some c
         → c.done ≡ b.done → ClaimsNothing actor state last
     claims_none event b step last c is_last done a d is_a is_d spoiled =
-        let first : step.actor ≡ a = some-injective _ _ (sym step.there ∙ is_a) in
-        let then_is : step.then_is ≡ b = some-injective _ _
-        (sym (set_at state.actors (actor + 1) its.0 step.then_is there) ∙ (ap (λ l. get_elem? l (actor + 1)) (sym step.actors_are) ∙ set_at state.actors (actor + 1) its.0 b there)) in
+        let (first, then_is) = stepped_from event b step a is_a in
         let ends : d.done ≡ step.then_is.done = ap (λ (x : Actor). x.done) (sym (some-injective c d (sym is_last ∙ is_d))) ∙ (done ∙ ap (λ (x : Actor). x.done) (sym then_is)) in
         let (sets, claimed) = spoilers_step_on old.shape old.version reach.id 0 state (changed b) (actor + 1) event reach.reached step
         (ap (λ (x : Actor). x.done.spoiled) first ∙ spoiled) in
@@ -269,6 +293,7 @@ module _ (old : WorldState) (state : State) (reach : IsReachedAs old state) (siz
           promised,
           looks_from (changed b) b (set_at state.actors (actor + 1) its.0 b there) looks,
           claims_none event b step (changed b) b (set_at state.actors (actor + 1) its.0 b there) refl,
+          loads_pointer event b step (changed b) b (set_at state.actors (actor + 1) its.0 b there) refl,
         ),
       ),
     )
@@ -332,6 +357,7 @@ module _ (old : WorldState) (state : State) (reach : IsReachedAs old state) (siz
               promised there,
               looks_from last (giver b units) (mine_last b units) (looks_still r.running its.0 b (giver b units) refl looks),
               claims_none event b step last (giver b units) (mine_last b units) refl,
+              loads_pointer event b step last (giver b units) (mine_last b units) refl,
             ),
           ),
         )

@@ -36,7 +36,8 @@ OTHER_WORDS = {"tally": "memory allocation failed"}
 # The units of a segment.
 UNITS = 2**32 - 1
 
-# What calls of a recorder may ask for: 16 bytes for each key that the histogram may have, and 8 for each record that fits.
+# What calls ask for (docs/PERFORMANCE.md): `delta` and `snapshot` 16 bytes for each key that the histogram may have, and `records`
+# and `fresh_records` 8 for each record that fits in the segment.
 SIZE = 1024
 FITTING = (SIZE - 16) // 5
 KEYS = (3, 4, FITTING, 4)
@@ -46,6 +47,12 @@ ASKED = {
     "records": [8 * FITTING],
     "fresh_records": [8 * FITTING] * 2,
 }
+# `merge` for all histograms 80 bytes each, then for each of them twice its name and 8 bytes for each of its keys, and then again for all
+# 32 bytes each, before the `hist` of each.
+MERGED = {"boolean": 3, "custom": 4, "sparse": 5, "A": 3, "B": 3, "C": 3, "D": 3, "a_name_that_is_longer": 3}
+# `hist` so many bytes at most in all, but for the list of what it knows, which has 88 bytes for each.
+MOST_OF_HIST = 512
+KNOWN = (4 * 88, 8 * 88)
 
 
 def name_of(call):
@@ -54,17 +61,33 @@ def name_of(call):
 
 
 def wrong_list(asked, lines):
-    """What is wrong with the calls that a run makes and with what they ask for, or None."""
+    """What is wrong with the calls that a run makes in which nothing is refused, or None."""
     made = {name_of(line[len("try "):]) for line in lines if line.startswith("try ")}
     if made != {*TAKING, *TAKING_NONE}:
         return f"the calls {sorted(made ^ {*TAKING, *TAKING_NONE})} are made or wanted, and not both"
     takers = {name_of(one.call) for one in asked}
     if takers != {*TAKING}:
         return f"the calls {sorted(takers ^ {*TAKING})} take memory or are to take some, and not both"
-    for name, sizes in ASKED.items():
-        came = [one.size for one in asked if name_of(one.call) == name]
-        if came != sizes:
-            return f"{name} asks for {came} bytes, wanted {sizes}"
+    refused = [line for line in lines if line.startswith("refused ")]
+    return f"came {refused} where nothing was refused" if refused else None
+
+
+def wrong_sizes(asked):
+    """What is wrong with what calls ask for, or None."""
+    sizes = collections.defaultdict(list)
+    of_hists = collections.Counter()
+    for one in asked:
+        sizes[name_of(one.call)].append(one.size)
+        if one.call == "hist" and one.size not in KNOWN:
+            of_hists[one.place] += one.size
+    of_merge = [80 * len(MERGED), *(size for name, keys in MERGED.items() for size in (len(name), len(name), 8 * keys)), 32 * len(MERGED)]
+    wanted = {**ASKED, "merge": of_merge}
+    for name, right in wanted.items():
+        came = sizes[name][:len(right)] if name == "merge" else sizes[name]
+        if came != right:
+            return f"{name} asks for {came} bytes, wanted {right}"
+    if max(of_hists.values()) > MOST_OF_HIST:
+        return f"a hist asks for {max(of_hists.values())} bytes, wanted {MOST_OF_HIST} at most"
     return None
 
 
@@ -135,8 +158,9 @@ def library_cases(program, refused):
     """Each allocation of the calls of the libraries is refused; `refused` counts those of each call."""
     plain = answer(program, ["growths"])
     seen, asked = allocations.answer(program, ["growths"])
-    wrong = wrong_list(asked, plain.output.decode().splitlines())
-    yield "what calls ask for", difference(Answer(plain.output), plain) or difference(plain, seen) or wrong
+    yield "a run", difference(Answer(plain.output), plain) or difference(plain, seen)
+    yield "the calls", wrong_list(asked, plain.output.decode().splitlines())
+    yield "what calls ask for", wrong_sizes(asked)
     for place, one in enumerate(asked):
         wrong = wrong_allocation(program, plain, place, one)
         refused[name_of(one.call)] += 1

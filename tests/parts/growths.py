@@ -203,8 +203,9 @@ def command_cases(refused):
     """Each growth of the commands is refused; `refused` counts those of each."""
     with tempfile.TemporaryDirectory() as scratch:
         for command, wrong_answer in commands(built(failing.PROGRAM), built("stepped"), pathlib.Path(scratch).resolve()):
-            wrong, refused[command.name] = wrong_command(command, wrong_answer)
-            yield command.name, wrong
+            name = f"the command {command.name}"
+            wrong, refused[name] = wrong_command(command, wrong_answer)
+            yield name, wrong
 
 
 def told(refused):

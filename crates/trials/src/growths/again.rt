@@ -13,20 +13,18 @@ pub(super) fn show_refused(rt: &impl Print, name: &str, why: &impl Display) -> i
     println!(rt; "refused {name} {why}")
 }
 
-/// What a call answers that changes nothing; where it is refused, what it answers then.
-pub(super) fn again<T: Drop, E: Display + Drop, F: Fn() -> Result<T, E>>(
-    rt: &impl Print,
-    name: &str,
-    call: F,
-) -> io::Result<Result<T, E>>
-    requires { F.IsAlwaysCallable call }
-{
-    show_try(rt, name)?;
-    match call() {
-        Ok(answer) => Ok(Ok(answer)),
-        Err(why) => {
-            show_refused(rt, name, &why)?;
-            Ok(call())
+/// What a call answers; where it is refused, what it answers when it is made once more.
+macro_rules! again {
+    ($rt:expr, $name:literal, $call:expr) => {{
+        show_try($rt, $name)?;
+        match $call {
+            Ok(answer) => answer,
+            Err(why) => {
+                show_refused($rt, $name, &why)?;
+                $call?
+            }
         }
-    }
+    }};
 }
+
+pub(super) use again;

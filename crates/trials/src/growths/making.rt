@@ -1,6 +1,6 @@
 //! New images, ranges and tallies.
 
-use crate::growths::again::again;
+use crate::growths::again::{again, show_refused, show_try};
 use anyhow::Result;
 use bucket_ranges::{CustomValues, Ranges, Spec, tally};
 use segment_image::Image;
@@ -32,16 +32,16 @@ pub(super) fn custom(alloc: Global) -> Result<Spec> {
 
 // The ranges of a spec, and what samples add up to in them.
 fn show_ranges(rt: &impl Print, alloc: Global, spec: &Spec) -> Result<()> {
-    let ranges = again(rt, "ranges", || Ranges::of(alloc, spec))??;
+    let ranges = again!(rt, "ranges", Ranges::of(alloc, spec));
     println!(rt; "{ranges:?}")?;
-    let plain = again(rt, "tally", || tally(alloc, &ranges, &SAMPLES))??;
+    let plain = again!(rt, "tally", tally(alloc, &ranges, &SAMPLES));
     println!(rt; "{plain:?}")?;
     Ok(())
 }
 
 pub(super) fn show(rt: &(impl Print + AllocGlobal)) -> Result<()> {
     let alloc = rt.alloc();
-    let image = again(rt, "blank", || Image::blank(alloc, 128, 64, 7))??;
+    let image = again!(rt, "blank", Image::blank(alloc, 128, 64, 7));
     println!(rt; "{image:?}")?;
     let linear = Spec::Linear {
         min: 1,

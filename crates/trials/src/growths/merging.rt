@@ -15,20 +15,20 @@ use std::io::Write;
 
 // Its report, of words and of the bytes that they are.
 fn show_reports(rt: &impl Print, alloc: Global, words: &[u64]) -> Result<()> {
-    let text = again(rt, "report_of", || report_of(alloc, words))??;
+    let text = again!(rt, "report_of", report_of(alloc, words));
     io::writer(rt).write_all(&text)?;
     let mut file = Watched::new(Vec::new(alloc));
     write_words(&mut file, words)?;
     let bytes = file.into_inner();
-    again(
+    again!(
         rt,
         "report",
-        || report(
+        report(
             alloc,
             &mut Watched::new(bytes.as_slice()),
-            &mut Watched::new(io::writer(rt)),
-        ),
-    )??;
+            &mut Watched::new(io::writer(rt))
+        )
+    );
     Ok(())
 }
 

@@ -72,18 +72,18 @@ fn show_calls(rt: &impl Print, world: &mut World, calls: &[Call]) -> Result<()> 
 fn show_schedule(rt: &impl Print, alloc: Global) -> Result<()> {
     let call = Call::Hist(bytes(alloc, "A")?, Spec::Boolean);
     let moves = [Move::Begin(0, call), Move::Step(0), Move::Step(0)];
-    let world = again(
+    let world = again!(
         rt,
         "run_schedule",
-        || run_schedule(alloc, 128, 64, 7, 2, 1, &moves),
-    )??;
+        run_schedule(alloc, 128, 64, 7, 2, 1, &moves)
+    );
     println!(rt; "{world:?}")?;
     Ok(())
 }
 
 pub(super) fn show(rt: &(impl Print + AllocGlobal)) -> Result<()> {
     let alloc = rt.alloc();
-    let mut world = again(rt, "world", || World::new(alloc, 256, 64, 7, 2, 2))??;
+    let mut world = again!(rt, "world", World::new(alloc, 256, 64, 7, 2, 2));
     println!(rt; "{world:?}")?;
     show_calls(rt, &mut world, &calls_of(alloc, "boolean", Spec::Boolean)?)?;
     show_calls(rt, &mut world, &calls_of(alloc, "custom", custom(alloc)?)?)?;

@@ -1,8 +1,9 @@
 -- A batch without a sum: its first items and its last one. Where the first ones are cut short, all of it is.
-use Rattle.std.proofs.Common.{◌≡◌, ◌+◌, ◌-◌, ◌<◌, ◌≤◌, ℤ, pos, ℕ, List, [], ◌∷◌, ◌++◌, map, take, length, get_or, sym, ap, ◌∙◌, subst, arith}
+use Rattle.std.proofs.Common.{◌≡◌, ◌+◌, ◌-◌, ◌<◌, ◌≤◌, Bool, true, false, if◌then◌else◌, ℤ, pos, ℕ, List, [], ◌∷◌, ◌++◌, map, take, length, get_or, refl, sym, ap, ◌∙◌, subst, arith}
 use Rattle.std.specs.List.{All}
 use Rattle.std.proofs.Math.Seq.{take-length}
-use Rattle.std.proofs.lemmas.List.{take-append-le, take_more}
+use Rattle.std.specs.Str.{bytes_eq}
+use Rattle.std.proofs.lemmas.List.{append-nil, take-append-le, take_more}
 use Rattle.atomic_table.proofs.Lists.{at_longer}
 use Rattle.segment_invariant.proofs.Lists.Elements.{below_length}
 use Rattle.segment_calls.specs.declared.refusal.BatchRefusal.{BatchRefusal}
@@ -10,11 +11,12 @@ use Rattle.bucket_ranges.specs.Ranges.{boundaries_of}
 use Rattle.bucket_ranges.specs.Tally.{units_of}
 use Rattle.segment_machine.specs.declared.actor.Actor.{Actor}
 use Rattle.segment_machine.specs.declared.actor.Known.{Known}
-use Rattle.segment_machine.specs.Actor.{log_of}
-use Rattle.segment_machine.specs.Entry.{item_entry}
+use Rattle.segment_machine.specs.Actor.{cost_of, log_of}
+use Rattle.segment_machine.specs.Entry.{batch_cost, item_entry}
 use Rattle.live_segment.specs.Adding.{Pays}
-use Rattle.live_segment.specs.Batching.{IsCutShort}
+use Rattle.live_segment.specs.Batching.{IsBatched, IsCutShort}
 use Rattle.live_segment.proofs.BatchCall.Items.{within_all}
+use Rattle.live_segment.proofs.Seating.Proceeding.{does_not, sees_not}
 
 pub front_and_last : (items : List (ℤ × ℕ)) (d : ℤ × ℕ) → 1 ≤ length items
     → take (length items - 1) items ++ get_or items (length items - 1) d ∷ [] ≡ items
@@ -45,3 +47,17 @@ cut_before known front behind refusal old new cut =
       lacks = cut.lacks;
       onward = cut.onward;
     }
+
+-- a batch of no items and no sum changes nothing
+pub none_batched : (known : Known) (items : List (ℤ × ℕ)) (a : Actor) → length items < 1 → IsBatched known items (pos 0) a a
+none_batched known (item ∷ items) a none = absurd (omega (arith, none))
+none_batched known [] a none = record {
+  logged = sym (append-nil (log_of a));
+  pays = record { share = omega arith; spent = λ other. none_more (bytes_eq known.name other) (cost_of a.units.costs other) };
+  filled = refl;
+  onward = record { same = refl; done = does_not a.done; seen = sees_not a.seen };
+}
+  where
+    none_more : (b : Bool) (n : ℕ) → n ≡ n + (if b then batch_cost [] (pos 0) else 0)
+    none_more true n = omega arith
+    none_more false n = omega arith

@@ -13,8 +13,11 @@ use Rattle.live_segment.specs.Working.{CountsAlone, HasCounted}
 use Rattle.live_segment.proofs.BatchCall.ItemsCounted.{may_next}
 use Rattle.live_segment.proofs.BatchCall.ItemsRefused.{stops_at}
 use Rattle.live_segment.proofs.BatchCall.LastItem.{may_end_batch, same_ended, last_rests, last_batched}
-use Rattle.live_segment.proofs.BatchCall.Unsummed.{cut_before, front_and_last, last_fits}
+use Rattle.live_segment.proofs.BatchCall.Unsummed.{cut_before, front_and_last, last_fits, none_batched}
 use Rattle.live_segment.proofs.segment.Segment.count_unsummed.Goals as goal
+
+pub returns-in_default-clause-outcome : goal.returns-in_default-clause-outcome
+returns-in_default-clause-outcome c = none_batched (known_view c.args.histogram.now) c.args.items.now c.args.seat.now.me.0 c.in_default.len_below
 
 pub returns-in_err-count_items-clause-outcome : goal.returns-in_err-count_items-clause-outcome
 returns-in_err-count_items-clause-outcome c =

@@ -2,6 +2,7 @@
 pub mod Allowed
 pub mod Callers
 pub mod GhostNoted
+pub mod Openings
 pub mod Proceeding
 pub mod Seated
 pub mod Standing

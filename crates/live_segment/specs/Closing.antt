@@ -1,5 +1,5 @@
 -- What the image of a closed segment reads as, for who had its opener: once all recorders are joined, and whatever is outstanding.
-use Rattle.std.specs.Prelude.{◌≡◌, ℕ, ◌+◌, ◌-◌, ◌≤◌, ℤ, List, map, sum_by, Ok}
+use Rattle.std.specs.Prelude.{◌≡◌, ℕ, ◌+◌, ◌-◌, ◌≤◌, ◌||◌, ℤ, List, map, sum_by, Ok}
 use Rattle.std.specs.List.{Contains, All}
 use Rattle.segment_image.specs.Head.{header_of, head_of}
 use Rattle.bucket_ranges.specs.Spec.{SameSpec}
@@ -10,13 +10,13 @@ use Rattle.segment_machine.specs.declared.actor.Answered.{Answered}
 use Rattle.segment_machine.specs.declared.actor.Known.{Known}
 use Rattle.segment_machine.specs.declared.actor.Taken.{Taken}
 use Rattle.segment_machine.specs.Entry.{tally_units, tally_sum, tally_noted}
-use Rattle.segment_machine.specs.Actor.{log_of, units_of, units_listed, taken_of, taken_units, taken_sum, IsFinal, made_of}
+use Rattle.segment_machine.specs.Actor.{cost_of, log_of, units_of, units_listed, taken_of, taken_units, taken_sum, IsFinal, made_of}
 use Rattle.segment_machine.specs.State.{State}
-use Rattle.segment_invariant.specs.Body.{Listed}
+use Rattle.segment_invariant.specs.Body.{Anatomy, Listed}
 use Rattle.segment_invariant.specs.Ledger.{all_moving}
-use Rattle.segment_promises.specs.Reads.{units_read, mark_read, HasNoFault, ReadsHead, ReadsNames, ReadsUnits, ReadsAmounts, ReadsAnswers}
+use Rattle.segment_promises.specs.Reads.{units_read, mark_read, noted_at_opening, HasNoFault, ReadsHead, ReadsNames, ReadsUnits, ReadsAmounts, ReadsAnswers}
 use Rattle.live_segment.specs.declared.rule.Setting.{Setting}
-use Rattle.live_segment.specs.Rule.{opened_of, Closes}
+use Rattle.live_segment.specs.Rule.{Closes}
 
 -- ---- the words
 
@@ -30,24 +30,28 @@ pub record IsImageOf (setting : Setting) (words : List ℕ) : Type 0 where
 
 -- ---- once all recorders are joined
 
--- A histogram that is read has what the opener's log adds up to: the units of each key, and the sum. Its redundant count is the units
--- of the same entries; its marks and its sum mark are what deltas took.
+-- what a redundant count comes to: what it was as the segment was opened, and the units of all entries since
+abbrev pub redundant_of : Actor → List ℕ → ℕ
+redundant_of opener name = cost_of opener.entries.first_noted name + tally_noted (map (λ c. c.entry) opener.entries.log) name
+
+-- A histogram that is read has what the opener's log adds up to, which begins with what the segment was opened with: the units of each key,
+-- and the sum. Its redundant count is the opening's and the units since; its marks and its sum mark are what deltas took.
 pub record IsTally (opener : Actor) (h : Histogram) : Type 0 where
   pub units : (key : ℤ) → units_read h key ≡ tally_units (log_of opener) h.name key
   pub sum : h.sum ≡ tally_sum (log_of opener) h.name
-  pub redundant : h.redundant ≡ tally_noted (map (λ c. c.entry) opener.entries.log) h.name
+  pub redundant : h.redundant ≡ redundant_of opener h.name
   pub marks : (key : ℤ) → mark_read h key ≡ taken_units (taken_of opener) h.name key
   pub sum_mark : h.sum_mark ≡ taken_sum (taken_of opener) h.name
 
--- No record is bad, and the list does not stop. The names are exactly those that a `hist` was answered Ok with, each once, with the
--- spec of each answer. A flag is set where a call has set it.
+-- No record is bad, and the list does not stop. The names are exactly those that the segment was opened with and those that a `hist` was
+-- answered Ok with, each once, with the spec of each answer. A flag is set where a call has set it; the full one also where the segment was opened with it.
 pub record IsJoinedReading (setting : Setting) (opener : Actor) (reading : Reading) : Type 0 where
   pub lawful : HasNoFault reading
   pub answers : ReadsAnswers opener.answers.names reading
   pub tallies : (h : Histogram) → Contains reading.hists h → IsTally opener h
   pub id : reading.id ≡ setting.id
   pub corrupt : reading.corrupt ≡ opener.done.spoiled
-  pub full : reading.full ≡ opener.done.filled
+  pub full : reading.full ≡ (setting.full || opener.done.filled)
 
 abbrev pub ReadsJoined : Setting → Actor → List ℕ → Type 0
 ReadsJoined setting opener words = (reading : Reading) → IsReading words (head_of words) reading → IsJoinedReading setting opener reading
@@ -65,7 +69,7 @@ pub record SnapshotsAgree (opener : Actor) : Type 0 where
   pub exact : (answer : Answered) → Contains opener.deltas.snapshots answer → IsFinal (made_of opener.role) (log_of opener) answer.name answer.moment
       → ((key : ℤ) → units_listed answer.counts key ≡ tally_units (log_of opener) answer.name key)
       × (answer.sum ≡ tally_sum (log_of opener) answer.name)
-      × (answer.redundant ≡ tally_noted (map (λ c. c.entry) opener.entries.log) answer.name)
+      × (answer.redundant ≡ redundant_of opener answer.name)
 
 -- ---- whatever is outstanding
 
@@ -80,12 +84,14 @@ units_out opener = 4294967295 - units_of opener
 
 -- What is read of the words of a state that holds between two steps: exactly the histograms that were published, with all units but those
 -- in transit. Each histogram that a joined recorder was answered with is among them. Of each key the total, in version 1 with its units
--- in transit, is at least what the log has; and all units beyond the log are at most those handed out that have not come back.
-pub record IsStoppedReading (setting : Setting) (opener : Actor) (state : State) (records : List Listed) (reading : Reading) : Type 0 where
+-- in transit, is at least what the log has; and all units beyond the log are at most those handed out that have not come back. The opener
+-- knows the redundant counts that the segment was opened with.
+pub record IsStoppedReading (setting : Setting) (opened : Anatomy) (opener : Actor) (state : State) (records : List Listed) (reading : Reading) : Type 0 where
   pub lawful : HasNoFault reading
-  pub head : ReadsHead (opened_of setting) state reading
+  pub head : ReadsHead opened state reading
   pub names : ReadsNames records reading
-  pub each : (h : Histogram) → Contains reading.hists h → ReadsUnits setting.version state h × ReadsAmounts (opened_of setting) state h
+  pub each : (h : Histogram) → Contains reading.hists h → ReadsUnits setting.version state h × ReadsAmounts opened state h
+  pub first_noted : (name : List ℕ) → noted_at_opening opened name ≡ cost_of opener.entries.first_noted name
   pub answered : (known : Known) → Contains opener.answers.names known
       → (h : Histogram) × Contains reading.hists h × (h.name ≡ known.name) × (h.reference ≡ known.reference) × SameSpec h.spec known.spec
   pub least : (h : Histogram) (key : ℤ) → Contains reading.hists h
@@ -95,4 +101,4 @@ pub record IsStoppedReading (setting : Setting) (opener : Actor) (state : State)
 -- there is such a state, in which the opener has done and seen this
 pub record ReadsStopped (setting : Setting) (opener : Actor) (words : List ℕ) : Type 0 where
   pub closed : Closes setting opener words
-  pub reads : (reading : Reading) → IsReading words (head_of words) reading → IsStoppedReading setting opener closed.state closed.kept.anatomy.records reading
+  pub reads : (reading : Reading) → IsReading words (head_of words) reading → IsStoppedReading setting closed.opened opener closed.state closed.kept.anatomy.records reading

@@ -38,11 +38,15 @@ pub record IsMadeWith (segment : Segment) (opener : Opener) : Type 0 where
   pub table : opener.seat.table_id ≡ table_of segment
   pub of : IsOf segment.setting (view_of_opener opener)
 
--- a new segment that is made so, and its opener
-pub record IsNew (setting : Setting) (segment : Segment) (opener : Opener) : Type 0 where
+-- a segment that is opened so, and its opener, which has done and seen this
+pub record IsOpened (setting : Setting) (first : Actor) (segment : Segment) (opener : Opener) : Type 0 where
   pub setting_is : segment.setting ≡ setting
   pub made : IsMadeWith segment opener
-  pub view : view_of_opener opener ≡ first_view setting
+  pub view : view_of_opener opener ≡ first
+
+-- a new segment that is made so, and its opener
+abbrev pub IsNew : Setting → Segment → Opener → Type 0
+IsNew setting = IsOpened setting (first_view setting)
 
 -- an opener goes on with the same segment
 pub record IsSameOpener (old new : Opener) : Type 0 where

@@ -14,7 +14,7 @@ use Rattle.segment_machine.specs.Actor.{SawSingle, accepted_by, bucket_key, unit
 use Rattle.segment_machine.specs.Entry.{tally_noted, tally_units}
 use Rattle.segment_machine.specs.Made.{IsFirstSample}
 use Rattle.segment_machine.specs.State.{State}
-use Rattle.segment_invariant.specs.Body.{blank}
+use Rattle.segment_invariant.specs.Body.{Anatomy}
 use Rattle.segment_invariant.specs.Consistent.{units_taken}
 use Rattle.segment_invariant.specs.Invariant.{Invariant}
 use Rattle.segment_promises.specs.Deltas.{SawOpen}
@@ -67,11 +67,13 @@ pub record IsEnough (known : Known) (old new : Actor) (units : ℤ → ℕ) : Ty
 
 -- ---- of all deltas
 
--- A state of its segment that keeps what holds between any two events, and in which a holder has done and seen this.
+-- A state of its segment that keeps what holds between any two events, whatever blocks it was opened with, and in which a holder has done
+-- and seen this.
 pub record Standing (a : Actor) : Type 0 where
-  pub id : ℕ
+  pub opened : Anatomy
+  pub version : opened.version ≡ a.segment.version
   pub state : State
-  pub kept : Invariant a.segment.shape (blank a.segment.version id a.segment.shape.size) state
+  pub kept : Invariant a.segment.shape opened state
   pub who : ℕ
   pub stands : get_elem? state.actors who ≡ some a
 

@@ -1,20 +1,23 @@
--- What a segment is made as, what holds of its table, and what its words are when it is closed.
-use Rattle.std.specs.Prelude.{◌≡◌, Bool, not, ◌||◌, nat_lt, ℕ, List, [], ◌∷◌}
+-- What a segment is opened as and with, what holds of its table, and what its words are when it is closed.
+use Rattle.std.specs.Prelude.{◌≡◌, Bool, false, not, ◌||◌, nat_lt, ℕ, List, [], ◌∷◌, take, drop, replicate}
 use mathlib.Core.Option.{some}
 use lib.ListN.{get_elem?}
 use Rattle.atomic_table.specs.Table as table
 use Rattle.segment_image.specs.Shape.{is_page, is_size}
-use Rattle.segment_image.specs.Head.{is_version}
+use Rattle.segment_image.specs.Head.{head_of, is_version}
+use Rattle.segment_image.specs.declared.layout.TheConstants.{QUEUE}
+use Rattle.bucket_ranges.specs.Reading.{reading_along}
 use Rattle.segment_machine.specs.declared.actor.Actor.{Actor}
 use Rattle.segment_machine.specs.Seats.{opener_of}
-use Rattle.segment_machine.specs.State.{State}
-use Rattle.segment_machine.specs.Reached.{new_state}
-use Rattle.segment_invariant.specs.Body.{Anatomy, blank}
+use Rattle.segment_machine.specs.State.{State, memory}
+use Rattle.segment_invariant.specs.Body.{Anatomy}
 use Rattle.segment_invariant.specs.Invariant.{Invariant}
+use Rattle.segment_promises.specs.Adoption.{adopter}
 use Rattle.segment_promises.specs.Follows.{Running}
 use Rattle.live_segment.specs.declared.fault.OpenFault.{OpenFault}
 use Rattle.live_segment.specs.declared.fault.OpenFault.TheVariants.{BadShape, BadCursors}
 use Rattle.live_segment.specs.declared.rule.Announcement.{Announcement}
+use Rattle.live_segment.specs.declared.rule.Opening.{Opening}
 use Rattle.live_segment.specs.declared.rule.Setting.{Setting}
 
 -- what can be wrong with what a segment is to be made as, in order
@@ -22,20 +25,52 @@ abbrev pub open_checks : ℕ → ℕ → ℕ → ℕ → List (Bool × OpenFault
 open_checks size page cursors version =
     (not (is_page page) || not (is_size size page) || not (is_version version), BadShape) ∷ (nat_lt 8 cursors, BadCursors) ∷ []
 
--- the blocks of a new segment
-abbrev pub opened_of : Setting → Anatomy
-opened_of setting = blank setting.version setting.id setting.shape.size
-
--- its first state, and its opener
-abbrev pub opening_state : Setting → State
-opening_state setting = new_state setting.shape setting.version setting.id setting.cursors
-
+-- the opener of a new segment
 abbrev pub first_view : Setting → Actor
 first_view setting = opener_of setting.shape setting.version setting.cursors
 
--- what holds of its table: the words and the views are those of a kept state
-abbrev pub Runs : Setting → table.State Announcement Actor → Type 0
-Runs setting = Running Announcement setting.shape (opened_of setting)
+-- ---- as it is opened
+
+-- the words of the segment, which stand behind the first of the table
+abbrev pub words_of : Opening → List ℕ
+words_of opening = take opening.setting.shape.size (drop 1 opening.words.items)
+
+-- The opener of words with such a list: it stands for all that they read as along it. The opener of blank words, which have no list, has
+-- done nothing.
+abbrev pub opener_of_words : Setting → List ℕ → List ℕ → Actor
+opener_of_words setting words references =
+    record (adopter words references (reading_along words (head_of words) references) setting.cursors) {
+      segment = record { shape = setting.shape; version = setting.version; cursors = setting.cursors };
+    }
+
+abbrev pub opener_for : Opening → Actor
+opener_for opening = opener_of_words opening.setting (words_of opening) opening.references.items
+
+abbrev pub opening_state : Opening → State
+opening_state opening =
+    record { words = words_of opening; cursors = replicate opening.setting.cursors QUEUE; actors = opener_for opening ∷ [] }
+
+-- blocks are such as the header says that a segment is opened as
+pub record IsOpenedAs (setting : Setting) (opened : Anatomy) : Type 0 where
+  pub version : opened.version ≡ setting.version
+  pub id : opened.id ≡ setting.id
+  pub intact : opened.corrupt ≡ false
+  pub full : opened.full ≡ setting.full
+
+-- the words are those of a kept state, in which its opener stands alone
+pub record IsKeptOpening (opening : Opening) : Type 0 where
+  pub opened : Anatomy
+  pub as_said : IsOpenedAs opening.setting opened
+  pub kept : Invariant opening.setting.shape opened (opening_state opening)
+  pub words : opening.words.items ≡ 0 ∷ memory (opening_state opening)
+
+-- ---- from then on
+
+-- what holds of its table: the words and the views are those of a state that is kept, whatever blocks it was opened with
+pub record Runs (setting : Setting) (s : table.State Announcement Actor) : Type 0 where
+  pub opened : Anatomy
+  pub as_said : IsOpenedAs setting opened
+  pub running : Running Announcement setting.shape opened s
 
 -- an actor is one of the segment
 pub record IsOf (setting : Setting) (a : Actor) : Type 0 where
@@ -47,5 +82,7 @@ pub record IsOf (setting : Setting) (a : Actor) : Type 0 where
 pub record Closes (setting : Setting) (opener : Actor) (words : List ℕ) : Type 0 where
   pub state : State
   pub words_are : words ≡ state.words
-  pub kept : Invariant setting.shape (opened_of setting) state
+  pub opened : Anatomy
+  pub as_said : IsOpenedAs setting opened
+  pub kept : Invariant setting.shape opened state
   pub stands : get_elem? state.actors 0 ≡ some opener

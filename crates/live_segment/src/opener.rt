@@ -36,16 +36,16 @@ impl Opener {
     ghost use Rattle.live_segment.specs.declared.segment.Segment.{Segment};
     ghost use Rattle.live_segment.specs.Holders.{IsMadeWith, IsRecorderOf, IsSameOpener, RecordsInto, view_of_opener, view_of_recorder};
 
-    // The opener of a new segment.
-    pub(crate) fn new(alloc: Global, seat: Pass) -> Opener
+    // The opener of a segment that was just opened, which has these units.
+    pub(crate) fn new(alloc: Global, seat: Pass, units: u32) -> Opener
         requires seat { (seat.id ≡ 0) × (is_opener seat.me.0.role ≡ true) × (seat.me.0.hand.place ≡ Idle) }
-        requires new { (seat.me.0.units.share ≡ 4294967295) × (outstanding_of seat.me.0.role ≡ 0) }
+        requires new { (units ≡ seat.me.0.units.share) × (outstanding_of seat.me.0.role ≡ 0) }
         ensures { result.seat ≡ seat }
     {
         Opener {
             alloc,
             seat,
-            units: u32::MAX,
+            units,
             outstanding: 0,
         }
     }

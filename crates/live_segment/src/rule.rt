@@ -5,13 +5,25 @@ use segment_calls::{Asked, Snapshot};
 use segment_image::Shape;
 use segment_machine::Actor;
 
-/// What a segment is made as.
+/// What a segment is opened as.
 #[derive(Clone, Copy, Debug, PartialEq, Eq)]
 pub(crate) struct Setting {
     pub(crate) shape: Shape,
     pub(crate) version: u64,
     pub(crate) id: u64,
     pub(crate) cursors: usize,
+    /// Whether its full flag is set from the start, as that of an image may be.
+    pub(crate) full: bool,
+}
+
+/// What a segment is opened with: a new one, or an image that goes on.
+#[derive(Debug, Drop)]
+pub(crate) struct Opening {
+    pub(crate) setting: Setting,
+    /// The words of its table.
+    pub(crate) words: Vec<u64>,
+    /// The references on its list.
+    pub(crate) references: Vec<u64>,
 }
 
 /// What a step says that its word cannot tell.
@@ -46,12 +58,12 @@ impl Announcement {
 /// What holds between any two steps.
 pub(crate) struct SegmentRule;
 
-impl TableRule<Announcement, Actor, Setting> for SegmentRule {
-    ghost use Rattle.live_segment.specs.Rule.{Runs, first_view};
+impl TableRule<Announcement, Actor, Opening> for SegmentRule {
+    ghost use Rattle.live_segment.specs.Rule.{Runs, opener_for};
 
-    ghost holds = { Runs };
+    ghost holds = { λ opening. Runs opening.setting };
 
-    ghost first = { first_view };
+    ghost first = { opener_for };
 }
 
 /// What one holder knows of the segment. It has no bytes.

@@ -3,11 +3,11 @@
 ghost use Rattle.std.specs.Prelude.{◌≡◌, ◌+◌, ◌≤◌, ◌∷◌, [], IfOk, vec_len};
 ghost use Rattle.alloc_core.specs.Layout.{IsShape};
 ghost use Rattle.segment_machine.specs.State.{memory};
-ghost use Rattle.live_segment.specs.Rule.{opening_state};
+ghost use Rattle.segment_machine.specs.Reached.{new_state};
 
 use crate::fault::OpenFault;
 use crate::opener::Opener;
-use crate::rule::{Announcement, Pass, SegmentRule, Setting};
+use crate::rule::{Announcement, Opening, Pass, SegmentRule, Setting};
 use crate::seats::{Bound, Cut, Glue, Offer};
 use atomic_table::Table;
 use segment_image::layout::{
@@ -25,11 +25,11 @@ pub const MAX_CURSORS: usize = 8;
 /// shared cursors stand behind it.
 #[derive(Drop)]
 pub struct Segment {
-    pub(crate) table: Table<Announcement, Actor, Setting, SegmentRule, Global>,
+    pub(crate) table: Table<Announcement, Actor, Opening, SegmentRule, Global>,
     pub(crate) setting: Setting,
     // Where the words go when it is closed.
     image: Vec<u64>,
-    ghost keyed: { table.shared.key ≡ setting },
+    ghost keyed: { table.shared.key.setting ≡ setting },
     ghost counts: { (table.shared.table_id.words ≡ setting.shape.size + 1 + setting.cursors) × (table.shared.table_id.slots ≡ 0) },
     ghost room: { vec_len image ≡ setting.shape.size + 1 + setting.cursors },
     ghost shaped: { IsShape setting.shape },
@@ -39,7 +39,7 @@ pub struct Segment {
 fn opening_words(alloc: Global, setting: &Setting) -> Result<Vec<u64>, AllocError>
     requires shaped { IsShape setting.now.shape }
     requires few { setting.now.cursors ≤ 8 }
-    ensures { IfOk result (λ words. words.items ≡ 0 ∷ memory (opening_state setting.now)) }
+    ensures { IfOk result (λ words. words.items ≡ 0 ∷ memory (new_state setting.now.shape setting.now.version setting.now.id setting.now.cursors)) }
 {
     let size = setting.shape.size();
     let mut words = vec![in alloc;
@@ -67,14 +67,14 @@ fn opening_words(alloc: Global, setting: &Setting) -> Result<Vec<u64>, AllocErro
 }
 
 impl Segment {
-    ghost use Rattle.std.specs.Prelude.{◌≡◌, ◌≤◌, ◌⊎◌, Err, MatchOption, MatchResult};
+    ghost use Rattle.std.specs.Prelude.{◌≡◌, ◌≤◌, ◌⊎◌, false, Err, MatchOption, MatchResult};
     ghost use Rattle.segment_image.specs.Checks.{first_fault};
     ghost use Rattle.segment_machine.specs.Actor.{outstanding_of};
     ghost use Rattle.segment_machine.specs.Seats.{MayOffer, offering, MaySplit, parent, newcomer, joined};
     ghost use Rattle.live_segment.specs.Closing.{IsImageOf, ReadsJoined, DeltasAddUp, SnapshotsAgree, ReadsStopped};
-    ghost use Rattle.live_segment.specs.Rule.{open_checks};
+    ghost use Rattle.live_segment.specs.Rule.{IsKeptOpening, open_checks, opener_for};
     ghost use Rattle.live_segment.specs.Steps.{IsSame, Joinable};
-    ghost use Rattle.live_segment.specs.Holders.{IsNew, IsMadeWith, view_of_opener};
+    ghost use Rattle.live_segment.specs.Holders.{IsNew, IsOpened, IsMadeWith, view_of_opener};
 
     /// A new segment without records, and its opener, which has all 4,294,967,295 units.
     ///
@@ -99,7 +99,7 @@ impl Segment {
         cursors: usize,
         version: u64,
     ) -> Result<(Segment, Opener), OpenFault>
-        ensures { MatchOption (first_fault (open_checks size page cursors version)) (MatchResult result (λ made. IsNew (record { shape = record { size = size; page = page }; version = version; id = id; cursors = cursors }) made.0 made.1) (λ fault. fault ≡ OpenFault.NoMemory)) (λ fault. result ≡ Err fault) }
+        ensures { MatchOption (first_fault (open_checks size page cursors version)) (MatchResult result (λ made. IsNew (record { shape = record { size = size; page = page }; version = version; id = id; cursors = cursors; full = false }) made.0 made.1) (λ fault. fault ≡ OpenFault.NoMemory)) (λ fault. result ≡ Err fault) }
     {
         let Ok(shape) = Shape::of(size, page) else {
             return Err(OpenFault::BadShape);
@@ -115,25 +115,46 @@ impl Segment {
             version,
             id,
             cursors,
+            full: false,
         };
-        Segment::open(alloc, setting).map_err(|_| OpenFault::NoMemory)
+        Segment::new(alloc, setting).map_err(|_| OpenFault::NoMemory)
     }
 
     // The segment that is made so.
-    fn open(alloc: Global, setting: Setting) -> Result<(Segment, Opener), AllocError>
+    fn new(alloc: Global, setting: Setting) -> Result<(Segment, Opener), AllocError>
         requires shaped { IsShape setting.shape }
         requires few { setting.cursors ≤ 8 }
         requires versioned { (setting.version ≡ 1) ⊎ (setting.version ≡ 2) }
+        requires empty { setting.full ≡ false }
         ensures { IfOk result (λ made. IsNew setting made.0 made.1) }
     {
-        let image = opening_words(alloc, &setting)?;
-        let (table, seat) = Table::of_words(alloc, image.as_slice(), &setting)?;
+        let words = opening_words(alloc, &setting)?;
+        let references = Vec::new(alloc);
+        let opening = Opening {
+            setting,
+            words,
+            references,
+        };
+        Segment::open(alloc, opening, u32::MAX)
+    }
+
+    // The segment that is opened so, a new one or an image's, and its opener, which has these units.
+    pub(crate) fn open(
+        alloc: Global,
+        opening: Opening,
+        units: u32,
+    ) -> Result<(Segment, Opener), AllocError>
+        requires kept { IsKeptOpening opening }
+        requires units { units ≡ (opener_for opening).units.share }
+        ensures { IfOk result (λ made. IsOpened opening.setting (opener_for opening) made.0 made.1) }
+    {
+        let (table, seat) = Table::of_words(alloc, opening.words.as_slice(), &opening)?;
         let segment = Segment {
             table,
-            setting,
-            image,
+            setting: opening.setting,
+            image: opening.words,
         };
-        Ok((segment, Opener::new(alloc, seat)))
+        Ok((segment, Opener::new(alloc, seat, units)))
     }
 
     /// Ends the segment, which no recorder holds any more, and gives its image. The opener was made with it.

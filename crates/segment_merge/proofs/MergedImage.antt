@@ -1,5 +1,5 @@
 -- The image of a new segment into which histograms were merged, by what its opener has done.
-use Rattle.std.proofs.Common.{◌≡◌, ℕ, false, List, [], ◌++◌, map, flat_map, sym, ap, ◌∙◌, subst}
+use Rattle.std.proofs.Common.{◌≡◌, ℕ, ◌+◌, Bool, false, ◌||◌, List, [], ◌++◌, map, flat_map, sym, ap, ◌∙◌, subst, arith}
 use Rattle.std.specs.List.{Contains}
 use Rattle.std.proofs.lemmas.List.Elements.{All-contains}
 use Rattle.segment_image.specs.declared.head.SegmentHead.{SegmentHead}
@@ -48,8 +48,8 @@ module _ (setting : Setting) (hists : List Histogram) (last : Actor)
   unspoiled = ap (λ (d : Done). d.spoiled) merged.onward.done.same
 
   -- it reads as the merge
-  merge_of : (reading : Reading) → IsJoinedReading setting closing reading → IsMergeOf hists reading
-  merge_of reading is = record {
+  merge_of : setting.full ≡ false → (reading : Reading) → IsJoinedReading setting closing reading → IsMergeOf hists reading
+  merge_of empty reading is = record {
     lawful = is.lawful;
     names = λ name. (
       (λ (h, has, named).
@@ -66,10 +66,12 @@ module _ (setting : Setting) (hists : List Histogram) (last : Actor)
         let (known, there, its, same) = All-contains (KnowsAs last) hists h merged.knows among in
         same_through g.spec known.spec h.spec (is.answers.same g known has there (its ∙ named)).1 same;
     rests = λ h has.
-        let tally = is.tallies h has in record {
+        let tally = is.tallies h has in
+        let noted : h.redundant ≡ 0 + tally_noted (map (λ (c : EntryProgress). c.entry) last.entries.log) h.name = tally.redundant in
+        let same = ap (λ (log : List Entry). tally_noted log h.name) logged in record {
           units = λ key. tally.units key ∙ ap (λ (log : List Entry). tally_units log h.name key) logged;
           sum = tally.sum ∙ ap (λ (log : List Entry). tally_sum log h.name) logged;
-          redundant = tally.redundant ∙ ap (λ (log : List Entry). tally_noted log h.name) logged;
+          redundant = omega (arith, noted, same);
         };
     unmarked = λ h has.
         let tally = is.tallies h has in record {
@@ -77,17 +79,17 @@ module _ (setting : Setting) (hists : List Histogram) (last : Actor)
           sum_mark = tally.sum_mark ∙ ap (λ (taken : List Portion). taken_sum taken h.name) untaken;
         };
     corrupt = is.corrupt ∙ unspoiled;
-    full = is.full ∙ unfilled;
+    full = is.full ∙ (ap (λ (b : Bool). b || last.done.filled) empty ∙ unfilled);
   }
 
-  pub merged_image : (first : SegmentHead) (words : List ℕ) → setting.shape ≡ first.shape → setting.version ≡ 2 → setting.id ≡ first.id
+  pub merged_image : setting.full ≡ false → (first : SegmentHead) (words : List ℕ) → setting.shape ≡ first.shape → setting.version ≡ 2 → setting.id ≡ first.id
       → IsImageOf setting words → ReadsJoined setting closing words → IsMergedImage first hists words
-  merged_image first words shape version id image reads = record {
+  merged_image empty first words shape version id image reads = record {
     header = image.header;
     shape = image.shape ∙ shape;
     version = image.version ∙ version;
     id = image.id ∙ id;
     reading = image.reading.0;
     reading_is = image.reading.1;
-    merge = merge_of image.reading.0 (reads image.reading.0 image.reading.1);
+    merge = merge_of empty image.reading.0 (reads image.reading.0 image.reading.1);
   }

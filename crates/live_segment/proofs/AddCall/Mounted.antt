@@ -40,7 +40,7 @@ use Rattle.live_segment.specs.Refusing.{given_up}
 use Rattle.live_segment.specs.Holders.{table_of, MayStep}
 use Rattle.live_segment.specs.Mounting.{SawNoNone, LoadsCounts, MayMount, HasBlank, HasMounted, HasNotMounted, MountsAt, MountsAtMostOne}
 use Rattle.segment_promises.specs.Onward.{Grows, SeesOn}
-use Rattle.live_segment.specs.Rule.{opened_of, Runs}
+use Rattle.live_segment.specs.Rule.{Runs}
 use Rattle.live_segment.specs.Steps.{Pass, Sat, Stepped}
 use Rattle.live_segment.specs.Working.{CountsWithin, LooksOn}
 use Rattle.live_segment.proofs.Seating.Allowed.{does_at}
@@ -62,13 +62,13 @@ pub loads_counts : (setting : Setting) (slots id : ℕ) (me : Sat) (word : ℕ) 
 loads_counts setting slots id me word records histogram at ready s run wide mine small =
     let (view, act, valid, holds, told) =
     does_at setting slots id me word records (λ (x : ℕ). counting_event (load_counts x)) histogram at (λ y e. omega (arith, at, e)) ready s run wide mine small in
-    let there : get_elem? run.segment.actors id ≡ some me.0 = ap (λ list. get_elem? list id) (sym run.views) ∙ mine in
+    let there : get_elem? run.running.segment.actors id ≡ some me.0 = ap (λ list. get_elem? list id) (sym run.running.views) ∙ mine in
     let lives : me.0.hand.place ≢ Spent = λ e. true≢false (sym (ap is_bound e) ∙ ready.0) in
     let (known, of) = ready.1 in
     let (has, refers, bucketed) = of in
-    let (r, first, stands, named, many, keys) = knows_of setting.shape (opened_of setting) run.segment run.kept id me.0 there records lives known has in
+    let (r, first, stands, named, many, keys) = knows_of setting.shape run.opened run.running.segment run.running.kept id me.0 there records lives known has in
     let saw : SawNoNone me.0.seen known.reference =
-    λ counts seen. let (is, some_there) = counts_seen setting.shape (opened_of setting) run.segment run.kept id me.0 there records lives known.reference counts r stands seen in
+    λ counts seen. let (is, some_there) = counts_seen setting.shape run.opened run.running.segment run.running.kept id me.0 there records lives known.reference counts r stands seen in
     λ none. some_there (is ∙ none) in
     (view, act, valid, holds, λ y same. (told y same, subst (SawNoNone me.0.seen) (let e = refers in omega (arith, e, at, same)) saw))
 

@@ -11,14 +11,13 @@ use Rattle.segment_machine.specs.Entry.{has_ended}
 use Rattle.segment_machine.specs.Event.{allocating_event, next, Ready, spot, change}
 use Rattle.segment_machine.specs.Note.{is_untouched}
 use Rattle.segment_promises.specs.Follows.{MayNoteAll, noted_by}
-use Rattle.segment_promises.proofs.Tables.{tables_follow}
 use Rattle.atomic_table.specs.Table.{Allows}
-use Rattle.live_segment.specs.declared.rule.Announcement.{Announcement}
 use Rattle.live_segment.specs.declared.rule.Setting.{Setting}
-use Rattle.live_segment.specs.Rule.{opened_of, Runs}
+use Rattle.live_segment.specs.Rule.{Runs}
 use Rattle.live_segment.specs.Steps.{Pass, Sat, Stepped}
 use Rattle.live_segment.specs.GhostNotes.{Noted}
 use Rattle.live_segment.specs.Refusing.{how_many_ended, MayEnd, MayGiveUp, refusing_notes, given_up, flags_notes, LoadsFlags, SetsFull}
+use Rattle.live_segment.proofs.Seating.Openings.{follows}
 
 -- ---- where no entry runs
 
@@ -83,7 +82,7 @@ module _ (setting : Setting) (slots id : ℕ) (me : Sat) (word : ℕ) (records :
   pub loads_flags : word ≡ spot setting.shape.size (allocating_event load_flags) + 1 → Ready me.0 (allocating_event load_flags)
       → Allows (Runs setting) slots id me word (change setting.version (allocating_event load_flags)) (LoadsFlags me)
   loads_flags at ready =
-      tables_follow Announcement setting.shape (opened_of setting) [] (allocating_event load_flags) (flags_notes me.0.entries.running) slots id me word at records
+      follows setting [] (allocating_event load_flags) (flags_notes me.0.entries.running) slots id me word at records
       refl ready (λ found learned. by_test found (bit_and found 1 == 0) refl)
     where
       by_test : (found : ℕ) (b : Bool) → (bit_and found 1 == 0) ≡ b
@@ -99,5 +98,5 @@ module _ (setting : Setting) (slots id : ℕ) (me : Sat) (word : ℕ) (records :
   pub sets_full : (wanted : ℕ) → word ≡ spot setting.shape.size (allocating_event (set_full wanted)) + 1 → Ready me.0 (allocating_event (set_full wanted))
       → Allows (Runs setting) slots id me word (change setting.version (allocating_event (set_full wanted))) (SetsFull me)
   sets_full wanted at ready =
-      tables_follow Announcement setting.shape (opened_of setting) [] (allocating_event (set_full wanted)) (λ found. refusing_notes me.0.entries.running) slots id me word at
+      follows setting [] (allocating_event (set_full wanted)) (λ found. refusing_notes me.0.entries.running) slots id me word at
       records refl ready (λ found learned. may_end (next me.0 (allocating_event (set_full wanted)) found) me.0.entries.running may refl refl)

@@ -1,75 +1,83 @@
 -- Once all recorders are joined, the words of a closed segment read as what its opener has gathered.
-use Rattle.std.proofs.Common.{◌≡◌, ℕ, List, refl, sym, subst, ◌∙◌, arith}
+use Rattle.std.proofs.Common.{◌≡◌, Bool, ◌||◌, ℕ, List, refl, sym, ap, subst, ◌∙◌, arith}
+use mathlib.Core.Option.{some}
+use lib.ListN.{get_elem?}
+use Rattle.segment_image.specs.Shape.{Dimensions}
 use Rattle.segment_image.specs.Head.{head_of}
 use Rattle.bucket_ranges.specs.Reading.{Reading, IsReading, reading_along}
 use Rattle.segment_machine.specs.declared.actor.Actor.{Actor}
-use Rattle.segment_machine.specs.Actor.{outstanding_of}
+use Rattle.segment_machine.specs.Actor.{cost_of, outstanding_of}
 use Rattle.segment_machine.specs.State.{State}
-use Rattle.segment_invariant.specs.Body.{order_of}
+use Rattle.segment_invariant.specs.Body.{Anatomy, order_of}
 use Rattle.segment_invariant.specs.Invariant.{Invariant}
 use Rattle.segment_promises.specs.Reads.{noted_at_opening}
 use Rattle.segment_promises.proofs.Adopting.Headers.{header_is}
-use Rattle.segment_promises.proofs.Joined.{final_deltas_take_all, final_snapshots_are_exact, snapshots_stay_below}
+use Rattle.segment_promises.proofs.Joined.{opener_is, final_deltas_take_all, final_snapshots_are_exact, snapshots_stay_below}
 use Rattle.segment_promises.proofs.Readings.Heads.{shape_is, version_is, reads_head}
 use Rattle.segment_promises.proofs.Readings.Joined.{joined_reads}
 use Rattle.segment_promises.proofs.Readings.Lists.{is_list}
 use Rattle.live_segment.specs.declared.rule.Setting.{Setting}
-use Rattle.live_segment.specs.Rule.{opened_of, Closes}
+use Rattle.live_segment.specs.Rule.{Closes, IsOpenedAs}
 use Rattle.live_segment.specs.Closing.{IsImageOf, ReadsJoined, DeltasAddUp, SnapshotsAgree}
 
--- the words of a kept state are an image of what the segment was made as
-of_kept : (setting : Setting) (state : State) → Invariant setting.shape (opened_of setting) state → IsImageOf setting state.words
-of_kept setting state kept =
+-- the words of a kept state are an image of what the segment was opened as
+of_kept : (setting : Setting) (opened : Anatomy) (state : State) → IsOpenedAs setting opened → Invariant setting.shape opened state → IsImageOf setting state.words
+of_kept setting opened state as_said kept =
     let reading = reading_along state.words (head_of state.words) (order_of kept.anatomy) in
-    let is : IsReading state.words (head_of state.words) reading = (order_of kept.anatomy, is_list setting.shape (opened_of setting) state kept, refl) in
+    let is : IsReading state.words (head_of state.words) reading = (order_of kept.anatomy, is_list setting.shape opened state kept, refl) in
     record {
-      header = header_is setting.shape (opened_of setting) state kept;
-      shape = shape_is setting.shape (opened_of setting) state kept;
-      version = version_is setting.shape (opened_of setting) state kept ∙ kept.same.0;
-      id = (reads_head setting.shape (opened_of setting) state kept reading is).id;
+      header = header_is setting.shape opened state kept;
+      shape = shape_is setting.shape opened state kept;
+      version = version_is setting.shape opened state kept ∙ (kept.same.0 ∙ as_said.version);
+      id = (reads_head setting.shape opened state kept reading is).id ∙ as_said.id;
       reading = (reading, is);
     }
 
--- a new segment has no redundant counts
-none_noted : (setting : Setting) (name : List ℕ) → noted_at_opening (opened_of setting) name ≡ 0
-none_noted setting name = refl
+-- its opener knows the redundant counts that it was opened with
+pub knows_noted : (shape : Dimensions) (opened : Anatomy) (state : State) (opener : Actor) → Invariant shape opened state → get_elem? state.actors 0 ≡ some opener
+    → (name : List ℕ) → noted_at_opening opened name ≡ cost_of opener.entries.first_noted name
+knows_noted shape opened state opener kept stands name =
+    sym (kept.first_noted name) ∙ ap (λ (a : Actor). cost_of a.entries.first_noted name) (opener_is shape opened state opener kept stands)
 
 module _ (setting : Setting) (opener : Actor) (words : List ℕ) (closes : Closes setting opener words) where
   pub image_of : IsImageOf setting words
-  image_of = subst (IsImageOf setting) (sym closes.words_are) (of_kept setting closes.state closes.kept)
+  image_of = subst (IsImageOf setting) (sym closes.words_are) (of_kept setting closes.opened closes.state closes.as_said closes.kept)
 
   -- what is read of the words is read of the state's
   pub read_there : (reading : Reading) → IsReading words (head_of words) reading → IsReading closes.state.words (head_of closes.state.words) reading
   read_there reading is = subst (λ (ws : List ℕ). IsReading ws (head_of ws) reading) closes.words_are is
 
+  pub known : (name : List ℕ) → noted_at_opening closes.opened name ≡ cost_of opener.entries.first_noted name
+  known = knows_noted setting.shape closes.opened closes.state opener closes.kept closes.stands
+
   module _ (none : outstanding_of opener.role ≡ 0) where
     pub joined : ReadsJoined setting opener words
     joined reading is =
         let (lawful, answers, logs, id, corrupt, full) =
-        joined_reads setting.shape (opened_of setting) closes.state opener reading closes.kept (closes.stands, none) (read_there reading is) in
+        joined_reads setting.shape closes.opened closes.state opener reading closes.kept (closes.stands, none) (read_there reading is) in
         record {
           lawful = lawful;
           answers = answers;
           tallies = λ h there.
               let log = logs h there in
               let noted = log.redundant in
-              let none = none_noted setting h.name in
-              record { units = log.units; sum = log.sum; redundant = omega (arith, noted, none); marks = log.marks; sum_mark = log.sum_mark };
-          id = id;
-          corrupt = corrupt;
-          full = full;
+              let first = known h.name in
+              record { units = log.units; sum = log.sum; redundant = omega (arith, noted, first); marks = log.marks; sum_mark = log.sum_mark };
+          id = id ∙ closes.as_said.id;
+          corrupt = corrupt ∙ ap (λ (b : Bool). b || opener.done.spoiled) closes.as_said.intact;
+          full = full ∙ ap (λ (b : Bool). b || opener.done.filled) closes.as_said.full;
         }
 
     pub deltas : DeltasAddUp opener
     deltas delta among final =
-        final_deltas_take_all setting.shape (opened_of setting) closes.state opener delta closes.kept (closes.stands, none) among final
+        final_deltas_take_all setting.shape closes.opened closes.state opener delta closes.kept (closes.stands, none) among final
 
     pub snapshots : SnapshotsAgree opener
     snapshots = record {
-      below = λ answer among. snapshots_stay_below setting.shape (opened_of setting) closes.state opener answer closes.kept (closes.stands, none) among;
+      below = λ answer among. snapshots_stay_below setting.shape closes.opened closes.state opener answer closes.kept (closes.stands, none) among;
       exact = λ answer among final.
           let (units, sum, noted) =
-          final_snapshots_are_exact setting.shape (opened_of setting) closes.state opener answer closes.kept (closes.stands, none) among final in
-          let zero = none_noted setting answer.name in
-          (units, sum, omega (arith, noted, zero));
+          final_snapshots_are_exact setting.shape closes.opened closes.state opener answer closes.kept (closes.stands, none) among final in
+          let first = known answer.name in
+          (units, sum, omega (arith, noted, first));
     }

@@ -16,6 +16,7 @@ use Rattle.segment_machine.specs.declared.actor.Known.{Known}
 use Rattle.segment_machine.specs.Entry.{is_of, tally_units, tally_noted}
 use Rattle.segment_machine.specs.Actor.{log_of, units_of, units_listed, counted_of, all_counted, all_costs}
 use Rattle.segment_machine.specs.State.{State}
+use Rattle.segment_invariant.specs.Body.{Anatomy}
 use Rattle.segment_invariant.specs.Ledger.{all_moving}
 use Rattle.segment_invariant.specs.Seen.{IsFirst, Knows}
 use Rattle.segment_invariant.specs.Invariant.{Invariant}
@@ -29,9 +30,9 @@ use Rattle.segment_promises.proofs.Adopting.Units.{under_key, sum_below, spent_s
 use Rattle.segment_promises.proofs.Joined.{fits, own_log}
 use Rattle.segment_promises.proofs.Readings.Stopped.{stopped_reads}
 use Rattle.live_segment.specs.declared.rule.Setting.{Setting}
-use Rattle.live_segment.specs.Rule.{opened_of, Closes}
+use Rattle.live_segment.specs.Rule.{Closes}
 use Rattle.live_segment.specs.Closing.{units_beyond, units_out, ReadsStopped}
-use Rattle.live_segment.proofs.Closing.Joined.{read_there}
+use Rattle.live_segment.proofs.Closing.Joined.{known, read_there}
 
 -- ---- one histogram
 
@@ -74,16 +75,16 @@ behind_first : {X : Type 0} (x : X) (list : List X) → get_elem? list 0 ≡ som
 behind_first x [] first = absurd (some-ne-none x (sym first))
 behind_first x (y ∷ rest) first = (rest, ap (λ (y : _). y ∷ rest) (some-injective y x first))
 
-module _ (setting : Setting) (state : State) (kept : Invariant setting.shape (opened_of setting) state) (opener : Actor)
+module _ (setting : Setting) (opened : Anatomy) (state : State) (kept : Invariant setting.shape opened state) (opener : Actor)
     (stands : get_elem? state.actors 0 ≡ some opener) where
   -- the histograms that joined recorders were answered with are read
   answers_read : (reading : Reading) → ReadsNames kept.anatomy.records reading → (known : Known) → Contains opener.answers.names known
       → (h : Histogram) × Contains reading.hists h × (h.name ≡ known.name) × (h.reference ≡ known.reference) × SameSpec h.spec known.spec
   answers_read reading names known among =
-      let its = All-contains (Knows kept.anatomy) opener.answers.names known (fits setting.shape (opened_of setting) state opener kept stands).names among in
+      let its = All-contains (Knows kept.anatomy) opener.answers.names known (fits setting.shape opened state opener kept stands).names among in
       let (h, there, named) = names.read known.name its.first_spec known.reference its.first in
       let (kind, first, same) = names.given h there in
-      let (place, equal) = one_first setting.shape (opened_of setting) state kept known.name its.first_spec kind known.reference h.reference its.first
+      let (place, equal) = one_first setting.shape opened state kept known.name its.first_spec kind known.reference h.reference its.first
       (subst (λ (name : List ℕ). IsFirst kept.anatomy.records name kind h.reference) named first) in
       let given : SameSpec kind known.spec = subst (λ (kind : Spec). SameSpec kind known.spec) equal its.same in
       (h, there, named, sym place, (same.0 ∙ given.0, same.1 ∙ given.1))
@@ -96,12 +97,12 @@ module _ (setting : Setting) (state : State) (kept : Invariant setting.shape (op
         ap (λ (actors : List Actor). tally_units (all_counted actors) name key) all
         ∙ (units_total name key (counted_of opener) (flat_map counted_of rest)
         ∙ ap (λ (entries : List Entry). tally_units entries name key + tally_units (flat_map counted_of rest) name key)
-        (own_log setting.shape (opened_of setting) state opener kept stands))
+        (own_log setting.shape opened state opener kept stands))
 
     -- what the others have counted, they have spent or hold
     others_covered : (name : List ℕ) → tally_noted (flat_map counted_of rest) name ≤ all_costs rest name
     others_covered name = all_spent counted_of rest name
-        (λ a among. each_covered setting.shape (opened_of setting) state kept name a
+        (λ a among. each_covered setting.shape opened state kept name a
         (subst (λ (actors : List Actor). Contains actors a) (sym all) (Contains-append_right (opener ∷ []) rest a among)))
 
     -- and all that they have is what was handed out
@@ -141,16 +142,18 @@ stopped setting opener words closes = record {
   reads = λ reading is.
       let state = closes.state in
       let kept = closes.kept in
-      let (lawful, head, names, each) = stopped_reads setting.shape (opened_of setting) state reading kept (read_there setting opener words closes reading is) in
+      let (lawful, head, names, each) = stopped_reads setting.shape closes.opened state reading kept (read_there setting opener words closes reading is) in
       let (rest, all) = behind_first opener state.actors closes.stands in
-      let units = λ (h : Histogram) (there : Contains reading.hists h). (each h there).0 in
+      let units = λ (h : Histogram) (there : Contains reading.hists h).
+      subst (λ (version : ℕ). ReadsUnits version state h) closes.as_said.version (each h there).0 in
       record {
         lawful = lawful;
         head = head;
         names = names;
-        each = each;
-        answered = answers_read setting state kept opener closes.stands reading names;
-        least = least setting state kept opener closes.stands rest all reading names units;
-        most = most setting state kept opener closes.stands rest all reading names units;
+        each = λ h there. (units h there, (each h there).1);
+        first_noted = known setting opener words closes;
+        answered = answers_read setting closes.opened state kept opener closes.stands reading names;
+        least = least setting closes.opened state kept opener closes.stands rest all reading names units;
+        most = most setting closes.opened state kept opener closes.stands rest all reading names units;
       };
 }

@@ -134,8 +134,8 @@ module _ (setting : Setting) (slots id : ℕ) (me : Sat) (word : ℕ) (records :
   counts_sample at is ready s run wide mine small =
       let (view, act, valid, holds, told) =
       does_at setting slots id me word records (λ (x : ℕ). taking_event (load_count x)) at (omega (arith, is)) (λ y e. omega (arith, is, e)) ready s run wide mine small in
-      let there = ap (λ list. get_elem? list id) (sym run.views) ∙ mine in
-      (view, act, valid, holds, (told, few_samples setting.shape _ run.segment run.kept id me.0 there (counts_live me.0 at ready)))
+      let there = ap (λ list. get_elem? list id) (sym run.running.views) ∙ mine in
+      (view, act, valid, holds, (told, few_samples setting.shape _ run.running.segment run.running.kept id me.0 there (counts_live me.0 at ready)))
 
 -- ---- those of a walk
 

@@ -31,7 +31,7 @@ use Rattle.segment_machine.specs.Actor.{accepted_by, all_counted, bucket_key, co
 use Rattle.segment_machine.specs.Entry.{has_ended, is_counted, is_of, tally_noted, tally_units}
 use Rattle.segment_machine.specs.Made.{IsFirstSample}
 use Rattle.segment_machine.specs.State.{State}
-use Rattle.segment_invariant.specs.Body.{Anatomy, Body, Listed, Piece, Record, blank, histogram, words_of}
+use Rattle.segment_invariant.specs.Body.{Anatomy, Body, Listed, Piece, Record, histogram, words_of}
 use Rattle.segment_invariant.specs.Consistent.{units_taken}
 use Rattle.segment_invariant.specs.Invariant.{HasKey, Invariant, is_living}
 use Rattle.segment_invariant.specs.Ledger.{key_of_bucket}
@@ -111,7 +111,7 @@ module _ (old new : Actor) (since : new.since ≡ record { singles = length old.
   state = standing.state
 
   abbrev opened : Anatomy
-  opened = blank new.segment.version standing.id new.segment.shape.size
+  opened = standing.opened
 
   abbrev kept : Invariant new.segment.shape opened state
   kept = standing.kept
@@ -280,7 +280,7 @@ pub took_enough : (known : Known) (delta : List (ℤ × ℕ)) (sum : ℤ) (old n
 took_enough known delta sum old new taken has records standing =
     let knows = subst (λ (names : List Known). Contains names known) (sym (ap (λ (x : Actor). x.answers.names) taken.same)) has in
     let recorder = ap (λ (x : Actor). is_opener x.role) taken.same ∙ records in
-    let opened = blank new.segment.version standing.id new.segment.shape.size in record {
+    let opened = standing.opened in record {
       standing = standing;
       enough = is_enough old new (ap (λ (x : Actor). x.since) taken.same) (ap (λ (x : Actor). x.segment) taken.same) (ap (λ (x : Actor). x.entries) taken.same)
           taken.seen recorder known knows standing (units_taken standing.state.actors known.name)
@@ -293,7 +293,7 @@ pub has_enough : (known : Known) (snapshot : Snapshot) (old new : Actor) → Has
 has_enough known snapshot old new seen has records standing =
     let knows = subst (λ (names : List Known). Contains names known) (sym (ap (λ (x : Actor). x.answers.names) seen.same)) has in
     let recorder = ap (λ (x : Actor). is_opener x.role) seen.same ∙ records in
-    let opened = blank new.segment.version standing.id new.segment.shape.size in
+    let opened = standing.opened in
     let since = ap (λ (x : Actor). x.since) seen.same in
     let segment = ap (λ (x : Actor). x.segment) seen.same in
     let entries = ap (λ (x : Actor). x.entries) seen.same in

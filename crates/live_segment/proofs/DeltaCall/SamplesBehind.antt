@@ -20,14 +20,14 @@ module _ (setting : Setting) (slots id : ℕ) (me : Sat) (word : ℕ) (records :
       let (view, act, valid, holds, told) =
       does_at setting slots id me word records (λ (x : ℕ). taking_event (load_sum x)) at (omega (arith, is)) (λ y e. omega (arith, is, e)) ready s run wide mine small in
       let live : me.0.hand.place ≢ Spent = λ e. true≢false (sym (ap is_bound e) ∙ ready.0) in
-      let there = ap (λ list. get_elem? list id) (sym run.views) ∙ mine in (
+      let there = ap (λ list. get_elem? list id) (sym run.running.views) ∙ mine in (
         view,
         act,
         valid,
         holds,
         (
           told,
-          stand_behind setting.shape _ run.segment run.kept id me.0 there live,
-          no_repeats setting.shape _ run.segment run.kept id me.0 there live,
+          stand_behind setting.shape _ run.running.segment run.running.kept id me.0 there live,
+          no_repeats setting.shape _ run.running.segment run.running.kept id me.0 there live,
         ),
       )

@@ -23,12 +23,12 @@ use Rattle.segment_invariant.proofs.Counting.Looks.{one_record}
 use Rattle.segment_invariant.proofs.Lists.Firsts.{split_among}
 use Rattle.segment_invariant.proofs.Notes.Names.{first_right}
 use Rattle.segment_promises.specs.Follows.{MayNoteAll}
-use Rattle.segment_promises.proofs.Tables.{tables_announce}
 use Rattle.live_segment.specs.declared.rule.Announcement.{Announcement}
 use Rattle.live_segment.specs.declared.rule.Setting.{Setting}
 use Rattle.live_segment.specs.Answering.{Declines, HaveOneName, IsSaid, Knows}
-use Rattle.live_segment.specs.Rule.{opened_of, Runs}
+use Rattle.live_segment.specs.Rule.{Runs}
 use Rattle.live_segment.specs.Steps.{Sat}
+use Rattle.live_segment.proofs.Seating.Openings.{announces}
 
 -- one thing alone is said of a record
 pub one_said : (reference : ℕ) (said : Announcement) (x y : Known) → IsSaid reference said x → IsSaid reference said y → x ≡ y
@@ -63,9 +63,9 @@ module _ (setting : Setting) (slots id : ℕ) (me : Sat) (records : is_opener me
       → Allows (Runs setting) slots id me 0 (λ n. either (n == reference) reference n) (Knows (step slots 0 reference reference (some said)) me)
   knows_said reference said known says free may s run wide mine small =
       let (view, act, valid, holds, told) =
-      tables_announce Announcement setting.shape (opened_of setting) (knows known ∷ []) slots id me (λ n. either (n == reference) reference n)
+      announces setting (knows known ∷ []) slots id me (λ n. either (n == reference) reference n)
       (λ n. exchanged n reference reference (λ x. x ≡ n) (λ e. sym e) (λ _. refl)) records (may, refl) s run wide mine small in
-      let there : get_elem? run.segment.actors id ≡ some me.0 = ap (λ list. get_elem? list id) (sym run.views) ∙ mine in
+      let there : get_elem? run.running.segment.actors id ≡ some me.0 = ap (λ list. get_elem? list id) (sym run.running.views) ∙ mine in
       let live : me.0.hand.place ≢ Spent = λ e. true≢false (sym (ap is_bound e) ∙ free) in (
         view,
         act,
@@ -76,10 +76,10 @@ module _ (setting : Setting) (slots id : ℕ) (me : Sat) (records : is_opener me
             let one : known ≡ other = one_said reference said known other says (subst (λ (x : Announcement). IsSaid reference x other) (sym same) also) in (
               told.0 ∙ ap (λ (k : Known). noted me.0 (knows k)) one,
               told.1,
-              subst (λ (k : Known). HaveOneName k me.0) one (one_name setting.shape (opened_of setting) run.segment run.kept id me.0 there live known may),
+              subst (λ (k : Known). HaveOneName k me.0) one (one_name setting.shape run.opened run.running.segment run.running.kept id me.0 there live known may),
             ),
       )
 
   pub declines_owed : MayNoteAll me.0 (map declines me.0.answers.owed) → Allows (Runs setting) slots id me 0 (λ n. n) (Declines me)
   declines_owed may =
-      tables_announce Announcement setting.shape (opened_of setting) (map declines me.0.answers.owed) slots id me (λ n. n) (λ n. refl) records may
+      announces setting (map declines me.0.answers.owed) slots id me (λ n. n) (λ n. refl) records may

@@ -3,18 +3,17 @@ use Rattle.std.proofs.Common.{◌≡◌, ℕ, ◌+◌, false, [], refl, subst, s
 use Rattle.atomic_table.specs.Table.{carried_after, Allows}
 use Rattle.segment_machine.specs.Actor.{is_opener}
 use Rattle.segment_machine.specs.Event.{Event, spot, change, Ready}
-use Rattle.segment_promises.proofs.Tables.{tables_follow}
-use Rattle.live_segment.specs.declared.rule.Announcement.{Announcement}
 use Rattle.live_segment.specs.declared.rule.Setting.{Setting}
-use Rattle.live_segment.specs.Rule.{opened_of, Runs}
+use Rattle.live_segment.specs.Rule.{Runs}
 use Rattle.live_segment.specs.Steps.{Sat, Does, DoesAt}
+use Rattle.live_segment.proofs.Seating.Openings.{follows}
 
 module _ (setting : Setting) (slots id : ℕ) (me : Sat) (word : ℕ) (records : is_opener me.0.role ≡ false) where
   -- the event is at this word
   pub does : (event : Event) → word ≡ spot setting.shape.size event + 1 → Ready me.0 event
       → Allows (Runs setting) slots id me word (change setting.version event) (Does event me)
   does event at ready =
-      tables_follow Announcement setting.shape (opened_of setting) [] event (λ found. []) slots id me word at records refl ready (λ found learned. refl)
+      follows setting [] event (λ found. []) slots id me word at records refl ready (λ found learned. refl)
 
   -- the word says where it is
   pub does_at : (event : ℕ → Event) (at : ℕ) → word ≡ spot setting.shape.size (event at) + 1

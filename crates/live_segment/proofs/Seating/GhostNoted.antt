@@ -15,12 +15,11 @@ use Rattle.segment_machine.specs.Note.{Note}
 use Rattle.segment_machine.specs.Packing.{add_moved}
 use Rattle.segment_machine.proofs.Values.{value_word}
 use Rattle.segment_promises.specs.Follows.{MayNoteAll, noted_by, GhostNoted}
-use Rattle.segment_promises.proofs.Tables.{tables_follow}
-use Rattle.live_segment.specs.declared.rule.Announcement.{Announcement}
 use Rattle.live_segment.specs.declared.rule.Setting.{Setting}
-use Rattle.live_segment.specs.Rule.{opened_of, Runs}
+use Rattle.live_segment.specs.Rule.{Runs}
 use Rattle.live_segment.specs.Steps.{Sat, Does}
 use Rattle.live_segment.specs.GhostNotes.{TellsOf, InWord, InCounts, InSample, InSum, KnowsAlone, IsPacked, IsAddedTo, IsSampled, IsSummed, AddsMoved}
+use Rattle.live_segment.proofs.Seating.Openings.{follows}
 use Rattle.live_segment.proofs.Seating.Allowed.{does}
 
 -- ---- one account fits
@@ -98,7 +97,7 @@ module _ (setting : Setting) (slots id : ℕ) (me : Sat) (word : ℕ) (records :
       → Allows (Runs setting) slots id me word (change setting.version (event x)) (TellsOf X Fits before event behind me)
   tells X Fits before event behind x one at may ready goes s run wide mine small =
       let (view, act, valid, holds, told) =
-      tables_follow Announcement setting.shape (opened_of setting) (before x) (event x) (λ found. behind) slots id me word at records may ready goes s run wide mine small in
+      follows setting (before x) (event x) (λ found. behind) slots id me word at records may ready goes s run wide mine small in
       (view, act, valid, holds, λ y fits. subst (λ (z : X). GhostNoted (before z) (event z) (λ found. behind) me (slice_index s.words word) (view, carried_after me.1 act)) (one y fits) told)
 
   -- what is in transit says where it goes

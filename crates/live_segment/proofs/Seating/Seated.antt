@@ -1,62 +1,113 @@
 -- That the rule of a segment's table allows what becomes of seats: a table is opened, units are offered, a recorder is made and joined.
-use Rattle.std.proofs.Common.{◌≡◌, ◌≢◌, ◌⊎◌, ℕ, ◌≤◌, Bool, true, true≢false, if◌then◌else◌, sum_by, ◌==◌, ◌+◌, slice_index, List, [], ◌∷◌, take, drop, refl, sym, ap, subst, ◌∙◌, arith}
+use Rattle.std.proofs.Common.{◌≡◌, ◌≢◌, ◌⊎◌, ℕ, ◌≤◌, Bool, false, true, true≢false, if◌then◌else◌, sum_by, ◌==◌, ◌+◌, slice_index, List, [], ◌∷◌, length, take, drop, replicate, refl, sym, ap, subst, ◌∙◌, arith}
+use Rattle.std.proofs.lemmas.List.{length-append, length-replicate}
 use mathlib.Core.Option.{none, some, some-injective}
 use lib.ListN.{get_elem?}
 use lib.Seq.{set-get_or, take-append_seam}
 use prog.Atomic.{either}
 use Rattle.atomic_table.specs.Table.{step, opening, keeps, stepped, Allows, Splits, Joins, Final, Seen}
 use Rattle.atomic_table.proofs.Lists.{exchanged, set_again, set_else}
+use Rattle.segment_image.specs.Shape.{Dimensions}
 use Rattle.alloc_core.specs.Layout.{IsShape}
 use Rattle.alloc_core.proofs.Layouts.{length_shown}
 use Rattle.segment_machine.specs.declared.actor.Actor.{Actor}
 use Rattle.segment_machine.specs.declared.place.Place.TheVariants.{Spent}
 use Rattle.segment_machine.specs.Actor.{is_bound, is_opener, outstanding_of, cost_total, units_of}
 use Rattle.segment_machine.specs.Seats.{MayOffer, offering, MaySplit, parent, newcomer, joined, spent}
-use Rattle.segment_machine.specs.State.{memory}
-use Rattle.segment_invariant.specs.Body.{layout_of}
-use Rattle.segment_invariant.specs.Invariant.{is_living, RolesAreKept}
+use Rattle.segment_machine.specs.State.{State, memory}
+use Rattle.segment_machine.specs.Reached.{new_state}
+use Rattle.segment_invariant.specs.Body.{Anatomy, blank, layout_of}
+use Rattle.segment_invariant.specs.Invariant.{Invariant, is_living, RolesAreKept}
 use Rattle.segment_invariant.proofs.Openings.Segments.{opening_is_kept}
 use Rattle.segment_invariant.proofs.Frames.OneActor.{lives_on}
 use Rattle.segment_invariant.proofs.Frames.Roles.{opens_first}
 use Rattle.segment_invariant.proofs.Lists.Elements.{sum_at_least}
+use Rattle.segment_promises.specs.Follows.{Running}
 use Rattle.segment_promises.proofs.Tables.{tables_open, tables_close, tables_offer, tables_split, tables_join}
 use Rattle.live_segment.specs.declared.rule.Announcement.{Announcement}
 use Rattle.live_segment.specs.declared.rule.Announcement.TheVariants.{Units}
+use Rattle.live_segment.specs.declared.rule.Opening.{Opening}
 use Rattle.live_segment.specs.declared.rule.Setting.{Setting}
 use Rattle.live_segment.specs.declared.segment.Segment.{Segment}
 use Rattle.live_segment.specs.declared.opener.Opener.{Opener}
 use Rattle.live_segment.specs.Holders.{view_of_opener}
-use Rattle.live_segment.specs.Rule.{opened_of, opening_state, first_view, Runs, Closes}
+use Rattle.live_segment.specs.Rule.{Closes, IsKeptOpening, Runs, first_view, opener_for, opener_of_words, opening_state, words_of}
 use Rattle.live_segment.specs.Steps.{Pass, Sat, IsAtRest, Joinable, Offers, Bounds}
+use Rattle.live_segment.proofs.Seating.Openings.{allows, joins_all, splits_all}
 
 -- an exchange of 0 for 0 changes nothing
 pub nothing_exchanged : (n : ℕ) → either (n == 0) 0 n ≡ n
 nothing_exchanged n = exchanged n 0 0 (λ x. x ≡ n) (λ e. sym e) (λ _. refl)
 
-pub opens : (setting : Setting) (words : List ℕ) → IsShape setting.shape → (setting.version ≡ 1) ⊎ (setting.version ≡ 2)
-    → words ≡ 0 ∷ memory (opening_state setting) → Runs setting (opening words [] (first_view setting))
-opens setting words shaped versioned same =
-    let kept = opening_is_kept setting.shape setting.version setting.id setting.cursors shaped versioned in
-    subst (λ (ws : List ℕ). Runs setting (opening {S = Announcement} ws [] (first_view setting))) (sym same)
-    (tables_open Announcement setting.shape (opened_of setting) (opening_state setting) (first_view setting) 0 [] kept refl)
+-- ---- opened and closed
+
+-- the words of a kept state are so many
+front_of : (shape : Dimensions) (opened : Anatomy) (state : State) → Invariant shape opened state → take shape.size (memory state) ≡ state.words
+front_of shape opened state kept =
+    ap (λ (n : ℕ). take n (memory state)) (sym (length_shown shape state.words (layout_of kept.anatomy) kept.shown))
+    ∙ take-append_seam state.words state.cursors
+
+pub opens : (given : Opening) (words : List ℕ) → IsKeptOpening given → words ≡ given.words.items → Runs given.setting (opening words [] (opener_for given))
+opens given words is same = record {
+  opened = is.opened;
+  as_said = is.as_said;
+  running = subst (λ (ws : List ℕ). Running Announcement given.setting.shape is.opened (opening {S = Announcement} ws [] (opener_for given))) (sym (same ∙ is.words))
+      (tables_open Announcement given.setting.shape is.opened (opening_state given) (opener_for given) 0 [] is.kept refl);
+}
+
+-- its words are the first, those of the segment and those of the shared cursors
+pub many_opened : (given : Opening) → IsKeptOpening given → length given.words.items ≡ given.setting.shape.size + 1 + given.setting.cursors
+many_opened given is =
+    let cursors : List ℕ = replicate given.setting.cursors 12 in
+    let all = ap length is.words in
+    let both = length-append (words_of given) cursors in
+    let front = length_shown given.setting.shape (words_of given) (layout_of is.kept.anatomy) is.kept.shown in
+    let behind = length-replicate {A = ℕ} given.setting.cursors 12 in
+    omega (arith, all, both, front, behind)
+
+-- blank words, which have no list, open a new segment, whose opener has done nothing
+module _ (given : Opening) (shaped : IsShape given.setting.shape) (versioned : (given.setting.version ≡ 1) ⊎ (given.setting.version ≡ 2))
+    (not_full : given.setting.full ≡ false) (none : given.references.items ≡ [])
+    (same : given.words.items ≡ 0 ∷ memory (new_state given.setting.shape given.setting.version given.setting.id given.setting.cursors)) where
+  abbrev new : State
+  new = new_state given.setting.shape given.setting.version given.setting.id given.setting.cursors
+
+  kept_new : Invariant given.setting.shape (blank given.setting.version given.setting.id given.setting.shape.size) new
+  kept_new = opening_is_kept given.setting.shape given.setting.version given.setting.id given.setting.cursors shaped versioned
+
+  blank_words : words_of given ≡ new.words
+  blank_words = ap (λ (ws : List ℕ). take given.setting.shape.size (drop 1 ws)) same ∙ front_of given.setting.shape _ new kept_new
+
+  pub opener_is_first : opener_for given ≡ first_view given.setting
+  opener_is_first i = opener_of_words given.setting (blank_words i) (none i)
+
+  state_is_new : opening_state given ≡ new
+  state_is_new i = record { words = blank_words i; cursors = new.cursors; actors = opener_is_first i ∷ [] }
+
+  pub opens_new : IsKeptOpening given
+  opens_new = record {
+    opened = blank given.setting.version given.setting.id given.setting.shape.size;
+    as_said = record { version = refl; id = refl; intact = refl; full = sym not_full };
+    kept = subst (Invariant given.setting.shape (blank given.setting.version given.setting.id given.setting.shape.size)) (sym state_is_new) kept_new;
+    words = same ∙ ap (λ (state : State). 0 ∷ memory state) (sym state_is_new);
+  }
 
 -- the words of a closed table behind the first one, as many as the segment has, are those of a kept state
 closes_as : (setting : Setting) (words image : List ℕ) (xs : List Announcement) (opener : Actor)
     → Final (Seen (Runs setting) 0 opener) words xs → image ≡ take setting.shape.size (drop 1 words) → Closes setting opener image
-closes_as setting words image xs opener final same =
-    let (anchor, state, all, kept, stands) = tables_close Announcement setting.shape (opened_of setting) words xs opener final in
-    let long = length_shown setting.shape state.words (layout_of kept.anatomy) kept.shown in
-    let front : take setting.shape.size (memory state) ≡ state.words =
-    ap (λ (n : ℕ). take n (memory state)) (sym long) ∙ take-append_seam state.words state.cursors in record {
+closes_as setting words image xs opener (s, (run, seen), stands, many, homes) same =
+    let (anchor, state, all, kept, first) = tables_close Announcement setting.shape run.opened words xs opener (s, (run.running, seen), stands, many, homes) in record {
       state = state;
-      words_are = same ∙ (ap (λ (ws : List ℕ). take setting.shape.size (drop 1 ws)) all ∙ front);
+      words_are = same ∙ (ap (λ (ws : List ℕ). take setting.shape.size (drop 1 ws)) all ∙ front_of setting.shape run.opened state kept);
+      opened = run.opened;
+      as_said = run.as_said;
       kept = kept;
-      stands = stands;
+      stands = first;
     }
 
 -- they were copied into a row, the first so many, and the row was cut behind these
 pub closes : (segment : Segment) (opener : Opener) (seat : Pass) (words row image : List ℕ) (xs : List Announcement) (i size : ℕ)
-    → seat ≡ opener.seat → Final (Seen (Runs segment.table.shared.key) seat.id seat.me.0) words xs
+    → seat ≡ opener.seat → Final (Seen (Runs segment.table.shared.key.setting) seat.id seat.me.0) words xs
     → size ≤ i → i ≤ size → size ≡ segment.setting.shape.size → take i row ≡ take i (drop 1 words) → image ≡ take size row
     → Closes segment.setting (view_of_opener opener) image
 closes segment opener seat words row image xs i size seated final from to all copied cut =
@@ -75,7 +126,8 @@ module _ (setting : Setting) (slots id : ℕ) (me : Sat) where
       → Allows (Runs setting) slots id me 0 (λ n. either (n == 0) 0 n) (Offers (step slots 0 0 0 (some (Units units))) me)
   offers units may s run wide mine small =
       let (view, act, valid, holds, told) =
-      tables_offer Announcement setting.shape (opened_of setting) units slots id me (λ n. either (n == 0) 0 n) nothing_exchanged may s run wide mine small in
+      allows setting slots id me 0 (λ n. either (n == 0) 0 n) (λ found me'. (me'.0 ≡ offering me.0 units) × (me'.1 ≡ me.1))
+      (λ opened as_said. tables_offer Announcement setting.shape opened units slots id me (λ n. either (n == 0) 0 n) nothing_exchanged may) s run wide mine small in
       (view, act, valid, holds, λ said e. (told.0 ∙ ap (λ (n : ℕ). offering me.0 n) (same said e), told.1))
     where
       units_said : Announcement → ℕ
@@ -87,9 +139,9 @@ module _ (setting : Setting) (slots id : ℕ) (me : Sat) where
 
   pub bounds : Allows (Runs setting) slots id me 0 (λ n. n) (Bounds (step slots 0 0 0 none) me)
   bounds s run wide mine small =
-      let there : get_elem? run.segment.actors id ≡ some me.0 = ap (λ list. get_elem? list id) (sym run.views) ∙ mine in
-      let all : sum_by units_of run.segment.actors ≡ 4294967295 = run.kept.pool in
-      let part : units_of me.0 ≤ sum_by units_of run.segment.actors = sum_at_least units_of run.segment.actors id me.0 there in
+      let there : get_elem? run.running.segment.actors id ≡ some me.0 = ap (λ list. get_elem? list id) (sym run.running.views) ∙ mine in
+      let all : sum_by units_of run.running.segment.actors ≡ 4294967295 = run.running.kept.pool in
+      let part : units_of me.0 ≤ sum_by units_of run.running.segment.actors = sum_at_least units_of run.running.segment.actors id me.0 there in
       let first = set-get_or s.words 0 0 in
       let view = set_again s.views id me.0 mine in
       let same : stepped s 0 (slice_index s.words 0) id me.1 me.0 keeps ≡ s = λ i. record { words = first i; homes = s.homes; views = view i } in
@@ -100,7 +152,7 @@ module _ (setting : Setting) (slots id : ℕ) (me : Sat) where
       most share costs held few = omega arith
 
 pub splits : (setting : Setting) (id : ℕ) (a : Actor) → MaySplit a → Splits (Runs setting) id a (parent a) (newcomer a)
-splits setting id a may = tables_split Announcement setting.shape (opened_of setting) id a may
+splits setting id a may = splits_all setting id a (parent a) (newcomer a) (λ opened. tables_split Announcement setting.shape opened id a may)
 
 -- who stands beside a recorder that lives has one outstanding
 stands_out : (actors : List Actor) (roles : RolesAreKept actors) (id other : ℕ) (a b : Actor) → get_elem? actors id ≡ some a
@@ -115,11 +167,12 @@ stands_out actors roles id other a b there beside opener rest =
 
 pub joins : (setting : Setting) (id other : ℕ) (a b : Actor) → Joinable a b → Joins (Runs setting) id a other b (joined a b) spent
 joins setting id other a b may s run mine apart theirs =
-    let seg = run.segment in
-    let there : get_elem? seg.actors id ≡ some a = ap (λ list. get_elem? list id) (sym run.views) ∙ mine in
+    let seg = run.running.segment in
+    let there : get_elem? seg.actors id ≡ some a = ap (λ list. get_elem? list id) (sym run.running.views) ∙ mine in
     let beside : get_elem? seg.actors other ≡ some b =
-    ap (λ list. get_elem? list other) (sym run.views) ∙ (sym (set_else s.views id other (joined a b) apart) ∙ theirs) in
+    ap (λ list. get_elem? list other) (sym run.running.views) ∙ (sym (set_else s.views id other (joined a b) apart) ∙ theirs) in
     let (idle, opener, rest) = may in
-    let one : 1 ≤ outstanding_of a.role = stands_out seg.actors run.kept.roles id other a b there beside opener rest in
-    tables_join Announcement setting.shape (opened_of setting) id other a b
-    (idle, opener, one, rest.free, rest.recorder, rest.holds, rest.runs, rest.takes, rest.owes) s run mine apart theirs
+    let one : 1 ≤ outstanding_of a.role = stands_out seg.actors run.running.kept.roles id other a b there beside opener rest in
+    joins_all setting id other a b (joined a b) spent
+    (λ opened. tables_join Announcement setting.shape opened id other a b
+    (idle, opener, one, rest.free, rest.recorder, rest.holds, rest.runs, rest.takes, rest.owes)) s run mine apart theirs

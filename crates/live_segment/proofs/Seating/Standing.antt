@@ -10,7 +10,6 @@ use Rattle.segment_machine.specs.declared.place.Place.TheVariants.{Spent}
 use Rattle.segment_machine.specs.Actor.{is_opener}
 use Rattle.segment_machine.specs.Event.{Event, Learned, Ready, change, next, spot}
 use Rattle.segment_machine.specs.Note.{Note}
-use Rattle.segment_invariant.specs.Body.{blank}
 use Rattle.segment_invariant.specs.Invariant.{Invariant}
 use Rattle.segment_invariant.proofs.Lists.Elements.{below_length}
 use Rattle.segment_promises.specs.Follows.{MayNoteAll, noted_by}
@@ -26,14 +25,13 @@ use Rattle.live_segment.proofs.Seating.GhostNoted.{tells}
 pub stands_kept : (setting : Setting) (s : State Announcement Actor) → Runs setting s → (id : ℕ) (a : Actor) → get_elem? s.views id ≡ some a
     → a.hand.place ≢ Spent → Standing a
 stands_kept setting s run id a there lives =
-    let here : get_elem? run.segment.actors id ≡ some a = ap (λ list. get_elem? list id) (sym run.views) ∙ there in
-    let fits = run.kept.each id a here lives in
-    let version : a.segment.version ≡ setting.version = fits.versioned ∙ run.kept.same.0 in
-    let shape = sym fits.shaped in
-    let same = sym version in record {
-      id = setting.id;
-      state = run.segment;
-      kept = subst (λ (p : Dimensions × ℕ). Invariant p.0 (blank p.1 setting.id p.0.size) run.segment) (λ i. (shape i, same i)) run.kept;
+    let here : get_elem? run.running.segment.actors id ≡ some a = ap (λ list. get_elem? list id) (sym run.running.views) ∙ there in
+    let kept = run.running.kept in
+    let fits = kept.each id a here lives in record {
+      opened = run.opened;
+      version = sym (fits.versioned ∙ kept.same.0);
+      state = run.running.segment;
+      kept = subst (λ (shape : Dimensions). Invariant shape run.opened run.running.segment) (sym fits.shaped) kept;
       who = id;
       stands = here;
     }

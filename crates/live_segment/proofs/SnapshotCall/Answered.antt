@@ -11,14 +11,14 @@ use Rattle.segment_machine.specs.declared.place.Place.TheVariants.{Spent}
 use Rattle.segment_machine.specs.Actor.{is_opener}
 use Rattle.segment_machine.specs.Note.{Note, answers, noted, MayNote}
 use Rattle.segment_invariant.proofs.Lists.Elements.{below_length}
-use Rattle.segment_promises.proofs.Tables.{tables_announce}
 use Rattle.live_segment.specs.declared.rule.Announcement.{Announcement}
 use Rattle.live_segment.specs.declared.rule.Announcement.TheVariants.{Answer}
 use Rattle.live_segment.specs.declared.rule.Setting.{Setting}
-use Rattle.live_segment.specs.Rule.{opened_of, Runs}
+use Rattle.live_segment.specs.Rule.{Runs}
 use Rattle.live_segment.specs.Steps.{Sat}
 use Rattle.live_segment.specs.Taking.{Answers, answered_as}
 use Rattle.live_segment.specs.GhostNotes.{KnowsAlone}
+use Rattle.live_segment.proofs.Seating.Openings.{announces}
 use Rattle.live_segment.proofs.Seating.Seated.{nothing_exchanged}
 use Rattle.live_segment.proofs.Seating.GhostNoted.{one_known}
 use Rattle.live_segment.proofs.Seating.Standing.{stands_kept}
@@ -46,7 +46,7 @@ module _ (setting : Setting) (slots id : ℕ) (me : Sat) (records : is_opener me
   answers_said said known snapshot says alone may s run wide mine small =
       let note : Known → Snapshot → Note = λ k x. answers (answered_as me.0 k x) in
       let (view, act, valid, holds, told) =
-      tables_announce Announcement setting.shape (opened_of setting) (note known snapshot ∷ []) slots id me (λ n. either (n == 0) 0 n) nothing_exchanged
+      announces setting (note known snapshot ∷ []) slots id me (λ n. either (n == 0) 0 n) nothing_exchanged
       records (may, refl) s run wide mine small in
       let (named, among, of, saw_all, when) = may in
       let lives : view.hand.place ≢ Spent = λ spent. cc (sym saw_all.sum ∙ (ap (λ (a : Actor). a.hand.place) (sym told.0) ∙ spent)) in (

@@ -22,7 +22,7 @@ use Rattle.segment_invariant.proofs.Walking.Learned.{met_listed}
 use Rattle.segment_promises.proofs.Lists.{chain_is}
 use Rattle.segment_promises.proofs.Readings.Lists.{is_chain}
 use Rattle.live_segment.specs.declared.rule.Setting.{Setting}
-use Rattle.live_segment.specs.Rule.{opened_of, Runs}
+use Rattle.live_segment.specs.Rule.{Runs}
 use Rattle.live_segment.specs.Steps.{Sat}
 use Rattle.live_segment.specs.Cursors.{LoadsCursor, MovesCursor, StandsBehind, GaveInOrder}
 use Rattle.live_segment.proofs.Seating.Allowed.{does_at}
@@ -39,7 +39,7 @@ module _ (setting : Setting) (slots id : ℕ) (me : Sat) (word : ℕ) (records :
       let (view, act, valid, holds, told) =
       does_at setting slots id me word records (λ (x : ℕ). cursor_event (load_cursor x)) cursor is one ready s run wide mine small in
       let live : me.0.hand.place ≢ Spent = λ e. true≢false (sym (ap is_bound e) ∙ ready.0) in
-      let fits = run.kept.each id me.0 (ap (λ list. get_elem? list id) (sym run.views) ∙ mine) live in
+      let fits = run.running.kept.each id me.0 (ap (λ list. get_elem? list id) (sym run.running.views) ∙ mine) live in
       (view, act, valid, holds, (told, fits.ahead.many ∙ sym fits.numbered))
 
 -- ---- the segment beside its cursors
@@ -65,18 +65,18 @@ after_place : (took : Bool) (a : Actor) (cursor new found : ℕ) → (after_curs
 after_place true a cursor new found = refl
 after_place false a cursor new found = refl
 
-module _ (shape : Dimensions) (opened : Anatomy) (before after : State) (kept : Invariant shape opened before) (then : Invariant shape opened after)
+module _ (shape : Dimensions) (opened others : Anatomy) (before after : State) (kept : Invariant shape opened before) (then : Invariant shape others after)
     (same : before.words ≡ after.words) (id : ℕ) (a b : Actor) (mine : get_elem? before.actors id ≡ some a) (now : get_elem? after.actors id ≡ some b)
     (records : is_opener b.role ≡ false) (lives : b.hand.place ≢ Spent) where
   one_order : order_of then.anatomy ≡ order_of kept.anatomy
   one_order =
-      chain_is shape opened after then (order_of kept.anatomy)
+      chain_is shape others after then (order_of kept.anatomy)
       (subst (λ (words : List ℕ). IsChain words (head_of words) (order_of kept.anatomy)) same (is_chain shape opened before kept))
 
   gave : GaveInOrder (order_of then.anatomy) b
   gave = record {
     seen = (then.each id b now lives).sees.walked;
-    met = met_listed shape opened after then id b now lives;
+    met = met_listed shape others after then id b now lives;
     rises = then.cursors.ordered id b now records;
   }
 
@@ -96,27 +96,27 @@ module _ (setting : Setting) (slots id : ℕ) (me : Sat) (word : ℕ) (records :
   moves_cursor old new cursor is one ready s run wide mine small =
       let (view, act, valid, holds, step) =
       does_at setting slots id me word records (λ (x : ℕ). cursor_event (move_cursor x old new)) cursor is one ready s run wide mine small in
-      let there : get_elem? run.segment.actors id ≡ some me.0 = ap (λ list. get_elem? list id) (sym run.views) ∙ mine in
+      let there : get_elem? run.running.segment.actors id ≡ some me.0 = ap (λ list. get_elem? list id) (sym run.running.views) ∙ mine in
       let lived : me.0.hand.place ≢ Spent = λ spent. cc (ready, spent) in
-      let shaped = (run.kept.each id me.0 there lived).shaped in
+      let shaped = (run.running.kept.each id me.0 there lived).shaped in
       let told = step cursor (is ∙ ap (λ (shape : Dimensions). spot shape.size (cursor_event (move_cursor cursor old new)) + 1) (sym shaped)) in
-      let first = length_shown setting.shape run.segment.words (layout_of run.kept.anatomy) run.kept.shown in
-      let last = length_shown setting.shape holds.segment.words (layout_of holds.kept.anatomy) holds.kept.shown in
+      let first = length_shown setting.shape run.running.segment.words (layout_of run.running.kept.anatomy) run.running.kept.shown in
+      let last = length_shown setting.shape holds.running.segment.words (layout_of holds.running.kept.anatomy) holds.running.kept.shown in
       let took : Bool = slice_index s.words word == old in
-      let stay = words_stay run.segment.words holds.segment.words run.segment.cursors holds.segment.cursors s.words run.anchor holds.anchor word _ run.words
-      holds.words (first ∙ sym last) (omega (arith, is, first)) in
+      let stay = words_stay run.running.segment.words holds.running.segment.words run.running.segment.cursors holds.running.segment.cursors s.words run.running.anchor holds.running.anchor word _ run.running.words
+      holds.running.words (first ∙ sym last) (omega (arith, is, first)) in
       let role : is_opener view.role ≡ false =
       ap (λ (a : Actor). is_opener a.role) told.0 ∙ (ap is_opener (after_role took me.0 cursor new (slice_index s.words word)) ∙ records) in
       let rests : view.hand.place ≡ Idle = ap (λ (a : Actor). a.hand.place) told.0 ∙ after_place took me.0 cursor new (slice_index s.words word) in
-      let now : get_elem? holds.segment.actors id ≡ some view =
-      ap (λ list. get_elem? list id) (sym holds.views) ∙ set_here s.views id view (below_length s.views id me.0 mine) in (
+      let now : get_elem? holds.running.segment.actors id ≡ some view =
+      ap (λ list. get_elem? list id) (sym holds.running.views) ∙ set_here s.views id view (below_length s.views id me.0 mine) in (
         view,
         act,
         valid,
         holds,
         (
           step,
-          λ other placed. stands_behind setting.shape (opened_of setting) run.segment holds.segment run.kept holds.kept stay id me.0 view there now role
+          λ other placed. stands_behind setting.shape run.opened holds.opened run.running.segment holds.running.segment run.running.kept holds.running.kept stay id me.0 view there now role
               (λ spent. cc (rests, spent)) other old new placed,
         ),
       )

@@ -20,7 +20,7 @@ use Rattle.segment_invariant.specs.Invariant.{HoldsOwn, Invariant, StandsRight}
 use Rattle.segment_invariant.proofs.Lists.Elements.{all_at, at_from}
 use Rattle.segment_invariant.proofs.Blocks.Pieces.{one_index}
 use Rattle.live_segment.specs.declared.rule.Setting.{Setting}
-use Rattle.live_segment.specs.Rule.{opened_of, Runs}
+use Rattle.live_segment.specs.Rule.{Runs}
 use Rattle.live_segment.specs.Steps.{Does, Sat}
 use Rattle.live_segment.specs.Listing.{LoadsPublished, StoresPayload}
 use Rattle.live_segment.proofs.Seating.Allowed.{does}
@@ -88,7 +88,7 @@ module _ (setting : Setting) (slots id : ℕ) (me : Sat) (word : ℕ) (records :
   pub stores_payload : (at index value : ℕ) → word ≡ at + 4 + index + 1 → Ready me.0 (allocating_event (store_payload at index value))
       → Allows (Runs setting) slots id me word (change setting.version (allocating_event (store_payload at index value))) (StoresPayload word value me)
   stores_payload at index value is ready s run wide mine small =
-      let there : get_elem? run.segment.actors id ≡ some me.0 = ap (λ list. get_elem? list id) (sym run.views) ∙ mine in
+      let there : get_elem? run.running.segment.actors id ≡ some me.0 = ap (λ list. get_elem? list id) (sym run.running.views) ∙ mine in
       let (view, act, valid, holds, told) =
       does setting slots id me word records (allocating_event (store_payload at index value)) (omega arith) ready s run wide mine small in (
         view,
@@ -96,10 +96,10 @@ module _ (setting : Setting) (slots id : ℕ) (me : Sat) (word : ℕ) (records :
         valid,
         holds,
         λ other place same may.
-            let one : at ≡ other = one_block setting.shape (opened_of setting) run.segment run.kept id me.0 there at index other place value ready may (omega arith) in
+            let one : at ≡ other = one_block setting.shape run.opened run.running.segment run.running.kept id me.0 there at index other place value ready may (omega arith) in
             let spot : index ≡ place = omega arith in (
               subst (λ (p : ℕ × ℕ). Does (allocating_event (store_payload p.0 p.1 value)) me (slice_index s.words word) (view, carried_after me.1 act))
                   (λ i. (one i, spot i)) told,
-              λ living. (run.kept.each id me.0 there living).apart,
+              λ living. (run.running.kept.each id me.0 there living).apart,
             ),
       )

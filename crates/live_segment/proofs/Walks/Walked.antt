@@ -27,7 +27,7 @@ use Rattle.segment_machine.specs.Walking.{load_next, extended, records_met}
 use Rattle.segment_machine.proofs.Stages.Walks.{walks_agree}
 use Rattle.live_segment.specs.declared.rule.Setting.{Setting}
 use Rattle.live_segment.specs.declared.segment.Segment.{Segment}
-use Rattle.live_segment.specs.Rule.{Runs, opened_of}
+use Rattle.live_segment.specs.Rule.{Runs}
 use Rattle.live_segment.specs.Steps.{Pass, Sat, IsSame, Stepped}
 use Rattle.live_segment.specs.Holders.{MayStep}
 use Rattle.live_segment.specs.Seated.{IsSeated}
@@ -55,17 +55,17 @@ module _ (setting : Setting) (slots id : ℕ) (me : Sat) (word : ℕ) (records :
       let (view, act, valid, holds, told) =
       does_at setting slots id me word records (λ (x : ℕ). walking_event (load_next x)) at (omega (arith, is)) (λ y e. omega (arith, is, e)) ready s run wide mine small in
       let live : me.0.hand.place ≢ Spent = λ e. true≢false (sym (ap is_bound e) ∙ ready.0) in
-      let there : get_elem? run.segment.actors id ≡ some me.0 = ap (λ list. get_elem? list id) (sym run.views) ∙ mine in
-      let fits = run.kept.each id me.0 there live in (
+      let there : get_elem? run.running.segment.actors id ≡ some me.0 = ap (λ list. get_elem? list id) (sym run.running.views) ∙ mine in
+      let fits = run.running.kept.each id me.0 there live in (
         view,
         act,
         valid,
         holds,
         (
           told,
-          once_in run.segment.words me.0.seen.chain _ fits.sees.walked run.kept.list.linked,
-          knows_own_names setting.shape (opened_of setting) run.segment run.kept id me.0 there live,
-          knows_own_samples setting.shape (opened_of setting) run.segment run.kept id me.0 there live,
+          once_in run.running.segment.words me.0.seen.chain _ fits.sees.walked run.running.kept.list.linked,
+          knows_own_names setting.shape run.opened run.running.segment run.running.kept id me.0 there live,
+          knows_own_samples setting.shape run.opened run.running.segment run.running.kept id me.0 there live,
         ),
       )
 

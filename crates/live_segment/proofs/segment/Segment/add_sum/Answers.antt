@@ -14,7 +14,7 @@ use Rattle.live_segment.proofs.segment.Segment.add_sum.Goals as goal
 pub fetch_add-requires : goal.fetch_add-requires
 fetch_add-requires c =
     let (x, fits, may) = c.requires.may in
-    let setting = c.args.self.now.table.shared.key in
+    let setting = c.args.self.now.table.shared.key.setting in
     let word : ℕ = 1 + c.args.histogram + 11 in
     let number : ℕ = c.cast_unsigned.result in
     let at : word ≡ x.known.reference + 11 + 1 = let e = fits.0 in omega arith in

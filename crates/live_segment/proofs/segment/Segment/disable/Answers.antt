@@ -12,7 +12,7 @@ use Rattle.live_segment.proofs.segment.Segment.disable.Goals as goal
 
 pub compare_exchange-requires : goal.compare_exchange-requires
 compare_exchange-requires c =
-    let setting = c.args.self.now.table.shared.key in
+    let setting = c.args.self.now.table.shared.key.setting in
     let word : ℕ = 1 + c.args.histogram + 9 in
     let off : c.args.off ≡ off_word setting.version c.args.old =
     c.requires.off ∙ ap (λ (s : Setting). off_word s.version c.args.old) (sym c.args.self.now.keyed) in (

@@ -13,7 +13,7 @@ use Rattle.live_segment.proofs.segment.Segment.swap_sum_mark.Goals as goal
 
 pub swap-requires : goal.swap-requires
 swap-requires c =
-    let setting = c.args.self.now.table.shared.key in
+    let setting = c.args.self.now.table.shared.key.setting in
     let word : ℕ = 1 + c.args.histogram + 12 in
     let number : ℕ = c.cast_unsigned.result in
     let whole : cast_signed w64 (cast_unsigned w64 c.args.sum) ≡ c.args.sum = to_z-of_z w64 c.args.sum c.ranges.sum in

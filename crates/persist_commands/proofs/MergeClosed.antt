@@ -13,7 +13,7 @@ use Rattle.segment_calls.specs.declared.asked.Asked.{Asked}
 use Rattle.live_segment.specs.declared.rule.Setting.{Setting}
 use Rattle.live_segment.specs.Closing.{IsImageOf, ReadsJoined, ReadsStopped}
 use Rattle.live_segment.specs.Hist.{KnowsNone}
-use Rattle.live_segment.specs.Rule.{first_view, opened_of}
+use Rattle.live_segment.specs.Rule.{first_view}
 use Rattle.live_segment.specs.Searching.{SawOther}
 
 -- the opener that gave all units to a recorder and has joined it
@@ -61,7 +61,7 @@ module _ (setting : Setting) (last : Actor) (words : List ℕ) (closed : IsClose
       let chain : last.seen.chain ≡ (closing setting last).seen.chain = sym (longer_than_none last.seen.chain) in
       let its : IsFirstNamed (closing setting last).seen asked.name.items at =
       subst (λ (l : List ℕ). IsFirstNamed (record last.seen { chain = l }) asked.name.items at) chain named in
-      let (kind, first, _) = others_differ setting.shape (opened_of setting) closed.stopped.closed.state closed.stopped.closed.kept 0 (closing setting last) closed.stopped.closed.stands
+      let (kind, first, _) = others_differ setting.shape closed.stopped.closed.opened closed.stopped.closed.state closed.stopped.closed.kept 0 (closing setting last) closed.stopped.closed.stands
       (λ spent. cc spent) asked.name.items letters asked.spec at are its unlike in
       let (h, has, called) = (closed.stopped.reads closed.image.reading.0 closed.image.reading.1).names.read asked.name.items kind at first in
       let (known, among, is) = ((closed.reads closed.image.reading.0 closed.image.reading.1).answers.names asked.name.items).0 (h, has, called) in

@@ -1,6 +1,6 @@
 -- What all workers of a run have recorded, and what their image is read as.
 use Rattle.std.proofs.Common.{◌≡◌, ℕ, ◌+◌, ◌<◌, ◌≤◌, List, [], ◌∷◌, ◌++◌, map, length, get_or, All, Contains, Option, Some, None, IfSome, Ok, Err, Result, IfErr, OnOk, drop, refl, sym, ap, ◌∙◌, subst, arith, append-nil}
-use Rattle.std.specs.Prelude.{◌==◌, ◌%◌, ◌+ℤ◌, Bool, true, false, suc, ℤ, pos, if◌then◌else◌, sum_by, fold}
+use Rattle.std.specs.Prelude.{◌==◌, ◌%◌, ◌+ℤ◌, ◌||◌, Bool, true, false, suc, ℤ, pos, if◌then◌else◌, sum_by, fold}
 use Rattle.std.specs.List.{flat_map, range_with_len}
 use Rattle.std.specs.Str.{bytes_eq}
 use Rattle.std.proofs.lemmas.Slice.Eq.{bytes_eq-Decides}
@@ -17,7 +17,7 @@ use Rattle.segment_machine.specs.declared.actor.Portion.{Portion}
 use Rattle.segment_machine.specs.declared.actor.Taken.{Taken}
 use Rattle.segment_machine.specs.declared.entry.EntryProgress.{EntryProgress}
 use Rattle.segment_machine.specs.declared.entry.Entry.{Entry}
-use Rattle.segment_machine.specs.Actor.{IsFinal, log_of, made_of, outstanding_of, portion_of, taken_of, taken_sum, taken_units, units_listed}
+use Rattle.segment_machine.specs.Actor.{IsFinal, cost_of, log_of, made_of, outstanding_of, portion_of, taken_of, taken_sum, taken_units, units_listed}
 use Rattle.segment_machine.specs.Seats.{joined, shifted, shifted_taken}
 use Rattle.segment_machine.specs.Entry.{is_of, tally_units, tally_sum, tally_noted}
 use Rattle.segment_invariant.proofs.Lists.Countings.{units_total, sum_total, noted_total}
@@ -268,11 +268,11 @@ final_behind ran front behind name t log named begun alone youngest quiet =
 
 -- the image of a segment in which a script was run
 pub is_image_of_run : (script : Script) (workers : ℕ) (setting : Setting) (opened ran : Actor) (words : List ℕ) → 0 < workers
-    → setting.shape ≡ script.shape → setting.version ≡ 2 → setting.id ≡ script.id
+    → setting.shape ≡ script.shape → setting.version ≡ 2 → setting.id ≡ script.id → setting.full ≡ false
     → HasOpened script.hists (first_view setting) opened → HasRun script workers opened ran
     → IsImageOf setting words → (outstanding_of ran.role ≡ 0 → ReadsJoined setting ran words) → (outstanding_of ran.role ≡ 0 → DeltasAddUp ran)
     → IsImageOfRun script workers words
-is_image_of_run script workers setting opened ran words some shape version id opens runs image joined deltas =
+is_image_of_run script workers setting opened ran words some shape version id empty opens runs image joined deltas =
     let first : Actor = first_view setting in
     let went = went_twice script.hists [] (deeds_of_all script workers) first opened ran opens.went runs.recorded in
     let outstanding : outstanding_of ran.role ≡ 0 = runs.back ∙ opens.back in
@@ -306,20 +306,21 @@ is_image_of_run script workers setting opened ran words some shape version id op
                 (kind.0 ∙ spec.0, kind.1 ∙ spec.1);
             once = read.answers.once;
             tallies = λ h there.
-                let tally = read.tallies h there in record {
+                let tally = read.tallies h there in
+                let noted : h.redundant ≡ 0 + tally_noted all h.name =
+                tally.redundant ∙ (λ i. cost_of (went.first_noted i) h.name + tally_noted (counted i) h.name) in
+                let whole = entries_come_to ◌+◌ (λ l. tally_noted l h.name) numbers (noted_total h.name) script workers some in record {
                   units = λ key. tally.units key
                       ∙ (ap (λ (l : List Entry). tally_units l h.name key) log
                       ∙ entries_come_to ◌+◌ (λ l. tally_units l h.name key) numbers (units_total h.name key) script workers some);
                   sum = tally.sum
                       ∙ (ap (λ (l : List Entry). tally_sum l h.name) log
                       ∙ entries_come_to ◌+ℤ◌ (λ l. tally_sum l h.name) amounts (sum_total h.name) script workers some);
-                  redundant = tally.redundant
-                      ∙ (ap (λ (l : List Entry). tally_noted l h.name) counted
-                      ∙ entries_come_to ◌+◌ (λ l. tally_noted l h.name) numbers (noted_total h.name) script workers some);
+                  redundant = omega (arith, noted, whole);
                 };
             id = read.id ∙ id;
             corrupt = read.corrupt ∙ went.spoiled;
-            full = read.full ∙ went.filled;
+            full = read.full ∙ (ap (λ (b : Bool). b || ran.done.filled) empty ∙ went.filled);
             unmarked = λ h there none.
                 let tally = read.tallies h there in
                 let names : names_taken ran ≡ deltas_among (deeds_of_all script workers) = went.took in

@@ -56,6 +56,7 @@ in_either (x ∷ xs) ys (y ∷ front) behind deed is =
 pub went_nowhere : (hists : List HistRecord) (old new : Actor) → new ≡ old → WentOn hists [] old new
 went_nowhere hists old new still = record {
   first = ap (λ (a : Actor). a.entries.first) still;
+  first_noted = ap (λ (a : Actor). a.entries.first_noted) still;
   logged = ap log_of still ∙ sym (append-nil (log_of old));
   first_taken = ap (λ (a : Actor). a.deltas.first_taken) still;
   took = ap names_taken still ∙ sym (append-nil (names_taken old));
@@ -69,6 +70,7 @@ went_nowhere hists old new still = record {
 pub went_twice : (hists : List HistRecord) (xs ys : List Deed) (a b c : Actor) → WentOn hists xs a b → WentOn hists ys b c → WentOn hists (xs ++ ys) a c
 went_twice hists xs ys a b c one two = record {
   first = two.first ∙ one.first;
+  first_noted = two.first_noted ∙ one.first_noted;
   logged = two.logged
       ∙ (ap (λ (l : List Entry). l ++ entries_among ys) one.logged
       ∙ (append_assoc (log_of a) (entries_among xs) (entries_among ys)
@@ -98,6 +100,7 @@ went_twice hists xs ys a b c one two = record {
 pub went_handing : (hists : List HistRecord) (n : ℕ) (old new : Actor) → HandsOut n old new → WentOn hists [] old new
 went_handing hists n old new hands = record {
   first = ap (λ e. e.first) hands.entries;
+  first_noted = ap (λ e. e.first_noted) hands.entries;
   logged = ap (λ e. e.first ++ map (λ (c : EntryProgress). c.entry) e.log) hands.entries ∙ sym (append-nil (log_of old));
   first_taken = ap (λ d. d.first_taken) hands.deltas;
   took = ap (λ d. map (λ (t : Taken). t.name) d.taken) hands.deltas ∙ sym (append-nil (names_taken old));
@@ -125,6 +128,7 @@ went_asking hists hist histogram old new has (inr comes_to) =
     let mine : IsAskedIn hists (record { name = asked.name.items; spec = asked.spec; reference = reference }) =
     (hist, has, is_asked.named, subst (λ (s : Spec). SameSpec s hist.spec) (sym is_asked.specified) (refl, refl)) in record {
       first = ap (λ e. e.first) entries;
+      first_noted = ap (λ e. e.first_noted) entries;
       logged = ap (λ e. e.first ++ map (λ (c : EntryProgress). c.entry) e.log) entries ∙ sym (append-nil (log_of old));
       first_taken = ap (λ d. d.first_taken) deltas;
       took = ap (λ d. map (λ (t : Taken). t.name) d.taken) deltas ∙ sym (append-nil (names_taken old));
@@ -143,6 +147,7 @@ pub went_adding : (hists : List HistRecord) (hist : HistRecord) (known : Known) 
 went_adding hists hist known value count old new named same added =
     let on = added.onward in record {
       first = ap (λ (a : Actor). a.entries.first) on.same;
+      first_noted = ap (λ (a : Actor). a.entries.first_noted) on.same;
       logged = added.logged
           ∙ (λ i. log_of old ++ sample_entry (named i) (same_boundaries known.spec hist.spec same i) (value, count) ∷ []);
       first_taken = ap (λ (a : Actor). a.deltas.first_taken) on.same;
@@ -161,6 +166,7 @@ pub went_taking : (hists : List HistRecord) (hist : HistRecord) (known : Known) 
     → HasTaken known counts sum old new → WentOn hists (deeds_in (Some hist) kind.Delta) old new
 went_taking hists hist known counts sum old new named taken = record {
   first = ap (λ (a : Actor). a.entries.first) taken.same;
+  first_noted = ap (λ (a : Actor). a.entries.first_noted) taken.same;
   logged = ap log_of taken.same ∙ sym (append-nil (log_of old));
   first_taken = ap (λ (a : Actor). a.deltas.first_taken) taken.same;
   took = ap names_taken taken.same
@@ -257,6 +263,7 @@ went_joining hists deeds opener fresh recorder is went =
     let name : Taken → List ℕ = λ t. t.name in
     let took : names_taken recorder ≡ deltas_among deeds = went.took ∙ ap (λ (l : List Taken). map name l ++ deltas_among deeds) is.taken in record {
       first = refl;
+      first_noted = refl;
       logged = ap (λ (l : List Entry). opener.entries.first ++ l) (map-append (λ (c : EntryProgress). c.entry) opener.entries.log recorder.entries.log)
           ∙ (sym (append_assoc opener.entries.first (entries_of opener.entries.log) (entries_of recorder.entries.log))
           ∙ ap (λ (l : List Entry). (opener.entries.first ++ entries_of opener.entries.log) ++ l) its);

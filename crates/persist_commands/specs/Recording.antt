@@ -53,6 +53,7 @@ AreOf role taken = All (λ t. (t.moment.before ≡ made_of role) × (t.moment.ou
 -- had taken, each with what stood in the log when it began. All histograms that it came to know are those of `hist` records, and it has set no flag.
 pub record WentOn (hists : List HistRecord) (deeds : List Deed) (old new : Actor) : Type 0 where
   pub first : new.entries.first ≡ old.entries.first
+  pub first_noted : new.entries.first_noted ≡ old.entries.first_noted
   pub logged : log_of new ≡ log_of old ++ entries_among deeds
   pub first_taken : new.deltas.first_taken ≡ old.deltas.first_taken
   pub took : names_taken new ≡ names_taken old ++ deltas_among deeds

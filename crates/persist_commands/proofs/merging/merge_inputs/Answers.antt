@@ -1,4 +1,4 @@
-use Rattle.std.proofs.Common.{rules, ◌≡◌, List, ◌++◌, map, refl, ap, ◌∙◌, subst}
+use Rattle.std.proofs.Common.{rules, ◌≡◌, false, List, ◌++◌, map, refl, ap, ◌∙◌, subst}
 use Rattle.std.proofs.lemmas.Result.{err_from_is_err_and}
 use Rattle.bucket_ranges.specs.Reading.{Histogram}
 use Rattle.image_reader.specs.Views.{histogram_view}
@@ -20,7 +20,7 @@ returns-in_err-merged-clause-fault c =
     let p = err_from_is_err_and c.from_residual.result c.from_residual.ensures.1 in
     let base : List Histogram = map histogram_view c.args.base.now.reading.hists.items in
     let dead : List Histogram = map histogram_view c.args.dead.now.reading.hists.items in
-    let setting : Setting = record { shape = record { size = c.size.result; page = c.page.result }; version = 2; id = c.args.base.now.head.id; cursors = 0 } in
+    let setting : Setting = record { shape = record { size = c.size.result; page = c.page.result }; version = 2; id = c.args.base.now.head.id; cursors = 0; full = false } in
     let new : IsNew setting c.in-Ok.segment c.in-Ok.opener = search rules in
     let opener : Actor = view_of_opener c.in-Ok.opener in
     let last : Actor = view_of_recorder c.merge_both-merged.new.recorder in
@@ -39,7 +39,7 @@ pub returns-clause-image : goal.returns-clause-image
 returns-clause-image c =
     let base : List Histogram = map histogram_view c.args.base.now.reading.hists.items in
     let dead : List Histogram = map histogram_view c.args.dead.now.reading.hists.items in
-    let setting : Setting = record { shape = record { size = c.size.result; page = c.page.result }; version = 2; id = c.args.base.now.head.id; cursors = 0 } in
+    let setting : Setting = record { shape = record { size = c.size.result; page = c.page.result }; version = 2; id = c.args.base.now.head.id; cursors = 0; full = false } in
     let new : IsNew setting c.in-Ok.segment c.in-Ok.opener = search rules in
     let opener : Actor = view_of_opener c.in-Ok.opener in
     let theirs : view_of_recorder c.in-Ok-recorder.recorder ≡ newcomer (offering opener 4294967295) = (all_given setting opener new.view _ _ c.in-Ok-recorder.ensures.theirs).1 in
@@ -51,5 +51,5 @@ returns-clause-image c =
     let P : Actor → Type 0 = λ a. IsMerged (base ++ dead) a last in
     let merged : IsMerged (base ++ dead) (newcomer (offering (first_view setting) 4294967295)) last =
     subst P (theirs ∙ ap (λ (o : Actor). newcomer (offering o 4294967295)) new.view) c.in_ok-merged.ensures.merged in
-    merged_image setting (base ++ dead) last merged c.args.base.now.head c.close-image.result
+    merged_image setting (base ++ dead) last merged refl c.args.base.now.head c.close-image.result
     (λ i. record { size = c.size.ensures.value i; page = c.page.ensures.value i }) refl refl closed.image closed.reads

@@ -1,6 +1,6 @@
 -- What holds of a segment and of all its actors between any two events: more than its consistency, as much as keeping that needs.
 -- It says what each block is, and has one part for each thing that is looked after. No part mentions how an event goes.
-use Rattle.std.specs.Prelude.{◌≡◌, ◌≢◌, ◌⊎◌, Bool, true, false, not, ◌&&◌, ◌||◌, ◌==◌, max, ℕ, ◌+◌, ◌-◌, ◌*◌, ◌^◌, ◌<◌, ◌≤◌, ℤ, pos, ◌-ℤ◌, unsigned_abs, if◌then◌else◌, List, [], ◌∷◌, ◌++◌, map, fold, take, drop, length, replicate, sum_by, slice_index, Option, Some, None, IsPermutation, ⊤}
+use Rattle.std.specs.Prelude.{◌≡◌, ◌≢◌, ◌⊎◌, Bool, true, false, not, ◌&&◌, ◌||◌, ◌==◌, max, ℕ, ◌+◌, ◌-◌, ◌*◌, ◌^◌, ◌<◌, ◌≤◌, ℤ, pos, ◌+ℤ◌, ◌-ℤ◌, unsigned_abs, if◌then◌else◌, List, [], ◌∷◌, ◌++◌, map, fold, take, drop, length, replicate, sum_by, slice_index, Option, Some, None, IsPermutation, ⊤}
 use Rattle.std.specs.Int.{w64, cast_signed}
 use Rattle.std.specs.List.{filter, Contains, All, flat_map}
 use mathlib.Core.Option.{some, none}
@@ -34,7 +34,7 @@ use Rattle.segment_machine.specs.declared.seen.Sighting.{Sighting}
 use Rattle.segment_machine.specs.declared.actor.Taken.{Taken}
 use Rattle.segment_machine.specs.Entry.{is_counted, is_summed, has_ended, AreWithin, is_of, tally_units, tally_sum, tally_noted}
 use Rattle.segment_machine.specs.Form.{is_off, units_in, Leads}
-use Rattle.segment_machine.specs.Actor.{Buckets, Sparse, log_of, counted_of, bucket_key, units_listed, taken_sum, all_counted, all_summed, all_noted, all_taken, all_published, all_given, cost_of, units_of, SawSingle, SawCount, all_names, all_owed, is_opener, made_of, offered_of, outstanding_of}
+use Rattle.segment_machine.specs.Actor.{Buckets, Sparse, log_of, counted_of, bucket_key, units_listed, taken_units, taken_sum, portion_of, all_counted, all_summed, all_noted, all_taken, all_published, all_given, cost_of, units_of, SawSingle, SawCount, all_names, all_owed, is_opener, made_of, offered_of, outstanding_of}
 use Rattle.segment_machine.specs.Made.{AreNameWords, SawSample}
 use Rattle.segment_machine.specs.Note.{is_untouched, SawBucket}
 use Rattle.segment_machine.specs.Actor.{accepted_by, accepted_since}
@@ -255,6 +255,7 @@ pub record AreInOrder (running : List EntryProgress) : Type 0 where
 -- A running call holds what its entries cost, of a histogram that its actor knows; in a log all entries have ended, and for each name
 -- the units of these are spent, with what the opening has used, which is the units of the first entries, or the redundant count that was
 -- there where that is more; of each entry of a sparse histogram that has units and was counted by its actor, or before it, its actor met the sample.
+-- A delta that goes on is the last one, and runs beside no call; the log is as it was when that began.
 abbrev pub CallsRight : Anatomy → Actor → Type 0
 CallsRight anatomy a = record {
   ordered : AreInOrder a.entries.running;
@@ -267,7 +268,8 @@ CallsRight anatomy a = record {
       → max (tally_noted a.entries.first name) (cost_of a.entries.first_noted name) + tally_noted (map (λ c. c.entry) a.entries.log) name ≤ cost_of a.units.costs name;
   met : (entry : Entry) (of : ℕ) → Contains (a.entries.inherited ++ counted_of a) entry → 0 < entry.units → IsFirst anatomy.records entry.name spec.Sparse of
       → (at : ℕ) × IsFirstOf anatomy.records of entry.key at × Contains a.seen.chain at × SawSample a.seen of entry.key at;
-  taking : a.deltas.taking ≡ true → (a.entries.running ≡ []) × ((before : List Taken) × (last : Taken) × (a.deltas.taken ≡ before ++ last ∷ []));
+  taking : a.deltas.taking ≡ true → (a.entries.running ≡ []) × ((before : List Taken) × (last : Taken) × (a.deltas.taken ≡ before ++ last ∷ [])
+      × (last.moment.log ≡ length (log_of a)));
 }
 
 -- an entry that has units, and units that were taken, have the key of a bucket of a histogram, or the value of one of its samples
@@ -414,9 +416,20 @@ IsMoment actors opener id a m = record {
       → other ≢ id → m.before < made_of c.role;
 }
 
+-- what an actor had accepted at a moment, with what had been accepted before it was made
+abbrev pub accepted_at : Actor → Moment → List Entry
+accepted_at a m = a.entries.inherited ++ take m.log (log_of a)
+
+-- of a name, all deltas have taken what these entries come to, and what these later deltas took
+abbrev pub TookAllOf : List Actor → List Entry → List Taken → List ℕ → Type 0
+TookAllOf actors entries later name =
+    ((key : ℤ) → units_taken actors name key ≡ tally_units entries name key + taken_units (map portion_of later) name key)
+    × (taken_sum (all_taken actors) name ≡ tally_sum entries name +ℤ taken_sum (map portion_of later) name)
+
 -- Where a final delta was taken, all deltas have taken what is counted and the sum; and a final snapshot has what is counted, the
 -- sum and the redundant units. Final is so far: the recorder is alone, and nothing was counted since. So is the sum of a delta that
--- goes on, once it was swapped.
+-- goes on, once it was swapped. Of any delta whose recorder was alone, and is the youngest, all deltas but those behind it have taken what that recorder
+-- had accepted, or inherited, when it began.
 abbrev pub FinalsAreExact : List Actor → Actor → ℕ → Actor → Type 0
 FinalsAreExact actors opener id a = record {
   deltas : (t : Taken) → Contains (ended_deltas a) t → t.moment.outstanding ≡ 0 → t.moment.before + 1 ≡ made_of opener.role
@@ -427,6 +440,8 @@ FinalsAreExact actors opener id a = record {
       → IsQuiet a s.name s.moment.log
       → ((key : ℤ) → units_listed s.counts key ≡ tally_units (all_counted actors) s.name key)
       × (s.sum ≡ tally_sum (all_summed actors) s.name) × (s.redundant ≡ cost_of opener.entries.first_noted s.name + tally_noted (all_noted actors) s.name);
+  each : (n : ℕ) (t : Taken) → get_elem? (ended_deltas a) n ≡ some t → t.moment.outstanding ≡ 0 → t.moment.before + 1 ≡ made_of opener.role
+      → TookAllOf actors (accepted_at a t.moment) (drop (n + 1) a.deltas.taken) t.name;
   moments : (m : Moment) → IsMomentOf a m → IsMoment actors opener id a m;
   swapped : (before : List Taken) (last : Taken) → a.deltas.taking ≡ true → a.deltas.taken ≡ before ++ last ∷ [] → last.swapped ≡ true → IsAlone actors a
       → taken_sum (all_taken actors) last.name ≡ tally_sum (all_summed actors) last.name;

@@ -1,30 +1,33 @@
 -- Where all recorders are joined, the opener alone has done what was done.
-use Rattle.std.proofs.Common.{◌≡◌, ◌≢◌, ℕ, suc, Bool, true, false, ℤ, ◌⊎◌, ◌≤◌, ◌-◌, List, [], ◌∷◌, ◌++◌, map, take, drop, length, refl, sym, ap, subst, ◌∙◌, append-nil, ⊎_elim, arith}
+use Rattle.std.proofs.Common.{◌≡◌, ◌≢◌, ℕ, suc, Bool, true, false, ℤ, ◌⊎◌, ◌≤◌, ◌+◌, ◌+ℤ◌, ◌-◌, List, [], ◌∷◌, ◌++◌, map, take, drop, length, refl, sym, ap, subst, ◌∙◌, append-nil, ⊎_elim, arith}
 use Rattle.std.specs.Prelude.{if◌then◌else◌}
 use Rattle.std.specs.List.{filter, flat_map, All, Contains}
 use mathlib.Core.Option.{some, some-injective, some-ne-none}
 use lib.ListN.{get_elem?}
+use Rattle.std.proofs.Math.Seq.{drop-append-add}
 use Rattle.std.proofs.lemmas.Bool.{and_parts}
 use Rattle.std.proofs.lemmas.List.Elements.{All-contains, All-nil}
 use Rattle.segment_image.specs.Shape.{Dimensions}
 use Rattle.segment_machine.specs.declared.entry.Entry.{Entry}
 use Rattle.segment_machine.specs.declared.entry.EntryProgress.{EntryProgress}
 use Rattle.segment_machine.specs.declared.actor.Actor.{Actor}
+use Rattle.segment_machine.specs.declared.actor.Portion.{Portion}
+use Rattle.segment_machine.specs.declared.actor.Taken.{Taken}
 use Rattle.segment_machine.specs.Entry.{is_counted, is_summed, is_noted, has_ended, is_of, tally_units, tally_sum, tally_noted}
-use Rattle.segment_machine.specs.Actor.{log_of, counted_of, summed_of, noted_of, all_counted, all_summed, all_noted, all_taken, taken_of, taken_units, taken_sum, made_of, outstanding_of}
+use Rattle.segment_machine.specs.Actor.{log_of, counted_of, summed_of, noted_of, all_counted, all_summed, all_noted, all_taken, portion_of, taken_of, taken_units, taken_sum, made_of, outstanding_of}
 use Rattle.segment_machine.specs.Note.{is_untouched}
 use Rattle.segment_machine.specs.Seats.{spent}
 use Rattle.segment_machine.specs.State.{State}
 use Rattle.segment_machine.specs.Reached.{IsJoined}
 use Rattle.segment_invariant.specs.Body.{Anatomy}
 use Rattle.segment_invariant.specs.Consistent.{IsWithinCounts}
-use Rattle.segment_invariant.specs.Invariant.{Invariant, is_living, Fits, StandsRight, IsQuiet}
+use Rattle.segment_invariant.specs.Invariant.{Invariant, is_living, ended_deltas, Fits, StandsRight, IsQuiet}
 use Rattle.segment_invariant.proofs.Lists.Elements.{all_of, sum_at_least}
 use Rattle.segment_invariant.proofs.Lists.Maps.{one_at}
 use Rattle.segment_invariant.proofs.Frames.OneActor.{lives_on}
 use Rattle.segment_invariant.proofs.Frames.Spending.{spent_or_not}
 use Rattle.segment_promises.proofs.Filters.{all_kept}
-use Rattle.segment_promises.specs.Deltas.{FinalDeltasTakeAll, FinalSnapshotsAreExact, SnapshotsStayBelow}
+use Rattle.segment_promises.specs.Deltas.{FinalDeltasTakeAll, LoneDeltasTakeAll, FinalSnapshotsAreExact, SnapshotsStayBelow}
 
 -- ---- entries that have ended
 
@@ -138,6 +141,25 @@ final_deltas_take_all shape opened state a t kept joins among final =
       λ key. ap (λ list. taken_units list t.name key) (sym taken) ∙ (did.0 key ∙ ap (λ list. tally_units list t.name key) log.0),
       ap (λ list. taken_sum list t.name) (sym taken) ∙ (did.1 ∙ ap (λ list. tally_sum list t.name) log.1),
     )
+
+-- where a list goes on
+at_front : {X : Type 0} (front behind : List X) (x : X) → get_elem? (front ++ x ∷ behind) (length front) ≡ some x
+at_front [] behind x = refl
+at_front (y ∷ ys) behind x = at_front ys behind x
+
+pub lone_deltas_take_all : LoneDeltasTakeAll
+lone_deltas_take_all shape opened state a front behind t kept joins split none youngest =
+    let opener = opener_is shape opened state a kept joins.0 in
+    let taken = all_is_taken shape opened state a kept joins in
+    let idle : ended_deltas a ≡ front ++ t ∷ behind =
+    ap (λ (b : Bool). if b then take (length a.deltas.taken - 1) a.deltas.taken else a.deltas.taken) (rests shape opened state a kept joins.0).1 ∙ split in
+    let own : a.entries.inherited ≡ [] = sym (ap (λ (a : Actor). a.entries.inherited) opener) ∙ kept.roles.rests.3 in
+    let later : drop (length front + 1) a.deltas.taken ≡ behind = ap (drop (length front + 1)) split ∙ drop-append-add front (t ∷ behind) 1 in
+    let did = (fits shape opened state a kept joins.0).finals.each (length front) t (ap (λ (list : List Taken). get_elem? list (length front)) idle ∙ at_front front behind t) none
+    (youngest ∙ ap (λ (a : Actor). made_of a.role) (sym opener)) in
+    subst (λ (p : List Portion × (List Entry × List Taken)). ((key : ℤ) → taken_units p.0 t.name key ≡ tally_units p.1.0 t.name key + taken_units (map portion_of p.1.1) t.name key)
+    × (taken_sum p.0 t.name ≡ tally_sum p.1.0 t.name +ℤ taken_sum (map portion_of p.1.1) t.name))
+    (λ i. (taken i, (own i ++ take t.moment.log (log_of a), later i))) did
 
 pub final_snapshots_are_exact : FinalSnapshotsAreExact
 final_snapshots_are_exact shape opened state a s kept joins among final =

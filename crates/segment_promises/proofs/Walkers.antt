@@ -130,6 +130,7 @@ module _ (shape : Dimensions) (opened : Anatomy) (state : State) (kept : Invaria
       let exact = (kept.each 0 opener kept.roles.stands lives).finals in record {
         deltas = exact.deltas;
         snapshots = exact.snapshots;
+        each = exact.each;
         moments = λ m of. let is = exact.moments m of in is;
         swapped = exact.swapped;
       }

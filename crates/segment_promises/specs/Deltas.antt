@@ -1,5 +1,5 @@
 -- What deltas take and snapshots answer: at least what their recorder had accepted or seen, and, where they are final ones, all of it.
-use Rattle.std.specs.Prelude.{◌≡◌, ◌≢◌, ◌⊎◌, true, false, ℕ, ◌+◌, ◌<◌, ◌≤◌, ℤ, List, map, take, Some}
+use Rattle.std.specs.Prelude.{◌≡◌, ◌≢◌, ◌⊎◌, true, false, ℕ, ◌+◌, ◌<◌, ◌≤◌, ℤ, ◌+ℤ◌, List, ◌∷◌, ◌++◌, map, take, Some}
 use Rattle.std.specs.List.{Contains, All}
 use mathlib.Core.Option.{some}
 use lib.ListN.{get_elem?}
@@ -15,7 +15,7 @@ use Rattle.segment_machine.specs.declared.actor.Known.{Known}
 use Rattle.segment_machine.specs.declared.actor.Taken.{Taken}
 use Rattle.segment_machine.specs.Entry.{tally_units, tally_sum, tally_noted}
 use Rattle.segment_machine.specs.Form.{is_off}
-use Rattle.segment_machine.specs.Actor.{has_buckets, bucket_key, log_of, units_listed, taken_of, taken_units, taken_sum, IsFinal, SawSingle, accepted_by, accepted_since, is_opener, made_of}
+use Rattle.segment_machine.specs.Actor.{has_buckets, bucket_key, log_of, units_listed, portion_of, taken_of, taken_units, taken_sum, IsFinal, SawSingle, accepted_by, accepted_since, is_opener, made_of}
 use Rattle.segment_machine.specs.Note.{TookAll, SawAll}
 use Rattle.segment_machine.specs.State.{State}
 use Rattle.segment_machine.specs.Reached.{IsJoined}
@@ -104,6 +104,20 @@ FinalDeltasTakeAll = (shape : Dimensions) (opened : Anatomy) (state : State) (a 
     → Invariant shape opened state → IsJoined state a → Contains a.deltas.taken t → IsFinal (made_of a.role) (log_of a) t.name t.moment
     → ((key : ℤ) → taken_units (taken_of a) t.name key ≡ tally_units (log_of a) t.name key)
     × (taken_sum (taken_of a) t.name ≡ tally_sum (log_of a) t.name)
+
+-- all deltas took of a delta's name what the entries of the log in front of its moment come to, and what these later deltas took
+abbrev pub TookUpTo : Actor → Taken → List Taken → Type 0
+TookUpTo a t later =
+    ((key : ℤ) → taken_units (taken_of a) t.name key
+    ≡ tally_units (take t.moment.log (log_of a)) t.name key + taken_units (map portion_of later) t.name key)
+    × (taken_sum (taken_of a) t.name ≡ tally_sum (take t.moment.log (log_of a)) t.name +ℤ taken_sum (map portion_of later) t.name)
+
+-- where no recorder was outstanding when the recorder of a delta was made, and none was made since, the deltas up to it took exactly the
+-- entries in front of it
+abbrev pub LoneDeltasTakeAll : Type 0
+LoneDeltasTakeAll = (shape : Dimensions) (opened : Anatomy) (state : State) (a : Actor) (front behind : List Taken) (t : Taken)
+    → Invariant shape opened state → IsJoined state a → a.deltas.taken ≡ front ++ t ∷ behind → t.moment.outstanding ≡ 0 → t.moment.before + 1 ≡ made_of a.role
+    → TookUpTo a t behind
 
 -- a final snapshot has the totals, the sum and the redundant count
 abbrev pub FinalSnapshotsAreExact : Type 0

@@ -5,7 +5,7 @@
 ghost use Rattle.segment_promises.specs.States.{ReachedStatesFollow, StatesAreKept, StatesAreConsistent};
 ghost use Rattle.segment_promises.specs.Follows.{StepsFollow, TablesOpen, TablesClose, TablesFollow, TablesAnnounce, TablesOffer, TablesSplit, TablesJoin};
 ghost use Rattle.segment_promises.specs.Tallies.{PartsAddUp, TalliesAreCounts};
-ghost use Rattle.segment_promises.specs.Deltas.{FinalDeltasTakeAll, FinalSnapshotsAreExact, SnapshotsStayBelow, DeltasTakeAccepted, SnapshotsSeeAccepted};
+ghost use Rattle.segment_promises.specs.Deltas.{FinalDeltasTakeAll, LoneDeltasTakeAll, FinalSnapshotsAreExact, SnapshotsStayBelow, DeltasTakeAccepted, SnapshotsSeeAccepted};
 ghost use Rattle.segment_promises.specs.Reads.{StoppedReads, JoinedReads};
 ghost use Rattle.segment_promises.specs.Refusals.{RefusedAddsFew};
 ghost use Rattle.segment_promises.specs.Spoilers.{SpoilersClaimNothing};
@@ -86,6 +86,11 @@ pub fn joined_reads()
 /// Where a final delta was taken, all deltas together took the totals and the sum.
 pub fn final_deltas_take_all()
     ensures { FinalDeltasTakeAll }
+{}
+
+/// Where a delta's recorder was alone, and the last, the deltas up to it took exactly what the entries in front of it come to.
+pub fn lone_deltas_take_all()
+    ensures { LoneDeltasTakeAll }
 {}
 
 /// A final snapshot has the totals, the sum and the redundant count.

@@ -37,7 +37,7 @@ use Rattle.segment_invariant.proofs.Frames.Leads.{off_leads}
 use Rattle.segment_invariant.proofs.Frames.OneActor.{lives_on}
 use Rattle.segment_invariant.proofs.Frames.Onward.{Onward, RecordGoes, record_from, counts_from}
 use Rattle.segment_invariant.proofs.Frames.Roles.{AllStood}
-use Rattle.segment_invariant.proofs.Frames.Together.{IsLater, moment, ended_began}
+use Rattle.segment_invariant.proofs.Frames.Together.{IsLater, moment, ended_began, each_began}
 
 -- ---- what changes of an actor that counts, packs or takes
 
@@ -99,6 +99,7 @@ module _ (old new : List Actor) (roles : RolesAreKept old) (stood : AllStood old
     finals_else other b ne there live exact = record {
       deltas = λ t has eldest youngest quiet. absurd (not_final other b t.moment ne (exact.moments t.moment (ended_began b t has)) eldest youngest);
       snapshots = λ s has eldest youngest quiet. absurd (not_final other b s.moment ne (exact.moments s.moment (inr (s, has, refl))) eldest youngest);
+      each = λ n t has eldest youngest. absurd (not_final other b t.moment ne (exact.moments t.moment (each_began b n t has)) eldest youngest);
       moments = λ m of. moment old new opener opener other b m is_later (exact.moments m of);
       swapped = λ before last taking is swapped alone. absurd (dite (ℕ_discrete other 0)
           (λ zero_is.

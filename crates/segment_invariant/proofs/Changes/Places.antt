@@ -98,6 +98,11 @@ module _ (shape : Dimensions) (opened : Anatomy) (state : State) (kept : Invaria
             was.1 ∙ sym (summed s.name),
             (let redundant = was.2 in let same = noted s.name in omega (arith, redundant, same)),
           );
+      each = λ n t has eldest youngest.
+          let was = exact.each n t has eldest youngest in (
+            λ key. ap (λ list. taken_units list t.name key) took ∙ was.0 key,
+            ap (λ list. taken_sum list t.name) took ∙ was.1,
+          );
       moments = λ m of.
           moment state.actors actors kept.roles.opener kept.roles.opener id a m (is_later state.actors actors kept.roles stood first) (exact.moments m of);
       swapped = λ before last taking is swapped alone.

@@ -86,6 +86,11 @@ module _ (a : Actor) (c d : EntryProgress) (next : Next a.entries.running c) (en
             was.1 ∙ sym (summed s.name apart),
             (let redundant = was.2 in let same = noted s.name apart in omega (arith, redundant, same)),
           );
+      each = λ n t has eldest youngest.
+          let was = exact.each n t has eldest youngest in (
+            λ key. ap (λ list. taken_units list t.name key) taken ∙ was.0 key,
+            ap (λ list. taken_sum list t.name) taken ∙ was.1,
+          );
       moments = λ m of.
           moment old new roles.opener roles.opener id a m (is_later old new roles stood first) (exact.moments m of);
       swapped = λ before last taking. absurd (runs (calls taking));

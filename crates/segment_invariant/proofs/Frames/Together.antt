@@ -5,6 +5,7 @@ use Rattle.std.specs.Prelude.{if◌then◌else◌}
 use mathlib.Core.Option.{some}
 use lib.ListN.{get_elem?}
 use Rattle.std.proofs.lemmas.List.Elements.{All-weaker}
+use Rattle.segment_invariant.proofs.Lists.Elements.{contains_at}
 use Rattle.std.proofs.lemmas.List.Sorted.{Contains-permutation}
 use Rattle.atomic_table.proofs.Lists.{at_set}
 use Rattle.segment_image.specs.Shape.{Dimensions}
@@ -128,9 +129,15 @@ pub ended_among : (taking : Bool) (list : List Taken) (t : Taken) → Contains (
 ended_among true list t there = contains_take (length list - 1) list t there
 ended_among false list t there = there
 
+pub ended_at : (taking : Bool) (list : List Taken) (n : ℕ) (t : Taken) → get_elem? (if taking then take (length list - 1) list else list) n ≡ some t → Contains list t
+ended_at taking list n t there = ended_among taking list t (contains_at _ n t there)
+
 -- a delta that has ended began at a moment of its actor's
 pub ended_began : (a : Actor) (t : Taken) → Contains (ended_deltas a) t → IsMomentOf a t.moment
 ended_began a t there = inl (t, ended_among a.deltas.taking a.deltas.taken t there, refl)
+
+pub each_began : (a : Actor) (n : ℕ) (t : Taken) → get_elem? (ended_deltas a) n ≡ some t → IsMomentOf a t.moment
+each_began a n t there = inl (t, ended_at a.deltas.taking a.deltas.taken n t there, refl)
 
 pub moment : (old new : List Actor) (opener later : Actor) (id : ℕ) (a : Actor) (m : Moment) → IsLater old new opener later
     → IsMoment old opener id a m → IsMoment new later id a m
@@ -164,6 +171,10 @@ finals old new opener later id a same since alone exact = record {
             let noted = same.noted s.name in
             omega (arith, first, redundant, noted)),
       );
+  each = λ n t there none youngest.
+      let began = exact.moments t.moment (each_began a n t there) in
+      let was = exact.each n t there none (since.last t.moment.before began.before youngest) in
+      (λ key. same.taken t.name key ∙ was.0 key, same.taken_sums t.name ∙ was.1);
   moments = λ m of. moment old new opener later id a m since (exact.moments m of);
   swapped = λ before last taking is swapped only.
       same.taken_sums last.name ∙ exact.swapped before last taking is swapped (alone taking only) ∙ sym (same.summed last.name);

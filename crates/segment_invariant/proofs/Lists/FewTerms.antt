@@ -1,8 +1,8 @@
 -- Sums over lists of which none counts, or one, or two.
-use Rattle.std.proofs.Common.{◌≡◌, ◌≢◌, ℕ, zero, suc, ◌+◌, ◌<◌, Bool, true, false, ℤ, pos, ◌+ℤ◌, List, [], ◌∷◌, map, length, fold, sum_by, All, inl, inr, refl, sym, ap, ◌∙◌, arith}
+use Rattle.std.proofs.Common.{◌≡◌, ◌≢◌, ℕ, zero, suc, ◌+◌, ◌<◌, Bool, true, false, ℤ, pos, ◌+ℤ◌, List, [], ◌∷◌, ◌++◌, map, length, fold, sum_by, All, inl, inr, refl, sym, ap, ◌∙◌, arith, append-nil}
 use Rattle.std.proofs.Math.IntN.{+ℤ_idr}
 use Rattle.std.specs.Prelude.{if◌then◌else◌, slice_index}
-use Rattle.std.specs.List.{range_with_len}
+use Rattle.std.specs.List.{range_with_len, flat_map}
 use Rattle.std.specs.Ordering.{int_eq}
 use Rattle.std.proofs.lemmas.Bool.{cases_order}
 use Rattle.std.proofs.lemmas.List.Elements.{All-head, All-tail}
@@ -82,6 +82,31 @@ module _ {X : Type 0} (f : X → ℕ) where
           let (k, y, there, counts) = behind (omega (arith, above, whole, e)) in
           (suc k, y, there, counts)
       by_first (suc n) e behind = (0, x, refl, omega (arith, e))
+
+-- ---- lists of lists, of which none has elements, or one, or two
+
+module _ {X Y : Type 0} (f : X → List Y) where
+  flat_none : (l : List X) → Elsewhere l (λ j. Unit {0}) (λ y. f y ≡ []) → flat_map f l ≡ []
+  flat_none [] none = refl
+  flat_none (x ∷ xs) none = ap (λ (ys : List Y). ys ++ flat_map f xs) (none 0 x refl tt) ∙ flat_none xs (λ j y there _. none (suc j) y there tt)
+
+  flat_one : (l : List X) (k : ℕ) (x : X) → get_elem? l k ≡ some x → Elsewhere l (λ j. j ≢ k) (λ y. f y ≡ []) → flat_map f l ≡ f x
+  flat_one [] k x there none = absurd (some-ne-none x (sym there))
+  flat_one (z ∷ zs) zero x there none =
+      ap (λ (ys : List Y). f z ++ ys) (flat_none zs (λ j y here _. none (suc j) y here (λ e. omega (arith, e))))
+      ∙ (append-nil (f z) ∙ ap f (some-injective z x there))
+  flat_one (z ∷ zs) (suc k) x there none =
+      ap (λ (ys : List Y). ys ++ flat_map f zs) (none 0 z refl (λ e. omega (arith, e)))
+      ∙ flat_one zs k x there (λ j y here other. none (suc j) y here (λ e. other (omega (arith, e))))
+
+  -- the first and another
+  pub flat_two : (l : List X) (k : ℕ) (x y : X) → k ≢ 0 → get_elem? l 0 ≡ some x → get_elem? l k ≡ some y
+      → Elsewhere l (λ j. (j ≢ 0) × (j ≢ k)) (λ z. f z ≡ []) → flat_map f l ≡ f x ++ f y
+  flat_two [] k x y past first there none = absurd (some-ne-none x (sym first))
+  flat_two (z ∷ zs) zero x y past first there none = absurd (past refl)
+  flat_two (z ∷ zs) (suc k) x y past first there none =
+      ap (λ (ys : List Y). f z ++ ys) (flat_one zs k y there (λ j w here other. none (suc j) w here (λ e. omega (arith, e), λ e. other (omega (arith, e)))))
+      ∙ ap (λ (w : X). f w ++ f y) (some-injective z x first)
 
 -- ---- numbers for buckets
 

@@ -1,8 +1,9 @@
 -- What holds of an actor beside the others holds on where it notes something.
-use Rattle.std.proofs.Common.{◌≡◌, ◌≢◌, ℕ, ◌+◌, ◌≤◌, max, true, List, ◌∷◌, [], ◌++◌, map, length, drop, All, Contains, inr, ⊎_elim, refl, sym, subst, arith}
+use Rattle.std.proofs.Common.{◌≡◌, ◌≢◌, ℕ, ◌+◌, ◌≤◌, max, true, List, ◌∷◌, [], ◌++◌, map, length, drop, take, All, Contains, inr, ⊎_elim, refl, sym, ap, subst, arith}
 use Rattle.std.proofs.lemmas.List.Elements.{Contains-append_left, Contains-append_right, Contains-append_cases}
 use Rattle.bucket_ranges.specs.declared.spec.Spec.TheVariants as spec
 use Rattle.segment_machine.specs.declared.actor.Taken.{Taken}
+use Rattle.segment_machine.specs.declared.entry.Entry.{Entry}
 use Rattle.segment_machine.specs.Entry.{has_ended, AreWithin, tally_noted}
 use Rattle.segment_machine.specs.Made.{SawSample}
 use Rattle.segment_image.specs.Shape.{Dimensions}
@@ -13,10 +14,10 @@ use Rattle.segment_machine.specs.Actor.{log_of, counted_of, cost_of}
 use Rattle.segment_invariant.specs.Consistent.{IsWithinCounts}
 use Rattle.segment_invariant.specs.Body.{Anatomy}
 use Rattle.segment_invariant.specs.Seen.{Knows, IsFirst, IsFirstOf}
-use Rattle.segment_invariant.specs.Invariant.{AreInOrder, CallsRight, LooksBack, IsQuiet, IsMoment, FinalsAreExact, OwesPublished, Fits}
+use Rattle.segment_invariant.specs.Invariant.{AreInOrder, CallsRight, LooksBack, IsQuiet, IsMoment, TookAllOf, FinalsAreExact, OwesPublished, Fits}
 use Rattle.segment_invariant.proofs.Lists.Elements.{none_in}
 use Rattle.std.proofs.lemmas.List.{drop_all}
-use Rattle.segment_invariant.proofs.Frames.Together.{ended_began}
+use Rattle.segment_invariant.proofs.Frames.Together.{ended_began, each_began}
 use Rattle.segment_invariant.proofs.Notes.Notes.{Noting, noting, SameCounts, counted_before}
 
 -- ---- it fits
@@ -82,8 +83,8 @@ module _ (actors : List Actor) (opener : Actor) (id : ℕ) (a : Actor) (n : Noti
   abbrev later : Actor
   later = noting a (taking_on a n)
 
-  -- where its log is no shorter, and quiet where it was not
-  module _ (longer : length (log_of a) ≤ length (log_of later))
+  -- where its log is no shorter, begins as it did, and is quiet where it was not
+  module _ (longer : length (log_of a) ≤ length (log_of later)) (begins : (k : ℕ) → k ≤ length (log_of a) → take k (log_of later) ≡ take k (log_of a))
       (quiet : (name : List ℕ) (k : ℕ) → k ≤ length (log_of a) → IsQuiet later name k → IsQuiet a name k) where
     moments_on : (m : Moment) → IsMoment actors opener id a m → IsMoment actors opener id later m
     moments_on m is = record {
@@ -99,6 +100,9 @@ module _ (actors : List Actor) (opener : Actor) (id : ℕ) (a : Actor) (n : Noti
           (quiet t.name t.moment.log (exact.moments t.moment (ended_began a t there)).logged rests);
       snapshots = λ s there none youngest rests. exact.snapshots s there none youngest
           (quiet s.name s.moment.log (exact.moments s.moment (inr (s, there, refl))).logged rests);
+      each = λ n t there none youngest.
+          let same = ap (λ (list : List Entry). a.entries.inherited ++ list) (begins t.moment.log (exact.moments t.moment (each_began a n t there)).logged) in
+          subst (λ (list : List Entry). TookAllOf actors list (drop (n + 1) a.deltas.taken) t.name) (sym same) (exact.each n t there none youngest);
       moments = λ m of. moments_on m (exact.moments m of);
       swapped = exact.swapped;
     }
@@ -112,7 +116,8 @@ module _ (anatomy : Anatomy) (a : Actor) (n : Noting) where
       × Contains (map (λ known. known.name) n.names) name)
       → length n.held ≤ 1 → All (λ c. has_ended c ≡ true) n.log → ((name : List ℕ)
       → max (tally_noted a.entries.first name) (cost_of a.entries.first_noted name) + tally_noted (map (λ c. c.entry) n.log) name ≤ cost_of n.costs name)
-      → (n.taking ≡ true → (n.running ≡ []) × ((before : List Taken) × (last : Taken) × (n.taken ≡ before ++ last ∷ [])))
+      → (n.taking ≡ true → (n.running ≡ []) × ((before : List Taken) × (last : Taken) × (n.taken ≡ before ++ last ∷ [])
+      × (last.moment.log ≡ length (log_of (noting a n)))))
       → CallsRight anatomy (noting a n)
   calls_by calls same ordered within held ended spent taking = record {
     ordered = ordered;

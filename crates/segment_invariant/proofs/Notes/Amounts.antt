@@ -244,6 +244,6 @@ amounts_kept amount shape opened state id a kept mine records ((before, last, ru
     fit.calls.held fit.calls.ended fit.calls.spent
     (λ taking. absurd (not_empty before [] last (sym runs ∙ (fit.calls.taking taking).0))))
     (fit.looks records)
-    (finals_on _ kept.roles.opener id a n (omega arith)
+    (finals_on _ kept.roles.opener id a n (omega arith) (λ k within. refl)
     (λ name k low quiet. amounts_quiet a amount before last runs unsummed unnoted nothing name k quiet) fit.finals)
     fit.snapshots))

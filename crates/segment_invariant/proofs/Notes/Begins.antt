@@ -37,7 +37,7 @@ looks_kept shape opened state id a kept mine records (lived, recorder, runs, tak
     (λ fit. noting_fits shape kept.anatomy state.cursors _ kept.roles.opener id a n fit fit.names fit.owes
     (calls_by kept.anatomy a n fit.calls (looks_counts a) fit.calls.ordered fit.calls.within fit.calls.held fit.calls.ended fit.calls.spent fit.calls.taking)
     (looks_anew kept.anatomy _ kept.roles.opener a n (fit.looks records))
-    (finals_on _ kept.roles.opener id a n (omega arith) (λ name k within quiet. quiet) fit.finals)
+    (finals_on _ kept.roles.opener id a n (omega arith) (λ k within. refl) (λ name k within quiet. quiet) fit.finals)
     fit.snapshots)
 
 -- ---- a call that counts begins
@@ -112,5 +112,5 @@ begins_kept name cost entries shape opened state id a kept mine records (lived, 
     (λ some_run. (name, cost, refl, subst (AreWithin name cost) (sym (fresh_entries entries)) within, known))
     (omega arith) fit.calls.ended fit.calls.spent (λ taking. absurd (true≢false (sym taking ∙ takes))))
     (fit.looks records)
-    (finals_on _ kept.roles.opener id a n (omega arith) (λ of k within quiet. begins_quiet a name of cost k entries runs quiet) fit.finals)
+    (finals_on _ kept.roles.opener id a n (omega arith) (λ k within. refl) (λ of k within quiet. begins_quiet a name of cost k entries runs quiet) fit.finals)
     fit.snapshots)

@@ -3,7 +3,7 @@ use Rattle.std.proofs.Common.{◌≡◌, ◌≢◌, ◌⊎◌, ℕ, ◌+◌, ◌
 use Rattle.std.specs.Prelude.{if◌then◌else◌, ◌==◌}
 use Rattle.std.specs.List.{filter}
 use Rattle.std.proofs.Math.Seq.{take-nil}
-use Rattle.std.proofs.lemmas.List.{map-append, drop-append-le}
+use Rattle.std.proofs.lemmas.List.{map-append, drop-append-le, take-append-le}
 use Rattle.std.proofs.lemmas.List.Elements.{All-nil, All-contains, All-append, Contains-append_right, Contains-append_cases}
 use Rattle.std.proofs.lemmas.List.Sums.{sum_by-append, sum_by-cons}
 use Rattle.std.specs.Str.{bytes_eq}
@@ -82,7 +82,7 @@ module _ (a : Actor) (share : ℕ) (spent : List Cost) (ended : List EntryProgre
   }
 
   module _ (counts : SameCounts a (noting a gone)) (done : All (λ c. has_ended c ≡ true) ended)
-      (running : (c : EntryProgress) → Contains a.entries.running c → Contains ended c ⊎ (is_untouched c ≡ true))
+      (running : (c : EntryProgress) → Contains a.entries.running c → Contains ended c ⊎ (is_untouched c ≡ true)) (idle : a.entries.running ≡ [] → ended ≡ [])
       (pays : (anatomy : Anatomy) → CallsRight anatomy a → (name : List ℕ) → tally_noted (map (λ (c : EntryProgress). c.entry) ended) name ≤ cost_of spent name) where
     ends_with : (shape : Dimensions) (opened : Anatomy) (state : State) (id : ℕ) (kept : Invariant shape opened state) (mine : get_elem? state.actors id ≡ some a)
         → is_opener a.role ≡ false → a.hand.place ≢ Spent → Invariant shape opened (record state { actors = set state.actors id (noting a gone) })
@@ -101,9 +101,13 @@ module _ (a : Actor) (share : ℕ) (spent : List Cost) (ended : List EntryProgre
         let before = fit.calls.spent name in
         let now = pays kept.anatomy fit.calls name in
         omega (arith, logs, both, costs, before, now))
-        (λ taking. (refl, (fit.calls.taking taking).1)))
+        (λ taking.
+        let (runs, (before, last, is, began)) = fit.calls.taking taking in
+        let nothing = ap (λ (list : List EntryProgress). length (map (λ (c : EntryProgress). c.entry) list)) (idle runs) in
+        (refl, (before, last, is, omega (arith, began, longer, long, nothing)))))
         (looks_anew kept.anatomy _ kept.roles.opener a gone (fit.looks records))
-        (finals_on _ kept.roles.opener id a gone (omega (arith, longer, long)) (λ of k within quiet. quiet_before a ended of k running within quiet.0) fit.finals)
+        (finals_on _ kept.roles.opener id a gone (omega (arith, longer, long))
+        (λ k within. ap (take k) (log_more a ended) ∙ take-append-le k (log_of a) (map (λ (c : EntryProgress). c.entry) ended) within) (λ of k within quiet. quiet_before a ended of k running within quiet.0) fit.finals)
         fit.snapshots)
 
 -- ---- it is accepted
@@ -125,7 +129,7 @@ ends_counts a = record {
 
 pub ends_kept : NoteKeeps ends
 ends_kept shape opened state id a kept mine records (unbound, done) =
-    ends_with a a.units.share a.units.held a.entries.running (ends_counts a) done (λ c has. inl has) (λ anatomy calls. held_covers anatomy a calls) shape opened state id kept mine records (unbound_lives a unbound)
+    ends_with a a.units.share a.units.held a.entries.running (ends_counts a) done (λ c has. inl has) (λ is. is) (λ anatomy calls. held_covers anatomy a calls) shape opened state id kept mine records (unbound_lives a unbound)
 
 -- ---- it is refused
 
@@ -233,4 +237,4 @@ refused_kept added shape opened state id a kept mine records (unbound, ended, un
     let lived = unbound_lives a unbound in
     ends_with a (a.units.share + (cost_total a.units.held - cost_total (spent_by added a))) (spent_by added a) (take added a.entries.running)
     (refused_counts a added untouched unsummed (spends a added kept.anatomy (kept.each id a mine lived).calls))
-    ended (each a added untouched unsummed) (pays a added) shape opened state id kept mine records lived
+    ended (each a added untouched unsummed) (λ none. ap (take added) none ∙ take-nil added) (pays a added) shape opened state id kept mine records lived

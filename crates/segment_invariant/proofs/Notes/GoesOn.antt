@@ -115,7 +115,7 @@ goes_on_kept entry cost shape opened state id a kept mine records (runs, done, e
     (subst (λ held. length (map (dearer a entry cost) held) ≤ 1) (sym holds) (omega arith)) fit.calls.ended fit.calls.spent
     (λ taking. absurd (runs (fit.calls.taking taking).0)))
     (fit.looks records)
-    (finals_on _ kept.roles.opener id a n (omega arith) (λ of k low quiet. goes_on_quiet a entry cost of k quiet) fit.finals)
+    (finals_on _ kept.roles.opener id a n (omega arith) (λ k within. refl) (λ of k low quiet. goes_on_quiet a entry cost of k quiet) fit.finals)
     fit.snapshots)
   where
     first_name : List Cost → List ℕ

@@ -86,5 +86,5 @@ module _ (a : Actor) (known : Known) where
       ))
       fit.calls.held fit.calls.ended fit.calls.spent fit.calls.taking)
       (looks_anew kept.anatomy _ kept.roles.opener a knower (fit.looks records))
-      (finals_on _ kept.roles.opener id a knower (omega arith) (λ name k within quiet. quiet) fit.finals)
+      (finals_on _ kept.roles.opener id a knower (omega arith) (λ k within. refl) (λ name k within quiet. quiet) fit.finals)
       fit.snapshots)

@@ -314,5 +314,5 @@ declines_kept owes shape opened state id a kept mine records (there, (at, letter
     (All-filter (λ (debt : Known). not (bytes_eq debt.name owes.name && (debt.reference == owes.reference))) (HasPublished a.done.published) a.answers.owed fit.owes)
     (calls_by kept.anatomy a n fit.calls counts fit.calls.ordered fit.calls.within fit.calls.held fit.calls.ended fit.calls.spent fit.calls.taking)
     (fit.looks records)
-    (finals_on _ kept.roles.opener id a n (omega arith) (λ name k within quiet. quiet) fit.finals)
+    (finals_on _ kept.roles.opener id a n (omega arith) (λ k within. refl) (λ name k within quiet. quiet) fit.finals)
     fit.snapshots)

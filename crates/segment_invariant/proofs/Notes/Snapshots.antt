@@ -224,6 +224,7 @@ module _ (shape : Dimensions) (opened : Anatomy) (state : State) (kept : Invaria
               (let redundant = redundant_exact alone quiet in let noted = same.noted known.name in omega (arith, redundant, noted)),
             ))
             (Contains-append_cases a.deltas.snapshots (answered ∷ []) s there);
+        each = exact.each;
         moments = λ m of. ⊎_elim
             (λ took. exact.moments m (inl took))
             (λ (s, there, is). ⊎_elim

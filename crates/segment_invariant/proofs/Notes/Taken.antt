@@ -1,42 +1,34 @@
 -- A delta may end where it has taken all that it saw: what holds is kept.
-use Rattle.std.proofs.Common.{◌≡◌, ◌≢◌, ℕ, zero, suc, ◌+◌, ◌-◌, ◌≤◌, ℤ, Bool, true, false, true≢false, ◌⊎◌, List, [], ◌∷◌, ◌++◌, length, take, set, All, Contains, inl, ⊎_elim, refl, sym, ap, ◌∙◌, subst, arith}
-use Rattle.std.specs.Prelude.{if◌then◌else◌}
-use Rattle.std.proofs.Math.Seq.{take-append_seam}
-use Rattle.std.proofs.lemmas.List.{length_push}
+use Rattle.std.proofs.Common.{◌≡◌, ◌≢◌, ℕ, zero, suc, ◌+◌, ◌≤◌, ℤ, true, false, true≢false, ◌⊎◌, List, [], ◌∷◌, ◌++◌, length, take, drop, set, All, Contains, inl, ⊎_elim, refl, sym, ap, ◌∙◌, subst, arith}
+use Rattle.std.proofs.Math.IntN.{+ℤ_idr}
+use Rattle.std.proofs.lemmas.List.{length_push, same_from_push, take_all, drop_all}
 use Rattle.std.proofs.lemmas.List.Elements.{All-nil, Contains-append_cases, Contains-append_right}
 use mathlib.Core.Option.{some}
 use lib.ListN.{get_elem?}
 use Rattle.segment_image.specs.Shape.{Dimensions}
 use Rattle.segment_invariant.proofs.Frames.Answers.{answered_set}
 use Rattle.segment_machine.specs.declared.place.Place.TheVariants.{Spent}
+use Rattle.segment_machine.specs.declared.entry.Entry.{Entry}
 use Rattle.segment_machine.specs.declared.actor.Actor.{Actor}
 use Rattle.segment_machine.specs.declared.actor.Known.{Known}
 use Rattle.segment_machine.specs.declared.actor.Taken.{Taken}
 use Rattle.segment_machine.specs.Entry.{is_of, tally_units, tally_sum}
-use Rattle.segment_machine.specs.Actor.{all_counted, all_summed, all_taken, taken_sum, accepted_by, is_opener}
+use Rattle.segment_machine.specs.Actor.{all_counted, all_summed, all_taken, taken_sum, log_of, accepted_by, is_opener, made_of}
 use Rattle.segment_machine.specs.Note.{has_taken, is_untouched, TookAll}
 use Rattle.segment_machine.specs.State.{State}
 use Rattle.segment_invariant.specs.Consistent.{units_taken}
 use Rattle.segment_invariant.specs.Body.{Anatomy}
-use Rattle.segment_invariant.specs.Invariant.{IsAlone, StandsRight, ended_deltas, FinalsAreExact, Invariant}
+use Rattle.segment_invariant.specs.Invariant.{IsAlone, StandsRight, ended_deltas, accepted_at, TookAllOf, FinalsAreExact, Invariant}
 use Rattle.segment_invariant.specs.Keeps.{NoteKeeps}
-use Rattle.segment_invariant.proofs.Lists.Elements.{one_in}
+use Rattle.segment_invariant.proofs.Lists.Elements.{one_in, contains_at}
+use Rattle.segment_invariant.proofs.Lists.Maps.{at_either}
+use Rattle.segment_invariant.proofs.Taking.Lasts.{ended_before}
 use Rattle.segment_invariant.proofs.Counting.Owed.{bucket_owed, mark_taken, sample_taken}
-use Rattle.segment_invariant.proofs.Recorders.Alone.{counted_accepted}
+use Rattle.segment_invariant.proofs.Recorders.Alone.{counted_accepted, summed_accepted}
 use Rattle.segment_invariant.proofs.Notes.Counted.{counted_at}
 use Rattle.segment_invariant.proofs.Notes.Notes.{Noting, noting, noting_of, SameCounts, notes_on, sums}
 use Rattle.segment_invariant.proofs.Notes.Actors.{noting_fits, calls_by}
 use Rattle.segment_invariant.proofs.Notes.Begins.{takes_nothing}
-
--- the deltas that have ended while the last goes on are those before it
-ended_before : (a : Actor) (before : List Taken) (last : Taken) → a.deltas.taking ≡ true → a.deltas.taken ≡ before ++ last ∷ [] → (t : Taken) → Contains before t
-    → Contains (ended_deltas a) t
-ended_before a before last goes is t has =
-    let long = ap length is ∙ length_push before last in
-    let count : length a.deltas.taken - 1 ≡ length before = omega (arith, long) in
-    let same : take (length a.deltas.taken - 1) a.deltas.taken ≡ before =
-    (λ i. take (count i) (is i)) ∙ take-append_seam before (last ∷ []) in
-    subst (λ (b : Bool). Contains (if b then take (length a.deltas.taken - 1) a.deltas.taken else a.deltas.taken) t) (sym goes) (subst (λ (list : List Taken). Contains list t) (sym same) has)
 
 module _ (shape : Dimensions) (opened : Anatomy) (state : State) (kept : Invariant shape opened state) (id : ℕ) (a : Actor)
     (mine : get_elem? state.actors id ≡ some a) (records : is_opener a.role ≡ false) (goes : a.deltas.taking ≡ true) (known : Known) (has : Contains a.answers.names known)
@@ -87,29 +79,43 @@ module _ (shape : Dimensions) (opened : Anatomy) (state : State) (kept : Invaria
             either)
             (counted_at shape opened state kept id a mine records lived alone known has quiet key (omega (arith, some_units)))
 
+  -- who began one at such a moment is alone
+  alone_at : (before : List Taken) (last : Taken) → a.deltas.taken ≡ before ++ last ∷ [] → last.moment.outstanding ≡ 0
+      → last.moment.before + 1 ≡ made_of kept.roles.opener.role → IsAlone state.actors a
+  alone_at before last is none youngest =
+      let m = (kept.each id a mine lived).finals.moments last.moment
+      (inl (last, subst (λ list. Contains list last) (sym is) (Contains-append_right before (last ∷ []) last (0, omega arith, refl)), refl)) in
+      let (made, outstanding) = m.mine records in
+      (kept.roles.opener, kept.roles.stands, sym outstanding ∙ none, ap (λ n. n + 1) (sym made) ∙ youngest)
+
+  -- it began when all had been accepted that is
+  accepted_whole : (before : List Taken) (last : Taken) → a.deltas.taken ≡ before ++ last ∷ [] → accepted_at a last.moment ≡ accepted_by a
+  accepted_whole before last is =
+      let (runs, (front, one, ends, at)) = (kept.each id a mine lived).calls.taking goes in
+      let began = ap (λ (t : Taken). t.moment.log) (same_from_push before front last one (sym is ∙ ends)).1 ∙ at in
+      ap (λ (list : List Entry). a.entries.inherited ++ list)
+      (ap (λ (k : ℕ). take k (log_of a)) began ∙ take_all (length (log_of a)) (log_of a) (omega arith))
+
   -- so the deltas that have ended are exact
   ended_finals : FinalsAreExact (set state.actors id (noting a taker)) kept.roles.opener id a → FinalsAreExact (set state.actors id (noting a taker)) kept.roles.opener id (noting a taker)
   ended_finals exact =
       let (before, last, is, named, swapped) = took.summed in
-      let same = sums shape opened state kept id a mine records taker lived counts (takes_nothing a taker) (λ name key. refl) in record {
+      let takers : List Actor = set state.actors id (noting a taker) in
+      let same = sums shape opened state kept id a mine records taker lived counts (takes_nothing a taker) (λ name key. refl) in
+      let ended : ended_deltas a ≡ before = ended_before a before last is goes in
+      let sum_exact : IsAlone state.actors a → taken_sum (all_taken takers) known.name ≡ tally_sum (all_summed state.actors) known.name = λ alone.
+      same.taken_sums known.name
+      ∙ subst (λ (name : List ℕ). taken_sum (all_taken state.actors) name ≡ tally_sum (all_summed state.actors) name) named
+      ((kept.each id a mine lived).finals.swapped before last goes is swapped alone) in record {
         deltas = λ t there. ⊎_elim
-            (λ old. exact.deltas t (ended_before a before last goes is t old))
+            (λ old. exact.deltas t (subst (λ list. Contains list t) (sym ended) old))
             (λ new none youngest rests.
             let t_is : last ≡ t = one_in last t new in
-            let m = (kept.each id a mine lived).finals.moments last.moment
-            (inl (last, subst (λ list. Contains list last) (sym is) (Contains-append_right before (last ∷ []) last (0, omega arith, refl)), refl)) in
-            let (made, outstanding) = m.mine records in
-            let moment = ap (λ (t : Taken). t.moment) t_is in
-            let alone : IsAlone state.actors a = (
-              kept.roles.opener,
-              kept.roles.stands,
-              sym outstanding ∙ (ap (λ m. m.outstanding) moment ∙ none),
-              ap (λ n. n + 1) (sym made ∙ ap (λ m. m.before) moment) ∙ youngest,
-            ) in
+            let alone = alone_at before last is (ap (λ (t : Taken). t.moment.outstanding) t_is ∙ none) (ap (λ (t : Taken). t.moment.before + 1) t_is ∙ youngest) in
             let name : known.name ≡ t.name = sym named ∙ ap (λ (t : Taken). t.name) t_is in
             subst (λ (name : List ℕ).
-            ((key : ℤ) → units_taken (set state.actors id (noting a taker)) name key ≡ tally_units (all_counted (set state.actors id (noting a taker))) name key)
-            × (taken_sum (all_taken (set state.actors id (noting a taker))) name ≡ tally_sum (all_summed (set state.actors id (noting a taker))) name))
+            ((key : ℤ) → units_taken takers name key ≡ tally_units (all_counted takers) name key)
+            × (taken_sum (all_taken takers) name ≡ tally_sum (all_summed takers) name))
             name (
               λ key.
                   let most = kept.balanced.taken known.name key in
@@ -117,12 +123,31 @@ module _ (shape : Dimensions) (opened : Anatomy) (state : State) (kept : Invaria
                   let now = same.taken known.name key in
                   let all = same.counted known.name key in
                   omega (arith, most, least, now, all),
-              same.taken_sums known.name
-                  ∙ (subst (λ (name : List ℕ). taken_sum (all_taken state.actors) name ≡ tally_sum (all_summed state.actors) name) named
-                  ((kept.each id a mine lived).finals.swapped before last goes is swapped alone)
-                  ∙ sym (same.summed known.name)),
+              sum_exact alone ∙ sym (same.summed known.name),
             ))
             (Contains-append_cases before (last ∷ []) t (subst (λ list. Contains list t) is there));
+        each = λ n t there. ⊎_elim
+            (λ old. exact.each n t (subst (λ list. get_elem? list n ≡ some t) (sym ended) old))
+            (λ (k, at, new) none youngest.
+            let t_is : last ≡ t = one_in last t (contains_at (last ∷ []) k t new) in
+            let alone = alone_at before last is (ap (λ (t : Taken). t.moment.outstanding) t_is ∙ none) (ap (λ (t : Taken). t.moment.before + 1) t_is ∙ youngest) in
+            let name : known.name ≡ t.name = sym named ∙ ap (λ (t : Taken). t.name) t_is in
+            let accepted = ap (λ (t : Taken). accepted_at a t.moment) (sym t_is) ∙ accepted_whole before last is in
+            let long = ap length is ∙ length_push before last in
+            let nothing : drop (n + 1) a.deltas.taken ≡ [] = drop_all (n + 1) a.deltas.taken (omega (arith, long, at)) in
+            subst (λ (p : List Entry × (List Taken × List ℕ)). TookAllOf takers p.0 p.1.0 p.1.1) (λ i. (sym accepted i, (sym nothing i, name i))) (
+              λ key.
+                  let most = kept.balanced.taken known.name key in
+                  let least = counted_taken alone key in
+                  let now = same.taken known.name key in
+                  let all = counted_accepted shape opened state kept id a mine records lived alone known.name (quiet alone) key in
+                  omega (arith, most, least, now, all),
+              sum_exact alone
+                  ∙ (ap (λ entries. tally_sum entries known.name)
+                  (summed_accepted shape opened state kept id a mine records lived alone ((kept.each id a mine lived).calls.taking goes).0)
+                  ∙ sym (+ℤ_idr (tally_sum (accepted_by a) known.name))),
+            ))
+            (at_either before (last ∷ []) n t (subst (λ list. get_elem? list n ≡ some t) is there));
         snapshots = exact.snapshots;
         moments = exact.moments;
         swapped = λ before last taking. absurd (true≢false (sym taking));

@@ -89,6 +89,7 @@ module _ (shape : Dimensions) (version cursors share : ℕ) (costs first_noted :
   finals = record {
     deltas = λ t there. absurd (none_in t there);
     snapshots = λ s there. absurd (none_in s there);
+    each = λ n t there. absurd (none_at n t there);
     moments = λ m of. absurd (no_moment m of);
     swapped = λ before last e. cc e;
   }

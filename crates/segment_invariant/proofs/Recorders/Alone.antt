@@ -1,9 +1,10 @@
 -- Where a recorder is alone, all that is counted is what it has accepted, with what had been accepted before it was made.
-use Rattle.std.proofs.Common.{◌≡◌, ◌≢◌, ◌⊎◌, ℕ, ◌+◌, Bool, true, false, ◌&&◌, ℤ, List, [], ◌∷◌, ◌++◌, map, length, drop, sum_by, All, Contains, inl, inr, ⊎_elim, refl, sym, ap, ◌∙◌, subst, arith, append-nil}
+use Rattle.std.proofs.Common.{◌≡◌, ◌≢◌, ◌⊎◌, ℕ, ◌+◌, Bool, true, false, ◌&&◌, ℤ, List, [], ◌∷◌, ◌++◌, map, length, drop, sum_by, All, Contains, inl, inr, ⊎_elim, refl, sym, ap, ap₂, ◌∙◌, subst, arith, append-nil}
 use Rattle.std.specs.Prelude.{if◌then◌else◌}
 use Rattle.std.specs.List.{filter, flat_map}
 use Rattle.std.specs.Ordering.{int_eq}
 use Rattle.std.proofs.Math.Seq.{drop-append_seam}
+use Rattle.std.proofs.lemmas.Bool.{and_parts}
 use Rattle.std.proofs.lemmas.List.Elements.{All-contains}
 use Rattle.std.proofs.lemmas.List.Sums.{sum_by-cons}
 use mathlib.Core.Option.{some}
@@ -14,15 +15,15 @@ use Rattle.segment_machine.specs.declared.entry.EntryProgress.{EntryProgress}
 use Rattle.segment_machine.specs.declared.place.Place.{Place}
 use Rattle.segment_machine.specs.declared.place.Place.TheVariants.{Spent}
 use Rattle.segment_machine.specs.declared.actor.Actor.{Actor}
-use Rattle.segment_machine.specs.Entry.{is_counted, is_noted, has_ended, is_of, tally_units, tally_noted}
-use Rattle.segment_machine.specs.Actor.{log_of, all_counted, all_noted, accepted_by, accepted_since, is_opener, made_of}
+use Rattle.segment_machine.specs.Entry.{is_counted, is_summed, is_noted, has_ended, is_of, tally_units, tally_noted}
+use Rattle.segment_machine.specs.Actor.{log_of, summed_of, all_counted, all_summed, all_noted, accepted_by, accepted_since, is_opener, made_of}
 use Rattle.segment_machine.specs.Note.{is_untouched}
 use Rattle.segment_machine.specs.Seats.{spent}
 use Rattle.segment_machine.specs.State.{State}
 use Rattle.segment_invariant.specs.Body.{Anatomy}
 use Rattle.segment_invariant.specs.Invariant.{IsAlone, StandsRight, Invariant}
 use Rattle.segment_invariant.proofs.Lists.Sums.{IsTotal}
-use Rattle.segment_invariant.proofs.Lists.FewTerms.{sum_pair}
+use Rattle.segment_invariant.proofs.Lists.FewTerms.{sum_pair, flat_two}
 use Rattle.segment_invariant.proofs.Lists.Maps.{one_at}
 use Rattle.segment_invariant.proofs.Lists.Countings.{nothing_among, units_total, noted_total, no_units, no_noted, counted_none, noted_none}
 use Rattle.segment_invariant.proofs.Frames.OneActor.{lives_on}
@@ -75,6 +76,23 @@ module _ (shape : Dimensions) (opened : Anatomy) (state : State) (kept : Invaria
   heir =
       let (more, log, nothing) = kept.roles.heirs id a mine (lives_on a records lives) in
       log ∙ (ap (λ list. a.entries.inherited ++ list) (nothing alone.2 last) ∙ append-nil a.entries.inherited)
+
+  -- the entries of a test that all pass are those of a log, where nothing runs
+  log_alone : (test : EntryProgress → Bool) → ((c : EntryProgress) → has_ended c ≡ true → test c ≡ true) → (c : Actor) → All (λ c. has_ended c ≡ true) c.entries.log
+      → c.entries.running ≡ [] → c.entries.first ++ map (λ c. c.entry) (filter test (c.entries.log ++ c.entries.running)) ≡ log_of c
+  log_alone test passes c done none =
+      ap (λ (list : List Entry). c.entries.first ++ list)
+      (among_all test passes c.entries.log done c.entries.running
+      ∙ (ap (λ (list : List EntryProgress). map (λ (c : EntryProgress). c.entry) c.entries.log ++ map (λ (c : EntryProgress). c.entry) (filter test list)) none
+      ∙ append-nil (map (λ (c : EntryProgress). c.entry) c.entries.log)))
+
+  -- so where it runs nothing, all whose amounts are added are those that were accepted
+  pub summed_accepted : a.entries.running ≡ [] → all_summed state.actors ≡ accepted_by a
+  summed_accepted none =
+      let passes : (c : EntryProgress) → has_ended c ≡ true → is_summed c ≡ true = λ c is. (and_parts (is_counted c) _ (and_parts _ _ is).0).1 in
+      flat_two summed_of state.actors id opener a not_first kept.roles.stands mine (λ j c there others. ap summed_of (gone j c there others))
+      ∙ ap₂ (λ (x y : List Entry). x ++ y) (log_alone is_summed passes opener ended kept.roles.rests.0) (log_alone is_summed passes a (kept.each id a mine lives).calls.ended none)
+      ∙ ap (λ (list : List Entry). list ++ log_of a) heir
 
   -- What all come to is what the logs of these two come to, with what stands in front of them, where nothing of the running entries counts.
   module _ (total : List Entry → ℕ) (sums : IsTotal ◌+◌ total) (none : total [] ≡ 0) (test : EntryProgress → Bool)

@@ -1,11 +1,11 @@
 -- The final deltas and snapshots of an opener that has joined a recorder, and its blocks: those of both.
-use Rattle.std.proofs.Common.{◌≡◌, ◌≢◌, ◌⊎◌, ℕ, ◌+◌, ◌-◌, ℤ, Bool, true, false, true≢false, List, ◌++◌, map, length, take, drop, inl, inr, ⊎_elim, refl, sym, ap, ◌∙◌, subst, append_assoc, length-append, arith}
+use Rattle.std.proofs.Common.{◌≡◌, ◌≢◌, ◌⊎◌, ℕ, ◌+◌, ◌-◌, ℤ, ◌+ℤ◌, Bool, true, false, true≢false, List, [], ◌++◌, map, length, take, drop, inl, inr, ⊎_elim, refl, sym, ap, ◌∙◌, subst, append_assoc, length-append, arith}
 use Rattle.std.specs.Prelude.{if◌then◌else◌}
 use mathlib.Core.Option.{some, some-injective}
 use lib.ListN.{get_elem?}
 use Rattle.std.specs.List.{Contains, All}
-use Rattle.std.proofs.Math.Seq.{drop-append-add}
-use Rattle.std.proofs.lemmas.List.{map-append}
+use Rattle.std.proofs.Math.Seq.{drop-append-add, take-append-add}
+use Rattle.std.proofs.lemmas.List.{map-append, drop-map}
 use Rattle.std.proofs.lemmas.List.Elements.{All-nil, All-append, All-weaker, Contains-append_cases}
 use Rattle.segment_image.specs.Shape.{Dimensions}
 use Rattle.alloc_core.specs.Layout.{IsShown}
@@ -15,18 +15,19 @@ use Rattle.segment_machine.specs.declared.actor.Actor.{Actor}
 use Rattle.segment_machine.specs.declared.actor.Answered.{Answered}
 use Rattle.segment_machine.specs.declared.actor.Moment.{Moment}
 use Rattle.segment_machine.specs.declared.actor.Own.{Own}
+use Rattle.segment_machine.specs.declared.actor.Portion.{Portion}
 use Rattle.segment_machine.specs.declared.actor.Taken.{Taken}
 use Rattle.segment_machine.specs.Entry.{is_of, tally_units, tally_sum, tally_noted}
-use Rattle.segment_machine.specs.Actor.{log_of, cost_of, units_listed, taken_sum, all_counted, all_summed, all_noted, all_taken, is_opener, made_of}
+use Rattle.segment_machine.specs.Actor.{log_of, cost_of, units_listed, taken_units, taken_sum, portion_of, all_counted, all_summed, all_noted, all_taken, is_opener, made_of}
 use Rattle.segment_machine.specs.Note.{is_untouched}
 use Rattle.segment_invariant.specs.Consistent.{units_taken}
 use Rattle.segment_machine.specs.Seats.{joined, shifted, shifted_taken, shifted_answers}
 use Rattle.segment_invariant.specs.Body.{Anatomy, held, layout_of}
 use Rattle.segment_invariant.specs.Seen.{Stands}
-use Rattle.segment_invariant.specs.Invariant.{is_living, ended_deltas, IsQuiet, IsMoment, IsMomentOf, FinalsAreExact, HoldsOwn}
-use Rattle.segment_invariant.proofs.Lists.Elements.{all_at}
+use Rattle.segment_invariant.specs.Invariant.{is_living, ended_deltas, accepted_at, TookAllOf, IsQuiet, IsMoment, IsMomentOf, FinalsAreExact, HoldsOwn}
+use Rattle.segment_invariant.proofs.Lists.Elements.{all_at, contains_at, from_map}
 use Rattle.segment_invariant.proofs.Blocks.Pieces.{one_stands}
-use Rattle.segment_invariant.proofs.Lists.Maps.{contains_mapped, all_left, drop_left, at_either}
+use Rattle.segment_invariant.proofs.Lists.Maps.{map_after, contains_mapped, all_left, drop_left, at_either}
 use Rattle.segment_invariant.proofs.Frames.Together.{ended_among}
 use Rattle.segment_invariant.proofs.Recorders.PassedBlocks.{handed, stands_given, stands_left}
 use Rattle.segment_invariant.proofs.Recorders.Joined.{Joins}
@@ -40,6 +41,8 @@ later_answered n s = record s { moment = shifted n s.moment }
 
 module _ (actors : List Actor) (opener : Actor) (other : ℕ) (a b : Actor) (may : Joins a b) (opens : is_opener a.role ≡ true)
     (takes : a.deltas.taking ≡ false) (rests : b.deltas.taking ≡ false)
+    (older : (m : Moment) → IsMomentOf a m → m.outstanding ≡ 0 → m.before + 1 ≡ made_of opener.role → ⊥) (own : a.entries.inherited ≡ [])
+    (heir : (m : Moment) → IsMomentOf b m → m.outstanding ≡ 0 → m.before + 1 ≡ made_of opener.role → log_of a ≡ b.entries.inherited)
     (gone : (c : Actor) → get_elem? actors other ≡ some c → is_living c ≡ true → ⊥)
     (first : FinalsAreExact actors opener 0 a) (second : FinalsAreExact actors opener other b) where
   abbrev both : Actor
@@ -112,9 +115,11 @@ module _ (actors : List Actor) (opener : Actor) (other : ℕ) (a b : Actor) (may
       × (s.sum ≡ tally_sum (all_summed actors) s.name) × (s.redundant ≡ cost_of opener.entries.first_noted s.name + tally_noted (all_noted actors) s.name)
 
   -- who takes nothing has ended all that it began
+  idle_ended : (c : Actor) → c.deltas.taking ≡ false → ended_deltas c ≡ c.deltas.taken
+  idle_ended c idle = ap (λ (taking : Bool). if taking then take (length c.deltas.taken - 1) c.deltas.taken else c.deltas.taken) idle
+
   all_ended : (c : Actor) (t : Taken) → c.deltas.taking ≡ false → Contains c.deltas.taken t → Contains (ended_deltas c) t
-  all_ended c t idle there =
-      subst (λ (taking : Bool). Contains (if taking then take (length c.deltas.taken - 1) c.deltas.taken else c.deltas.taken) t) (sym idle) there
+  all_ended c t idle there = subst (λ (list : List Taken). Contains list t) (sym (idle_ended c idle)) there
 
   taken_either : (t : Taken) → Contains (a.deltas.taken ++ shifted_taken before b.deltas.taken) t → TakenAll t
   taken_either t there = ⊎_elim
@@ -124,6 +129,37 @@ module _ (actors : List Actor) (opener : Actor) (other : ℕ) (a b : Actor) (may
       subst TakenAll was.2
       (λ nobody youngest quiet. second.deltas was.0 (all_ended b was.0 rests was.1) nobody youngest (quiet_second was.0.name was.0.moment.log quiet)))
       (Contains-append_cases a.deltas.taken (shifted_taken before b.deltas.taken) t there)
+
+  -- what the recorder had accepted at a moment, and inherited, stands at the begin of the log of both
+  accepted_both : (m : Moment) → log_of a ≡ b.entries.inherited → accepted_at both (shifted before m) ≡ accepted_at b m
+  accepted_both m inherited =
+      ap (λ (list : List Entry). list ++ take (before + m.log) (log_of both)) own
+      ∙ (ap (take (before + m.log)) log_joined
+      ∙ (take-append-add (log_of a) (log_of b) m.log
+      ∙ ap (λ (list : List Entry). list ++ take m.log (log_of b)) inherited))
+
+  each_either : (n : ℕ) (t : Taken) → get_elem? both.deltas.taken n ≡ some t → t.moment.outstanding ≡ 0 → t.moment.before + 1 ≡ made_of opener.role
+      → TookAllOf actors (accepted_at both t.moment) (drop (n + 1) both.deltas.taken) t.name
+  each_either n t there nobody youngest = ⊎_elim
+      (λ mine. absurd (older t.moment (inl (t, contains_at a.deltas.taken n t mine, refl)) nobody youngest))
+      (λ (k, at, theirs).
+      let was = from_map (later_taken before) b.deltas.taken k t theirs in
+      let of : IsMomentOf b was.0.moment = inl (was.0, contains_at b.deltas.taken k was.0 was.1, refl) in
+      let alone = ap (λ (t : Taken). t.moment.outstanding) was.2 ∙ nobody in
+      let last = ap (λ (t : Taken). t.moment.before + 1) was.2 ∙ youngest in
+      let did = second.each k was.0 (subst (λ (list : List Taken). get_elem? list k ≡ some was.0) (sym (idle_ended b rests)) was.1) alone last in
+      let index : n + 1 ≡ length a.deltas.taken + (k + 1) = omega (arith, at) in
+      let behind : map portion_of (drop (n + 1) both.deltas.taken) ≡ map portion_of (drop (k + 1) b.deltas.taken) =
+      ap (map portion_of)
+      (ap (λ (i : ℕ). drop i both.deltas.taken) index
+      ∙ (drop-append-add a.deltas.taken (shifted_taken before b.deltas.taken) (k + 1) ∙ drop-map (later_taken before) (k + 1) b.deltas.taken))
+      ∙ map_after (later_taken before) portion_of (λ t. refl) (drop (k + 1) b.deltas.taken) in
+      let accepted : accepted_at both t.moment ≡ accepted_at b was.0.moment =
+      ap (λ (t : Taken). accepted_at both t.moment) (sym was.2) ∙ accepted_both was.0.moment (heir was.0.moment of alone last) in
+      subst (λ (p : List Entry × (List Portion × List ℕ)). ((key : ℤ) → units_taken actors p.1.1 key ≡ tally_units p.0 p.1.1 key + taken_units p.1.0 p.1.1 key)
+      × (taken_sum (all_taken actors) p.1.1 ≡ tally_sum p.0 p.1.1 +ℤ taken_sum p.1.0 p.1.1))
+      (λ i. (sym accepted i, (sym behind i, (was.2 i).name))) did)
+      (at_either a.deltas.taken (shifted_taken before b.deltas.taken) n t there)
 
   seen_either : (s : Answered) → Contains (a.deltas.snapshots ++ shifted_answers before b.deltas.snapshots) s → SeenAll s
   seen_either s there = ⊎_elim
@@ -154,6 +190,7 @@ module _ (actors : List Actor) (opener : Actor) (other : ℕ) (a b : Actor) (may
   joined_finals = record {
     deltas = λ t there. taken_either t (ended_among a.deltas.taking both.deltas.taken t there);
     snapshots = seen_either;
+    each = λ n t there. each_either n t (subst (λ (list : List Taken). get_elem? list n ≡ some t) (idle_ended both takes) there);
     moments = moments_either;
     swapped = λ front last taking. absurd (true≢false (sym taking ∙ takes));
   }

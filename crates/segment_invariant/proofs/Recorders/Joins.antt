@@ -1,5 +1,5 @@
 -- A recorder that is joined keeps what holds.
-use Rattle.std.proofs.Common.{◌≡◌, ◌≢◌, ℕ, ◌+◌, Bool, true, true≢false, List, [], ◌++◌, map, set, length, refl, sym, ap, ◌∙◌, subst, subst₂, append_assoc, arith, false}
+use Rattle.std.proofs.Common.{◌≡◌, ◌≢◌, ℕ, ◌+◌, Bool, true, true≢false, List, [], ◌++◌, map, set, length, refl, sym, ap, ◌∙◌, subst, subst₂, append_assoc, append-nil, arith, false}
 use Rattle.std.specs.Prelude.{if◌then◌else◌}
 use mathlib.Core.Option.{some}
 use lib.ListN.{get_elem?}
@@ -12,6 +12,7 @@ use Rattle.segment_machine.specs.declared.entry.Entry.{Entry}
 use Rattle.segment_machine.specs.declared.entry.EntryProgress.{EntryProgress}
 use Rattle.segment_machine.specs.declared.place.Place.TheVariants.{Spent, SumLoaded}
 use Rattle.segment_machine.specs.declared.actor.Actor.{Actor}
+use Rattle.segment_machine.specs.declared.actor.Moment.{Moment}
 use Rattle.segment_machine.specs.declared.actor.Answered.{Answered}
 use Rattle.segment_machine.specs.declared.actor.Given.{Given}
 use Rattle.segment_machine.specs.Actor.{is_bound, log_of, is_opener, made_of, offered_of, outstanding_of}
@@ -21,7 +22,7 @@ use Rattle.segment_invariant.proofs.Frames.Answers.{owes_more}
 use Rattle.segment_machine.specs.Seats.{MayJoin, joined, spent, shifted, shifted_answers}
 use Rattle.segment_invariant.specs.Keeps.{JoinsKeep}
 use Rattle.segment_invariant.specs.Body.{plain, Anatomy, order_of}
-use Rattle.segment_invariant.specs.Invariant.{is_living, RolesAreKept, StandsRight, Fits, Invariant}
+use Rattle.segment_invariant.specs.Invariant.{is_living, IsMomentOf, RolesAreKept, StandsRight, Fits, Invariant}
 use Rattle.segment_invariant.proofs.Frames.OneActor.{lives_on}
 use Rattle.segment_invariant.proofs.Frames.Anatomies.{grounds_along}
 use Rattle.segment_invariant.proofs.Frames.Standing.{follows_itself, stands_on}
@@ -163,6 +164,20 @@ module _ (shape : Dimensions) (opened : Anatomy) (old : State) (kept : Invariant
   theirs : Fits shape kept.anatomy old.cursors merged later other b
   theirs = beside other b (kept.each other b there live)
 
+  -- the joined recorder was made behind what its opener has, and inherited the opener's log where it was alone and is the youngest
+  older : (m : Moment) → IsMomentOf opener m → m.outstanding ≡ 0 → m.before + 1 ≡ made_of later.role → ⊥
+  older m of nobody last =
+      let below = ((kept.each 0 opener kept.roles.stands opener_lives).finals.moments m of).eldest nobody other b there lives away in
+      let younger = kept.roles.younger other b there lives in
+      omega (arith, below, younger, last)
+
+  heir : (m : Moment) → IsMomentOf b m → m.outstanding ≡ 0 → m.before + 1 ≡ made_of later.role → log_of opener ≡ b.entries.inherited
+  heir m of nobody last =
+      let (made, outstanding) = ((kept.each other b there live).finals.moments m of).mine may.4 in
+      let (more, log, nothing) = kept.roles.heirs other b there lives in
+      log ∙ (ap (λ (list : List Entry). b.entries.inherited ++ list) (nothing (sym outstanding ∙ nobody) (ap (λ (n : ℕ). n + 1) (sym made) ∙ last))
+      ∙ append-nil b.entries.inherited)
+
   joined_fits : Fits shape anatomy old.cursors merged later 0 later
   joined_fits = record {
     shaped = mine.shaped;
@@ -177,7 +192,7 @@ module _ (shape : Dimensions) (opened : Anatomy) (old : State) (kept : Invariant
     calls = calls_passed other 0 kept.anatomy later
         (joined_calls shape old.words kept.anatomy kept.shown old.cursors opener b mine.sees theirs.sees joins kept.roles.rests.2 mine.calls theirs.calls);
     looks = λ records. absurd (true≢false records);
-    finals = joined_finals merged later other opener b joins kept.roles.opens kept.roles.rests.2 may.7 gone mine.finals theirs.finals;
+    finals = joined_finals merged later other opener b joins kept.roles.opens kept.roles.rests.2 may.7 older kept.roles.rests.3 heir gone mine.finals theirs.finals;
     snapshots = All-append (IsWithinCounts merged) opener.deltas.snapshots (shifted_answers (length (log_of opener)) b.deltas.snapshots) mine.snapshots
         (All-map (IsWithinCounts merged) (λ (s : Answered). record s { moment = shifted (length (log_of opener)) s.moment }) b.deltas.snapshots theirs.snapshots);
   }

@@ -51,6 +51,7 @@ module _ (shape : Dimensions) (anatomy : Anatomy) (cursors : List ℕ) (actors :
   shared_finals exact = record {
     deltas = exact.deltas;
     snapshots = exact.snapshots;
+    each = exact.each;
     moments = λ m of. let is = exact.moments m of in record {
       logged = is.logged;
       before = is.before;
@@ -71,6 +72,7 @@ module _ (shape : Dimensions) (anatomy : Anatomy) (cursors : List ℕ) (actors :
   opener_finals exact = record {
     deltas = exact.deltas;
     snapshots = exact.snapshots;
+    each = exact.each;
     moments = λ m of. let is = exact.moments m of in record {
       logged = is.logged;
       before = is.before;

@@ -121,6 +121,7 @@ module _ (anatomy : Anatomy) (cursors : List ℕ) (actors : List Actor) (later a
   fresh_finals id = record {
     deltas = λ t there. absurd (none_in t there);
     snapshots = λ s there. absurd (none_in s there);
+    each = λ n t there. absurd (none_at n t there);
     moments = λ m of. absurd (⊎_elim (λ t. none_in t.0 t.1) (λ s. none_in s.0 s.1) of);
     swapped = λ before last taking. absurd (true≢false (sym taking));
   }

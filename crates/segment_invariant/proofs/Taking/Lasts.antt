@@ -1,12 +1,13 @@
 -- A delta goes on, which is the last of its actor: what was taken, and that final deltas and snapshots are as exact as they were.
-use Rattle.std.proofs.Common.{◌≡◌, ◌⊎◌, ℕ, ◌+◌, ◌-◌, ◌<◌, ◌≤◌, ℤ, pos, ◌+ℤ◌, Bool, true, false, List, [], ◌∷◌, ◌++◌, length, take, Contains, inl, inr, ⊎_elim, refl, sym, ap, ◌∙◌, subst, arith, map}
+use Rattle.std.proofs.Common.{◌≡◌, ◌⊎◌, ℕ, ◌+◌, ◌-◌, ◌<◌, ◌≤◌, ℤ, pos, ◌+ℤ◌, Bool, true, false, List, [], ◌∷◌, ◌++◌, length, take, drop, Contains, inl, inr, ⊎_elim, refl, sym, ap, ◌∙◌, subst, arith, map}
 use Rattle.std.specs.Prelude.{if◌then◌else◌}
 use Rattle.std.specs.Str.{bytes_eq}
-use Rattle.std.proofs.Math.IntN.{+ℤ_assoc, +ℤ_idl}
+use Rattle.std.proofs.Math.IntN.{+ℤ_assoc, +ℤ_idl, +ℤ_idr}
 use Rattle.std.proofs.Math.Seq.{take-append_seam}
-use Rattle.std.proofs.lemmas.List.{length_push, same_from_push}
+use Rattle.std.proofs.lemmas.List.{length_push, same_from_push, drop-append-le}
 use Rattle.std.proofs.lemmas.List.Elements.{Contains-append_cases, Contains-append_left, Contains-append_right}
 use Rattle.std.proofs.lemmas.List.Sums.{sum_by_push}
+use mathlib.Core.Option.{some}
 use lib.ListN.{get_elem?}
 use Rattle.segment_machine.specs.declared.actor.Actor.{Actor}
 use Rattle.segment_machine.specs.declared.actor.Portion.{Portion}
@@ -23,8 +24,9 @@ use Rattle.segment_machine.specs.Actor.{counted_of, units_listed, taken_units, t
 use Rattle.segment_invariant.specs.Body.{Listed, Anatomy}
 use Rattle.segment_invariant.specs.Seen.{IsFirst, IsFirstOf}
 use Rattle.segment_invariant.specs.Ledger.{of_name, amount_of_name}
-use Rattle.segment_invariant.specs.Invariant.{ended_deltas, IsAlone, IsMoment, IsMomentOf, CallsRight, RolesAreKept, FinalsAreExact}
-use Rattle.segment_invariant.proofs.Lists.Elements.{one_in}
+use Rattle.segment_invariant.specs.Invariant.{ended_deltas, accepted_at, IsAlone, IsMoment, IsMomentOf, CallsRight, RolesAreKept, FinalsAreExact}
+use Rattle.segment_invariant.proofs.Lists.Elements.{one_in, below_length}
+use Rattle.segment_invariant.proofs.Lists.FewTerms.{if_nothing}
 use Rattle.segment_invariant.proofs.Notes.Amounts.{last_changed}
 use Rattle.segment_invariant.proofs.Frames.Roles.{AllStood}
 use Rattle.segment_invariant.proofs.Frames.Together.{moment, ended_began}
@@ -102,6 +104,40 @@ module _ (taken before : List Taken) (last : Taken) (is : taken ≡ before ++ la
       grown : amount (f last) ≡ amount last +ℤ amount_of_name last.name name d
       grown = ap (λ (n : List ℕ). if bytes_eq n name then (f last).sum else pos 0) named ∙ by_test (bytes_eq last.name name)
 
+-- what deltas took that stand behind one that has ended: the last is among them
+module _ (taken before : List Taken) (last : Taken) (is : taken ≡ before ++ last ∷ []) (f : Taken → Taken) (named : (f last).name ≡ last.name)
+    (began : (f last).moment ≡ last.moment) (n : ℕ) (low : n + 1 ≤ length before) where
+  abbrev later : List Taken
+  later = drop (n + 1) taken
+
+  later_is : later ≡ drop (n + 1) before ++ last ∷ []
+  later_is = ap (drop (n + 1)) is ∙ drop-append-le (n + 1) before (last ∷ []) low
+
+  later_further : drop (n + 1) (change_last f taken) ≡ change_last f later
+  later_further =
+      ap (drop (n + 1)) (further_is taken before last is f named began)
+      ∙ (drop-append-le (n + 1) before (f last ∷ []) low ∙ sym (further_is later (drop (n + 1) before) last later_is f named began))
+
+  pub units_later : (name : List ℕ) (key : ℤ)
+      → taken_units (map portion_of (drop (n + 1) (change_last f taken))) name key + of_name last.name name (units_listed last.counts key)
+      ≡ taken_units (map portion_of later) name key + of_name last.name name (units_listed (f last).counts key)
+  units_later name key =
+      let all = units_further later (drop (n + 1) before) last later_is f named began [] name key in
+      let same = ap (λ (l : List Taken). taken_units (map portion_of l) name key) later_further in
+      omega (arith, all, same)
+
+  pub sum_later : (d : ℤ) → (f last).sum ≡ last.sum +ℤ d → (name : List ℕ)
+      → taken_sum (map portion_of (drop (n + 1) (change_last f taken))) name ≡ taken_sum (map portion_of later) name +ℤ amount_of_name last.name name d
+  sum_later d more name =
+      ap (λ (l : List Taken). taken_sum (map portion_of l) name) later_further
+      ∙ sum_further later (drop (n + 1) before) last later_is f named began [] d more name
+
+-- while a delta goes on, one that has ended is one before it
+pub ended_before : (a : Actor) (before : List Taken) (last : Taken) → a.deltas.taken ≡ before ++ last ∷ [] → a.deltas.taking ≡ true → ended_deltas a ≡ before
+ended_before a before last is taking =
+    ap (λ (b : Bool). if b then take (length a.deltas.taken - 1) a.deltas.taken else a.deltas.taken) taking
+    ∙ front_of a.deltas.taken before last is (λ (t : Taken). t) refl refl a.deltas.taken last is
+
 -- the actor whose delta goes on
 module _ (a : Actor) (before : List Taken) (last : Taken) (is : a.deltas.taken ≡ before ++ last ∷ []) (f : Taken → Taken) (named : (f last).name ≡ last.name)
     (began : (f last).moment ≡ last.moment) (taking : a.deltas.taking ≡ true) (place : Place) (counts : List Sighting) where
@@ -121,7 +157,10 @@ module _ (a : Actor) (before : List Taken) (last : Taken) (is : a.deltas.taken �
     spent = calls.spent;
     met = subst (λ (l : List Listed). (entry : Entry) (of : ℕ) → Contains (a.entries.inherited ++ counted_of a) entry → 0 < entry.units → IsFirst l entry.name spec.Sparse of
         → (at : ℕ) × IsFirstOf l of entry.key at × Contains a.seen.chain at × SawSample a.seen of entry.key at) (sym records) calls.met;
-    taking = λ goes. ((calls.taking taking).0, (before, f last, further_is a.deltas.taken before last is f named began));
+    taking = λ goes.
+        let (runs, (front, one, ends, at)) = calls.taking taking in
+        let same = (same_from_push before front last one (sym is ∙ ends)).1 in
+        (runs, (before, f last, further_is a.deltas.taken before last is f named began, ap (λ (m : Moment). m.log) (began ∙ ap (λ (t : Taken). t.moment) same) ∙ at));
   }
 
   -- the deltas that have ended are those that had
@@ -142,8 +181,11 @@ module _ (a : Actor) (before : List Taken) (last : Taken) (is : a.deltas.taken �
   -- where one that is alone leaves what was taken of a sum exact
   module _ (old new : List Actor) (roles : RolesAreKept old) (stood : AllStood old new) (first : get_elem? new 0 ≡ get_elem? old 0) (id : ℕ) (recorder : is_opener a.role ≡ false)
       (counted : all_counted new ≡ all_counted old) (summed : all_summed new ≡ all_summed old) (noted : all_noted new ≡ all_noted old)
+      (more : (name : List ℕ) (key : ℤ) → taken_units (all_taken new) name key + of_name last.name name (units_listed last.counts key)
+      ≡ taken_units (all_taken old) name key + of_name last.name name (units_listed (f last).counts key))
       (up : (name : List ℕ) (key : ℤ) → taken_units (all_taken old) name key ≤ taken_units (all_taken new) name key)
       (most : (name : List ℕ) (key : ℤ) → taken_units (all_taken new) name key ≤ tally_units (all_counted new) name key)
+      (added : (name : List ℕ) → taken_sum (all_taken new) name ≡ taken_sum (all_taken old) name) (no_sum : (f last).sum ≡ last.sum)
       (exact_sum : IsAlone old a → (name : List ℕ) → taken_sum (all_taken old) name ≡ tally_sum (all_summed old) name
       → taken_sum (all_taken new) name ≡ tally_sum (all_summed old) name)
       (swapped : IsAlone old a → (f last).swapped ≡ true → taken_sum (all_taken new) (f last).name ≡ tally_sum (all_summed old) (f last).name) where
@@ -172,6 +214,23 @@ module _ (a : Actor) (before : List Taken) (last : Taken) (is : a.deltas.taken �
             λ key. was.0 key ∙ ap (λ entries. tally_units entries s.name key) (sym counted),
             was.1 ∙ ap (λ entries. tally_sum entries s.name) (sym summed),
             (let redundant = was.2 in let same = ap (λ entries. tally_noted entries s.name) noted in omega (arith, redundant, same)),
+          );
+      each = λ n t has none youngest.
+          let there = subst (λ (l : List Taken). get_elem? l n ≡ some t) ended_same has in
+          let was = exact.each n t there none youngest in
+          let low = below_length before n t (subst (λ (l : List Taken). get_elem? l n ≡ some t) (ended_before a before last is taking) there) in
+          let at : n + 1 ≤ length before = omega (arith, low) in (
+            λ key.
+                let its = was.0 key in
+                let all = more t.name key in
+                let later = units_later a.deltas.taken before last is f named began n at t.name key in
+                omega (arith, its, all, later),
+            added t.name
+                ∙ (was.1
+                ∙ ap (λ (z : ℤ). tally_sum (accepted_at a t.moment) t.name +ℤ z)
+                (sym (sum_later a.deltas.taken before last is f named began n at (pos 0) (no_sum ∙ sym (+ℤ_idr last.sum)) t.name
+                ∙ (ap (λ (z : ℤ). taken_sum (map portion_of (drop (n + 1) a.deltas.taken)) t.name +ℤ z) (if_nothing (bytes_eq last.name t.name) (pos 0) (pos 0) refl)
+                ∙ +ℤ_idr (taken_sum (map portion_of (drop (n + 1) a.deltas.taken)) t.name))))),
           );
       moments = λ m of.
           moment old new roles.opener roles.opener id a m (is_later old new roles stood first) (exact.moments m (moment_was m of));

@@ -1,5 +1,5 @@
 -- The sum mark is swapped for the sum that was loaded.
-use Rattle.std.proofs.Common.{◌≡◌, ◌≢◌, ℕ, ◌+◌, ◌-◌, ◌*◌, ◌^◌, ◌<◌, ◌≤◌, ℤ, pos, ◌+ℤ◌, ◌-ℤ◌, neg_ℤ, Bool, true, false, if◌then◌else◌, List, [], ◌∷◌, ◌++◌, length, take, set, Contains, inl, inr, ⊎_elim, refl, sym, ap, ◌∙◌, subst, arith, length-append, append-nil, map}
+use Rattle.std.proofs.Common.{◌≡◌, ◌≢◌, ℕ, ◌+◌, ◌-◌, ◌*◌, ◌^◌, ◌<◌, ◌≤◌, ℤ, pos, ◌+ℤ◌, ◌-ℤ◌, neg_ℤ, Bool, true, false, if◌then◌else◌, List, [], ◌∷◌, ◌++◌, length, take, drop, set, Contains, inl, inr, ⊎_elim, refl, sym, ap, ◌∙◌, subst, arith, length-append, append-nil, map}
 use Rattle.std.specs.Prelude.{unsigned_abs}
 use Rattle.std.specs.Int.{w64, cast_signed, cast_unsigned}
 use Rattle.std.specs.Str.{bytes_eq}
@@ -7,6 +7,7 @@ use Rattle.std.proofs.Math.Facts.{Fits-of_z}
 use Rattle.std.proofs.Math.IntN.{+ℤ_assoc, +ℤ_comm, +ℤ_idl, +ℤ_idr, +ℤ_invr}
 use Rattle.std.proofs.Math.Seq.{take-append_seam}
 use Rattle.std.proofs.lemmas.Int.{to_z-of_z, fits_signed_from_abs}
+use Rattle.std.proofs.lemmas.List.{same_from_push}
 use Rattle.std.proofs.lemmas.List.Elements.{All-contains, Contains-append_left, Contains-append_right, Contains-append_cases}
 use Rattle.std.proofs.lemmas.Simd.{below_from_Fits}
 use Rattle.std.proofs.lemmas.Slice.Eq.{bytes_eq-Decides}
@@ -15,6 +16,7 @@ use lib.ListN.{get_elem?}
 use Rattle.atomic_table.proofs.Lists.{set_else}
 use Rattle.segment_image.specs.Shape.{Dimensions}
 use Rattle.segment_image.specs.Words.{word_at}
+use Rattle.segment_machine.specs.declared.entry.Entry.{Entry}
 use Rattle.segment_machine.specs.declared.actor.Actor.{Actor}
 use Rattle.segment_machine.specs.declared.actor.Portion.{Portion}
 use Rattle.segment_machine.specs.declared.actor.Known.{Known}
@@ -30,9 +32,9 @@ use Rattle.segment_machine.specs.Event.{taking_event}
 use Rattle.segment_invariant.specs.Body.{Record, histogram, Anatomy}
 use Rattle.segment_invariant.specs.Ledger.{amount_of_name}
 use Rattle.segment_invariant.specs.Seen.{HasRecord, IsFirst, Knows}
-use Rattle.segment_invariant.specs.Invariant.{IsLawfulRecord, IsAlone, IsSumOf, SumsAreNear, summed_cost, ended_deltas, IsMomentOf, FinalsAreExact, Invariant, summed_costs, HasKey, is_beaten}
+use Rattle.segment_invariant.specs.Invariant.{IsLawfulRecord, IsAlone, IsSumOf, SumsAreNear, summed_cost, ended_deltas, accepted_at, IsMomentOf, FinalsAreExact, Invariant, summed_costs, HasKey, is_beaten}
 use Rattle.segment_invariant.specs.Keeps.{EventKeeps}
-use Rattle.segment_invariant.proofs.Lists.Elements.{rows, row_in, one_in, sum_same}
+use Rattle.segment_invariant.proofs.Lists.Elements.{rows, row_in, one_in, below_length, sum_same}
 use Rattle.segment_invariant.proofs.Lists.Ends.{snoc_split}
 use Rattle.segment_invariant.proofs.Frames.Anatomies.{calls_same}
 use Rattle.segment_invariant.proofs.Frames.Answers.{first_one}
@@ -46,6 +48,7 @@ use Rattle.segment_invariant.proofs.Changes.Records.{record_kept}
 use Rattle.segment_invariant.proofs.Changes.Words.{Turns, behind, came_from, turned_onward, sees_turned, turned_on}
 use Rattle.segment_invariant.proofs.Consistency.Sums.{sum_is, sum_mark_is}
 use Rattle.segment_invariant.proofs.Notes.Amounts.{last_changed}
+use Rattle.segment_invariant.proofs.Taking.Lasts.{further_is, units_later, sum_later, ended_before}
 use Rattle.segment_invariant.proofs.Counting.Bounds.{sum_fits, sums_fit}
 use Rattle.segment_invariant.proofs.Counting.Looks.{knows_of, body_word}
 use Rattle.segment_invariant.proofs.Counting.Seen.{known_stands}
@@ -319,6 +322,9 @@ module _ (shape : Dimensions) (opened : Anatomy) (state : State) (kept : Invaria
       (sym (ap (λ (on : Bool). if on then take (length a.deltas.taken - 1) a.deltas.taken else a.deltas.taken) taking
       ∙ (ap (λ (list : List Taken). take (length list - 1) list) taken_is ∙ before_last front last))) now
 
+  ended_now : ended_deltas b ≡ front
+  ended_now = ended_before b front swapped_one refl taking
+
   moment_was : (m : Moment) → IsMomentOf b m → IsMomentOf a m
   moment_was m (inr answered) = inr answered
   moment_was m (inl (t, there, is)) = ⊎_elim
@@ -346,6 +352,29 @@ module _ (shape : Dimensions) (opened : Anatomy) (state : State) (kept : Invaria
               λ key. was.0 key ∙ ap (λ entries. tally_units entries s.name key) (sym counted),
               was.1 ∙ ap (λ entries. tally_sum entries s.name) (sym summed),
               was.2 ∙ ap (λ entries. cost_of opener.entries.first_noted s.name + tally_noted entries s.name) (sym noted),
+            );
+        each = λ n t there none_out youngest.
+            let ended = subst (λ (list : List Taken). get_elem? list n ≡ some t) (ended_now ∙ sym (ended_before a front last taken_is taking)) there in
+            let was = exact.each n t ended none_out youngest in
+            let low = below_length front n t (subst (λ (list : List Taken). get_elem? list n ≡ some t) ended_now there) in
+            let at : n + 1 ≤ length front = omega (arith, low) in
+            let later : List Portion = map portion_of (drop (n + 1) a.deltas.taken) in
+            let entries : List Entry = accepted_at a t.moment in
+            let changed_is : drop (n + 1) (change_last (swap_sum sum mark) a.deltas.taken) ≡ drop (n + 1) d.taken =
+            ap (drop (n + 1)) (further_is a.deltas.taken front last taken_is (swap_sum sum mark) refl refl) in (
+              λ key.
+                  let same = took_all_same t.name key in
+                  let its = was.0 key in
+                  let units = units_later a.deltas.taken front last taken_is (swap_sum sum mark) refl refl n at t.name key in
+                  let changed = ap (λ (list : List Taken). taken_units (map portion_of list) t.name key) changed_is in
+                  omega (arith, same, its, units, changed),
+              took_all_more t.name
+                  ∙ (ap (λ z. z +ℤ more_of t.name) was.1
+                  ∙ (+ℤ_assoc (tally_sum entries t.name) (taken_sum later t.name) (more_of t.name)
+                  ∙ ap (λ z. tally_sum entries t.name +ℤ z)
+                  (ap (λ (n : List ℕ). taken_sum later t.name +ℤ amount_of_name n t.name (sum -ℤ mark)) (sym name_is)
+                  ∙ (sym (sum_later a.deltas.taken front last taken_is (swap_sum sum mark) refl refl n at (sum -ℤ mark) refl t.name)
+                  ∙ ap (λ (list : List Taken). taken_sum (map portion_of list) t.name) changed_is)))),
             );
         moments = λ m of.
             moment state.actors actors opener opener id a m is_later (exact.moments m (moment_was m of));
@@ -413,7 +442,9 @@ module _ (shape : Dimensions) (opened : Anatomy) (state : State) (kept : Invaria
           ended = calls.ended;
           spent = calls.spent;
           met = calls.met;
-          taking = λ on. ((calls.taking on).0, (front, swapped_one, refl));
+          taking = λ on.
+              let (runs, (before, one, ends, at)) = calls.taking on in
+              (runs, (front, swapped_one, refl, ap (λ (t : Taken). t.moment.log) (same_from_push front before last one (sym taken_is ∙ ends)).1 ∙ at));
         };
         looks = looks_on shape state.words kept.anatomy new kept.shown (λ at body. ⊥)
             (turned_onward shape opened state kept known.reference (histogram r) (histogram (with_mark r v)) 12 v stands turns) refl shape.page kept.records records

@@ -257,7 +257,12 @@ module _ (shape : Dimensions) (opened : Anatomy) (state : State) (kept : Invaria
               (λ one has. let (r, there, its, bounds, many) = known_stands shape opened state kept id a mine lived one has in (r, there, many))
               (fits.looks recorder) (λ reference sum s loaded. absurd (shows.no_sum reference sum loaded)) (λ at s new_one. new_one);
           finals = finals_taken a front last taken_is f refl refl taking place a.seen.counts state.actors actors kept.roles stood first id recorder counted summed noted
+              (λ name other.
+              let all = took_all name other in
+              let its = took name other in
+              let one = units_further a.deltas.taken front last taken_is f refl refl a.deltas.first_taken name other in
+              omega (arith, all, its, one))
               (λ name other. let all = took_all name other in omega (arith, all)) most
-              (λ alone name was. sum_same_all name ∙ was)
+              sum_same_all refl (λ alone name was. sum_same_all name ∙ was)
               (λ alone swapped. sum_same_all last.name ∙ fits.finals.swapped front last taking taken_is swapped alone) fits.finals;
         })

@@ -51,7 +51,8 @@ struct Part {
 /// added before stays. So merging a reading twice adds it twice.
 ///
 /// Each histogram of the reading has a remainder, as each that is read has. `NoMemory` where there is none for the report, before anything
-/// has happened; nothing else is refused.
+/// has happened; nothing else is refused. It asks for 112 bytes for each histogram, for its name twice, and for eight bytes for each of its
+/// keys; then for what the `hist` of each asks for.
 pub fn merge(
     alloc: Global,
     recorder: &mut Recorder,

@@ -167,8 +167,11 @@ impl<'a> Recorder<'a> {
     /// no record of the name and no block could be claimed for one. After a refusal it knows the same histograms as before. On
     /// `Ok` it has not set the full flag.
     ///
-    /// On `Ok` and on `OtherSpec` it has claimed no block, or the one of the record that it made, and it made one only behind records
-    /// that have other names.
+    /// On `Ok` and on `OtherSpec` it has claimed no block, or the one of the record that it made, and it made one only behind all records
+    /// of the list, of which none has the name.
+    ///
+    /// It asks for memory for the name, the values of a custom spec, the boundaries of the buckets and the words of a record, and where
+    /// the list of the histograms that it knows is full, for one twice as long.
     pub fn hist(&mut self, name: &[u8], spec: &Spec) -> Result<Hist, Refusal>
         ensures same { KnowsOn self.old self.new }
         ensures named { IfOk result (IsNamed name.now spec.now self.new) }
@@ -272,7 +275,8 @@ impl<'a> Recorder<'a> {
     /// All deltas of all recorders together have then taken of each key at least what the recorder had accepted, or seen, before. In
     /// version 1 one bucket may be excepted, whose units are being moved out of the single word.
     ///
-    /// `NoMemory` where there is none for as many keys as the histogram may have; then nothing has changed.
+    /// `NoMemory` where there is none for as many keys as the histogram may have, of 16 bytes each; then nothing has changed. It asks for
+    /// that alone.
     pub fn delta(&mut self, histogram: Hist) -> Result<Delta, Refusal>
         requires { Knows self.old histogram }
         ensures same { IsSameRecorder self.old self.new }
@@ -301,7 +305,8 @@ impl<'a> Recorder<'a> {
     /// Of each key it has at least what the recorder had accepted, or seen, before, with the same exception as for [`Recorder::delta`]; and
     /// the redundant count is at least the units that it had accepted.
     ///
-    /// `NoMemory` where there is none for as many keys as the histogram may have; then nothing has changed.
+    /// `NoMemory` where there is none for as many keys as the histogram may have, of 16 bytes each; then nothing has changed. It asks for
+    /// that alone.
     pub fn snapshot(&mut self, histogram: Hist) -> Result<Snapshot, Refusal>
         requires { Knows self.old histogram }
         ensures same { IsSameRecorder self.old self.new }
@@ -327,7 +332,8 @@ impl<'a> Recorder<'a> {
     /// The references of all records of the list in its order, each once: those that it had seen there come first, and each
     /// record that it made, was given, or saw as the tail or where a shared cursor stood is among them.
     ///
-    /// `NoMemory` where there is none for so many as fit in a segment; then nothing has changed.
+    /// `NoMemory` where there is none for so many as fit in a segment, of eight bytes each; then nothing has changed. It asks for that
+    /// alone.
     pub fn records(&mut self) -> Result<Vec<u64>, Refusal>
         ensures same { IsSameRecorder self.old self.new }
         ensures walked { MatchResult result (λ records. HasWalked (view_of_recorder self.old) records.items (view_of_recorder self.new)) (λ why. (why ≡ NoMemory) × (self.new ≡ self.old)) }
@@ -342,7 +348,8 @@ impl<'a> Recorder<'a> {
     /// The references of the records of the list that no earlier call gave, in its order: those of all calls, one behind the
     /// other, are what [`Recorder::records`] would answer now.
     ///
-    /// `NoMemory` where there is none for so many as fit in a segment; then nothing has changed, and the next call gives them.
+    /// `NoMemory` where there is none for so many as fit in a segment, of eight bytes each; then nothing has changed, and the next call
+    /// gives them. It asks for that alone.
     pub fn fresh_records(&mut self) -> Result<Vec<u64>, Refusal>
         ensures fresh { MatchResult result (λ records. GivesFresh self.old records.items self.new) (λ why. (why ≡ NoMemory) × (self.new ≡ self.old)) }
     {

@@ -1,6 +1,6 @@
 //! Does what the command line asks for.
 
-ghost use Rattle.std.specs.Prelude.{◌≡◌, true, List, ℕ, IfErr, Ok, OnOk};
+ghost use Rattle.std.specs.Prelude.{◌≡◌, true, List, ℕ, IfErr, IfOk, Ok, OnOk};
 ghost use Rattle.std.specs.Io.KnownBytes.{Appends};
 ghost use Rattle.segment_image.specs.Head.{head_of, header_of};
 ghost use Rattle.segment_image.specs.Watched.{is_flushed, watched_inner};
@@ -62,7 +62,7 @@ fn meet<R: Files + Print + AllocGlobal>(rt: &R, request: Request<'_>) -> Result<
     let mut replay = Replay::new(alloc, opening, request.events)?;
     let mut writer = Watched::new(io::writer(rt));
     match request.show {
-        Show::Lines => write_lines(alloc, &mut writer, &mut replay, &orders),
+        Show::Lines => write_lines(alloc, writer, &mut replay, &orders).map(|_| ()),
         Show::Report => show_report(alloc, &mut writer, &mut replay, &orders),
         Show::Image => show_image(&mut writer, &mut replay, &orders),
     }
@@ -93,17 +93,22 @@ fn show_image<W: Write>(
     write_image(writer, replay.words())
 }
 
-// Writes the lines of a schedule as it is replayed. Those before a fault are written too.
-fn write_lines<W: Write>(
+// Writes the lines of a schedule as it is replayed, through a buffer, and gives the writer back. Those before a fault are written too.
+fn write_lines<W: Write + Drop>(
     alloc: Global,
-    writer: &mut Watched<W>,
+    writer: Watched<W>,
     replay: &mut Replay,
     orders: &[Order],
-) -> Result<(), ReplayFault> {
+) -> Result<Watched<W>, ReplayFault>
+    ensures shown { IfOk result (λ after. (lines : List ℕ) × Replays 2 orders.now replay.old.left replay.old.world.world_state replay.new.world.world_state replay.new.left lines × Appends (W.contents (watched_inner writer)) (W.contents (watched_inner after)) lines) }
+    ensures flushed { IfOk result (λ after. is_flushed after ≡ true) }
+{
     let mut lines = io::BufWriter::new(alloc, writer).map_err(|_| ReplayFault::NoMemory)?;
     let done = replay.run(&mut lines, orders);
-    lines.flush().map_err(|_| ReplayFault::Write)?;
-    done
+    let mut after = lines.into_inner().map_err(|_| ReplayFault::Write)?;
+    after.flush().map_err(|_| ReplayFault::Write)?;
+    done?;
+    Ok(after)
 }
 
 // Writes the report of the words of a world, whose header has no fault.

@@ -1,4 +1,5 @@
 -- Seats at the table of a segment, and what their steps note.
+pub mod Adopted
 pub mod Allowed
 pub mod Callers
 pub mod GhostNoted

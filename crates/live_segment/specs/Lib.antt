@@ -11,6 +11,7 @@ pub use Rattle.segment_promises.specs.Reads
 pub mod Ends
 pub mod Fault
 pub mod Rule
+pub mod Adopted
 pub mod Known
 pub mod Steps
 pub mod Hist

@@ -11,6 +11,7 @@
 #![tactic(auto)]
 
 mod adding;
+mod adopting;
 mod allocation;
 mod batching;
 mod bucket_counting;

@@ -1,0 +1,23 @@
+-- A segment that goes on with the words of an image.
+use Rattle.std.specs.Prelude.{ℕ, ◌≤◌, List}
+use Rattle.segment_image.specs.Head.{head_of}
+use Rattle.segment_image.specs.declared.head.SegmentHead.{SegmentHead}
+use Rattle.bucket_ranges.specs.Reading.{IsListed, reading_along}
+use Rattle.segment_promises.specs.Adoption.{IsAdoptable, adopter}
+use Rattle.live_segment.specs.declared.opener.Opener.{Opener}
+use Rattle.live_segment.specs.declared.rule.Setting.{Setting}
+use Rattle.live_segment.specs.declared.segment.Segment.{Segment}
+use Rattle.live_segment.specs.Holders.{IsOpened}
+
+-- what an image with such a header is opened as, with so many shared cursors
+abbrev pub setting_of : SegmentHead → ℕ → Setting
+setting_of head cursors =
+    record { shape = head.shape; version = head.version; id = head.id; cursors = cursors; full = head.full }
+
+-- An image may be adopted, and a segment was opened as it: its opener stands for all that the words read as along their list.
+pub record IsAdopted (words : List ℕ) (cursors : ℕ) (segment : Segment) (opener : Opener) : Type 0 where
+  pub references : List ℕ
+  pub listed : IsListed words (head_of words) references
+  pub adoptable : IsAdoptable words references (reading_along words (head_of words) references)
+  pub few : cursors ≤ 8
+  pub opened : IsOpened (setting_of (head_of words) cursors) (adopter words references (reading_along words (head_of words) references) cursors) segment opener

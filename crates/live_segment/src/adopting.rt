@@ -1,0 +1,72 @@
+//! How a segment goes on with the words of an image.
+
+ghost use Rattle.std.specs.Prelude.{◌≡◌, ◌≤◌, ◌∷◌, ◌++◌, replicate, length, IfOk};
+ghost use Rattle.segment_image.specs.declared.layout.TheConstants.{MAX_SIZE, QUEUE};
+ghost use Rattle.live_segment.specs.Adopted as adopted;
+
+use crate::opener::Opener;
+use crate::rule::{Opening, Setting};
+use crate::segment::Segment;
+use segment_image::layout::QUEUE;
+use segment_image::{SegmentHead, header};
+use std::alloc::{AllocError, Global};
+
+// The words of its table.
+fn adopted_words(alloc: Global, words: &[u64], cursors: usize) -> Result<Vec<u64>, AllocError>
+    requires lawful { length words.now ≤ MAX_SIZE }
+    requires few { cursors ≤ 8 }
+    ensures { IfOk result (λ all. all.items ≡ 0 ∷ words.now ++ replicate cursors QUEUE) }
+{
+    let mut all = vec![in alloc; 0]?;
+    all.extend_from_slice(words)?;
+    all.resize(words.len() + 1 + cursors, QUEUE)?;
+    Ok(all)
+}
+
+// What an image with this header is opened as.
+fn setting_of(head: &SegmentHead, cursors: usize) -> Setting
+    ensures { result ≡ adopted.setting_of head.now cursors }
+{
+    Setting {
+        shape: head.shape,
+        version: head.version,
+        id: head.id,
+        cursors,
+        full: head.full,
+    }
+}
+
+impl Segment {
+    ghost use Rattle.segment_image.specs.Head.{head_of};
+    ghost use Rattle.bucket_ranges.specs.Reading.{IsListed, reading_along};
+    ghost use Rattle.segment_promises.specs.Adoption.{IsAdoptable, used_of};
+    ghost use Rattle.live_segment.specs.Adopted.{IsAdopted};
+
+    // The segment that goes on with the words of an image that may be adopted, and its opener, which has all units but those that the image
+    // has used.
+    pub(crate) fn adopted(
+        alloc: Global,
+        words: &[u64],
+        references: Vec<u64>,
+        used: u64,
+        cursors: usize,
+    ) -> Result<(Segment, Opener), AllocError>
+        requires few { cursors ≤ 8 }
+        requires listed { IsListed words.now (head_of words.now) references.items }
+        requires adoptable { IsAdoptable words.now references.items (reading_along words.now (head_of words.now) references.items) }
+        requires used { used ≡ used_of (reading_along words.now (head_of words.now) references.items) }
+        ensures { IfOk result (λ made. IsAdopted words.now cursors made.0 made.1) }
+    {
+        let Ok(head) = header(words) else {
+            unreachable!()
+        };
+        let setting = setting_of(&head, cursors);
+        let words = adopted_words(alloc, words, cursors)?;
+        let opening = Opening {
+            setting,
+            words,
+            references,
+        };
+        Segment::open(alloc, opening, u32::MAX - used as u32)
+    }
+}

@@ -1,5 +1,5 @@
 -- What the image of a closed segment reads as, for who had its opener: once all recorders are joined, and whatever is outstanding.
-use Rattle.std.specs.Prelude.{◌≡◌, ℕ, ◌+◌, ◌-◌, ◌≤◌, ◌||◌, ℤ, List, map, sum_by, Ok}
+use Rattle.std.specs.Prelude.{◌≡◌, ℕ, ◌+◌, ◌-◌, ◌≤◌, ◌||◌, ℤ, List, ◌∷◌, ◌++◌, map, sum_by, Ok}
 use Rattle.std.specs.List.{Contains, All}
 use Rattle.segment_image.specs.Head.{header_of, head_of}
 use Rattle.bucket_ranges.specs.Spec.{SameSpec}
@@ -14,6 +14,7 @@ use Rattle.segment_machine.specs.Actor.{cost_of, log_of, units_of, units_listed,
 use Rattle.segment_machine.specs.State.{State}
 use Rattle.segment_invariant.specs.Body.{Anatomy, Listed}
 use Rattle.segment_invariant.specs.Ledger.{all_moving}
+use Rattle.segment_promises.specs.Deltas.{TookUpTo}
 use Rattle.segment_promises.specs.Reads.{units_read, mark_read, noted_at_opening, HasNoFault, ReadsHead, ReadsNames, ReadsUnits, ReadsAmounts, ReadsAnswers}
 use Rattle.live_segment.specs.declared.rule.Setting.{Setting}
 use Rattle.live_segment.specs.Rule.{Closes}
@@ -56,11 +57,14 @@ pub record IsJoinedReading (setting : Setting) (opener : Actor) (reading : Readi
 abbrev pub ReadsJoined : Setting → Actor → List ℕ → Type 0
 ReadsJoined setting opener words = (reading : Reading) → IsReading words (head_of words) reading → IsJoinedReading setting opener reading
 
--- with a final delta of a histogram, all deltas together took its totals and its sum
-abbrev pub DeltasAddUp : Actor → Type 0
-DeltasAddUp opener = (delta : Taken) → Contains opener.deltas.taken delta → IsFinal (made_of opener.role) (log_of opener) delta.name delta.moment
-    → ((key : ℤ) → taken_units (taken_of opener) delta.name key ≡ tally_units (log_of opener) delta.name key)
-    × (taken_sum (taken_of opener) delta.name ≡ tally_sum (log_of opener) delta.name)
+-- With a final delta of a histogram, all deltas together took its totals and its sum. Where no recorder was outstanding when the recorder of
+-- a delta was made, and none was made since, the deltas up to it took exactly what the log in front of it adds up to.
+pub record DeltasAddUp (opener : Actor) : Type 0 where
+  pub all : (delta : Taken) → Contains opener.deltas.taken delta → IsFinal (made_of opener.role) (log_of opener) delta.name delta.moment
+      → ((key : ℤ) → taken_units (taken_of opener) delta.name key ≡ tally_units (log_of opener) delta.name key)
+      × (taken_sum (taken_of opener) delta.name ≡ tally_sum (log_of opener) delta.name)
+  pub each : (front behind : List Taken) (delta : Taken) → opener.deltas.taken ≡ front ++ delta ∷ behind → delta.moment.outstanding ≡ 0
+      → delta.moment.before + 1 ≡ made_of opener.role → TookUpTo opener delta behind
 
 -- no bucket and no value of a snapshot is above its total, and a final one has the totals, the sum and the redundant count
 pub record SnapshotsAgree (opener : Actor) : Type 0 where

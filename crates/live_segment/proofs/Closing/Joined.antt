@@ -12,7 +12,7 @@ use Rattle.segment_invariant.specs.Body.{Anatomy, order_of}
 use Rattle.segment_invariant.specs.Invariant.{Invariant}
 use Rattle.segment_promises.specs.Reads.{noted_at_opening}
 use Rattle.segment_promises.proofs.Adopting.Headers.{header_is}
-use Rattle.segment_promises.proofs.Joined.{opener_is, final_deltas_take_all, final_snapshots_are_exact, snapshots_stay_below}
+use Rattle.segment_promises.proofs.Joined.{opener_is, final_deltas_take_all, lone_deltas_take_all, final_snapshots_are_exact, snapshots_stay_below}
 use Rattle.segment_promises.proofs.Readings.Heads.{shape_is, version_is, reads_head}
 use Rattle.segment_promises.proofs.Readings.Joined.{joined_reads}
 use Rattle.segment_promises.proofs.Readings.Lists.{is_list}
@@ -69,8 +69,10 @@ module _ (setting : Setting) (opener : Actor) (words : List ℕ) (closes : Close
         }
 
     pub deltas : DeltasAddUp opener
-    deltas delta among final =
-        final_deltas_take_all setting.shape closes.opened closes.state opener delta closes.kept (closes.stands, none) among final
+    deltas = record {
+      all = λ delta among final. final_deltas_take_all setting.shape closes.opened closes.state opener delta closes.kept (closes.stands, none) among final;
+      each = λ front behind delta. lone_deltas_take_all setting.shape closes.opened closes.state opener front behind delta closes.kept (closes.stands, none);
+    }
 
     pub snapshots : SnapshotsAgree opener
     snapshots = record {

@@ -1,10 +1,8 @@
 -- Runs of words, and the marks of those that are taken.
-use Rattle.std.proofs.Common.{◌≡◌, Bool, true, false, ◌||◌, ℕ, ◌+◌, ◌-◌, ◌<◌, ◌≤◌, List, [], ◌∷◌, ◌++◌, length, get_or, set, take, inl, inr, ◌⊎◌, refl, sym, ap, subst, ◌∙◌, arith, get_or-set_other, get_or-set_same, true≢false}
+use Rattle.std.proofs.Common.{◌≡◌, Bool, true, false, ℕ, ◌+◌, ◌<◌, ◌≤◌, List, [], ◌∷◌, ◌++◌, length, get_or, take, inl, inr, ◌⊎◌, sym, ap, subst, ◌∙◌, arith, true≢false}
 use Rattle.std.specs.Prelude.{Decides, nat_le, nat_lt}
 use Rattle.std.specs.List.{list_any}
-use Rattle.std.proofs.Math.Bool.{or-true}
-use Rattle.std.proofs.lemmas.Bool.{and_parts, and_from, cases_Bool, cases_eq, cases_lt, le-leb, leb-true, lt-ltb, ltb-true}
-use Rattle.std.proofs.lemmas.Bool.Decides.{same_from_decides}
+use Rattle.std.proofs.lemmas.Bool.{and_parts, and_from, cases_Bool, cases_lt, le-leb, leb-true, lt-ltb, ltb-true}
 use Rattle.std.proofs.lemmas.List.{get_or-take, length-take}
 use Rattle.std.proofs.lemmas.List.Folds.{Any-from_list_any, list_any_at}
 use mathlib.Core.Option.{some}
@@ -25,41 +23,6 @@ in_decides at size word = (to, from)
 
     from : (at ≤ word) × (word < at + size) → is_in at size word ≡ true
     from (least, below) = and_from _ _ (le-leb at word least) (lt-ltb word (at + size) below)
-
--- one word more is taken
-pub marks_more : (old taken : List Bool) (at word : ℕ) → at ≤ word → word < length taken
-    → ((w : ℕ) → get_or taken w false ≡ (get_or old w false || is_in at (word - at) w))
-    → (w : ℕ) → get_or (set taken word true) w false ≡ (get_or old w false || is_in at (word + 1 - at) w)
-marks_more old taken at word from within marks w = elim (cases_eq w word) [
-  | inl same ↦
-      let here : is_in at (word + 1 - at) w ≡ true = (in_decides at (word + 1 - at) w).1 (omega (arith, same, from), omega (arith, same, from)) in
-      ap (λ (w : ℕ). get_or (set taken word true) w false) same
-      ∙ (get_or-set_same taken word true false within ∙ sym (ap (λ b. get_or old w false || b) here ∙ or-true (get_or old w false)))
-  | inr other ↦
-      let alike : is_in at (word - at) w ≡ is_in at (word + 1 - at) w =
-      same_from_decides (is_in at (word - at) w) (is_in at (word + 1 - at) w) (in_decides at (word - at) w) (narrow w other) in
-      get_or-set_other taken word w true false other ∙ (marks w ∙ ap (λ b. get_or old w false || b) alike)
-]
-  where
-    narrow : (w : ℕ) → (w ≡ word → ⊥) → Decides (is_in at (word + 1 - at) w) ((at ≤ w) × (w < at + (word - at)))
-    narrow w other =
-        let test = in_decides at (word + 1 - at) w in (
-          λ inside. let (least, below) = test.0 inside in (least, omega (arith, least, below, other, from)),
-          λ (least, below). test.1 (least, omega (arith, least, below, from)),
-        )
-
--- where a word was taken before, the run was not free
-pub not_free : (old taken : List Bool) (at size word : ℕ) → at ≤ word → word < at + size → get_or taken word false ≡ true
-    → ((w : ℕ) → get_or taken w false ≡ (get_or old w false || is_in at (word - at) w))
-    → ((w : ℕ) → is_in at size w ≡ true → get_or old w false ≡ false) → ⊥
-not_free old taken at size word from below here marks free =
-    let fresh = free word ((in_decides at size word).1 (from, below)) in
-    let outside : is_in at (word - at) word ≡ false = not_in (is_in at (word - at) word) refl in
-    true≢false (sym here ∙ (marks word ∙ (ap (λ b. b || is_in at (word - at) word) fresh ∙ outside)))
-  where
-    not_in : (b : Bool) → is_in at (word - at) word ≡ b → is_in at (word - at) word ≡ false
-    not_in true inside = let parts = (in_decides at (word - at) word).0 inside in absurd (omega (arith, parts, from))
-    not_in false outside = outside
 
 -- ---- the runs of blocks
 

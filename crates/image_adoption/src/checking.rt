@@ -33,7 +33,7 @@ pub struct Adoptable {
 /// `NoUnits`; `BadCursors` where there are to be more than [`MAX_CURSORS`]. `NoMemory` is answered where there was no memory
 /// to look further. Any words may be given, and they are only read.
 pub fn check(alloc: Global, words: &[u64], cursors: usize) -> Result<Adoptable, AdoptFault>
-    ensures { AdoptionOf words.now cursors result }
+    ensures answer { AdoptionOf words.now cursors result }
 {
     match header(words) {
         Ok(head) => check_behind_header(alloc, words, &head, cursors),

@@ -22,5 +22,5 @@ mod spec;
 mod walk;
 
 pub use bucket_ranges::reading::RecordFault;
-pub use reader::read;
-pub use reading::{BadRecord, HistReading, Reading};
+pub use reader::{read, read_list};
+pub use reading::{BadRecord, HistReading, ListReading, Reading};

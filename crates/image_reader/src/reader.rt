@@ -2,14 +2,14 @@
 
 ghost use Rattle.std.specs.Prelude.{◌≡◌, ◌<◌, ℕ, Ok, Err, true, length, map, slice_index, All, IfOk, MatchResult};
 ghost use Rattle.segment_image.specs.Head.{header_of};
-ghost use Rattle.bucket_ranges.specs.Reading.{IsReading, is_block};
+ghost use Rattle.bucket_ranges.specs.Reading.{IsListed, IsReading, is_block, reading_along};
 ghost use Rattle.image_reader.specs.Readable.{IsReadable};
 ghost use Rattle.image_reader.specs.Views.{histogram_view, reading_view};
 ghost use Rattle.image_reader.specs.Gathering.{IsGathered, IsReady};
 
 use crate::gathering::Gathering;
 use crate::histogram::give_samples;
-use crate::reading::Reading;
+use crate::reading::{ListReading, Reading};
 use crate::walk::{Listed, walk};
 use segment_image::{ImageFault, SegmentHead, header};
 use std::alloc::{AllocError, Global};
@@ -24,15 +24,22 @@ pub fn read(alloc: Global, words: &[u64]) -> Result<Reading, ImageFault>
 {
     let head = header(words)?;
     match read_list(alloc, words, &head) {
-        Ok(reading) => Ok(reading),
+        Ok(ListReading { reading, .. }) => Ok(reading),
         Err(_) => Err(ImageFault::NoMemory),
     }
 }
 
-// What the list of a segment whose header is `head` reads as.
-fn read_list(alloc: Global, words: &[u64], head: &SegmentHead) -> Result<Reading, AllocError>
+/// The list of a segment whose header, read from the same words, is `head`, and what it reads as. It is walked once, and
+/// only memory can be wanting.
+pub fn read_list(
+    alloc: Global,
+    words: &[u64],
+    head: &SegmentHead,
+) -> Result<ListReading, AllocError>
     requires { header_of words.now ≡ Ok head.now }
-    ensures { IfOk result (λ reading. IsReading words.now head.now (reading_view reading)) }
+    ensures listed { IfOk result (λ list. IsListed words.now head.now list.references.items) }
+    ensures reading { IfOk result (λ list. reading_view list.reading ≡ reading_along words.now head.now list.references.items) }
+    ensures readable { IfOk result (λ list. All IsReadable (map histogram_view list.reading.hists.items)) }
 {
     let Listed {
         references,
@@ -40,13 +47,16 @@ fn read_list(alloc: Global, words: &[u64], head: &SegmentHead) -> Result<Reading
     } = walk(alloc, words, head)?;
     let mut gathered = gather(alloc, words, head, &references)?;
     give_samples(alloc, &mut gathered.hists, &gathered.samples)?;
-    Ok(Reading {
-        id: head.id,
-        full: head.full,
-        corrupt: head.corrupt,
-        hists: gathered.hists,
-        bad: gathered.bad,
-        stopped,
+    Ok(ListReading {
+        references,
+        reading: Reading {
+            id: head.id,
+            full: head.full,
+            corrupt: head.corrupt,
+            hists: gathered.hists,
+            bad: gathered.bad,
+            stopped,
+        },
     })
 }
 

@@ -51,3 +51,12 @@ pub struct Reading {
     /// Why the list goes no further before its end: `BadRef`, `BadBlock` or `Loop`. What was read before stays.
     pub stopped: Option<ImageFault>,
 }
+
+/// The list of a segment, and what it reads as.
+#[derive(Debug, Drop)]
+pub struct ListReading {
+    /// The references of all records on the list, in its order: also of those that are not read.
+    pub references: Vec<u64>,
+    /// What these records read as.
+    pub reading: Reading,
+}

@@ -1,0 +1,76 @@
+-- What a check answers, from what it found.
+use Rattle.std.proofs.Common.{◌≡◌, Bool, true, false, ℕ, ◌≤◌, List, Ok, sym, ap, subst, ◌∙◌}
+use Rattle.std.specs.Prelude.{Decides}
+use Rattle.std.proofs.lemmas.Bool.Decides.{Decides-like}
+use Rattle.segment_image.specs.Head.{header_of, header_checks, head_of}
+use Rattle.segment_image.specs.declared.head.SegmentHead.{SegmentHead}
+use Rattle.bucket_ranges.specs.Reading.{IsListed, Reading, reading_along}
+use Rattle.image_reader.proofs.Headers.{checked_ok}
+use Rattle.segment_promises.specs.Adoption.{IsAdoptable, IsUndamaged, used_of}
+use Rattle.segment_promises.specs.Reads.{HasNoFault}
+use Rattle.image_adoption.specs.Checking.{IsFaultOf, IsIntact, Reads}
+use Rattle.image_adoption.specs.Conditions.{IsWhole}
+use Rattle.image_adoption.specs.declared.fault.AdoptFault.TheVariants.{OldVersion, Corrupt}
+
+module _ (words : List ℕ) (head : SegmentHead) (header : header_of words ≡ Ok head) where
+  same : head_of words ≡ head
+  same = (checked_ok (header_checks words) (head_of words) head header).1
+
+  lawful : header_of words ≡ Ok (head_of words)
+  lawful = header ∙ ap Ok (sym same)
+
+  pub old_version : (cursors : ℕ) → (head.version ≡ 2 → ⊥) → IsFaultOf words cursors OldVersion
+  old_version cursors other = (lawful, λ two. other (ap (λ (h : SegmentHead). h.version) (sym same) ∙ two))
+
+  pub corrupt : (cursors : ℕ) → head.version ≡ 2 → head.corrupt ≡ true → IsFaultOf words cursors Corrupt
+  corrupt cursors two set = (lawful, ap (λ (h : SegmentHead). h.version) same ∙ two, ap (λ (h : SegmentHead). h.corrupt) same ∙ set)
+
+  pub intact : head.version ≡ 2 → head.corrupt ≡ false → IsIntact words
+  intact two clear = record {
+    header = lawful;
+    version = ap (λ (h : SegmentHead). h.version) same ∙ two;
+    intact = ap (λ (h : SegmentHead). h.corrupt) same ∙ clear;
+  }
+
+  pub reads : (references : List ℕ) (reading : Reading) → IsListed words head references → reading ≡ reading_along words head references
+      → Reads words references reading
+  reads references reading listed along = record {
+    listed = subst (λ (h : SegmentHead). IsListed words h references) (sym same) listed;
+    along = subst (λ (h : SegmentHead). reading ≡ reading_along words h references) (sym same) along;
+  }
+
+  -- where no record is bad, the rest settles whether an image is damaged
+  pub undamaged_decides : (references : List ℕ) (reading : Reading) (whole : Bool) → HasNoFault reading
+      → Decides whole (IsWhole words head references) → Decides whole (IsUndamaged words references reading)
+  undamaged_decides references reading whole good test =
+      Decides-like whole
+      (λ (w : IsWhole words (head_of words) references). record {
+        lawful = good;
+        apart = w.apart;
+        zeros = w.zeros;
+        room = w.room;
+        tail = w.tail;
+        later = w.later;
+        padded = λ at there one. (w.settled at there one).name;
+        unused = λ at i there one. (w.settled at there one).counts i;
+        packed = λ at i there one. (w.settled at there one).mark i;
+      })
+      (λ (u : IsUndamaged words references reading). record {
+        room = u.room;
+        zeros = u.zeros;
+        tail = u.tail;
+        settled = λ at there one. record {
+          name = u.padded at there one;
+          counts = λ i. u.unused at i there one;
+          mark = λ i. u.packed at i there one;
+        };
+        later = u.later;
+        apart = u.apart;
+      })
+      (subst (λ (h : SegmentHead). Decides whole (IsWhole words h references)) (sym same) test)
+
+-- an image that is intact and not damaged, and has used no more units than there are, may be adopted
+pub adoptable_of : (words references : List ℕ) (reading : Reading) → IsIntact words → IsUndamaged words references reading
+    → used_of reading ≤ 4294967295 → IsAdoptable words references reading
+adoptable_of words references reading intact undamaged few =
+    record { header = intact.header; version = intact.version; intact = intact.intact; undamaged = undamaged; units = few }

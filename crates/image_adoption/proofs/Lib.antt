@@ -1,0 +1,9 @@
+pub mod Zeros
+pub mod Padding
+pub mod Runs
+pub mod Keys
+pub mod Faultless
+pub mod Tails
+pub mod NamedBlocks
+pub mod Used
+pub mod Heads

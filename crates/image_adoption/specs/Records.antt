@@ -1,0 +1,24 @@
+-- What is known of the records on a list where none has a fault.
+use Rattle.std.specs.Prelude.{◌≡◌, true, false, ℕ, ◌+◌, ◌<◌, ◌≤◌, List, length, All, None}
+use Rattle.segment_image.specs.declared.head.SegmentHead.{SegmentHead}
+use Rattle.segment_image.specs.declared.layout.TheConstants.{BLOCK_TYPE, HISTOGRAM_BUCKETS, HISTOGRAM_COUNTS, HISTOGRAM_LEAST, TYPE_HISTOGRAM, TYPE_SAMPLE}
+use Rattle.segment_image.specs.Blocks.{field_at, is_block}
+use Rattle.bucket_ranges.specs.declared.limits.TheConstants.{MAX_BUCKETS}
+use Rattle.bucket_ranges.specs.Reading.{counts_words, has_bad_sample, is_sparse, record_buckets, record_fault}
+
+-- a record has no fault of its own
+pub record IsFaultless (words : List ℕ) (head : SegmentHead) (at : ℕ) : Type 0 where
+  pub block : is_block words head at ≡ true
+  pub histogram : field_at words at BLOCK_TYPE ≡ TYPE_HISTOGRAM → record_fault words head at ≡ None
+  pub sample : field_at words at BLOCK_TYPE ≡ TYPE_SAMPLE → has_bad_sample words at ≡ false
+
+abbrev pub AreFaultless : List ℕ → SegmentHead → List ℕ → Type 0
+AreFaultless words head references = All (IsFaultless words head) references
+
+-- a histogram's record lies in the words, and so does the block of counts that it names
+pub record HasRoom (words : List ℕ) (at : ℕ) : Type 0 where
+  pub within : at + HISTOGRAM_LEAST ≤ length words
+  pub buckets : record_buckets words at ≡ field_at words at HISTOGRAM_BUCKETS
+  pub few : field_at words at HISTOGRAM_BUCKETS ≤ MAX_BUCKETS
+  pub counts : is_sparse words at ≡ false → 0 < field_at words at HISTOGRAM_COUNTS
+      → field_at words at HISTOGRAM_COUNTS + counts_words (field_at words at HISTOGRAM_BUCKETS) ≤ length words

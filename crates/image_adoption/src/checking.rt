@@ -1,0 +1,81 @@
+//! The check of an image.
+
+ghost use Rattle.std.specs.Prelude.{◌≡◌, Ok};
+ghost use Rattle.segment_image.specs.Head.{header_of};
+ghost use Rattle.image_adoption.specs.Checking.{AdoptionOf};
+
+use crate::damage::is_undamaged;
+use crate::fault::AdoptFault;
+use crate::units::used_of;
+use bucket_ranges::limits::MAX_UNITS;
+use image_reader::{ListReading, Reading, read_list};
+use segment_image::layout::VERSION_FROZEN;
+use segment_image::{SegmentHead, header};
+use std::alloc::Global;
+
+/// The most shared cursors of a segment.
+pub const MAX_CURSORS: usize = 8;
+
+/// What is known of an image that may be adopted.
+#[derive(Debug, Drop)]
+pub struct Adoptable {
+    /// The references of all records on its list, in its order: also of those that are passed over.
+    pub references: Vec<u64>,
+    /// What it reads as. No record is bad, and the list goes on to its end.
+    pub reading: Reading,
+    /// The units that its histograms have used, of the 4,294,967,295 of a segment.
+    pub used: u64,
+}
+
+/// What is known of an image that may be adopted with so many shared cursors, or why it may not be.
+///
+/// The first fault that holds is answered: `Image` with the header's first fault; `OldVersion`; `Corrupt`; `Damaged`;
+/// `NoUnits`; `BadCursors` where there are to be more than [`MAX_CURSORS`]. `NoMemory` is answered where there was no memory
+/// to look further. Any words may be given, and they are only read.
+pub fn check(alloc: Global, words: &[u64], cursors: usize) -> Result<Adoptable, AdoptFault>
+    ensures { AdoptionOf words.now cursors result }
+{
+    match header(words) {
+        Ok(head) => check_behind_header(alloc, words, &head, cursors),
+        Err(fault) => Err(AdoptFault::Image(fault)),
+    }
+}
+
+// The check of words whose header is `head`.
+fn check_behind_header(
+    alloc: Global,
+    words: &[u64],
+    head: &SegmentHead,
+    cursors: usize,
+) -> Result<Adoptable, AdoptFault>
+    requires { header_of words.now ≡ Ok head.now }
+    ensures { AdoptionOf words.now cursors result }
+{
+    if head.version != VERSION_FROZEN {
+        return Err(AdoptFault::OldVersion);
+    }
+    if head.corrupt {
+        return Err(AdoptFault::Corrupt);
+    }
+    let list = read_list(alloc, words, head)?;
+    let whole = is_undamaged(alloc, words, head, &list)?;
+    if !whole {
+        return Err(AdoptFault::Damaged);
+    }
+    let used = used_of(&list.reading);
+    if used > MAX_UNITS {
+        return Err(AdoptFault::NoUnits);
+    }
+    if cursors > MAX_CURSORS {
+        return Err(AdoptFault::BadCursors);
+    }
+    let ListReading {
+        references,
+        reading,
+    } = list;
+    Ok(Adoptable {
+        references,
+        reading,
+        used,
+    })
+}

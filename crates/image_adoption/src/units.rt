@@ -1,0 +1,50 @@
+//! The units that an image has used.
+
+ghost use Rattle.std.specs.Prelude.{◌≡◌, ◌+◌, ◌/◌, ◌<◌, ◌^◌, min, sum_by, map, All};
+ghost use Rattle.segment_promises.specs.Adoption.{used_by as used_by_of, used_of as used_of_of};
+ghost use Rattle.image_reader.specs.Readable.{IsReadable};
+ghost use Rattle.image_reader.specs.Views.{histogram_view, reading_view};
+
+use image_reader::{HistReading, Reading};
+
+// How much of a sum's size a unit stands for.
+const UNIT_AMOUNT: u64 = 1 << 31;
+
+// The units that an amount of this size stands for.
+fn units_for(size: u64) -> u64
+    ensures { result ≡ (size + 2147483647) / 2147483648 }
+{
+    size.div_ceil(UNIT_AMOUNT)
+}
+
+// All units of a histogram.
+fn units(counts: &[(i32, u64)]) -> u64
+    requires { sum_by (λ count. count.1) counts.now < 2 ^ 64 }
+    ensures { result ≡ sum_by (λ count. count.1) counts.now }
+{
+    counts.iter().map(|count| count.1).sum()
+}
+
+// The units that a histogram has used: the greatest of its units, its redundant count, and what its sum, its sum mark and the
+// difference of these stand for.
+fn used_by(hist: &HistReading) -> u64
+    requires { sum_by (λ count. count.1) hist.now.counts.items < 2 ^ 64 }
+    ensures { result ≡ used_by_of (histogram_view hist.now) }
+{
+    let sum = units_for(hist.sum.unsigned_abs());
+    let mark = units_for(hist.sum_mark.unsigned_abs());
+    let rest = units_for(hist.sum.abs_diff(hist.sum_mark));
+    units(&hist.counts).max(hist.redundant.max(sum.max(mark.max(rest))))
+}
+
+/// The units that the histograms of an image have used; more than 2^64 - 1 are answered as that.
+pub(crate) fn used_of(reading: &Reading) -> u64
+    requires { All IsReadable (map histogram_view reading.now.hists.items) }
+    ensures { result ≡ min (used_of_of (reading_view reading.now)) 18446744073709551615 }
+{
+    let mut used: u64 = 0;
+    for hist in reading.hists.iter() {
+        used = used.saturating_add(used_by(hist));
+    }
+    used
+}

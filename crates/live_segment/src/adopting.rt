@@ -7,6 +7,7 @@ ghost use Rattle.live_segment.specs.Adopted as adopted;
 use crate::opener::Opener;
 use crate::rule::{Opening, Setting};
 use crate::segment::Segment;
+use image_adoption::{AdoptFault, Adoptable, check};
 use segment_image::layout::QUEUE;
 use segment_image::{SegmentHead, header};
 use std::alloc::{AllocError, Global};
@@ -40,11 +41,36 @@ impl Segment {
     ghost use Rattle.segment_image.specs.Head.{head_of};
     ghost use Rattle.bucket_ranges.specs.Reading.{IsListed, reading_along};
     ghost use Rattle.segment_promises.specs.Adoption.{IsAdoptable, used_of};
+    ghost use Rattle.image_adoption.specs.Checking.{IsFaultOf};
+    ghost use Rattle.std.specs.Prelude.{MatchResult};
     ghost use Rattle.live_segment.specs.Adopted.{IsAdopted};
+
+    /// A segment that goes on with the words of an image, of its shape, version, id and full flag; and its opener, which has all units but
+    /// those that the image has used. Its names, counts, sums, marks and free space go on where they stood.
+    ///
+    /// - `words`: those of an image of version 2. They are only lent, and may be any.
+    /// - `cursors`: how many cursors along the list the recorders share, as for [`Segment::create`].
+    ///
+    /// The first fault is answered, in the order of [`AdoptFault`]; `NoMemory` also where there was none to look further.
+    pub fn adopt(
+        alloc: Global,
+        words: &[u64],
+        cursors: usize,
+    ) -> Result<(Segment, Opener), AdoptFault>
+        ensures { MatchResult result (λ made. IsAdopted words.now cursors made.0 made.1) (λ fault. IsFaultOf words.now cursors fault) }
+    {
+        let Adoptable {
+            references,
+            used,
+            ..
+        } = check(alloc, words, cursors)?;
+        let made = Segment::adopted(alloc, words, references, used, cursors)?;
+        Ok(made)
+    }
 
     // The segment that goes on with the words of an image that may be adopted, and its opener, which has all units but those that the image
     // has used.
-    pub(crate) fn adopted(
+    fn adopted(
         alloc: Global,
         words: &[u64],
         references: Vec<u64>,

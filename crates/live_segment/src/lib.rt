@@ -40,6 +40,7 @@ mod steps;
 
 pub use bucket_ranges::{CustomValues, Spec, SpecFault};
 pub use fault::OpenFault;
+pub use image_adoption::AdoptFault;
 pub use opener::Opener;
 pub use recorder::{Hist, Recorder};
 pub use segment::{MAX_CURSORS, Segment};

@@ -7,6 +7,8 @@
 #[cfg(test)]
 mod adding;
 #[cfg(test)]
+mod adopting;
+#[cfg(test)]
 mod deltas;
 #[cfg(test)]
 mod failing_commands;

@@ -1,13 +1,14 @@
 -- What all workers of a run have recorded, and what their image is read as.
-use Rattle.std.proofs.Common.{◌≡◌, ℕ, ◌+◌, ◌<◌, ◌≤◌, List, [], ◌∷◌, ◌++◌, map, length, get_or, All, Contains, Option, Some, None, IfSome, Ok, Err, Result, IfErr, OnOk, drop, refl, sym, ap, ◌∙◌, subst, arith, append-nil}
+use Rattle.std.proofs.Common.{◌≡◌, ℕ, ◌+◌, ◌<◌, ◌≤◌, List, [], ◌∷◌, ◌++◌, map, length, get_or, All, Contains, Option, Some, None, IfSome, Ok, Err, Result, IfErr, OnOk, take, refl, sym, ap, ◌∙◌, subst, arith, append-nil}
 use Rattle.std.specs.Prelude.{◌==◌, ◌%◌, ◌+ℤ◌, ◌||◌, Bool, true, false, suc, ℤ, pos, if◌then◌else◌, sum_by, fold}
 use Rattle.std.specs.List.{flat_map, range_with_len}
 use Rattle.std.specs.Str.{bytes_eq}
 use Rattle.std.proofs.lemmas.Slice.Eq.{bytes_eq-Decides}
-use Rattle.std.proofs.lemmas.List.Elements.{All-contains, All-map, filter_map-append}
+use Rattle.std.proofs.lemmas.List.Elements.{All-contains, All-map, Contains-append_right, filter_map-append}
 use Rattle.std.proofs.lemmas.List.Sums.{sum_by-append}
-use Rattle.std.proofs.Math.Seq.{drop-append_seam}
-use Rattle.std.proofs.lemmas.List.{get_or-map, length-map, nil_from_length}
+use Rattle.std.proofs.Math.IntN.{+ℤ_idr}
+use Rattle.std.proofs.Math.Seq.{take-append_seam}
+use Rattle.std.proofs.lemmas.List.{get_or-map, length-map}
 use Rattle.std.proofs.lemmas.List.Concat.{flat_map-append}
 use Rattle.atomic_table.specs.Seated.{TableId}
 use Rattle.bucket_ranges.specs.Spec.{SameSpec}
@@ -17,9 +18,9 @@ use Rattle.segment_machine.specs.declared.actor.Portion.{Portion}
 use Rattle.segment_machine.specs.declared.actor.Taken.{Taken}
 use Rattle.segment_machine.specs.declared.entry.EntryProgress.{EntryProgress}
 use Rattle.segment_machine.specs.declared.entry.Entry.{Entry}
-use Rattle.segment_machine.specs.Actor.{IsFinal, cost_of, log_of, made_of, outstanding_of, portion_of, taken_of, taken_sum, taken_units, units_listed}
+use Rattle.segment_machine.specs.Actor.{cost_of, log_of, made_of, outstanding_of, portion_of, taken_of, taken_sum, taken_units, units_listed}
 use Rattle.segment_machine.specs.Seats.{joined, shifted, shifted_taken}
-use Rattle.segment_machine.specs.Entry.{is_of, tally_units, tally_sum, tally_noted}
+use Rattle.segment_machine.specs.Entry.{tally_units, tally_sum, tally_noted}
 use Rattle.segment_invariant.proofs.Lists.Countings.{units_total, sum_total, noted_total}
 use Rattle.segment_invariant.proofs.Lists.Sums.{IsAddition, IsTotal, numbers, amounts}
 use Rattle.live_segment.specs.declared.recorder.Recorder.{Recorder}
@@ -37,7 +38,7 @@ use Rattle.persist_commands.specs.declared.worker.Ended.{Ended}
 use Rattle.persist_commands.specs.declared.worker.Part.{Part}
 use Rattle.persist_commands.specs.Entries.{Deed, Takes, deeds_of, deeds_of_call, delta_in, deltas_among, deltas_of, entries_among, entries_of, entry_in}
 use Rattle.persist_commands.specs.Parts.{part_from, part_of}
-use Rattle.persist_commands.specs.Recording.{AreOf, EndedAt, EndedWell, HandsOut, HasEnded, HasOpened, HasRun, HasWorked, IsAskedIn, IsReady, KnowsOf, WentOn, all_joined, deeds_of_all, deeds_of_part, names_taken, view_of_ended}
+use Rattle.persist_commands.specs.Recording.{AreOf, EndedAt, EndedWell, HandsOut, HasEnded, HasOpened, HasRun, HasWorked, IsAskedIn, IsReady, KnowsOf, WentOn, all_joined, deeds_of_all, deeds_of_part, view_of_ended}
 use Rattle.persist_commands.specs.Run.{IsImageOfRun, IsReportOfImage, IsRunOf}
 use Rattle.persist_commands.specs.Stop.{StopTellsWant}
 use Rattle.persist_commands.proofs.Parts.{part_first, parts_add_up}
@@ -197,6 +198,11 @@ entries_come_to add total is sums script workers some =
 
 -- ---- the marks
 
+-- a list of which nothing comes is empty
+nil_from_map : {X Y : Type 0} (f : X → Y) (xs : List X) → map f xs ≡ [] → xs ≡ []
+nil_from_map f [] is = refl
+nil_from_map f (x ∷ xs) is = cc is
+
 -- how many deltas of a name are taken
 abbrev times : List ℕ → List (List ℕ) → ℕ
 times name names = sum_by (λ other. if bytes_eq other name then 1 else 0) names
@@ -251,20 +257,6 @@ takes_none name key (t ∷ taken) none = by (takes_none name key taken) (bytes_e
         )
 
 -- ---- the image
-
--- a delta is a final one, behind which nothing of its name stands in the log
-final_behind : (ran : Actor) (front behind : List Deed) (name : List ℕ) (t : Taken) → log_of ran ≡ entries_among (front ++ Takes name ∷ behind)
-    → t.name ≡ name → t.moment.log ≡ length (entries_among front) → t.moment.outstanding ≡ 0 → t.moment.before + 1 ≡ made_of ran.role
-    → All (λ entry. is_of name entry ≡ false) (entries_among behind) → IsFinal (made_of ran.role) (log_of ran) t.name t.moment
-final_behind ran front behind name t log named begun alone youngest quiet =
-    let parts : log_of ran ≡ entries_among front ++ entries_among behind = log ∙ filter_map-append entry_in front (Takes name ∷ behind) in
-    let rest : drop t.moment.log (log_of ran) ≡ entries_among behind =
-    (λ i. drop (begun i) (parts i)) ∙ drop-append_seam (entries_among front) (entries_among behind) in record {
-      alone = alone;
-      youngest = youngest;
-      quiet = subst (λ (l : List Entry). All (λ entry. is_of t.name entry ≡ false) l) (sym rest)
-          (subst (λ (n : List ℕ). All (λ entry. is_of n entry ≡ false) (entries_among behind)) (sym named) quiet);
-    }
 
 -- the image of a segment in which a script was run
 pub is_image_of_run : (script : Script) (workers : ℕ) (setting : Setting) (opened ran : Actor) (words : List ℕ) → 0 < workers
@@ -323,13 +315,14 @@ is_image_of_run script workers setting opened ran words some shape version id em
             full = read.full ∙ (ap (λ (b : Bool). b || ran.done.filled) empty ∙ went.filled);
             unmarked = λ h there none.
                 let tally = read.tallies h there in
-                let names : names_taken ran ≡ deltas_among (deeds_of_all script workers) = went.took in
-                let count : times h.name (names_taken ran) ≡ 0 =
-                ap (times h.name) names
+                let (more, taken_is, names_are) = went.took in
+                let count : times h.name (map (λ (t : Taken). t.name) ran.deltas.taken) ≡ 0 =
+                ap (λ (l : List Taken). times h.name (map (λ (t : Taken). t.name) l)) taken_is
+                ∙ (ap (times h.name) names_are
                 ∙ (all_come_to ◌+◌ (λ deeds. times h.name (deltas_among deeds)) numbers
                 (λ xs ys. ap (times h.name) (filter_map-append delta_in xs ys)
                 ∙ sum_by-append (λ (other : List ℕ). if bytes_eq other h.name then 1 else 0) (deltas_among xs) (deltas_among ys)) script workers some
-                ∙ no_times h.name (deltas_of script.hists script.calls) none) in
+                ∙ no_times h.name (deltas_of script.hists script.calls) none)) in
                 let portions : taken_of ran ≡ map portion_of ran.deltas.taken =
                 ap (λ (l : List Portion). l ++ map portion_of ran.deltas.taken) went.first_taken in record {
                   marks = λ key. tally.marks key
@@ -337,21 +330,34 @@ is_image_of_run script workers setting opened ran words some shape version id em
                   sum_mark = tally.sum_mark
                       ∙ (ap (λ (l : List Portion). taken_sum l h.name) portions ∙ (takes_none h.name (pos 0) ran.deltas.taken count).1);
                 };
-            taken = λ one h there ends.
+            taken = λ one h there last.
                 let tally = read.tallies h there in
-                let deeds : deeds_of_all script workers ≡ ends.front ++ Takes h.name ∷ ends.behind = does_all script workers one ∙ ends.split in
-                let (t, among, named, begun) = went.deltas ends.front ends.behind h.name deeds in
-                let names : length (names_taken opened) ≡ 0 = ap length opens.went.took in
-                let none : opened.deltas.taken ≡ [] =
-                nil_from_length opened.deltas.taken (omega (arith, names, length-map opened.deltas.taken (λ (t : Taken). t.name))) in
+                let deeds : deeds_of_all script workers ≡ last.front ++ Takes h.name ∷ last.behind = does_all script workers one ∙ last.split in
+                let did = went.deltas last.front last.behind h.name deeds in
+                let (no_more, is_same, no_names) = opens.went.took in
+                let none : opened.deltas.taken ≡ [] = is_same ∙ nil_from_map (λ (t : Taken). t.name) no_more no_names in
                 let (youngest, alone) = All-contains (λ (t : Taken). (t.moment.before + 1 ≡ made_of ran.role) × (t.moment.outstanding ≡ outstanding_of opened.role))
-                ran.deltas.taken t (runs.alone one none) among in
-                let (units, sum) = deltas outstanding t among
-                (final_behind ran ends.front ends.behind h.name t (log ∙ ap entries_among deeds) named (omega (arith, begun)) (alone ∙ opens.back) youngest ends.quiet) in record {
-                  marks = λ key. tally.marks key
-                      ∙ (subst (λ (name : List ℕ). taken_units (taken_of ran) name key ≡ tally_units (log_of ran) name key) named (units key) ∙ sym (tally.units key));
+                ran.deltas.taken did.delta (runs.alone one none)
+                (subst (λ (l : List Taken). Contains l did.delta) (sym did.split)
+                (Contains-append_right did.front (did.delta ∷ did.behind) did.delta (0, omega arith, refl))) in
+                let (units, sum) = (deltas outstanding).each did.front did.behind did.delta did.split (alone ∙ opens.back) youngest in
+                let start = did.begun in
+                let begun : did.delta.moment.log ≡ length (entries_among last.front) = omega (arith, start) in
+                let front : take did.delta.moment.log (log_of ran) ≡ entries_among last.front =
+                (λ i. take (begun i) ((log ∙ (ap entries_among deeds ∙ filter_map-append entry_in last.front (Takes h.name ∷ last.behind))) i))
+                ∙ take-append_seam (entries_among last.front) (entries_among last.behind) in
+                let others : times h.name (map (λ (t : Taken). t.name) did.behind) ≡ 0 = ap (times h.name) did.rest ∙ no_times h.name (deltas_among last.behind) last.last in record {
+                  marks = λ key.
+                      let mark = tally.marks key in
+                      let all = subst (λ (p : List ℕ × List Entry). taken_units (taken_of ran) p.0 key ≡ tally_units p.1 p.0 key + taken_units (map portion_of did.behind) p.0 key)
+                      (λ i. (did.named i, front i)) (units key) in
+                      let rest = (takes_none h.name key did.behind others).0 in
+                      omega (arith, mark, all, rest);
                   sum_mark = tally.sum_mark
-                      ∙ (subst (λ (name : List ℕ). taken_sum (taken_of ran) name ≡ tally_sum (log_of ran) name) named sum ∙ sym tally.sum);
+                      ∙ (subst (λ (p : List ℕ × List Entry). taken_sum (taken_of ran) p.0 ≡ tally_sum p.1 p.0 +ℤ taken_sum (map portion_of did.behind) p.0)
+                      (λ i. (did.named i, front i)) sum
+                      ∙ (ap (λ (z : ℤ). tally_sum (entries_among last.front) h.name +ℤ z) (takes_none h.name (pos 0) did.behind others).1
+                      ∙ +ℤ_idr (tally_sum (entries_among last.front) h.name)));
                 };
           };
     }

@@ -15,7 +15,6 @@ use Rattle.segment_machine.specs.Actor.{log_of, made_of, outstanding_of}
 use Rattle.segment_machine.specs.Entry.{sample_entry}
 use Rattle.segment_machine.specs.Seats.{joined, shifted, shifted_taken}
 use Rattle.segment_invariant.proofs.Consistency.Keys.{same_boundaries}
-use Rattle.segment_invariant.proofs.Lists.Maps.{contains_map}
 use Rattle.live_segment.specs.declared.recorder.Hist.{Hist}
 use Rattle.live_segment.specs.Adding.{IsAdded}
 use Rattle.live_segment.specs.Deltas.{HasTaken, taken_as}
@@ -24,7 +23,7 @@ use Rattle.persist_report_core.specs.declared.script.CallKind.TheVariants as kin
 use Rattle.persist_report_core.specs.Script.{HistRecord}
 use Rattle.bucket_ranges.specs.Ranges.{boundaries_of}
 use Rattle.persist_commands.specs.Entries.{Deed, Records, Takes, deeds_in, delta_in, deltas_among, entries_among, entry_in}
-use Rattle.persist_commands.specs.Recording.{AreOf, HandsOut, HasRecorded, IsAskedIn, IsFresh, KnowsOf, WentOn, all_joined, names_taken}
+use Rattle.persist_commands.specs.Recording.{AreOf, HandsOut, HasRecorded, IsAskedIn, IsFresh, KnowsOf, WentOn, all_joined}
 
 -- ---- deeds among deeds
 
@@ -34,24 +33,29 @@ none_among [] behind deed is = cc is
 none_among (x ∷ front) behind deed is = cc is
 
 -- one deed is the only one
-one_among : (front behind : List Deed) (one deed : Deed) → one ∷ [] ≡ front ++ deed ∷ behind → (front ≡ []) × (one ≡ deed)
-one_among [] behind one deed is = (refl, cc is)
+one_among : (front behind : List Deed) (one deed : Deed) → one ∷ [] ≡ front ++ deed ∷ behind → (front ≡ []) × (one ≡ deed) × (behind ≡ [])
+one_among [] behind one deed is = (refl, cc is, sym (cc is))
 one_among (x ∷ front) behind one deed is = absurd (none_among front behind deed (cc is))
 
 -- one of two lists of deeds stands in the first or in the second
 in_either : (xs ys front behind : List Deed) (deed : Deed) → xs ++ ys ≡ front ++ deed ∷ behind
-    → ((more : List Deed) × (xs ≡ front ++ deed ∷ more)) ⊎ ((back : List Deed) × (front ≡ xs ++ back) × (ys ≡ back ++ deed ∷ behind))
+    → ((more : List Deed) × (xs ≡ front ++ deed ∷ more) × (behind ≡ more ++ ys)) ⊎ ((back : List Deed) × (front ≡ xs ++ back) × (ys ≡ back ++ deed ∷ behind))
 in_either [] ys front behind deed is = inr (front, refl, is)
-in_either (x ∷ xs) ys [] behind deed is = let same : x ≡ deed = cc is in inl (xs, ap (λ (d : Deed). d ∷ xs) same)
+in_either (x ∷ xs) ys [] behind deed is = let same : x ≡ deed = cc is in inl (xs, ap (λ (d : Deed). d ∷ xs) same, sym (cc is))
 in_either (x ∷ xs) ys (y ∷ front) behind deed is =
     let same : x ≡ y = cc is in
     let rest : xs ++ ys ≡ front ++ deed ∷ behind = cc is in
     ⊎_elim
-    (λ first. inl (first.0, λ i. same i ∷ first.1 i))
+    (λ first. inl (first.0, (λ i. same i ∷ first.1 i), first.2))
     (λ second. inr (second.0, (λ i. sym same i ∷ second.1 i), second.2))
     (in_either xs ys front behind deed rest)
 
 -- ---- one after the other
+
+-- no delta more
+took_nothing : (old new : Actor) → new.deltas.taken ≡ old.deltas.taken
+    → (more : List Taken) × (new.deltas.taken ≡ old.deltas.taken ++ more) × (map (λ (t : Taken). t.name) more ≡ [])
+took_nothing old new same = ([], same ∙ sym (append-nil old.deltas.taken), refl)
 
 pub went_nowhere : (hists : List HistRecord) (old new : Actor) → new ≡ old → WentOn hists [] old new
 went_nowhere hists old new still = record {
@@ -59,13 +63,18 @@ went_nowhere hists old new still = record {
   first_noted = ap (λ (a : Actor). a.entries.first_noted) still;
   logged = ap log_of still ∙ sym (append-nil (log_of old));
   first_taken = ap (λ (a : Actor). a.deltas.first_taken) still;
-  took = ap names_taken still ∙ sym (append-nil (names_taken old));
-  kept = subst (λ (a : Actor). (t : Taken) → Contains old.deltas.taken t → Contains a.deltas.taken t) (sym still) (λ t has. has);
+  took = took_nothing old new (ap (λ (a : Actor). a.deltas.taken) still);
   deltas = λ front behind name is. absurd (none_among front behind (Takes name) is);
   names = subst (λ (a : Actor). All (IsAskedIn hists) old.answers.names → All (IsAskedIn hists) a.answers.names) (sym still) (λ all. all);
   spoiled = ap (λ (a : Actor). a.done.spoiled) still;
   filled = ap (λ (a : Actor). a.done.filled) still;
 }
+
+-- the names of what was taken for two lists of deeds
+names_joined : (first second : List Taken) (xs ys : List Deed) → map (λ (t : Taken). t.name) first ≡ deltas_among xs → map (λ (t : Taken). t.name) second ≡ deltas_among ys
+    → map (λ (t : Taken). t.name) (first ++ second) ≡ deltas_among (xs ++ ys)
+names_joined first second xs ys one two =
+    map-append (λ (t : Taken). t.name) first second ∙ ((λ i. one i ++ two i) ∙ sym (filter_map-append delta_in xs ys))
 
 pub went_twice : (hists : List HistRecord) (xs ys : List Deed) (a b c : Actor) → WentOn hists xs a b → WentOn hists ys b c → WentOn hists (xs ++ ys) a c
 went_twice hists xs ys a b c one two = record {
@@ -76,20 +85,40 @@ went_twice hists xs ys a b c one two = record {
       ∙ (append_assoc (log_of a) (entries_among xs) (entries_among ys)
       ∙ ap (λ (l : List Entry). log_of a ++ l) (sym (filter_map-append entry_in xs ys))));
   first_taken = two.first_taken ∙ one.first_taken;
-  took = two.took
-      ∙ (ap (λ (l : List (List ℕ)). l ++ deltas_among ys) one.took
-      ∙ (append_assoc (names_taken a) (deltas_among xs) (deltas_among ys)
-      ∙ ap (λ (l : List (List ℕ)). names_taken a ++ l) (sym (filter_map-append delta_in xs ys))));
-  kept = λ t has. two.kept t (one.kept t has);
+  took =
+      let (first, first_is, first_names) = one.took in
+      let (second, second_is, second_names) = two.took in (
+        first ++ second,
+        second_is ∙ (ap (λ (l : List Taken). l ++ second) first_is ∙ append_assoc a.deltas.taken first second),
+        names_joined first second xs ys first_names second_names,
+      );
   deltas = λ front behind name is. ⊎_elim
       (λ first.
-      let (t, has, named, log) = one.deltas front first.0 name first.1 in (t, two.kept t has, named, log))
+      let did = one.deltas front first.0 name first.1 in
+      let (more, is, names) = two.took in record {
+        front = did.front;
+        delta = did.delta;
+        behind = did.behind ++ more;
+        split = is ∙ (ap (λ (l : List Taken). l ++ more) did.split ∙ append_assoc did.front (did.delta ∷ did.behind) more);
+        named = did.named;
+        begun = did.begun;
+        rest = names_joined did.behind more first.0 ys did.rest names ∙ ap deltas_among (sym first.2);
+      })
       (λ second.
-      let (t, has, named, log) = two.deltas second.0 behind name second.2 in
+      let did = two.deltas second.0 behind name second.2 in
+      let log = did.begun in
       let before = ap length one.logged ∙ length-append (log_of a) (entries_among xs) in
       let all = ap (λ (deeds : List Deed). length (entries_among deeds)) second.1 ∙ ap length (filter_map-append entry_in xs second.0) in
       let both = length-append (entries_among xs) (entries_among second.0) in
-      (t, has, named, omega (arith, log, before, all, both)))
+      record {
+        front = did.front;
+        delta = did.delta;
+        behind = did.behind;
+        split = did.split;
+        named = did.named;
+        begun = omega (arith, log, before, all, both);
+        rest = did.rest;
+      })
       (in_either xs ys front behind (Takes name) is);
   names = λ all. two.names (one.names all);
   spoiled = two.spoiled ∙ one.spoiled;
@@ -103,8 +132,7 @@ went_handing hists n old new hands = record {
   first_noted = ap (λ e. e.first_noted) hands.entries;
   logged = ap (λ e. e.first ++ map (λ (c : EntryProgress). c.entry) e.log) hands.entries ∙ sym (append-nil (log_of old));
   first_taken = ap (λ d. d.first_taken) hands.deltas;
-  took = ap (λ d. map (λ (t : Taken). t.name) d.taken) hands.deltas ∙ sym (append-nil (names_taken old));
-  kept = subst (λ d. (t : Taken) → Contains old.deltas.taken t → Contains d.taken t) (sym hands.deltas) (λ t has. has);
+  took = took_nothing old new (ap (λ d. d.taken) hands.deltas);
   deltas = λ front behind name is. absurd (none_among front behind (Takes name) is);
   names = subst (λ a. All (IsAskedIn hists) old.answers.names → All (IsAskedIn hists) a.names) (sym hands.answers) (λ all. all);
   spoiled = ap (λ d. d.spoiled) hands.done;
@@ -131,8 +159,7 @@ went_asking hists hist histogram old new has (inr comes_to) =
       first_noted = ap (λ e. e.first_noted) entries;
       logged = ap (λ e. e.first ++ map (λ (c : EntryProgress). c.entry) e.log) entries ∙ sym (append-nil (log_of old));
       first_taken = ap (λ d. d.first_taken) deltas;
-      took = ap (λ d. map (λ (t : Taken). t.name) d.taken) deltas ∙ sym (append-nil (names_taken old));
-      kept = subst (λ d. (t : Taken) → Contains old.deltas.taken t → Contains d.taken t) (sym deltas) (λ t has. has);
+      took = took_nothing old new (ap (λ d. d.taken) deltas);
       deltas = λ front behind name is. absurd (none_among front behind (Takes name) is);
       names = λ all. subst (All (IsAskedIn hists)) (sym names)
           (All-append (IsAskedIn hists) old.answers.names (record { name = asked.name.items; spec = asked.spec; reference = reference } ∷ []) all
@@ -151,8 +178,7 @@ went_adding hists hist known value count old new named same added =
       logged = added.logged
           ∙ (λ i. log_of old ++ sample_entry (named i) (same_boundaries known.spec hist.spec same i) (value, count) ∷ []);
       first_taken = ap (λ (a : Actor). a.deltas.first_taken) on.same;
-      took = ap names_taken on.same ∙ sym (append-nil (names_taken old));
-      kept = subst (λ (a : Actor). (t : Taken) → Contains old.deltas.taken t → Contains a.deltas.taken t) (sym on.same) (λ t has. has);
+      took = took_nothing old new (ap (λ (a : Actor). a.deltas.taken) on.same);
       deltas = λ front behind name is.
           let apart : Records (sample_entry hist.name (boundaries_of hist.spec) (value, count)) ≡ Takes name =
           (one_among front behind (Records (sample_entry hist.name (boundaries_of hist.spec) (value, count))) (Takes name) is).1 in absurd (cc apart);
@@ -169,21 +195,19 @@ went_taking hists hist known counts sum old new named taken = record {
   first_noted = ap (λ (a : Actor). a.entries.first_noted) taken.same;
   logged = ap log_of taken.same ∙ sym (append-nil (log_of old));
   first_taken = ap (λ (a : Actor). a.deltas.first_taken) taken.same;
-  took = ap names_taken taken.same
-      ∙ (map-append (λ (t : Taken). t.name) old.deltas.taken (taken_as old known taken.counts sum ∷ [])
-      ∙ ap (λ (name : List ℕ). names_taken old ++ name ∷ []) named);
-  kept = λ t has. subst (λ (l : List Taken). Contains l t) (sym (ap (λ (a : Actor). a.deltas.taken) taken.same))
-      (Contains-append_left old.deltas.taken (taken_as old known taken.counts sum ∷ []) t has);
+  took = (taken_as old known taken.counts sum ∷ [], ap (λ (a : Actor). a.deltas.taken) taken.same, ap (λ (name : List ℕ). name ∷ []) named);
   deltas = λ front behind name is.
-      let (none, same) = one_among front behind (Takes hist.name) (Takes name) is in
+      let (none, same, last) = one_among front behind (Takes hist.name) (Takes name) is in
       let called : hist.name ≡ name = cc same in
-      let nothing : length (entries_among front) ≡ 0 = ap (λ (deeds : List Deed). length (entries_among deeds)) none in (
-        taken_as old known taken.counts sum,
-        subst (λ (l : List Taken). Contains l (taken_as old known taken.counts sum)) (sym (ap (λ (a : Actor). a.deltas.taken) taken.same))
-            (Contains-append_right old.deltas.taken (taken_as old known taken.counts sum ∷ []) (taken_as old known taken.counts sum) (0, omega arith, refl)),
-        named ∙ called,
-        omega (arith, nothing),
-      );
+      let nothing : length (entries_among front) ≡ 0 = ap (λ (deeds : List Deed). length (entries_among deeds)) none in record {
+        front = old.deltas.taken;
+        delta = taken_as old known taken.counts sum;
+        behind = [];
+        split = ap (λ (a : Actor). a.deltas.taken) taken.same;
+        named = named ∙ called;
+        begun = omega (arith, nothing);
+        rest = sym (ap deltas_among last);
+      };
   names = subst (λ (l : List Known). All (IsAskedIn hists) old.answers.names → All (IsAskedIn hists) l) (sym (ap (λ (a : Actor). a.answers.names) taken.same)) (λ all. all);
   spoiled = ap (λ (a : Actor). a.done.spoiled) taken.same;
   filled = ap (λ (a : Actor). a.done.filled) taken.same;
@@ -260,27 +284,30 @@ went_joining hists deeds opener fresh recorder is went =
     let begun : log_of fresh ≡ [] = λ i. is.first i ++ entries_of (is.log i) in
     let its : entries_of recorder.entries.log ≡ entries_among deeds =
     sym (ap (λ (l : List Entry). l ++ entries_of recorder.entries.log) none) ∙ (went.logged ∙ ap (λ (l : List Entry). l ++ entries_among deeds) begun) in
-    let name : Taken → List ℕ = λ t. t.name in
-    let took : names_taken recorder ≡ deltas_among deeds = went.took ∙ ap (λ (l : List Taken). map name l ++ deltas_among deeds) is.taken in record {
+    let n : ℕ = length (log_of opener) in
+    let (more, taken_is, names) = went.took in
+    let taken : recorder.deltas.taken ≡ more = taken_is ∙ ap (λ (l : List Taken). l ++ more) is.taken in record {
       first = refl;
       first_noted = refl;
       logged = ap (λ (l : List Entry). opener.entries.first ++ l) (map-append (λ (c : EntryProgress). c.entry) opener.entries.log recorder.entries.log)
           ∙ (sym (append_assoc opener.entries.first (entries_of opener.entries.log) (entries_of recorder.entries.log))
           ∙ ap (λ (l : List Entry). (opener.entries.first ++ entries_of opener.entries.log) ++ l) its);
       first_taken = refl;
-      took = map-append name opener.deltas.taken (shifted_taken (length (log_of opener)) recorder.deltas.taken)
-          ∙ ap (λ (l : List (List ℕ)). names_taken opener ++ l) (names_shifted (length (log_of opener)) recorder.deltas.taken ∙ took);
-      kept = λ t has. Contains-append_left opener.deltas.taken (shifted_taken (length (log_of opener)) recorder.deltas.taken) t has;
+      took = (shifted_taken n recorder.deltas.taken, refl, names_shifted n recorder.deltas.taken ∙ (ap (map (λ (t : Taken). t.name)) taken ∙ names));
       deltas = λ front behind name split.
-          let (t, has, named, log) = went.deltas front behind name split in
-          let later : Taken = record t { moment = shifted (length (log_of opener)) t.moment } in
-          let empty = ap length begun in (
-            later,
-            Contains-append_right opener.deltas.taken (shifted_taken (length (log_of opener)) recorder.deltas.taken) later
-                (contains_map (λ (t : Taken). record t { moment = shifted (length (log_of opener)) t.moment }) recorder.deltas.taken t has),
-            named,
-            omega (arith, log, empty),
-          );
+          let did = went.deltas front behind name split in
+          let log = did.begun in
+          let empty = ap length begun in record {
+            front = opener.deltas.taken ++ shifted_taken n did.front;
+            delta = record did.delta { moment = shifted n did.delta.moment };
+            behind = shifted_taken n did.behind;
+            split = ap (λ (l : List Taken). opener.deltas.taken ++ shifted_taken n l) did.split
+                ∙ (ap (λ (l : List Taken). opener.deltas.taken ++ l) (map-append (λ (t : Taken). record t { moment = shifted n t.moment }) did.front (did.delta ∷ did.behind))
+                ∙ sym (append_assoc opener.deltas.taken (shifted_taken n did.front) (shifted_taken n (did.delta ∷ did.behind))));
+            named = did.named;
+            begun = omega (arith, log, empty);
+            rest = names_shifted n did.behind ∙ did.rest;
+          };
       names = λ all. All-append (IsAskedIn hists) opener.answers.names recorder.answers.names all
           (went.names (subst (All (IsAskedIn hists)) (sym is.names) (λ k d below. absurd (omega (arith, below)))));
       spoiled = unset opener.done.spoiled recorder.done.spoiled (went.spoiled ∙ is.spoiled);

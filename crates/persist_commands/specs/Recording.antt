@@ -37,13 +37,15 @@ pub record IsFresh (a : Actor) : Type 0 where
 abbrev pub IsAskedIn : List HistRecord → Known → Type 0
 IsAskedIn hists known = (hist : HistRecord) × Contains hists hist × (known.name ≡ hist.name) × SameSpec known.spec hist.spec
 
--- the names of the histograms of which it has taken deltas, one after the other
-abbrev pub names_taken : Actor → List (List ℕ)
-names_taken a = map (λ t. t.name) a.deltas.taken
-
--- it has taken a delta of a name, which began when so many entries stood in its log
-abbrev pub HasDelta : List ℕ → ℕ → Actor → Type 0
-HasDelta name entries a = (t : Taken) × Contains a.deltas.taken t × (t.name ≡ name) × (t.moment.log ≡ entries)
+-- It has taken a delta of a name, which began when so many entries stood in its log, and behind it deltas of these names.
+pub record HasDelta (name : List ℕ) (entries : ℕ) (later : List (List ℕ)) (a : Actor) : Type 0 where
+  pub front : List Taken
+  pub delta : Taken
+  pub behind : List Taken
+  pub split : a.deltas.taken ≡ front ++ delta ∷ behind
+  pub named : delta.name ≡ name
+  pub begun : delta.moment.log ≡ entries
+  pub rest : map (λ t. t.name) behind ≡ later
 
 -- deltas began at a recorder of this role
 abbrev pub AreOf : Role → List Taken → Type 0
@@ -56,10 +58,9 @@ pub record WentOn (hists : List HistRecord) (deeds : List Deed) (old new : Actor
   pub first_noted : new.entries.first_noted ≡ old.entries.first_noted
   pub logged : log_of new ≡ log_of old ++ entries_among deeds
   pub first_taken : new.deltas.first_taken ≡ old.deltas.first_taken
-  pub took : names_taken new ≡ names_taken old ++ deltas_among deeds
-  pub kept : (t : Taken) → Contains old.deltas.taken t → Contains new.deltas.taken t
+  pub took : (more : List Taken) × (new.deltas.taken ≡ old.deltas.taken ++ more) × (map (λ t. t.name) more ≡ deltas_among deeds)
   pub deltas : (front behind : List Deed) (name : List ℕ) → deeds ≡ front ++ Takes name ∷ behind
-      → HasDelta name (length (log_of old) + length (entries_among front)) new
+      → HasDelta name (length (log_of old) + length (entries_among front)) (deltas_among behind) new
   pub names : All (IsAskedIn hists) old.answers.names → All (IsAskedIn hists) new.answers.names
   pub spoiled : new.done.spoiled ≡ old.done.spoiled
   pub filled : new.done.filled ≡ old.done.filled

@@ -1,13 +1,13 @@
 -- What a script that was run leaves.
 use Rattle.std.specs.Prelude.{◌≡◌, ◌↔◌, ◌<◌, ◌≤◌, false, ℕ, ℤ, List, ◌∷◌, ◌++◌, length, Ok, MatchResult, ⊤}
-use Rattle.std.specs.List.{All, Contains}
+use Rattle.std.specs.List.{Contains}
 use mathlib.Core.Option.{some}
 use lib.ListN.{get_elem?}
 use Rattle.segment_image.specs.Head.{header_of, head_of}
 use Rattle.bucket_ranges.specs.Spec.{SameSpec}
 use Rattle.bucket_ranges.specs.Reading.{Histogram, Reading, IsReading}
 use Rattle.segment_machine.specs.declared.entry.Entry.{Entry}
-use Rattle.segment_machine.specs.Entry.{is_of, tally_units, tally_sum, tally_noted}
+use Rattle.segment_machine.specs.Entry.{tally_units, tally_sum, tally_noted}
 use Rattle.segment_promises.specs.Reads.{mark_read, units_read, HasNoFault}
 use Rattle.segment_merge.specs.Image.{HasNoMarks}
 use Rattle.segment_calls.specs.declared.refusal.Refusal.TheVariants as refusal
@@ -17,7 +17,7 @@ use Rattle.persist_report_core.specs.declared.script.fault.ScriptFault.{ScriptFa
 use Rattle.persist_report_core.specs.declared.script.fault.ScriptFault.TheVariants as told
 use Rattle.persist_report_core.specs.Script.{HistRecord, Script, script_of}
 use Rattle.persist_report_core.specs.Text.{IsTextOf}
-use Rattle.persist_commands.specs.Entries.{Deed, Takes, deeds_of, deltas_of, entries_among, entries_of}
+use Rattle.persist_commands.specs.Entries.{Deed, Takes, deeds_of, deltas_among, deltas_of, entries_among, entries_of}
 
 -- a histogram that is read has what entries add up to: the units of each key, the sum, and all units as its redundant count
 pub record IsTallyOf (entries : List Entry) (h : Histogram) : Type 0 where
@@ -25,21 +25,21 @@ pub record IsTallyOf (entries : List Entry) (h : Histogram) : Type 0 where
   pub sum : h.sum ≡ tally_sum entries h.name
   pub redundant : h.redundant ≡ tally_noted entries h.name
 
--- a delta of a name is taken, and behind it nothing is recorded of the name
-pub record EndsTaken (deeds : List Deed) (name : List ℕ) : Type 0 where
+-- a delta of a name is taken, behind which there is none of the name
+pub record LastDelta (deeds : List Deed) (name : List ℕ) : Type 0 where
   pub front : List Deed
   pub behind : List Deed
   pub split : deeds ≡ front ++ Takes name ∷ behind
-  pub quiet : All (λ entry. is_of name entry ≡ false) (entries_among behind)
+  pub last : ¬ (Contains (deltas_among behind) name)
 
--- deltas have taken all of a histogram: the mark of each key is its units, and the sum mark is the sum
-pub record IsTakenWhole (h : Histogram) : Type 0 where
-  pub marks : (key : ℤ) → mark_read h key ≡ units_read h key
-  pub sum_mark : h.sum_mark ≡ h.sum
+-- deltas have taken of a histogram exactly what entries add up to: the mark of each key is its units, and the sum mark is the sum
+pub record AreTaken (entries : List Entry) (h : Histogram) : Type 0 where
+  pub marks : (key : ℤ) → mark_read h key ≡ tally_units entries h.name key
+  pub sum_mark : h.sum_mark ≡ tally_sum entries h.name
 
 -- A reading of what a script records by so many workers: no record is bad, the list does not stop, and no flag is set. The names are
 -- exactly those of the `hist` records, each once and with their spec. Each histogram has the tally of the `add` records. One of which no
--- `delta` record takes has no marks. Of one with a `delta` record behind all of its `add` records a single worker has taken all.
+-- `delta` record takes has no marks. Of each other a single worker has taken what the `add` records in front of its last `delta` record add up to.
 pub record IsRecordingOf (script : Script) (workers : ℕ) (reading : Reading) : Type 0 where
   pub lawful : HasNoFault reading
   pub named : (name : List ℕ) → ((h : Histogram) × Contains reading.hists h × (h.name ≡ name)) ↔ ((hist : HistRecord) × Contains script.hists hist × (hist.name ≡ name))
@@ -50,7 +50,8 @@ pub record IsRecordingOf (script : Script) (workers : ℕ) (reading : Reading) :
   pub corrupt : reading.corrupt ≡ false
   pub full : reading.full ≡ false
   pub unmarked : (h : Histogram) → Contains reading.hists h → ¬ (Contains (deltas_of script.hists script.calls) h.name) → HasNoMarks h
-  pub taken : workers ≡ 1 → (h : Histogram) → Contains reading.hists h → EndsTaken (deeds_of script.hists script.calls) h.name → IsTakenWhole h
+  pub taken : workers ≡ 1 → (h : Histogram) → Contains reading.hists h → (delta : LastDelta (deeds_of script.hists script.calls) h.name)
+      → AreTaken (entries_among delta.front) h
 
 -- Words are the image of a segment in which a script was run by so many workers: it has the script's shape and id and is of version 2, and is read as what
 -- the script records.

@@ -193,7 +193,7 @@ fn write_both<I: Write, W: Write>(
 ///
 /// On `Ok`, the image has the script's shape and id and is of version 2. It is read as exactly the histograms of the script, each
 /// with its spec and with the counts and the sum that the `add` records add up to, whatever the number of workers. A single worker has taken
-/// all of a histogram with a `delta` record behind all of its `add` records: its marks are its counts. Both outputs are flushed.
+/// of each histogram what the `add` records in front of its last `delta` record add up to: these are its marks. Both outputs are flushed.
 ///
 /// `Read` where a read fails; `TooLong` where more than 16,777,216 bytes come; `BadLine` with the first record that has no lawful form;
 /// `Refused` with the first that adds no unit, or more than a segment has. Then, by the first of these that is met: `NoThread` where a

@@ -2,11 +2,9 @@
 use Rattle.std.specs.Prelude.{◌≡◌, ◌≢◌, true, false, ℕ, ◌<◌, ◌≤◌, List, Result, Ok, Err, ⊤}
 use Rattle.segment_image.specs.declared.layout.TheConstants.{VERSION_FROZEN}
 use Rattle.segment_image.specs.Head.{header_of, head_of}
-use Rattle.bucket_ranges.specs.declared.limits.TheConstants.{MAX_UNITS}
 use Rattle.bucket_ranges.specs.Reading.{Reading, IsListed, reading_along}
 use Rattle.segment_promises.specs.Adoption.{IsAdoptable, IsUndamaged, used_of}
 use Rattle.image_reader.specs.Views.{reading_view}
-use Rattle.image_adoption.specs.declared.checking.TheConstants.{MAX_CURSORS}
 use Rattle.image_adoption.specs.declared.checking.Adoptable.{Adoptable}
 use Rattle.image_adoption.specs.declared.fault.AdoptFault.{AdoptFault}
 use Rattle.image_adoption.specs.declared.fault.AdoptFault.TheVariants.{Image, OldVersion, Corrupt, Damaged, NoUnits, BadCursors, NoMemory}
@@ -32,9 +30,9 @@ IsFaultOf words cursors Damaged =
     IsIntact words × (references : List ℕ) × (reading : Reading) × Reads words references reading × (¬ (IsUndamaged words references reading))
 IsFaultOf words cursors NoUnits =
     IsIntact words × (references : List ℕ) × (reading : Reading) × Reads words references reading × IsUndamaged words references reading
-    × (MAX_UNITS < used_of reading)
+    × (4294967295 < used_of reading)
 IsFaultOf words cursors BadCursors =
-    (references : List ℕ) × (reading : Reading) × Reads words references reading × IsAdoptable words references reading × (MAX_CURSORS < cursors)
+    (references : List ℕ) × (reading : Reading) × Reads words references reading × IsAdoptable words references reading × (8 < cursors)
 IsFaultOf words cursors NoMemory = ⊤
 
 -- the image may be adopted with so many cursors, and this is its list, what it reads as, and what it has used
@@ -42,7 +40,7 @@ pub record IsAdoption (words : List ℕ) (cursors : ℕ) (adoptable : Adoptable)
   pub reads : Reads words adoptable.references.items (reading_view adoptable.reading)
   pub lawful : IsAdoptable words adoptable.references.items (reading_view adoptable.reading)
   pub used : adoptable.used ≡ used_of (reading_view adoptable.reading)
-  pub few : cursors ≤ MAX_CURSORS
+  pub few : cursors ≤ 8
 
 -- the right answer
 abbrev pub AdoptionOf : List ℕ → ℕ → Result Adoptable AdoptFault → Type 0

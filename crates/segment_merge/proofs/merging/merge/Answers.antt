@@ -1,4 +1,6 @@
-use Rattle.std.proofs.Common.{rules, ◌≡◌, List, ℕ, drop, length, map, get_or, ap, sym, ◌∙◌, arith}
+use Rattle.std.proofs.Common.{rules, ◌≡◌, List, [], ℕ, drop, length, map, get_or, refl, ap, sym, subst, ◌∙◌, arith}
+use Rattle.std.specs.declared.alloc.Global.{Global}
+use Rattle.std.specs.declared.vec.Vec.{Vec}
 use Rattle.std.specs.Vec.Iter.{into_iter_items}
 use Rattle.std.proofs.lemmas.List.{get_or-map, length-map}
 use Rattle.bucket_ranges.specs.Reading.{Histogram}
@@ -7,8 +9,23 @@ use Rattle.image_reader.specs.declared.reading.HistReading.{HistReading}
 use Rattle.live_segment.specs.Holders.{view_of_recorder}
 use Rattle.segment_merge.specs.declared.merging.Part.{Part}
 use Rattle.segment_merge.proofs.Batches.{knows_then}
-use Rattle.segment_merge.proofs.Underway.{goes_on, more_lines, next_part, reports_stop}
+use Rattle.segment_promises.proofs.Growing.{grows_not}
+use Rattle.segment_merge.proofs.Underway.{IsUnderWay, goes_on, more_lines, next_part, reports_stop, under_way_none}
 use Rattle.segment_merge.proofs.merging.merge.Goals as goal
+
+pub loop-part-init : goal.loop-part-init
+loop-part-init c =
+    let list : List Part = into_iter_items c.into_iter-part-iterator.result in
+    let views : List Histogram = map histogram_view c.args.reading.now.hists.items in
+    let a = view_of_recorder c.args.recorder.now in
+    let none : c.in_ok-added.added.items ≡ [] = c.in_ok-added.ensures.items in (
+      tt,
+      tt,
+      ap (λ (l : List (Vec ℕ Global × ℕ)). drop (length l) list) (sym none),
+      search rules,
+      record { segment = refl; table = refl; fresh = refl; known = grows_not a.answers.names },
+      subst (λ (l : List (Vec ℕ Global × ℕ)). IsUnderWay views l a a) (sym none) (under_way_none views a),
+    )
 
 pub merge_next-stopped-requires-clause-part : goal.merge_next-stopped-requires-clause-part
 merge_next-stopped-requires-clause-part c =

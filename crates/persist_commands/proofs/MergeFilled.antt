@@ -149,10 +149,12 @@ module _ (setting : Setting) (front : List Histogram) (h : Histogram) (items : �
     all = all_read;
     items = items;
     tallies = λ g has.
-        let tally = read.tallies g has in record {
+        let tally = read.tallies g has in
+        let noted : g.redundant ≡ 0 + tally_noted (map (λ (c : EntryProgress). c.entry) last.entries.log) g.name = tally.redundant in
+        let same = ap (λ (log : List Entry). tally_noted log g.name) logged in record {
           units = λ key. tally.units key ∙ ap (λ (log : List Entry). tally_units log g.name key) logged;
           sum = tally.sum ∙ ap (λ (log : List Entry). tally_sum log g.name) logged;
-          redundant = tally.redundant ∙ ap (λ (log : List Entry). tally_noted log g.name) logged;
+          redundant = omega (arith, noted, same);
         };
     block = block;
     needs = ⊎_elim

@@ -39,8 +39,8 @@ fn main(rt: HostRuntime) -> Result<()> {
         bail!("give record, walk, growths or time");
     };
     match what.as_str() {
-        "record" => threads::record(&rt, parameters),
-        "walk" => threads::walk(&rt, parameters),
+        "record" => threads::record_rounds(&rt, parameters),
+        "walk" => threads::walk_rounds(&rt, parameters),
         "growths" => growths::show(&rt),
         "time" => timing::run(&rt, parameters),
         _ => bail!("give record, walk, growths or time"),

@@ -28,7 +28,7 @@ fn read_parameters(words: &[String]) -> Result<Parameters> {
 }
 
 /// Rounds in which threads record into a segment.
-pub(crate) fn record<R: Threads + Print + AllocGlobal + Sync>(
+pub(crate) fn record_rounds<R: Threads + Print + AllocGlobal + Sync>(
     rt: &R,
     words: &[String],
 ) -> Result<()> {
@@ -44,7 +44,7 @@ pub(crate) fn record<R: Threads + Print + AllocGlobal + Sync>(
 }
 
 /// Rounds in which threads go along the records of a segment.
-pub(crate) fn walk<R: Threads + Print + AllocGlobal + Sync>(
+pub(crate) fn walk_rounds<R: Threads + Print + AllocGlobal + Sync>(
     rt: &R,
     words: &[String],
 ) -> Result<()> {

@@ -81,7 +81,7 @@ fn show_merge(rt: &(impl Print + AllocGlobal), reading: &Reading) -> Result<bool
 }
 
 pub(super) fn show(rt: &(impl Print + AllocGlobal), words: &[u64]) -> Result<()> {
-    let reading = again(rt, "read", || read(rt.alloc(), words))??;
+    let reading = again!(rt, "read", read(rt.alloc(), words));
     println!(rt; "{reading:?}")?;
     show_reports(rt, rt.alloc(), words)?;
     if !show_merge(rt, &reading)? {

@@ -47,7 +47,7 @@ ASKED = {
     "records": [8 * FITTING],
     "fresh_records": [8 * FITTING] * 2,
 }
-# `merge` for all histograms 80 bytes each, then for each of them twice its name and 8 bytes for each of its keys, and then again for all
+# `merge` for all histograms 88 bytes each, then for each of them twice its name and 8 bytes for each of its keys, and then again for all
 # 32 bytes each, before the `hist` of each.
 MERGED = {"boolean": 3, "custom": 4, "sparse": 5, "A": 3, "B": 3, "C": 3, "D": 3, "a_name_that_is_longer": 3}
 # `hist` so many bytes at most in all, but for the list of what it knows, which has 88 bytes for each.
@@ -80,7 +80,7 @@ def wrong_sizes(asked):
         sizes[name_of(one.call)].append(one.size)
         if one.call == "hist" and one.size not in KNOWN:
             of_hists[one.place] += one.size
-    of_merge = [80 * len(MERGED), *(size for name, keys in MERGED.items() for size in (len(name), len(name), 8 * keys)), 32 * len(MERGED)]
+    of_merge = [88 * len(MERGED), *(size for name, keys in MERGED.items() for size in (len(name), len(name), 8 * keys)), 32 * len(MERGED)]
     wanted = {**ASKED, "merge": of_merge}
     for name, right in wanted.items():
         came = sizes[name][:len(right)] if name == "merge" else sizes[name]

@@ -52,7 +52,7 @@ struct Part {
 /// Any reading may be given. A histogram of which more is left than a segment has units stops the merge there with `NoUnits`, as any does
 /// whose batch costs more than the recorder has.
 ///
-/// `NoMemory` where there is none for the report, before anything has happened; nothing else is refused. It asks for 112 bytes for each
+/// `NoMemory` where there is none for the report, before anything has happened; nothing else is refused. It asks for 120 bytes for each
 /// histogram, for its name twice, and for eight bytes for each of its keys; then for what the `hist` of each asks for.
 pub fn merge(
     alloc: Global,

@@ -6,8 +6,8 @@ use segment_calls::Refusal;
 use std::test::Fail;
 
 #[test]
-fn records_and_a_shared_cursor(rt: HostRuntime) -> Result<(), Fail> {
-    let (segment, mut opener) = Segment::create(rt.alloc(), 128, 64, 7, 1, 1)?;
+fn records_of_the_list(rt: HostRuntime) -> Result<(), Fail> {
+    let (segment, mut opener) = Segment::create(rt.alloc(), 128, 64, 7, 0, 1)?;
     let mut first = opener.recorder(&segment, 3)?;
     let mut second = opener.recorder(&segment, 0)?;
     assert!(rt; first.units() == 3 && opener.units() == 4_294_967_292 && opener.outstanding() == 2);
@@ -16,10 +16,8 @@ fn records_and_a_shared_cursor(rt: HostRuntime) -> Result<(), Fail> {
     assert!(rt; first.knows(known) && !second.knows(known));
     assert!(rt; first.records()?[..] == [16, 32] && first.records()?[..] == [16, 32]);
     assert!(rt; first.fresh_records()?[..] == [16, 32] && first.fresh_records()?.is_empty());
-    assert!(rt; first.next_shared(0) == Some(16) && second.next_shared(0) == Some(32));
-    assert!(rt; first.next_shared(0).is_none());
     second.hist(b"C", &Spec::Boolean)?;
-    assert!(rt; first.next_shared(0) == Some(48) && first.fresh_records()?[..] == [48]);
+    assert!(rt; first.fresh_records()?[..] == [48]);
     Ok(())
 }
 

@@ -19,6 +19,7 @@ WASTED = 2**64 - 1
 PURGED, HISTOGRAM, COUNTS, SAMPLE = 0, 1, 2, 3
 LINEAR, BOOLEAN, CUSTOM, SPARSE = 1, 2, 3, 4
 NOTHING_PACKED = 2**63 + 65_535
+FROZEN = 2**63
 GREATEST = 2_147_483_647
 MOST_BUCKETS = 1000
 
@@ -83,6 +84,21 @@ class Segment:
         if sys.byteorder == "big":
             words.byteswap()
         return words.tobytes()
+
+
+def adoptable(data):
+    """The bytes of a lawful image as one of version 2, which may be adopted: a single word that is disabled, and in which nothing was
+    packed, has another form there."""
+    words = array.array("Q", data)
+    if sys.byteorder == "big":
+        words.byteswap()
+    words[1] = 2
+    for at, word in enumerate(words):
+        if word == NOTHING_PACKED:
+            words[at] = FROZEN
+    if sys.byteorder == "big":
+        words.byteswap()
+    return words.tobytes()
 
 
 def names_of(count, length=8):

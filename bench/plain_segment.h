@@ -199,6 +199,24 @@ private:
         return nullptr;
     }
 
+    // The name of a histogram's record.
+    std::string name_at(Word at) {
+        std::string name(segment_[at + kLength].load(), ' ');
+        for (std::size_t i = 0; i < name.size(); ++i) name[i] = static_cast<char>(segment_[at + kName + i / 8].load() >> 8 * (i % 8));
+        return name;
+    }
+
+    // The first record of a name on the list, or 0: one that was met, or one behind the place up to which this recorder has looked.
+    Word first_named(const std::string& name) {
+        if (const auto met = met_.find(name); met != met_.end()) return met->second;
+        walk(passed_, [&](Word at) {
+            if (segment_[at + 2].load() == kHistogram) met_.emplace(name_at(at), at);
+            return false;
+        });
+        const auto met = met_.find(name);
+        return met == met_.end() ? 0 : met->second;
+    }
+
     Fault find(std::string_view name, const Spec& spec, std::size_t& place) {
         Words payload = {spec.kind, spec.least, spec.most, spec.n, 0, 0, 0, 0, 0, 0, name.size()};
         payload.resize(payload.size() + (name.size() + 7) / 8);
@@ -206,13 +224,6 @@ private:
             payload[kName - kPayload + i / 8] |= static_cast<Word>(static_cast<unsigned char>(name[i])) << 8 * (i % 8);
         }
         payload.insert(payload.end(), spec.ranges.begin(), spec.ranges.end());
-        const auto is_named = [&](Word at) {
-            if (segment_[at + 2].load() != kHistogram) return false;
-            for (std::size_t i = kLength - kPayload; i < payload.size() - spec.ranges.size(); ++i) {
-                if (segment_[at + kPayload + i].load() != payload[i]) return false;
-            }
-            return true;
-        };
         const auto make = [&](Word& made) {
             const Fault fault = allocate(payload.size(), kHistogram, made);
             for (std::size_t i = 0; fault == nullptr && i < payload.size(); ++i) {
@@ -220,8 +231,14 @@ private:
             }
             return fault;
         };
-        Word at = 0;
-        if (const Fault fault = find_or_make(kQueue, is_named, make, at)) return fault;
+        const std::string text(name);
+        Word at = first_named(text);
+        if (at == 0) {
+            Word made = 0;
+            if (const Fault fault = make(made)) return fault;
+            publish(made);
+            at = first_named(text);
+        }
         if (!has_spec(at, spec, kName + (name.size() + 7) / 8)) return "OtherSpec";
         place = known_.size();
         known_.push_back({at, spec});
@@ -368,6 +385,8 @@ private:
     Word units_;
     std::vector<Known> known_;
     std::unordered_map<std::string, std::size_t> places_;
+    std::unordered_map<std::string, Word> met_;
+    Word passed_ = kQueue;
 };
 
 }  // namespace plain

@@ -1,5 +1,5 @@
-"""Command lines with known answers: in the folders cases/program/NNN the words (`cmd`) and the files that they name, and
-beside them what the program has to print, its status, and what it has to write into OUT (`OUT.expected`).
+"""Command lines with known answers: in the folders cases/program/NNN and cases/resume/NNN the words (`cmd`) and the files that
+they name, and beside them what the program has to print, its status, and what it has to write into OUT (`OUT.expected`).
 
 There is no OUT before the command, and none behind a fault: the `OUT.expected` of a fault is empty, which says that nothing
 is written. The answers are those of an independent implementation.
@@ -11,8 +11,14 @@ import tempfile
 from support.program import ROOT, Answer, answer, content, difference
 
 PROGRAM = "persist_report"
-FOLDER = ROOT / "tests" / "cases" / "program"
-COMMANDS = ("report", "run", "merge")
+FOLDERS = (ROOT / "tests" / "cases" / "program", ROOT / "tests" / "cases" / "resume")
+
+
+def known():
+    """The folder of each case, and its words; first those of `report`, `run` and `merge`, and then those of `resume`."""
+    for folder in FOLDERS:
+        for case in sorted(folder.iterdir()):
+            yield case, (case / "cmd").read_text().split()
 
 
 def wanted_of(case):
@@ -40,7 +46,5 @@ def wrong_of(program, case, words, out):
 def cases(program, _options):
     with tempfile.TemporaryDirectory() as scratch:
         out = pathlib.Path(scratch).resolve() / "out"
-        for case in sorted(FOLDER.iterdir()):
-            words = (case / "cmd").read_text().split()
-            if words[0] in COMMANDS:
-                yield f"{case.name}, {' '.join(words)}", wrong_of(program, case, words, out)
+        for case, words in known():
+            yield f"{case.name}, {' '.join(words)}", wrong_of(program, case, words, out)

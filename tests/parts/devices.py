@@ -1,5 +1,6 @@
 """Files, streams and devices that fail, each fault with its line and its status, and the words of a command line."""
 
+import itertools
 import os
 import pathlib
 import resource
@@ -15,6 +16,8 @@ from support.program import EXAMPLE, SCRIPT, Answer, answer, content, difference
 
 PROGRAM = "persist_report"
 REPORT = Answer(b"A,boolean,0,1,1\nA,boolean,1,2,2\nA,total,3,2\n")
+# What comes where the script is run once more on its own image.
+RESUMED = Answer(b"A,boolean,0,1,2\nA,boolean,1,2,4\nA,total,6,4\n")
 READ_FAULT, WRITE_FAULT = fault("Read", 4), fault("Write", 4)
 MOST_BYTES = 8_388_608
 # What stands in OUT before a command.
@@ -39,8 +42,11 @@ Usage: persist_report <COMMAND>
 
 Commands:
   report   Writes the histograms of an image to standard output
+  export   Writes the histograms of an image in the Prometheus text format to standard output
   run      Records what a script says: writes the image to OUT and its report to standard output
+  resume   Goes on with an image and records what a script says: writes the new image to OUT and its report to standard output
   merge    Merges two images into a new one, which has what no delta took of either
+  extract  Finds a segment in any file: writes its image to OUT, and to standard output at which byte it lay
   explain  Tells what a fault means and what to do
   help     Print this message or the help of the given subcommand(s)
 
@@ -54,7 +60,7 @@ Writes the histograms of an image to standard output
 Usage: persist_report report [OPTIONS] [FILE]
 
 Arguments:
-  [FILE]  The image of a segment; standard input where it is left out
+  [FILE]  The image of a segment; standard input where it is left out or -
 
 Options:
       --explain  Tells more of a fault, as on a terminal: its file, line and reason
@@ -62,6 +68,22 @@ Options:
 
 Example:
   persist_report report examples/three_samples.img
+"""
+EXPORT_HELP = b"""\
+Writes the histograms of an image in the Prometheus text format to standard output
+
+Usage: persist_report export [OPTIONS] [FILE]
+
+Arguments:
+  [FILE]  The image of a segment; standard input where it is left out or -
+
+Options:
+      --prefix <PREFIX>  What the names of all metrics begin with: letters, digits, _ and :, no digit first [default: povundiri]
+      --explain          Tells more of a fault, as on a terminal: its file, line and reason
+  -h, --help             Print help
+
+Example:
+  persist_report export examples/three_samples.img
 """
 RUN_HELP = b"""\
 Records what a script says: writes the image to OUT and its report to standard output
@@ -80,6 +102,24 @@ Options:
 Example:
   persist_report run examples/three_samples.csv three.img --workers 2
 """
+RESUME_HELP = b"""\
+Goes on with an image and records what a script says: writes the new image to OUT and its report to standard output
+
+Usage: persist_report resume [OPTIONS] <BASE> <SCRIPT> <OUT>
+
+Arguments:
+  <BASE>    The image to go on with; it is of version 2
+  <SCRIPT>  What is to be recorded, as CSV; its segment record has the size, page and id of BASE
+  <OUT>     Where the new image is written
+
+Options:
+      --workers <K>  How many workers record, each in a thread of its own: 1 to 16 [default: 1]
+      --explain      Tells more of a fault, as on a terminal: its file, line and reason
+  -h, --help         Print help
+
+Example:
+  persist_report resume three.img examples/three_samples.csv six.img --workers 2
+"""
 MERGE_HELP = b"""\
 Merges two images into a new one, which has what no delta took of either
 
@@ -97,6 +137,23 @@ Options:
 Example:
   persist_report merge examples/three_samples.img three.img both.img
 """
+EXTRACT_HELP = b"""\
+Finds a segment in any file: writes its image to OUT, and to standard output at which byte it lay
+
+Usage: persist_report extract [OPTIONS] <FILE> <OUT>
+
+Arguments:
+  <FILE>  What is searched, as a mapped file or a dump of memory
+  <OUT>   Where the image of the segment is written
+
+Options:
+      --nth <N>  Which of the segments in the file, from 1 [default: 1]
+      --explain  Tells more of a fault, as on a terminal: its file, line and reason
+  -h, --help     Print help
+
+Example:
+  persist_report extract core.1234 found.img --nth 2
+"""
 NOT_TEXT = b"""\
 error: invalid UTF-8 was detected in one or more arguments
 
@@ -111,12 +168,20 @@ MISTAKES = [
     ["--workers"],
     ["report", EXAMPLE, EXAMPLE],
     ["report", "--workers", "2"],
+    ["export", EXAMPLE, EXAMPLE],
+    ["export", "--prefix"],
+    ["export", "--prefix", "a", "--prefix", "b"],
     ["run"],
     ["run", SCRIPT],
     ["run", SCRIPT, "out", "more"],
     *[["run", SCRIPT, "out", "--workers", count] for count in ("0", "17", "-1", "", "two", "4294967297")],
     ["run", SCRIPT, "out", "--workers"],
     ["run", SCRIPT, "out", "--workers", "1", "--workers", "2"],
+    ["resume"],
+    ["resume", EXAMPLE],
+    ["resume", EXAMPLE, SCRIPT],
+    ["resume", EXAMPLE, SCRIPT, "out", "more"],
+    *[["resume", EXAMPLE, SCRIPT, "out", "--workers", count] for count in ("0", "17", "two")],
     ["merge"],
     ["merge", EXAMPLE],
     ["merge", EXAMPLE, EXAMPLE],
@@ -218,8 +283,8 @@ def outputs(program, folder):
 
 
 def inputs_of_commands(program, folder):
-    """Inputs of `run` and `merge`: all files are opened in the order of the arguments, and last OUT, which stays as it was."""
-    out = folder / "out"
+    """Inputs of `run`, `merge` and `resume`: all files are opened in the order of the arguments, and last OUT, which stays as it was."""
+    out, base = folder / "out", base_of(program, folder)
     no_words = folder / "no-words"
     no_words.write_bytes(b"1234567")
     cases_of = {
@@ -244,6 +309,16 @@ def inputs_of_commands(program, folder):
         "a dead that cannot be read": (["merge", EXAMPLE, "/proc/self/mem", out], READ_FAULT),
         "a dead without an end": (["merge", EXAMPLE, "/dev/zero", out], fault("TooLong", 3)),
         "a base without an end": (["merge", "/dev/zero", no_words, out], fault("TooLong", 3)),
+        "no base to go on with": (["resume", "missing", SCRIPT, out], READ_FAULT),
+        "no script to go on with": (["resume", no_words, "missing", out], READ_FAULT),
+        "no folder to go on": (["resume", no_words, SCRIPT, folder / "missing" / "out"], WRITE_FAULT),
+        "a base to go on with that cannot be read": (["resume", "/proc/self/mem", no_words, out], READ_FAULT),
+        "a base to go on with that is no image": (["resume", no_words, "/proc/self/mem", out], fault("NotWords", 3)),
+        "a base to go on with that is no segment's": (["resume", EXAMPLE, "/proc/self/mem", out], fault("Adopt OldVersion", 3)),
+        "a base to go on with without an end": (["resume", "/dev/zero", no_words, out], fault("TooLong", 3)),
+        "a script to go on with that cannot be read": (["resume", base, "/proc/self/mem", out], READ_FAULT),
+        "a script to go on with without an end": (["resume", base, "/dev/zero", out], fault("TooLong", 3)),
+        "a script to go on with that is no script": (["resume", base, no_words, out], fault("BadLine 1", 3)),
     }
     for name, (words, wanted) in cases_of.items():
         out.write_bytes(STOOD)
@@ -261,10 +336,18 @@ def wrong_folder(folder, beside, out, wanted):
     return f"files were made or removed: {sorted(map(str, strays))}" if strays else None
 
 
+def base_of(program, folder):
+    """The image of the script, with which `resume` goes on."""
+    path = folder / "base"
+    if not path.exists():
+        answer(program, ["run", SCRIPT, path])
+    return path
+
+
 def images_of(program, folder):
-    """The images that `run` and `merge` make of the examples."""
-    paths = [folder / name for name in ("run-image", "merge-image")]
-    for path, words in zip(paths, (["run", SCRIPT], ["merge", EXAMPLE, EXAMPLE])):
+    """The images that `run`, `merge` and `resume` make of the examples."""
+    paths = [folder / name for name in ("run-image", "merge-image", "resume-image")]
+    for path, words in zip(paths, (["run", SCRIPT], ["merge", EXAMPLE, EXAMPLE], ["resume", base_of(program, folder), SCRIPT])):
         answer(program, [*words, path])
         yield path.read_bytes()
         path.unlink()
@@ -272,7 +355,7 @@ def images_of(program, folder):
 
 def inputs_as_outputs(program, folder):
     """OUT is an input too: that is read whole before OUT is another, and stays where the command has a fault."""
-    run_image, merged = images_of(program, folder)
+    run_image, merged, resumed = images_of(program, folder)
     script, example, bad = SCRIPT.read_bytes(), EXAMPLE.read_bytes(), b"no script and no image"
     cases_of = {
         "run x x": (["run", "x", "x"], script, None, Answer(REPORT.output), run_image),
@@ -285,6 +368,12 @@ def inputs_as_outputs(program, folder):
         "merge y x x, no image in x": (["merge", "y", "x", "x"], bad, example, fault("NotWords", 3), bad),
         "merge x y x, no image in y": (["merge", "x", "y", "x"], example, bad, fault("NotWords", 3), example),
         "merge y x x, no image in y": (["merge", "y", "x", "x"], example, bad, fault("NotWords", 3), example),
+        "resume x y x": (["resume", "x", "y", "x"], run_image, script, RESUMED, resumed),
+        "resume y x x": (["resume", "y", "x", "x"], script, run_image, RESUMED, resumed),
+        "resume x x x": (["resume", "x", "x", "x"], run_image, None, fault("BadLine 1", 3), run_image),
+        "resume x y x, no image in x": (["resume", "x", "y", "x"], bad, script, fault("NotWords", 3), bad),
+        "resume x y x, no script in y": (["resume", "x", "y", "x"], run_image, bad, fault("BadLine 1", 3), run_image),
+        "resume y x x, an old image in y": (["resume", "y", "x", "x"], script, example, fault("Adopt OldVersion", 3), script),
     }
     for name, (words, x, y, wanted, left) in cases_of.items():
         room = folder / "room"
@@ -300,7 +389,7 @@ def inputs_as_outputs(program, folder):
 
 def links(program, folder):
     """OUT is a link: it stays one, and what it leads to is replaced, or made where it leads to nothing."""
-    run_image, _ = images_of(program, folder)
+    run_image, *_ = images_of(program, folder)
     room = folder / "links"
     (room / "other").mkdir(parents=True)
     leads_to = {"near": "file", "far": "other/file", "there": room / "other" / "file", "twice": "other/back"}
@@ -361,10 +450,13 @@ def guarded(program, folder):
 
 def open_files(program, folder):
     """OUT is an open file of the program, by the name that the system gives it: that file is written itself."""
-    run_image, merged = images_of(program, folder)
-    merge = ["merge", EXAMPLE, EXAMPLE]
+    run_image, merged, resumed = images_of(program, folder)
+    merge, resume = ["merge", EXAMPLE, EXAMPLE], ["resume", base_of(program, folder), SCRIPT]
     yield "a pipe as standard output", difference(Answer(merged), answer(program, [*merge, "/dev/stdout"]))
     yield "the image and the report on a pipe", difference(Answer(run_image + REPORT.output), answer(program, ["run", SCRIPT, "/dev/stdout"]))
+    yield "the new image and the report on a pipe", difference(Answer(resumed + RESUMED.output), answer(program, [*resume, "/dev/stdout"]))
+    for words, data in ((["resume", "/dev/stdin", SCRIPT], run_image), (["resume", base_of(program, folder), "/dev/stdin"], SCRIPT.read_bytes())):
+        yield f"{words} with standard input", difference(RESUMED, answer(program, [*words, folder / "lent"], data))
     for name in ("/dev/stdout", "/dev/fd/1", "/proc/self/fd/1"):
         for file in (open(folder / "lent", "w+b"), tempfile.TemporaryFile()):
             with file:
@@ -398,23 +490,23 @@ def answer_to_short_out(program, words, most):
 
 
 def outputs_of_commands(program, folder):
-    """Outputs of `run` and `merge` that cannot be written: OUT stays as it was, and no report is begun behind a fault of the image."""
+    """Outputs of `run`, `merge` and `resume` that cannot be written: OUT stays as it was, and no report is begun behind a fault of the
+    image."""
     out = folder / "out"
-    run, merge = ["run", SCRIPT], ["merge", EXAMPLE, EXAMPLE]
-    for words, image in zip((run, merge), images_of(program, folder)):
+    run, merge, resume = ["run", SCRIPT], ["merge", EXAMPLE, EXAMPLE], ["resume", base_of(program, folder), SCRIPT]
+    for words, image, right in zip((run, merge, resume), images_of(program, folder), (REPORT, Answer(), RESUMED)):
         yield f"{words[0]} into a full device", difference(WRITE_FAULT, answer(program, [*words, "/dev/full"]))
         for most in (0, 1, 8, 511, 1023):
             for stood in (STOOD, None):
                 wrong = wrong_short_out(program, [*words, out], most, stood, WRITE_FAULT, stood)
                 yield f"{words[0]} into a file of {most} bytes", wrong
-        right = REPORT if words == run else Answer()
         yield f"{words[0]} into a file of 1024 bytes", wrong_short_out(program, [*words, out], 1024, STOOD, right, image)
     yield "run into a closed pipe", difference(WRITE_FAULT, answer_behind_closed_pipe(program, folder))
     for name, output in (("a full device", os.open("/dev/full", os.O_WRONLY)), ("a closed pipe", pipe_without_reader())):
-        for stood in (STOOD, None):
+        for words, stood in itertools.product((run, resume), (STOOD, None)):
             beside = prepared(out, stood)
-            wrong = difference(WRITE_FAULT, answer(program, [*run, out], stdout=output))
-            yield f"the report of run on {name}", wrong or wrong_folder(folder, beside, out, stood)
+            wrong = difference(WRITE_FAULT, answer(program, [*words, out], stdout=output))
+            yield f"the report of {words[0]} on {name}", wrong or wrong_folder(folder, beside, out, stood)
         yield f"merge beside {name}", difference(Answer(), answer(program, [*merge, out], stdout=output))
         os.close(output)
     out.unlink()
@@ -438,7 +530,10 @@ def wrong_short_out(program, words, most, stood, wanted, left):
 def words(program):
     """Help, the version, and command lines that ask for nothing that the program does."""
     shown = {("--version",): b"persist_report 0.1.0\n", ("--help",): HELP, ("help",): HELP, ("report", "--help"): REPORT_HELP}
+    shown |= {("export", "--help"): EXPORT_HELP}
+    shown |= {("extract", "--help"): EXTRACT_HELP}
     shown |= {("run", "--help"): RUN_HELP, ("merge", "--help"): MERGE_HELP, ("help", "merge"): MERGE_HELP}
+    shown |= {("resume", "--help"): RESUME_HELP, ("help", "resume"): RESUME_HELP}
     for asked, text in shown.items():
         yield f"{list(asked)}", difference(Answer(text), answer(program, asked))
     for asked in ([b"\xc3", "report"], ["report", b"\xff\xfe"]):

@@ -69,6 +69,36 @@ WORDS = [
     (7, 15, "BadFree", "word 7 is 15; it has to be from 16 to the number of words"),
     (12, 5, "BadQueue", "word 12 is 5; it has to be 4, and the two behind it 1 and 0"),
 ]
+# What is stored at words of the image of the example's script, why it may not be recorded into again, and what is said of it.
+DAMAGES = [
+    ({1: 1}, "OldVersion", ", word 1 is 1; it has to be 2"),
+    ({6: 1}, "Corrupt", ", word 6 is 1; it has to be even"),
+    ({6: 3, 20: 5}, "Corrupt", ", word 6 is 3; it has to be even"),
+    ({20: 5}, "Damaged", ", the record at word 16 is BadKind"),
+    ({15: 32}, "Damaged", ", the list of records stops: BadRef"),
+    ({19: 16}, "Damaged", ", the list of records stops: Loop"),
+    ({19: 16, 30: 0}, "Damaged", ", the record at word 16 is BadName"),
+    ({42: 1}, "Damaged", ", all records are read; other words are none that a segment can have"),
+    ({36: 2**32 - 1, 38: 2**32 - 1}, "NoUnits", ""),
+]
+# Records of a script behind the one of BASE's segment, why they are refused, and what is said of BASE.
+REFUSED_ON = [
+    (["hist,A,linear,1,2,3"], "OtherSpec", " has `A` as boolean"),
+    (["hist,B,boolean", "hist,B,sparse"], "OtherSpec", None),
+    (["hist,A,boolean", "add,A,1,4294967293"], "NoUnits", " has used 3 units"),
+    (["hist,A,boolean", "add,A,1,4294967292", "add,A,1,1"], "NoUnits", " has used 3 units"),
+    (["hist,A,boolean", "add,A,1,0"], "ZeroCount", None),
+    ([f"hist,{name},boolean" for name in "BCDEFG"], "Full", None),
+]
+# Whole scripts for BASE whose first record is bad, and what is said of them.
+BAD_STARTS_ON = {
+    "segment,128,64,8\nhits": (1, "SIZE, PAGE and ID have to be those of BASE"),
+    "\nsegment,192,64,7": (2, "SIZE, PAGE and ID have to be those of BASE"),
+    "segment,128,128,7\nadd,A,1,0": (1, "SIZE, PAGE and ID have to be those of BASE"),
+    "segment,96,64,7": (1, f"SIZE is 96 and PAGE is 64; {SHAPES}"),
+    "hist,A,boolean": (1, "`hist` stands first; the first record is segment,SIZE,PAGE,ID"),
+    "": (1, "the script ends before this record"),
+}
 
 
 def both(program, words, text, status, lines, **settings):
@@ -155,8 +185,66 @@ def merges(program, folder):
     yield "no room", both(program, words, "Merge S Full", 3, [f'DEAD "{folder / "large.img"}" has `S` as sparse'])
 
 
+def with_words(image, stored):
+    """An image with these words in it."""
+    words = list(struct.unpack(f"<{len(image) // 8}Q", image))
+    for at, word in stored.items():
+        words[at] = word
+    return struct.pack(f"<{len(words)}Q", *words)
+
+
+def bases(program, folder):
+    """Images that may not be recorded into again."""
+    image, out = folder / "base.img", folder / "out"
+    answer(program, ["run", SCRIPT, image])
+    right = image.read_bytes()
+    words = ["resume", image, SCRIPT, out]
+    for stored, name, said in DAMAGES:
+        image.write_bytes(with_words(right, stored))
+        yield f"{name} of {stored}", both(program, words, f"Adopt {name}", 3, [f'"{image}"{said}'])
+    for at, word, name, said in WORDS:
+        image.write_bytes(with_words(right, {at: word}))
+        yield f"{name} of an image that is recorded into", both(program, words, f"Adopt Image {name}", 3, [f'"{image}", {said}'])
+    image.write_bytes(right[:64])
+    wrong = both(program, words, "Adopt Image TooShort", 3, [f'"{image}" has 64 bytes; an image has 128 or more'])
+    yield "an image that is recorded into and cut short", wrong
+    image.write_bytes(right[:-1])
+    yield "no words to record into", both(program, words, "NotWords", 3, [f'"{image}": {len(right) - 1} bytes were read'])
+    words[1] = "/dev/zero"
+    yield "no end to record into", both(program, words, "TooLong", 3, ['"/dev/zero": 8388609 bytes were read'])
+
+
+def scripts_on(program, folder):
+    """Scripts that are not recorded on in an image."""
+    base, script, out = folder / "base.img", folder / "script.csv", folder / "out"
+    answer(program, ["run", SCRIPT, base])
+    words = ["resume", base, script, out]
+    for records, why, said in REFUSED_ON:
+        script.write_bytes("\n".join(["segment,128,64,7", *records]).encode())
+        last = 1 + len(records) if why != "Full" else refused_at(answer(program, words))
+        lines = [f'"{script}", line {last}', *([] if said is None else [f'BASE "{base}"{said}'])]
+        yield f"{records} on an image", both(program, words, f"Refused {last} {why}", 3, lines)
+    for start, (line, said) in BAD_STARTS_ON.items():
+        script.write_bytes(start.encode())
+        lines = [f'"{script}", line {line}: {said}', f'BASE "{base}" is of segment,128,64,7']
+        yield f"{start!r} on an image", both(program, words, "BadLine 1", 3, lines)
+    script.write_bytes(b"segment,128,64,7\nhits")
+    said = f'"{script}", line 2: `hits` stands first; records begin with segment, hist, add, delta'
+    yield "a bad record on an image", both(program, words, "BadLine 2", 3, [said])
+    words[2] = "/dev/zero"
+    yield "a script without an end on an image", both(program, words, "TooLong", 3, ['"/dev/zero": 16777217 bytes were read'])
+    words[2] = SCRIPT
+    yield "a script on an image", difference(answer(program, words), answer(program, [*words, "--explain"]))
+
+
+def refused_at(came):
+    """The number of the record that was refused."""
+    return int(came.error.split()[2])
+
+
 def devices(program, folder):
-    out, missing = folder / "out", "No such file or directory (os error 2)"
+    out, base, missing = folder / "out", folder / "base.img", "No such file or directory (os error 2)"
+    answer(program, ["run", SCRIPT, base])
     reads = {
         "a missing image": (["report", "no\nfile"], f'"no\\nfile": {missing}'),
         "a folder as an image": (["report", folder], f'"{folder}": Is a directory (os error 21)'),
@@ -165,16 +253,20 @@ def devices(program, folder):
         "a missing dead": (["merge", EXAMPLE, "missing", out], f'"missing": {missing}'),
         "a base that cannot be read": (["merge", folder, EXAMPLE, out], f'"{folder}": Is a directory (os error 21)'),
         "a dead that cannot be read": (["merge", EXAMPLE, folder, out], f'"{folder}": Is a directory (os error 21)'),
+        "a missing base to go on with": (["resume", "missing", SCRIPT, out], f'"missing": {missing}'),
+        "a missing script to go on with": (["resume", EXAMPLE, "missing", out], f'"missing": {missing}'),
+        "a base to go on with that cannot be read": (["resume", folder, SCRIPT, out], f'"{folder}": Is a directory (os error 21)'),
+        "a script to go on with that cannot be read": (["resume", base, folder, out], f'"{folder}": Is a directory (os error 21)'),
     }
     for name, (words, said) in reads.items():
         yield name, both(program, words, "Read", 4, [said], cwd=folder)
     nowhere = folder / "missing" / "out"
-    for words in (["run", SCRIPT], ["merge", EXAMPLE, EXAMPLE]):
+    for words in (["run", SCRIPT], ["merge", EXAMPLE, EXAMPLE], ["resume", base, SCRIPT]):
         yield f"{words[0]} into no folder", both(program, [*words, nowhere], "Write", 4, [f'"{nowhere}": {missing}'])
         yield f"{words[0]} into a folder", both(program, [*words, folder], "Write", 4, [f'"{folder}": Is a directory (os error 21)'])
         yield f"{words[0]} into a full device", both(program, [*words, "/dev/full"], "Write", 4, ['"/dev/full": No space left on device (os error 28)'])
     full = os.open("/dev/full", os.O_WRONLY)
-    for words in (["report", EXAMPLE], ["run", SCRIPT, out]):
+    for words in (["report", EXAMPLE], ["run", SCRIPT, out], ["resume", base, SCRIPT, out]):
         said = ["standard output: No space left on device (os error 28)"]
         yield f"the report of {words[0]} on a full device", both(program, words, "Write", 4, said, stdout=full)
     os.close(full)
@@ -231,5 +323,5 @@ def told(program, folder):
 
 
 def cases(program, folder):
-    for part in (scripts, lines_of_random_scripts, images, merges, devices, wants, told):
+    for part in (scripts, lines_of_random_scripts, images, merges, bases, scripts_on, devices, wants, told):
         yield from part(program, folder)

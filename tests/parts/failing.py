@@ -39,6 +39,22 @@ delta,B
 add,A,1,1
 add,S,7,70000
 """
+# The same of the run that goes on with that image.
+MORE = b"""\
+segment,256,64,7
+hist,A,boolean
+hist,C,boolean
+hist,D,boolean
+hist,S,sparse
+add,A,1,2
+add,S,-5,1
+add,D,0,1
+delta,A
+add,C,0,70000
+delta,D
+add,A,1,1
+add,S,9,1
+"""
 
 
 class Command:
@@ -246,12 +262,16 @@ def wrong_pieces(command):
 
 def commands(program, folder):
     """The commands that are tried."""
-    script, dead, out = folder / "script", folder / "dead", folder / "outs" / "out"
+    script, more, base, dead, out = (folder / name for name in ("script", "more", "base", "dead", "outs/out"))
     script.write_bytes(SCRIPT)
+    more.write_bytes(MORE)
+    answer(program, ["run", script, base])
     dead.write_bytes(EXAMPLE.read_bytes())
     yield Command(program, "report", ["report", EXAMPLE], [EXAMPLE])
     for workers in ("1", "3"):
         yield Command(program, f"run by {workers}", ["run", script, out, "--workers", workers], [script], out)
+    for workers in ("1", "3"):
+        yield Command(program, f"resume by {workers}", ["resume", base, more, out, "--workers", workers], [base, more], out)
     yield Command(program, "merge", ["merge", EXAMPLE, dead, out], [EXAMPLE, dead], out)
 
 
@@ -265,7 +285,7 @@ def checks(command):
         yield from (wrong_openings, wrong_random_bytes, wrong_clashes, wrong_kills)
     if command.right.output:
         yield wrong_report_writes
-    if "run" in command.words:
+    if command.words[0] in ("run", "resume"):
         yield wrong_threads
 
 

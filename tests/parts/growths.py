@@ -1,7 +1,7 @@
 """Each growth of memory is refused in turn, and memory is there again behind it.
 
 Of the calls of the libraries, which `trials` makes, each allocation is refused (allocations.py): the call says so, its next answers
-as if nothing had been, and so does all that comes behind. Calls that take no memory ask for none.
+as if nothing had been, and so does all that comes behind. Where an index of names cannot grow, the call answers as ever. Calls that take no memory ask for none.
 
 The commands and `stepped` answer `NoMemory`, with no output but what `stepped` had told before, and OUT as it was. Of them each
 growth is refused for which the C library asks the system (tracer.py).
@@ -27,8 +27,10 @@ STEPPED_OUT_OF_MEMORY = b"stepped: NoMemory\n"
 # The calls that `trials` makes, those that take memory and those that take none.
 BEGINS = tuple(f"begin {kind}" for kind in ("Hist", "Add", "Batch", "Snapshot", "Delta"))
 OF_RECORDERS = ("hist", "delta", "snapshot", "records", "fresh_records")
-TAKING = ("blank", "ranges", "tally", "world", *BEGINS, "run_schedule", "create", *OF_RECORDERS, "read", "report_of", "report", "merge")
+TAKING = ("blank", "ranges", "tally", "world", *BEGINS, "run_schedule", "create", *OF_RECORDERS, "read", "report_of", "report", "merge", "adopt")
 TAKING_NONE = ("begin SetCorrupt", "step", "recorder", "add", "batch", "units", "knows", "next_shared", "set_corrupt", "join", "close")
+# Those that also let an index of names grow: where that is refused, they go on without.
+INDEXED = ("hist", "merge")
 # How each says that memory was refused.
 NO_MEMORY = "NoMemory"
 OTHER_WORDS = {"tally": "memory allocation failed"}
@@ -111,9 +113,10 @@ def wrong_refusal(lines, one, came):
 
 
 def merges_of(lines):
-    """The lines before the merges of a run, and those of each merge."""
-    starts = [at for at, line in enumerate(lines) if line == "try merge"]
-    return lines[:starts[0]], [lines[at + 1:end] for at, end in zip(starts, [*starts[1:], None])]
+    """The lines before the merges of a run, those of each merge, and those behind them."""
+    tries = [at for at, line in enumerate(lines) if line.startswith("try ")] + [len(lines)]
+    merges = [(start, end) for start, end in zip(tries, tries[1:]) if lines[start] == "try merge"]
+    return lines[:merges[0][0]], [lines[start + 1:end] for start, end in merges], lines[merges[-1][1]:]
 
 
 def stopped_merge(whole, reached):
@@ -135,9 +138,9 @@ def stopped_merge(whole, reached):
 
 def wrong_merge(lines, came):
     """What is wrong with a run in which a merge was refused and made once more, or None."""
-    before, (whole,) = merges_of(lines)
-    came_before, merges = merges_of(came.output.decode().splitlines())
-    if came.status != 0 or came_before != before or len(merges) != 2 or merges[1] != whole:
+    before, (whole,), behind = merges_of(lines)
+    came_before, merges, came_behind = merges_of(came.output.decode().splitlines())
+    if came.status != 0 or (came_before, came_behind) != (before, behind) or len(merges) != 2 or merges[1] != whole:
         return f"status {came.status}, {came.error[:200]!r}, or other lines before or behind the merge that was refused"
     reached = sum(line.startswith("added ") for line in merges[0])
     right = stopped_merge(whole, reached)
@@ -151,6 +154,8 @@ def wrong_allocation(program, plain, place, one):
     came, asked = allocations.answer(program, ["growths"], place)
     if came == plain and any(other.place == one.place for other in asked[place + 1:]):
         came, _ = allocations.answer(program, ["growths"], place, lasting=True)
+    if came == plain and name_of(one.call) in INDEXED:
+        return None
     return wrong_refusal(lines, one, came)
 
 

@@ -4,11 +4,7 @@ The images come of one worker or of many. Of one worker the marks are known by t
 """
 
 import collections
-import concurrent.futures
-import os
-import pathlib
 import random
-import tempfile
 
 from parts import scripts
 from support import plain_reader, plain_tally, seeded
@@ -120,6 +116,4 @@ def wrong_of(program, seed, folder):
 
 def cases(program, options):
     seeds = [f"merge-{options.seed}-{number}" for number in range(options.merges)]
-    with tempfile.TemporaryDirectory() as scratch, concurrent.futures.ThreadPoolExecutor(os.cpu_count()) as pool:
-        folder = pathlib.Path(scratch)
-        yield from zip(seeds, pool.map(lambda seed: wrong_of(program, seed, folder), seeds))
+    yield from seeded.tried(seeds, lambda seed, folder: wrong_of(program, seed, folder))

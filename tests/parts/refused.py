@@ -84,9 +84,10 @@ def longest_report():
 def files(program, least):
     """Commands that write a file."""
     with tempfile.TemporaryDirectory() as scratch:
-        script, out = pathlib.Path(scratch) / "script", pathlib.Path(scratch) / "out"
+        script, base, out = (pathlib.Path(scratch) / name for name in ("script", "base", "out"))
         script.write_bytes(SCRIPT)
-        for words in (["run", script, out, "--workers", "3"], ["merge", EXAMPLE, EXAMPLE, out]):
+        answer(program, ["run", script, base])
+        for words in (["run", script, out, "--workers", "3"], ["resume", base, script, out, "--workers", "3"], ["merge", EXAMPLE, EXAMPLE, out]):
             yield words[0], wrong_of(program, words, b"", least, THREAD_STEP, EACH_BY_ITSELF, out)
 
 

@@ -8,6 +8,10 @@ Worked examples are stopped at every event. Others come of a seed and are stoppe
 that the lines lead to, the report is that of a plain reader and has no fault, and each bucket has no more units than were begun,
 and no fewer than calls that ended have counted. In version 1, units are added that are on their way from the single word to the
 counts.
+
+A known schedule in version 2 is stopped every few events, and another goes on with the image: its lines lead from the words of the image
+to its own, and its report is a plain tally of what the image counted and of the samples since. Images that nothing goes on with
+have their faults.
 """
 
 import collections
@@ -18,12 +22,28 @@ import random
 import struct
 import tempfile
 
-from support import plain_reader, seeded_schedules, worked_schedules
+from support import plain_reader, plain_tally, seeded_schedules, worked_schedules
 from support.program import ROOT, Answer, answer, difference
 
 PROGRAM = "stepped"
 FOLDER = ROOT / "tests" / "cases" / "schedules"
 FULL = "/dev/full"
+
+# A known schedule, and what goes on with its images.
+STOPPED = FOLDER / "054.csv"
+EVENTS_APART = 5
+GOES_ON = """adopt,{image},2
+hist,0,A,linear,1,10,5
+hist,1,C,sparse
+step,0,3
+step,1,1000
+step,0,1000
+add,0,A,3,4
+add,1,C,-7,2
+step,0,2
+step,1,1000
+step,0,1000
+"""
 
 
 def shown_of(case):
@@ -128,6 +148,103 @@ def wrong_worked(program, number, schedule, known, folder):
     return next(filter(None, (wrong_stop(program, schedule, path, lines, event) for event in events)), None)
 
 
+def first_records(words):
+    """The reference of the first record of each name."""
+    references, _ = plain_reader.walk(words, collections.Counter())
+    named = ((plain_reader.name_of(words, at, collections.Counter()), at) for at in reversed(references) if words[at + 2] == 1)
+    return dict(named)
+
+
+def told_of(image):
+    """What an image counts by a plain tally, by names, and by how much each redundant count differs from the units."""
+    words = plain_reader.words_of(image, collections.Counter())
+    references, _ = plain_reader.walk(words, collections.Counter())
+    histograms, _ = plain_reader.read_records(words, references, collections.Counter())
+    tally, differs = {}, {}
+    for name, one in histograms.items():
+        kind = plain_reader.KINDS[one["kind"]]
+        known = tally[name.decode()] = plain_tally.Histogram(kind, list(one["boundaries"]))
+        known.take({low: units for low, (_, units) in one["buckets"].items()}, one["sum"])
+        differs[name.decode()] = one["redundant"] - sum(known.counts.values())
+    return tally, differs
+
+
+def report_behind(image):
+    """The report of an image that GOES_ON has gone on with."""
+    tally, differs = told_of(image)
+    tally.setdefault("A", plain_tally.Histogram.of(("linear", 1, 10, 5))).add(3, 4)
+    tally.setdefault("C", plain_tally.Histogram.of(("sparse",))).add(-7, 2)
+    redundant = ((name, sum(tally[name].counts.values()) + more) for name, more in sorted(differs.items()) if more)
+    return plain_tally.report(tally) + "".join(f"!redundant,{name},{units}\n" for name, units in redundant).encode()
+
+
+def wrong_lines(lines, image, last):
+    """What is wrong with the lines that lead from the words of an image to the last ones, or None."""
+    words = list(plain_reader.words_of(image, collections.Counter()))
+    answers = []
+    for line in lines.decode().splitlines():
+        _, actor, what, *rest = line.split(",")
+        if what == "answer":
+            answers.append((int(actor), *rest))
+        elif what == "step" and rest:
+            at, old, new = map(int, rest)
+            if words[at] != old:
+                return f"word {at} is {words[at]}: {line}"
+            words[at] = new
+    if struct.pack(f"<{len(words)}Q", *words) != last:
+        return "the lines lead to other words"
+    first = first_records(words)
+    wanted = [(0, "added"), (0, "hist", str(first[b"A"])), (1, "added"), (1, "hist", str(first[b"C"]))]
+    return None if sorted(answers) == wanted else f"the answers are {answers}, and not {wanted}"
+
+
+def wrong_gone_on(program, events, folder):
+    """What is wrong where the known schedule stops after so many events, and another goes on with its image, or None."""
+    image = folder / f"stopped-{events}.img"
+    path = folder / f"goes-on-{events}.csv"
+    stopped = answer(program, [STOPPED, "--stop", str(events), "--image"]).output
+    image.write_bytes(stopped)
+    lines = replayed(program, path, GOES_ON.format(image=image))
+    last = answer(program, [path, "--image"])
+    report = difference(Answer(report_behind(stopped)), answer(program, [path, "--report"]))
+    wrong = lines.error or last.error or report or wrong_lines(lines.output, stopped, last.output)
+    return wrong and f"after {events} events: {wrong}"
+
+
+def wrong_stops(program, pool, folder):
+    last = answer(program, [STOPPED]).output.count(b",step")
+    wrongs = pool.map(lambda events: wrong_gone_on(program, events, folder), range(0, last + 1, EVENTS_APART))
+    return next(filter(None, wrongs), None)
+
+
+def not_gone_on(program, folder):
+    """Images that nothing goes on with: a name, the first record, and what comes."""
+    image = folder / "image.img"
+
+    def of(name, data, record, wanted):
+        image.write_bytes(data)
+        return name, record.format(image=image), wanted
+
+    stopped = answer(program, [STOPPED, "--image"]).output
+    spoiled = folder / "spoiled.csv"
+    spoiled.write_text("world,64,64,7,1,2\nset_corrupt,0\nstep,0,1\n")
+    corrupt = answer(program, [spoiled, "--image"]).output
+    adopt = "adopt,{image},1"
+    yield of("no image", b"", f"adopt,{folder / 'none.img'},1", fault("Read", 4))
+    yield of("no whole words", stopped[:-1], adopt, fault("NotWords", 3))
+    yield of("too many words", bytes(8 * plain_reader.MOST_WORDS + 1), adopt, fault("TooLong", 3))
+    yield of("no actor", stopped, "adopt,{image},0", fault("World 1 BadShape", 3))
+    yield of("65 actors", stopped, "adopt,{image},65", fault("World 1 BadShape", 3))
+    yield of("no number of actors", stopped, "adopt,{image},x", fault("BadLine 1", 3))
+    yield of("no actors", stopped, "adopt,{image}", fault("BadLine 1", 3))
+    yield of("a field more", stopped, "adopt,{image},1,2", fault("BadLine 1", 3))
+    yield of("zeros", bytes(1024), adopt, fault("World 1 Adopt Image BadCookie", 3))
+    yield of("version 1", stopped[:8] + b"\1" + stopped[9:], adopt, fault("World 1 Adopt OldVersion", 3))
+    yield of("a corrupt one", corrupt, adopt, fault("World 1 Adopt Corrupt", 3))
+    yield of("a word behind the free pointer", stopped[:-1] + b"\1", adopt, fault("World 1 Adopt Damaged", 3))
+    yield of("a lawful one", stopped, adopt, Answer())
+
+
 def replayed(program, path, text):
     path.write_text(text)
     return answer(program, [path])
@@ -174,6 +291,9 @@ def cases(program, options):
             yield f"{' '.join(map(str, words))} to {device}", wrong_lawful(program, words, device, wanted)
         for words, status in (([], 2), (["a", "--report", "--image"], 2), (["a", "--stop", "x"], 2), (["--help"], 0)):
             yield f"usage {' '.join(words)}", wrong_usage(program, words, status)
+        yield "stops that are gone on from", wrong_stops(program, pool, folder)
+        for name, record, wanted in not_gone_on(program, folder):
+            yield f"adopt {name}", difference(wanted, replayed(program, folder / "adopt.csv", f"{record}\n"))
         worked = list(worked_schedules.examples())
         wrongs = pool.map(lambda one: wrong_worked(program, one[0], *one[1][1:], folder), enumerate(worked))
         yield from zip((name for name, *_ in worked), wrongs)

@@ -2,12 +2,8 @@
 has, and an image that reads as that report too."""
 
 import collections
-import concurrent.futures
-import os
-import pathlib
 import random
 import struct
-import tempfile
 
 from support import plain_reader, plain_tally, seeded
 from support.program import Answer, answer, difference
@@ -49,7 +45,5 @@ def wrong_of(program, seed, folder):
 
 def cases(program, options):
     seeds = [f"{options.seed}-{number}" for number in range(options.scripts)]
-    with tempfile.TemporaryDirectory() as scratch, concurrent.futures.ThreadPoolExecutor(os.cpu_count()) as pool:
-        folder = pathlib.Path(scratch)
-        wrongs = pool.map(lambda seed: wrong_of(program, seed, folder), seeds)
-        yield from zip((f"script {seed}" for seed in seeds), wrongs)
+    tried = seeded.tried(seeds, lambda seed, folder: wrong_of(program, seed, folder))
+    yield from ((f"script {seed}", wrong) for seed, wrong in tried)

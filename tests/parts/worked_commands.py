@@ -1,5 +1,5 @@
-"""Worked examples of `run` and `merge`: scripts, and what is stored in the words of images, and what then has to be answered
-and written."""
+"""Worked examples of `run`, `merge` and `resume`: scripts, and what is stored in the words of images, and what then has to be
+answered and written."""
 
 import pathlib
 import struct
@@ -42,12 +42,17 @@ SCRIPTS = {
 NO_ROOM_FOR_COUNTS = b"segment,64,64,7\nhist,A,boolean\nhist,B,boolean\nhist,C,boolean\nadd,A,1,1\nadd,A,0,1\nadd,A,1,1\n"
 
 
-def image(stored):
-    """The example's image, the boolean histogram A with the samples 1, 1 and 0 in version 1, with these words in it."""
-    data = bytearray(EXAMPLE.read_bytes())
+def with_words(data, stored):
+    """An image with these words in it."""
+    data = bytearray(data)
     for at, word in stored.items():
         data[8 * at : 8 * at + 8] = struct.pack("<Q", word % 2**64)
     return bytes(data)
+
+
+def image(stored):
+    """The example's image, the boolean histogram A with the samples 1, 1 and 0 in version 1, with these words in it."""
+    return with_words(EXAMPLE.read_bytes(), stored)
 
 
 def blank(version=1):
@@ -111,6 +116,61 @@ MERGES = {
     "a word too few in DEAD": (image({}), image({})[:-8], fault("Image BadSize", 3), None),
 }
 
+ONE_MORE = SEGMENT + b"hist,A,boolean\nadd,A,0,1\n"
+ONE_MORE_REPORT = b"A,boolean,0,1,2\nA,boolean,1,2,2\nA,total,4,2\n"
+THREE_MORE = {FIRST_COUNT: 2, SECOND_COUNT: 2, SUM: 4, REDUNDANT: 6}
+# What a stop has left between the exchange that freezes two units of bucket 1 and the addition to another bucket.
+STOPPED = {VERSION: 2, SINGLE: frozen(1, 2), FIRST_COUNT: 0, SECOND_COUNT: 0, SUM: 2, REDUNDANT: 2}
+# A delta took a sum that samples took back later.
+TAKEN_BACK = packed({VERSION: 2, SUM: 2**31, SUM_MARK: 2**62})
+
+
+def adding(count):
+    return SEGMENT + b"hist,A,boolean\nadd,A,1,%d\n" % count
+
+
+# BASE, the script, and what comes; and the words of the image that are others than those of BASE, where they are known.
+RESUMES = {
+    "one sample more": (image(IN_VERSION_2), ONE_MORE, Answer(ONE_MORE_REPORT), {FIRST_COUNT: 2, REDUNDANT: 4}),
+    "three samples more": (image(IN_VERSION_2), THREE_SAMPLES, Answer(b"A,boolean,0,1,2\nA,boolean,1,2,4\nA,total,6,4\n"), THREE_MORE),
+    "nothing more": (image(IN_VERSION_2), SEGMENT, Answer(THREE_REPORT), {}),
+    "a delta of all": (image(IN_VERSION_2), SEGMENT + b"hist,A,boolean\ndelta,A\n", Answer(THREE_REPORT), {SINGLE_MARK: 2, SUM_MARK: 2, 39: 1}),
+    "a tail left behind": (image({**IN_VERSION_2, 8: 12}), ONE_MORE, Answer(ONE_MORE_REPORT), None),
+    "a full flag": (image({**IN_VERSION_2, 6: 2}), ONE_MORE, Answer(ONE_MORE_REPORT + b"!flag,full\n"), {FIRST_COUNT: 2, REDUNDANT: 4}),
+    "a stop": (image(STOPPED), ONE_MORE, Answer(THREE_REPORT), {FIRST_COUNT: 1, REDUNDANT: 3}),
+    "all units that are left": (
+        image(IN_VERSION_2),
+        adding(MOST_UNITS - 3),
+        Answer(b"A,boolean,0,1,1\nA,boolean,1,2,4294967294\nA,total,4294967295,4294967294\n"),
+        {SECOND_COUNT: MOST_UNITS - 3, SUM: MOST_UNITS - 1, REDUNDANT: MOST_UNITS},
+    ),
+    "one unit more than are left": (image(IN_VERSION_2), adding(MOST_UNITS - 2), fault("Refused 3 NoUnits", 3), None),
+    "all units that a sum has left": (TAKEN_BACK, adding(2**31 - 1), Answer(b"A,boolean,1,2,2147483647\nA,total,2147483647,4294967295\n"), None),
+    "one unit more than a sum has left": (TAKEN_BACK, adding(2**31), fault("Refused 3 NoUnits", 3), None),
+    "another id": (image(IN_VERSION_2), b"segment,128,64,8\n", fault("BadLine 1", 3), None),
+    "another page, and a later fault": (image(IN_VERSION_2), b"segment,128,128,7\nhits\n", fault("BadLine 1", 3), None),
+    "another size, and units that are too many": (image(IN_VERSION_2), b"segment,192,64,7\n" + adding(MOST_UNITS)[17:], fault("BadLine 1", 3), None),
+    "another spec": (image(IN_VERSION_2), SEGMENT + b"hist,A,linear,1,2,3\n", fault("Refused 2 OtherSpec", 3), None),
+}
+
+
+def shared_counts():
+    """Two histograms that name one block of counts."""
+    record = {0: 16, 1: 0xC8799269, 2: 1, 4: 2, 5: 1, 6: 2, 7: 3, 8: 48, 9: TOP, 14: 1}
+    records = {start + at: word for start in (16, 32) for at, word in record.items()}
+    counts = {48: 10, 49: 0xC8799269, 50: 2, 52: 1}
+    return with_words(blank(2), {**records, **counts, 15: 16, 19: 32, 35: 12, 31: ord("A"), 47: ord("B"), FREE: 58, 8: 32})
+
+
+# What is stored in the words of an image in version 2, and why it may then not be recorded into again.
+NOT_ADOPTED = {
+    "Image Deleted": [{5: 2}, {5: 2, 6: 1}],
+    "OldVersion": [{VERSION: 1, SINGLE: TOP + 1, FIRST_COUNT: 1, SECOND_COUNT: 2}, {VERSION: 1, 6: 1}],
+    "Corrupt": [{6: 1}, {6: 3}, {6: 1, 42: 1}],
+    "Damaged": [{42: 1}, {FREE: 60}, {8: 13}, {SINGLE: 0}, {31: 321}, {40: 1}, {42: 1, FIRST_COUNT: MOST_UNITS, 38: MOST_UNITS}],
+    "NoUnits": [{FIRST_COUNT: MOST_UNITS, 38: MOST_UNITS}],
+}
+
 
 def wrong_fault(program, words, wanted, out):
     """What is wrong with the fault of a command that has no OUT before it, or None."""
@@ -158,8 +218,38 @@ def merges(program, folder):
     yield "merge, too large for the page of BASE", wrong_merge(program, folder, fault("Merge L TooLarge", 3), None)
 
 
+def wrong_resume(program, words, base, wanted, stored):
+    """What is wrong with the image that is gone on with, or None."""
+    out = words[-1]
+    if wanted.status:
+        return wrong_fault(program, words, wanted, out)
+    wrong = difference(wanted, answer(program, words)) or difference(Answer(wanted.output), answer(program, ["report", out]))
+    if wrong is None and stored is not None and out.read_bytes() != with_words(base, stored):
+        wrong = "other words were written"
+    return wrong
+
+
+def resumes(program, folder):
+    paths = [folder / name for name in ("base", "script", "out")]
+    for name, (base, script, wanted, stored) in RESUMES.items():
+        paths[0].write_bytes(base)
+        paths[1].write_bytes(script)
+        for workers in ("1", "2", "16"):
+            yield f"resume, {name}, {workers} workers", wrong_resume(program, ["resume", "--workers", workers, *paths], base, wanted, stored)
+    paths[1].write_bytes(ONE_MORE)
+    damaged = [("Damaged", shared_counts())]
+    for why, base in [*((why, image({**IN_VERSION_2, **stored})) for why, all_stored in NOT_ADOPTED.items() for stored in all_stored), *damaged]:
+        paths[0].write_bytes(base)
+        yield f"resume, {why}", wrong_fault(program, ["resume", *paths], fault(f"Adopt {why}", 3), paths[-1])
+    paths[0].write_bytes(blank(2))
+    paths[1].write_bytes(THREE_SAMPLES)
+    yield "resume, no histograms", difference(Answer(THREE_REPORT), answer(program, ["resume", *paths]))
+    yield "resume, no histograms, the image", None if paths[-1].read_bytes() == image(IN_VERSION_2) else "other words were written"
+
+
 def cases(program, _options):
     with tempfile.TemporaryDirectory() as scratch:
         folder = pathlib.Path(scratch)
         yield from runs(program, folder)
         yield from merges(program, folder)
+        yield from resumes(program, folder)

@@ -396,12 +396,19 @@ def lawful_name(words, at):
         return []
 
 
-def report_of(data, seen):
-    """The bytes of the report of an image; raises its fault where there is none."""
+def reading_of(data, seen):
+    """What an image reads as: its histograms by their names, its bad records, why its list stops or None, and its word of
+    flags; raises its fault where there is none."""
     words = words_of(data, seen)
     check_header(words, seen)
     references, stopped = walk(words, seen)
     by_name, bad_records = read_records(words, references, seen)
+    return by_name, bad_records, stopped, words[6]
+
+
+def report_of(data, seen):
+    """The bytes of the report of an image; raises its fault where there is none."""
+    by_name, bad_records, stopped, flags = reading_of(data, seen)
     lines, redundant = [], []
     for name in sorted(by_name):
         histogram = by_name[name]
@@ -416,7 +423,7 @@ def report_of(data, seen):
         if histogram["redundant"] != units:
             redundant.append(f"!redundant,{shown},{histogram['redundant']}")
     for bit, flag in ((1, "corrupt"), (2, "full")):
-        if words[6] & bit:
+        if flags & bit:
             lines.append(f"!flag,{flag}")
             seen[f"flag {flag}"] += 1
     seen["a redundant count that differs"] += len(redundant)

@@ -1,6 +1,10 @@
 """Lawful scripts that come of a seed: all kinds of histograms, in segments with room to spare for up to 16 workers."""
 
+import concurrent.futures
+import os
+import pathlib
 import string
+import tempfile
 
 from support.plain_reader import GREATEST
 from support.plain_tally import Histogram
@@ -154,3 +158,10 @@ def text_of(chance, script):
     mark = b"\xef\xbb\xbf" if chance.random() < 0.05 else b""
     text = "".join(lines)
     return mark + (text.rstrip(end) if chance.random() < 0.3 else text).encode()
+
+
+def tried(seeds, wrong_of):
+    """Each seed with what is wrong with it, or None: tried side by side, in one folder that is gone behind the last."""
+    with tempfile.TemporaryDirectory() as scratch, concurrent.futures.ThreadPoolExecutor(os.cpu_count()) as pool:
+        folder = pathlib.Path(scratch)
+        yield from zip(seeds, pool.map(lambda seed: wrong_of(seed, folder), seeds))

@@ -145,10 +145,10 @@ def call_of(chance, actor, specs, known):
     return kind, actor, name
 
 
-def schedule_of(chance, replay):
-    """A schedule without a fault, and the answer to it. `replay` gives the answer to the text of one."""
+def schedule_of(chance, replay, versions=(1, 2)):
+    """A schedule without a fault of one of some versions, and the answer to it. `replay` gives the answer to the text of one."""
     size, page = chance.choice(SHAPES)
-    schedule = Schedule(size, page, chance.choice([0, 7, 2**64 - 1]), chance.randrange(1, 6), chance.choice([1, 2]))
+    schedule = Schedule(size, page, chance.choice([0, 7, 2**64 - 1]), chance.randrange(1, 6), chance.choice(versions))
     specs = {name: chance.choice(SPECS) for name in NAMES}
     running, known = {}, collections.defaultdict(dict)
     for number in range(ROUNDS + 1):

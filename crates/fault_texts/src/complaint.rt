@@ -35,6 +35,8 @@ pub enum Complaint {
     NotFirst,
     /// Its size and its page are no lawful shape.
     Shape,
+    /// Its shape is lawful, but not that of the image that is recorded into; or its id is another.
+    OtherSegment,
     /// It is a `segment` record, and not the first.
     LateSegment,
     /// It is a `hist` record behind an `add` or a `delta` record.

@@ -4,6 +4,7 @@
 //! line of a file is one more than the line feeds before it. The lines themselves are only tested.
 #![tactic(auto)]
 
+mod adopting;
 mod complaint;
 mod field;
 mod header;
@@ -14,6 +15,7 @@ mod shown;
 mod specs_of;
 mod table;
 
+pub use adopting::{adopt_lines, base_lines};
 pub use complaint::{Complaint, Form, complaint_of};
 pub use field::Wanted;
 pub use header::{wanted_of, word_of};

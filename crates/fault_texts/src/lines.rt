@@ -109,6 +109,9 @@ impl fmt::Display for Finding {
                     "SIZE is {size} and PAGE is {page}; PAGE is a multiple of 16 from 64 to 65536, and SIZE whole pages, at most 1048576"
                 )
             }
+            Some(Complaint::OtherSegment) => f.write_str(
+                "SIZE, PAGE and ID have to be those of BASE",
+            ),
             Some(Complaint::LateSegment) => f.write_str(
                 "only the first record may be a `segment` record",
             ),
@@ -143,8 +146,8 @@ pub fn script_lines(
     }
 }
 
-// A word of an image, the least byte first; 0 where it has not so many.
-fn word_at(bytes: &[u8], at: usize) -> u64 {
+/// A word of an image, the least byte first; 0 where it has not so many.
+pub(crate) fn word_at(bytes: &[u8], at: usize) -> u64 {
     let word = bytes.chunks_exact(8).nth(at).unwrap_or_default();
     word.iter()
         .rev()

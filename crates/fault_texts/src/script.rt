@@ -3,6 +3,8 @@
 use crate::complaint::{Complaint, complaint_of};
 use crate::place::{Place, is_named, line_of, place_of};
 use csv::ByteRecord;
+use persist_report_core::unsigned_number;
+use segment_image::Shape;
 use std::alloc::{AllocError, Global};
 
 /// What is wrong with a record of a script.
@@ -16,6 +18,28 @@ pub struct Finding {
     pub complaint: Option<Complaint>,
 }
 
+// Whether the size and the page of a `segment` record are a lawful shape.
+fn has_shape(fields: &ByteRecord) -> bool {
+    let (Some(size), Some(page)) = (fields.get(1), fields.get(2)) else {
+        return false;
+    };
+    let (Some(size), Some(page)) = (unsigned_number(size), unsigned_number(page)) else {
+        return false;
+    };
+    Shape::of(u64::from(size), u64::from(page)).is_ok()
+}
+
+// What is wrong with the first record, whose form is lawful.
+fn misbegun(fields: &ByteRecord) -> Complaint {
+    if fields.get(0) != Some(b"segment".as_slice()) {
+        Complaint::NotFirst
+    } else if has_shape(fields) {
+        Complaint::OtherSegment
+    } else {
+        Complaint::Shape
+    }
+}
+
 // What is wrong with the place of a record, whose form is lawful.
 fn misplaced(
     alloc: Global,
@@ -26,15 +50,10 @@ fn misplaced(
     let Some(word) = place.fields.get(0) else {
         return Ok(None);
     };
-    let is_segment = word == b"segment".as_slice();
     if number <= 1 {
-        return Ok(Some(if is_segment {
-            Complaint::Shape
-        } else {
-            Complaint::NotFirst
-        }));
+        return Ok(Some(misbegun(&place.fields)));
     }
-    if is_segment {
+    if word == b"segment".as_slice() {
         return Ok(Some(Complaint::LateSegment));
     }
     if word == b"hist".as_slice() {

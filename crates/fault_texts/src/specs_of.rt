@@ -10,9 +10,14 @@ use std::alloc::{AllocError, Global};
 // An image has at most so many words.
 const MAX_WORDS: usize = 1_048_576;
 
-// What an image reads as, which was read before.
-fn reading_of(alloc: Global, bytes: &[u8]) -> Option<Reading> {
-    let words = read_words(alloc, &mut Watched::new(bytes), MAX_WORDS).ok()?;
+/// The words of an image, which was read before.
+pub(crate) fn words_of(alloc: Global, bytes: &[u8]) -> Option<Vec<u64>> {
+    read_words(alloc, &mut Watched::new(bytes), MAX_WORDS).ok()
+}
+
+/// What an image reads as, which was read before.
+pub(crate) fn reading_of(alloc: Global, bytes: &[u8]) -> Option<Reading> {
+    let words = words_of(alloc, bytes)?;
     image_reader::read(alloc, &words).ok()
 }
 
@@ -25,8 +30,8 @@ fn spec_of<'a>(reading: &'a Reading, name: &[u8]) -> Option<&'a Spec> {
     Some(&found.spec)
 }
 
-// The spec of a name in one of the images.
-fn spec_lines(
+/// The spec of a name in one of the images.
+pub(crate) fn spec_lines(
     alloc: Global,
     role: &str,
     image: Source<'_, '_>,

@@ -59,7 +59,7 @@ pub fn text_of(name: &str) -> Option<FaultText<'static>>
 
 /// Each fault by its name, with what it means and what to do: those of the program, of the header of an image, of what is
 /// refused, of specs, and of the lines of a report that begin with `!`.
-pub const TEXTS: [(&str, &str, &str); 43] = [
+pub const TEXTS: [(&str, &str, &str); 48] = [
     (
         "Read",
         "An input cannot be opened, or a read of it failed.",
@@ -72,7 +72,7 @@ pub const TEXTS: [(&str, &str, &str); 43] = [
     ),
     (
         "TooLong",
-        "An image has more than 8,388,608 bytes, or a script more than 16,777,216.",
+        "An image has more than 8,388,608 bytes, or a script more than 16,777,216; or 2^64 bytes were searched.",
         "See whether it is the right file. Of a long script make two, and add up the reports.",
     ),
     (
@@ -87,7 +87,7 @@ pub const TEXTS: [(&str, &str, &str); 43] = [
     ),
     (
         "BadLine",
-        "A record of the script has no lawful form or place, or it names no histogram. Its number counts records, not lines.",
+        "A record of the script has no lawful form or place, or it names no histogram; or, of `resume`, another segment than BASE. Its number counts records, not lines.",
         "Correct the record: --explain tells its line in the file, and what is wrong.",
     ),
     (
@@ -114,6 +114,16 @@ pub const TEXTS: [(&str, &str, &str); 43] = [
         "NoMemory",
         "There was no memory for what was read, for what was to be written, or for the work between.",
         "Close other programs, or allow this one more memory.",
+    ),
+    (
+        "Adopt",
+        "An image that is to be recorded into again may not be: the reason stands behind it.",
+        "Look that name up: `explain NAME`.",
+    ),
+    (
+        "NoSegment",
+        "In the file that was searched stand fewer segments than N: a lawful header, with all its words before the end.",
+        "Leave --nth out, to see whether there is any. Was the file written whole, and while the segment was in use?",
     ),
     (
         "TooShort",
@@ -161,6 +171,21 @@ pub const TEXTS: [(&str, &str, &str); 43] = [
         "The image is damaged: take it anew from where it was written.",
     ),
     (
+        "OldVersion",
+        "An image that is to be recorded into again is of version 1, in which units may be on their way for good.",
+        "Merge it with the image of a script that has a `segment` record alone: what comes is of version 2, with what no delta took.",
+    ),
+    (
+        "Damaged",
+        "An image that is to be recorded into again has words that no segment can have: a bad record, a list that stops, blocks that overlap, or something where nothing may stand.",
+        "Take it anew from where it was written. A report shows what can be read of it, and a merge takes that into a new image.",
+    ),
+    (
+        "BadCursors",
+        "More than eight shared cursors are asked for. It comes of programs that open a segment by the libraries.",
+        "Ask for eight or fewer.",
+    ),
+    (
         "BadName",
         "A name is not 1 to 128 bytes from 0x21 to 0x7E without comma and quotation mark, or it begins with an exclamation mark.",
         "Take another name. In a report the record is damaged, and the others are as they were.",
@@ -177,7 +202,7 @@ pub const TEXTS: [(&str, &str, &str); 43] = [
     ),
     (
         "NoUnits",
-        "More units are needed than there are. A segment has 4,294,967,295 in its whole life.",
+        "More units are needed than there are. A segment has 4,294,967,295 in its whole life, also where its image is recorded into again.",
         "Record into two segments, and add up the reports.",
     ),
     (
@@ -192,13 +217,13 @@ pub const TEXTS: [(&str, &str, &str); 43] = [
     ),
     (
         "Corrupt",
-        "The segment was found corrupt when a block was to be claimed.",
+        "The segment was found corrupt when a block was to be claimed; or it is the image of such a segment that is to be recorded into again.",
         "Make a new segment, and look at what the old one has by a report.",
     ),
     (
         "Full",
         "The segment has no room for another block.",
-        "Take a larger SIZE. For a merge, let BASE be the larger image.",
+        "Take a larger SIZE. For a merge, let BASE be the larger image. An image that is recorded into again keeps its size: merge it into a larger one first.",
     ),
     (
         "OtherSpec",

@@ -11,6 +11,7 @@ pub mod NewWorldStates
 pub mod Quiet
 pub mod Pointers
 pub mod Scheduling
+pub mod Starts
 pub mod Transits
 pub mod WorldStates
 pub mod Zips

@@ -10,22 +10,23 @@ use Rattle.hist_core.specs.declared.call.Move.TheVariants.{Begin, Step}
 use Rattle.hist_core.specs.declared.call.Stepped.{Stepped}
 use Rattle.hist_core.specs.declared.fault.WorldFault.{WorldFault}
 use Rattle.hist_core.specs.declared.fault.WorldFault.TheVariants.{NoMemory}
-use Rattle.hist_core.specs.WorldState.{BeginsFrom, IsNewWorldState, IsReachedAs, OthersStay, Says, StepsTo}
-use Rattle.hist_core.specs.World.{world_checks, begin_checks, step_checks, BeginSays, TakesMemory}
+use Rattle.hist_core.specs.Start.{Start}
+use Rattle.hist_core.specs.WorldState.{BeginsFrom, IsAdoptedWorldState, IsNewWorldState, IsReachedAs, OthersStay, Says, StepsTo}
+use Rattle.hist_core.specs.World.{actor_checks, world_checks, IsAdoptFault, begin_checks, step_checks, BeginSays, TakesMemory}
 
 -- an actor begins a call, which says this: nothing is wrong with it, and all other actors stay
 pub record IsBegun (actor : ℕ) (call : Call) (old new : WorldState) (said : Begun) : Type 0 where
   pub lawful : first_fault (begin_checks old actor call) ≡ None
   pub others : OthersStay actor old new
   pub says : BeginSays actor call old new said
-  pub leads : (state : State) → IsReachedAs old state → BeginsFrom state actor new
+  pub leads : (start : Start) (state : State) → IsReachedAs start old state → BeginsFrom start state actor new
 
 -- an actor goes on with its call by one event, and the call says this: nothing is wrong with it, and all other actors stay
 pub record IsStepped (actor : ℕ) (old new : WorldState) (said : Stepped) : Type 0 where
   pub lawful : first_fault (step_checks old actor) ≡ None
   pub others : OthersStay actor old new
   pub says : Says actor old new said
-  pub leads : (state : State) → IsReachedAs old state → StepsTo old actor state new said
+  pub leads : (start : Start) (state : State) → IsReachedAs start old state → StepsTo old actor start state new said
 
 -- a move leads from a world to another
 abbrev pub Makes : Move → WorldState → WorldState → Type 0
@@ -63,4 +64,17 @@ LeadsTo size page id actors version moves last =
 abbrev pub StopsWith : (size page id actors version : ℕ) → List Move → WorldFault → Type 0
 StopsWith size page id actors version moves fault = MatchOption (first_fault (world_checks size page actors version))
     ((fault ≡ NoMemory) ⊎ ((first : WorldState) × IsNewWorldState (record { size = size; page = page }) version id actors first × StopsAt moves first fault))
+    (λ why. fault ≡ why)
+
+-- ---- from an image on
+
+-- the moves lead from a world that goes on with an image to a last one
+abbrev pub LeadsOn : (words : List ℕ) (actors : ℕ) → List Move → WorldState → Type 0
+LeadsOn words actors moves last =
+    (first_fault (actor_checks actors) ≡ None) × ((first : WorldState) × IsAdoptedWorldState words actors first × MakesAll moves first last)
+
+-- The first fault: that of the actors, of the image, or that there was no memory; or that of a move, where the moves before it have none.
+abbrev pub StopsOn : (words : List ℕ) (actors : ℕ) → List Move → WorldFault → Type 0
+StopsOn words actors moves fault = MatchOption (first_fault (actor_checks actors))
+    (IsAdoptFault words fault ⊎ ((first : WorldState) × IsAdoptedWorldState words actors first × StopsAt moves first fault))
     (λ why. fault ≡ why)

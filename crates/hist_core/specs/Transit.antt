@@ -10,6 +10,7 @@ use Rattle.hist_core.specs.declared.actor_run.ActorRun.{ActorRun}
 use Rattle.hist_core.specs.declared.actor_run.Running.{Running}
 use Rattle.hist_core.specs.declared.actor_run.Running.TheVariants.{Add, Batch}
 use Rattle.hist_core.specs.declared.world_state.WorldState.{WorldState}
+use Rattle.hist_core.specs.Start.{Start}
 use Rattle.hist_core.specs.WorldState.{IsReachedAs}
 
 -- a running call counts in the histogram of a record
@@ -20,6 +21,6 @@ CountsFor histogram running = ⊥
 
 -- An actor that has disabled a single word, and has its units to move, runs a call that counts in just that histogram.
 abbrev pub MoveTheirOwn : WorldState → Type 0
-MoveTheirOwn world_state = (state : State) → IsReachedAs world_state state → (actor : ℕ) (actor_run : ActorRun) (recorder : Actor)
+MoveTheirOwn world_state = (start : Start) (state : State) → IsReachedAs start world_state state → (actor : ℕ) (actor_run : ActorRun) (recorder : Actor)
     → get_elem? world_state.actor_runs.items actor ≡ some actor_run → get_elem? state.actors (actor + 1) ≡ some recorder
     → (look : Look) (bucket units : ℕ) → recorder.hand.place ≡ Moving look bucket units → CountsFor look.histogram actor_run.running

@@ -9,7 +9,9 @@ use Rattle.segment_image.specs.Shape.{is_page, is_size}
 use Rattle.hist_core.specs.declared.entry.Entry.{Entry}
 use Rattle.hist_core.specs.declared.entry.Taken.{Taken}
 use Rattle.hist_core.specs.declared.fault.WorldFault.{WorldFault}
-use Rattle.hist_core.specs.declared.fault.WorldFault.TheVariants.{BadShape, NoActor, Busy, Idle, Unknown}
+use Rattle.hist_core.specs.declared.fault.WorldFault.TheVariants.{BadShape, NoActor, Busy, Idle, Unknown, NoMemory, Adopt}
+use Rattle.image_adoption.specs.Checking.{IsFaultOf}
+use Rattle.image_adoption.specs.declared.fault.AdoptFault.TheVariants as adopt
 use Rattle.hist_core.specs.declared.actor_run.ActorRun.{ActorRun}
 use Rattle.hist_core.specs.declared.world_state.WorldState.{WorldState}
 use Rattle.hist_core.specs.ActorRun.{ended_by, begun_by}
@@ -43,6 +45,17 @@ world_checks size page actors version =
     ∷ ((actors == 0) || nat_lt 64 actors, BadShape)
     ∷ (not (version == 1) && not (version == 2), BadShape)
     ∷ []
+
+-- with a world that goes on with an image, before that is looked at: the number of its actors
+abbrev pub actor_checks : ℕ → List (Bool × WorldFault)
+actor_checks actors = ((actors == 0) || nat_lt 64 actors, BadShape) ∷ []
+
+-- Why an image is not gone on with: the first fault of it that holds, or there was no memory.
+abbrev pub IsAdoptFault : List ℕ → WorldFault → Type 0
+IsAdoptFault words NoMemory = ⊤
+IsAdoptFault words (Adopt adopt.NoMemory) = ⊥
+IsAdoptFault words (Adopt fault) = IsFaultOf words 0 fault
+IsAdoptFault words fault = ⊥
 
 -- a call of an actor is going on, or it rests
 abbrev pub runs : Option ActorRun → Bool

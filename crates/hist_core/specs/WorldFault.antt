@@ -1,7 +1,9 @@
 -- Why a world takes no move.
 use Rattle.std.specs.Prelude.{ℕ}
 use Rattle.hist_core.specs.declared.fault.WorldFault.{WorldFault}
-use Rattle.hist_core.specs.declared.fault.WorldFault.TheVariants.{BadShape, NoActor, Busy, Idle, Unknown, NoMemory}
+use Rattle.hist_core.specs.declared.fault.WorldFault.TheVariants.{BadShape, NoActor, Busy, Idle, Unknown, NoMemory, Adopt}
+use Rattle.image_adoption.specs.declared.fault.AdoptFault.{AdoptFault}
+use Rattle.image_adoption.specs.declared.fault.AdoptFault.TheVariants as adopt
 
 -- the number of a fault
 abbrev pub world_fault_number : WorldFault → ℕ
@@ -11,3 +13,9 @@ world_fault_number Busy = 3
 world_fault_number Idle = 4
 world_fault_number Unknown = 5
 world_fault_number NoMemory = 6
+world_fault_number (Adopt fault) = 7
+
+-- what a fault of an image comes to: want of memory is none of it
+abbrev pub fault_of_adoption : AdoptFault → WorldFault
+fault_of_adoption adopt.NoMemory = NoMemory
+fault_of_adoption fault = Adopt fault

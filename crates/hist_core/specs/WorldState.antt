@@ -5,24 +5,26 @@ use lib.ListN.{get_elem?}
 use Rattle.std.specs.List.{Contains}
 use Rattle.segment_image.specs.Shape.{Dimensions}
 use Rattle.segment_image.specs.Head.{head_of}
-use Rattle.bucket_ranges.specs.Reading.{Histogram, Reading, IsReading}
+use Rattle.bucket_ranges.specs.Reading.{Histogram, IsListed, Reading, IsReading, reading_along}
 use Rattle.alloc_core.specs.Layout.{render, fresh}
 use Rattle.segment_machine.specs.declared.place.Place.TheVariants.{FreeLoaded, Idle}
 use Rattle.segment_machine.specs.declared.actor.Actor.{Actor}
 use Rattle.segment_image.specs.Words.{word_at}
-use Rattle.segment_image.specs.declared.layout.TheConstants.{FLAG_CORRUPT, FLAG_FULL, FLAGS_WORD, FREE_WORD, HISTOGRAM_REDUNDANT}
+use Rattle.segment_image.specs.declared.layout.TheConstants.{FLAG_CORRUPT, FLAG_FULL, FLAGS_WORD, FREE_WORD, HISTOGRAM_REDUNDANT, VERSION_FROZEN}
 use Rattle.segment_machine.specs.Actor.{accepted_since, is_opener, offered_of, units_listed}
 use Rattle.segment_machine.specs.Event.{Event}
 use Rattle.segment_machine.specs.State.{State, IsStep}
-use Rattle.segment_machine.specs.Reached.{IsState, IsLent, IsReturned}
-use Rattle.segment_invariant.specs.Body.{blank}
+use Rattle.segment_machine.specs.Reached.{IsLent, IsReturned}
+use Rattle.segment_machine.specs.Reached as machine
 use Rattle.bucket_ranges.specs.Reading.{spec_of}
 use Rattle.bucket_ranges.specs.Spec.{SameSpec}
 use Rattle.list_core.specs.Chain.{IsChain}
-use Rattle.segment_invariant.specs.Consistent.{IsConsistent, IsHistogram, new_opening, units_taken}
+use Rattle.segment_invariant.specs.Consistent.{IsConsistent, IsHistogram, units_taken}
+use Rattle.segment_promises.specs.Adoption.{IsAdoptable, used_of}
 use Rattle.segment_invariant.specs.Invariant.{Invariant}
+use Rattle.segment_invariant.specs.Keeps.{opening_of}
 use Rattle.segment_promises.specs.Deltas.{IsEnough}
-use Rattle.segment_promises.specs.Reads.{HasNoFault, ReadsHead, ReadsNames, ReadsUnits, ReadsAmounts}
+use Rattle.segment_promises.specs.Reads.{HasNoFault, ReadsHead, ReadsNames, ReadsUnits, ReadsAmounts, noted_at_opening}
 use Rattle.segment_calls.specs.declared.answer.Delta.{Delta as DeltaAnswer}
 use Rattle.segment_calls.specs.declared.answer.Snapshot.{Snapshot as SnapshotAnswer}
 use Rattle.hist_core.specs.declared.call.Stepped.{Stepped}
@@ -45,6 +47,7 @@ use Rattle.segment_machine.specs.Entry.{batch_cost, batch_entries, sample_entry,
 use Rattle.segment_machine.specs.declared.entry.Entry.{Entry as MachineEntry}
 use Rattle.hist_core.specs.Batch.{sample_of}
 use Rattle.hist_core.specs.SnapshotCall.{HasJustBegun}
+use Rattle.hist_core.specs.Start.{IsImage, MayStart, Start, new_start, start_state}
 use Rattle.hist_core.specs.StepsBy.{has_pointer}
 use Rattle.segment_calls.specs.declared.refusal.Refusal.{Refusal}
 use Rattle.bucket_ranges.specs.Ranges.{boundaries_of}
@@ -57,6 +60,18 @@ pub record IsNewWorldState (shape : Dimensions) (version id actors : ℕ) (world
   pub count : vec_len world_state.actor_runs ≡ actors
   pub rest : All IsFresh world_state.actor_runs.items
   pub units : world_state.units ≡ 4294967295
+
+-- an image that may be adopted, with so many actors, which have done nothing; the pool has the units that the image has not used
+pub record IsAdoptedWorldState (words : List ℕ) (actors : ℕ) (world_state : WorldState) : Type 0 where
+  pub references : List ℕ
+  pub listed : IsListed words (head_of words) references
+  pub adoptable : IsAdoptable words references (reading_along words (head_of words) references)
+  pub shaped : world_state.shape ≡ (head_of words).shape
+  pub versioned : world_state.version ≡ VERSION_FROZEN
+  pub words_are : world_state.words.items ≡ words
+  pub count : vec_len world_state.actor_runs ≡ actors
+  pub rest : All IsFresh world_state.actor_runs.items
+  pub units : world_state.units + used_of (reading_along words (head_of words) references) ≡ 4294967295
 
 -- ---- the state of the machine
 
@@ -81,15 +96,32 @@ pub record Shows (world_state : WorldState) (state : State) : Type 0 where
   pub pool : opener.units.share ≡ world_state.units
   pub runs : AreRun world_state.shape world_state.version world_state.actor_runs.items recorders
 
--- a state that the machine reaches, and that these words and actors stand for
-pub record IsReachedAs (world_state : WorldState) (state : State) : Type 0 where
-  pub id : ℕ
-  pub reached : IsState world_state.shape world_state.version id 0 state
+-- A state that the machine reaches from a start, and that these words and actors stand for. Its opener has accepted, taken and been
+-- answered what it had at the start, and nothing since.
+pub record IsReachedAs (start : Start) (world_state : WorldState) (state : State) : Type 0 where
+  pub starts : MayStart world_state.shape world_state.version start
+  pub reached : machine.IsReached world_state.version (start_state start) state
   pub shows : Shows world_state state
+  pub entries : shows.opener.entries ≡ start.opener.entries
+  pub deltas : shows.opener.deltas ≡ start.opener.deltas
+  pub answers : shows.opener.answers ≡ start.opener.answers
 
--- the machine reaches such a state
+-- the machine reaches such a state from a start
+abbrev pub IsReachedFrom : Start → WorldState → Type 0
+IsReachedFrom start world_state = (state : State) × IsReachedAs start world_state state
+
+-- it reaches one from some start
 abbrev pub IsReached : WorldState → Type 0
-IsReached world_state = (state : State) × IsReachedAs world_state state
+IsReached world_state = (start : Start) × (state : State) × IsReachedAs start world_state state
+
+-- it reaches one from a new segment of a shape, a version and an id
+abbrev pub IsReachedFromNew : Dimensions → ℕ → ℕ → WorldState → Type 0
+IsReachedFromNew shape version id world_state = IsReachedFrom (new_start shape version id) world_state
+
+-- it reaches one from an image
+abbrev pub IsReachedFromImage : List ℕ → WorldState → Type 0
+IsReachedFromImage words world_state =
+    (references : List ℕ) × (start : Start) × IsImage words references start × IsReachedFrom start world_state
 
 -- ---- the actors
 
@@ -110,28 +142,30 @@ abbrev pub GivesBack : ℕ → State → State → Type 0
 GivesBack actor old new = (new ≡ old) ⊎ ((units : ℕ) × IsReturned old 0 (actor + 1) units new)
 
 -- the begin of a call takes its units from the pool, where it has any; no word changes
-abbrev pub BeginsFrom : State → ℕ → WorldState → Type 0
-BeginsFrom state actor new = (then_is : State) × Lends actor state then_is × IsReachedAs new then_is
+abbrev pub BeginsFrom : Start → State → ℕ → WorldState → Type 0
+BeginsFrom start state actor new = (then_is : State) × Lends actor state then_is × IsReachedAs start new then_is
 
 -- A snapshot of the histogram of a record is what its actor saw since it began. Of each key it has at least the units that the actor
--- had accepted and those that it had seen before; so has its redundant count.
-pub record HasSeen (actor histogram : ℕ) (snapshot : SnapshotAnswer) (world_state : WorldState) (state : State) (reach : IsReachedAs world_state state) : Type 0 where
+-- had accepted and those that it had seen before; so has its redundant count, with what an image had.
+pub record HasSeen (actor histogram : ℕ) (snapshot : SnapshotAnswer) (start : Start) (world_state : WorldState) (state : State)
+    (reach : IsReachedAs start world_state state) : Type 0 where
   pub recorder : Actor
   pub there : get_elem? state.actors (actor + 1) ≡ some recorder
   pub answer : IsAnswer histogram snapshot recorder
-  pub kept : Invariant world_state.shape (blank world_state.version reach.id world_state.shape.size) state
+  pub kept : Invariant world_state.shape start.opened state
   pub enough : IsEnough state.words kept.anatomy.records recorder answer.known (units_listed snapshot.counts.items)
-  pub noted : tally_noted (accepted_since reach.shows.opener recorder) answer.known.name ≤ snapshot.redundant
+  pub noted : noted_at_opening start.opened answer.known.name + tally_noted (accepted_since reach.shows.opener recorder) answer.known.name ≤ snapshot.redundant
   pub rising : (count : ℕ) → Contains (take recorder.since.counts recorder.seen.counts) (record { at = histogram + HISTOGRAM_REDUNDANT; word = count })
       → count ≤ snapshot.redundant
 
 -- A delta of the histogram of a record took all that its actor saw since it began. With it all deltas together took, of each key, at least
 -- the units that the actor had accepted and those that it had seen before.
-pub record HasTaken (actor histogram : ℕ) (delta : DeltaAnswer) (world_state : WorldState) (state : State) (reach : IsReachedAs world_state state) : Type 0 where
+pub record HasTaken (actor histogram : ℕ) (delta : DeltaAnswer) (start : Start) (world_state : WorldState) (state : State)
+    (reach : IsReachedAs start world_state state) : Type 0 where
   pub recorder : Actor
   pub there : get_elem? state.actors (actor + 1) ≡ some recorder
   pub answer : IsTook histogram delta recorder
-  pub kept : Invariant world_state.shape (blank world_state.version reach.id world_state.shape.size) state
+  pub kept : Invariant world_state.shape start.opened state
   pub enough : IsEnough state.words kept.anatomy.records recorder answer.known (units_taken state.actors answer.known.name)
 
 -- the flag is set that a call is refused for
@@ -164,17 +198,17 @@ LoadsPointer actor words state last = (a b : Actor) → get_elem? state.actors (
     → (free : ℕ) → b.hand.place ≡ FreeLoaded free → (a.hand.place ≡ FreeLoaded free) ⊎ (word_at words FREE_WORD ≡ free)
 
 -- what an answer promises of the states before and behind it, by what the call was to do
-abbrev pub IsPromised : WorldState → ℕ → State → Stepped → (new : WorldState) (last : State) → IsReachedAs new last → Type 0
-IsPromised old actor state (Done (answer.Delta delta)) new last reach =
-    (before : ActorRun) → get_elem? old.actor_runs.items actor ≡ some before → HasTaken actor (looked_by before.running) delta new last reach
-IsPromised old actor state (Done (answer.Snapshot snapshot)) new last reach =
-    (before : ActorRun) → get_elem? old.actor_runs.items actor ≡ some before → HasSeen actor (looked_by before.running) snapshot new last reach
-IsPromised old actor state (Done (answer.Refused cause)) new last reach =
+abbrev pub IsPromised : WorldState → ℕ → State → Stepped → (start : Start) (new : WorldState) (last : State) → IsReachedAs start new last → Type 0
+IsPromised old actor state (Done (answer.Delta delta)) start new last reach =
+    (before : ActorRun) → get_elem? old.actor_runs.items actor ≡ some before → HasTaken actor (looked_by before.running) delta start new last reach
+IsPromised old actor state (Done (answer.Snapshot snapshot)) start new last reach =
+    (before : ActorRun) → get_elem? old.actor_runs.items actor ≡ some before → HasSeen actor (looked_by before.running) snapshot start new last reach
+IsPromised old actor state (Done (answer.Refused cause)) start new last reach =
     (before : ActorRun) → get_elem? old.actor_runs.items actor ≡ some before → IsDue actor before.running cause state new last
-IsPromised old actor state (Done (answer.BatchRefused refused)) new last reach =
+IsPromised old actor state (Done (answer.BatchRefused refused)) start new last reach =
     (before : ActorRun) → get_elem? old.actor_runs.items actor ≡ some before → IsDue actor before.running refused.why state new last
-IsPromised old actor state (Done answer.Flagged) new last reach = HasSpoiled actor last
-IsPromised old actor state said new last reach = ⊤
+IsPromised old actor state (Done answer.Flagged) start new last reach = HasSpoiled actor last
+IsPromised old actor state said start new last reach = ⊤
 
 -- since when the actor looks whose running call is a snapshot, in a state and behind an event of it
 abbrev pub LooksFrom : WorldState → ℕ → State → State → Type 0
@@ -184,11 +218,11 @@ LooksFrom old actor state last = (before : ActorRun) (a b : Actor) → get_elem?
 -- One event of the actor leads from a state to another; then the units of a call that is refused come back. What the call says is as it
 -- promises, of the state that it leads to. A snapshot looks since its first event. Behind its own corrupt flag an actor claims nothing, and
 -- it stands at no free pointer that it has not loaded.
-abbrev pub StepsTo : WorldState → ℕ → State → WorldState → Stepped → Type 0
-StepsTo old actor state new said =
+abbrev pub StepsTo : WorldState → ℕ → Start → State → WorldState → Stepped → Type 0
+StepsTo old actor start state new said =
     (event : Event) × (then_is : State) × IsStep old.version state (actor + 1) event then_is
     × ((last : State) × GivesBack actor then_is last
-    × ((reach : IsReachedAs new last) × IsPromised old actor state said new last reach × LooksFrom old actor state last × ClaimsNothing actor state last
+    × ((reach : IsReachedAs start new last) × IsPromised old actor state said start new last reach × LooksFrom old actor state last × ClaimsNothing actor state last
     × LoadsPointer actor old.words.items state last))
 
 -- the shape and the version stay, and so do all other actors
@@ -212,8 +246,8 @@ pub record IsAsBefore (old new : WorldState) : Type 0 where
 
 -- The actor holds no free pointer. So where a call of it stands at one, it has loaded that itself (`LoadsPointer`).
 abbrev pub HoldsNoPointer : ℕ → WorldState → Type 0
-HoldsNoPointer actor world_state = (state : State) → IsReachedAs world_state state → (recorder : Actor) → get_elem? state.actors (actor + 1) ≡ some recorder
-    → has_pointer recorder.hand.place ≡ false
+HoldsNoPointer actor world_state =
+    (start : Start) (state : State) → IsReachedAs start world_state state → (recorder : Actor) → get_elem? state.actors (actor + 1) ≡ some recorder → has_pointer recorder.hand.place ≡ false
 
 -- ---- what an actor knows
 
@@ -365,18 +399,24 @@ Says actor old new said = (before behind : ActorRun) → get_elem? old.actor_run
 
 -- ---- at any moment
 
--- the state is consistent, in all eight parts
+-- each state is consistent, in all eight parts, beside the words of its start and the blocks that were claimed there
 abbrev pub IsConsistentAs : WorldState → Type 0
-IsConsistentAs world_state = (state : State) × (reach : IsReachedAs world_state state) × IsConsistent (new_opening world_state.shape world_state.version reach.id) state
+IsConsistentAs world_state = (start : Start) (state : State) → IsReachedAs start world_state state
+    → IsConsistent (opening_of world_state.shape start.opened) state
 
 -- Stopped here, the words read back as exactly the histograms that were published, each once, every bucket holding no unit that was not
--- begun and all ended ones but those in transit: in a state that they stand for.
+-- begun and all ended ones but those in transit. An image's are there too, and what it counted is begun and ended.
 abbrev pub IsReadAs : WorldState → Type 0
-IsReadAs world_state = (state : State) × (reach : IsReachedAs world_state state) × (kept : Invariant world_state.shape (blank world_state.version reach.id world_state.shape.size) state)
+IsReadAs world_state = (start : Start) (state : State) → IsReachedAs start world_state state → (kept : Invariant world_state.shape start.opened state)
     × ((reading : Reading) → IsReading state.words (head_of state.words) reading
-    → HasNoFault reading × ReadsHead (blank world_state.version reach.id world_state.shape.size) state reading × ReadsNames kept.anatomy.records reading
-    × ((h : Histogram) → Contains reading.hists h
-    → ReadsUnits world_state.version state h × ReadsAmounts (blank world_state.version reach.id world_state.shape.size) state h))
+    → HasNoFault reading × ReadsHead start.opened state reading × ReadsNames kept.anatomy.records reading
+    × ((h : Histogram) → Contains reading.hists h → ReadsUnits world_state.version state h × ReadsAmounts start.opened state h))
+
+-- the words of version 2 may be adopted, unless the corrupt flag is set: any stop can be gone on from
+abbrev pub MayBeAdopted : WorldState → Type 0
+MayBeAdopted world_state = world_state.version ≡ VERSION_FROZEN → (head_of world_state.words.items).corrupt ≡ false
+    → (references : List ℕ) → IsListed world_state.words.items (head_of world_state.words.items) references
+    → ∥ IsAdoptable world_state.words.items references (reading_along world_state.words.items (head_of world_state.words.items) references) ∥₁
 
 -- Each histogram that a resting actor knows, since a `hist` was answered with it, is the first of its name on the list, and the spec of its
 -- record is the same.

@@ -1,5 +1,6 @@
 //! Why a world takes no move.
 
+use image_adoption::AdoptFault;
 use std::alloc::AllocError;
 use thiserror::Error;
 
@@ -8,22 +9,25 @@ use thiserror::Error;
 pub enum WorldFault {
     /// The shape is unlawful, the actors are not 1 to 64, or the version is neither 1 nor 2.
     #[error("BadShape")]
-    BadShape = 1,
+    BadShape,
     /// There is no such actor.
     #[error("NoActor")]
-    NoActor = 2,
+    NoActor,
     /// A call of this actor is going on.
     #[error("Busy")]
-    Busy = 3,
+    Busy,
     /// No call of this actor is going on.
     #[error("Idle")]
-    Idle = 4,
+    Idle,
     /// No `hist` of this actor was answered with a histogram of that name.
     #[error("Unknown")]
-    Unknown = 5,
+    Unknown,
     /// There was no memory.
     #[error("NoMemory")]
-    NoMemory = 6,
+    NoMemory,
+    /// The image that is to be gone on with has this fault, which is never want of memory.
+    #[error("Adopt {0}")]
+    Adopt(AdoptFault),
 }
 
 impl WorldFault {
@@ -34,7 +38,15 @@ impl WorldFault {
     pub fn number(&self) -> u32
         ensures { result ≡ world_fault_number self.now }
     {
-        *self as u32
+        match self {
+            WorldFault::BadShape => 1,
+            WorldFault::NoActor => 2,
+            WorldFault::Busy => 3,
+            WorldFault::Idle => 4,
+            WorldFault::Unknown => 5,
+            WorldFault::NoMemory => 6,
+            WorldFault::Adopt(_) => 7,
+        }
     }
 }
 
@@ -46,5 +58,19 @@ impl From<AllocError> for WorldFault {
 
     fn from(_: AllocError) -> WorldFault {
         WorldFault::NoMemory
+    }
+}
+
+impl From<AdoptFault> for WorldFault {
+    ghost use Rattle.std.specs.Prelude.{◌≡◌};
+    ghost use Rattle.hist_core.specs.WorldFault.{fault_of_adoption};
+
+    ghost from_gives = { λ fault result. result ≡ fault_of_adoption fault };
+
+    fn from(fault: AdoptFault) -> WorldFault {
+        match fault {
+            AdoptFault::NoMemory => WorldFault::NoMemory,
+            fault => WorldFault::Adopt(fault),
+        }
     }
 }

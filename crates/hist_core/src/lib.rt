@@ -25,5 +25,6 @@ mod world_state;
 pub use call::{Answer, Begun, Call, Move, Stepped};
 pub use entry::{Entry, Taken};
 pub use fault::WorldFault;
+pub use image_adoption::AdoptFault;
 pub use segment_calls::{BatchRefusal, Delta, Refusal, Snapshot};
-pub use world::{MAX_ACTORS, World, run_schedule};
+pub use world::{MAX_ACTORS, World, run_schedule, run_schedule_on};

@@ -4,6 +4,7 @@ use crate::call::{Begun, Call, Move, Stepped};
 use crate::entry::{Entry, Taken};
 use crate::fault::WorldFault;
 use crate::world_state::WorldState;
+use image_adoption::{Adoptable, check};
 use segment_image::Shape;
 use segment_image::layout::{VERSION_FROZEN, VERSION_MOVING};
 use std::alloc::{AllocError, Global};
@@ -29,10 +30,12 @@ impl World {
     ghost use Rattle.alloc_core.specs.Layout.{IsShape};
     ghost use Rattle.segment_machine.specs.State.{State};
     ghost use Rattle.segment_promises.specs.Calls.{AreUnits};
-    ghost use Rattle.hist_core.specs.WorldState.{IsReachedAs, IsNewWorldState, BeginsFrom, HoldsNoPointer, StepsTo, IsAsBefore, OthersStay, Says, IsConsistentAs, IsReadAs, AreKnownFirst};
+    ghost use Rattle.image_adoption.specs.Checking.{IsAdoption};
+    ghost use Rattle.hist_core.specs.Start.{Start};
+    ghost use Rattle.hist_core.specs.WorldState.{IsReachedAs, IsReachedFromImage, IsReachedFromNew, IsAdoptedWorldState, IsNewWorldState, BeginsFrom, HoldsNoPointer, StepsTo, IsAsBefore, OthersStay, Says, IsConsistentAs, IsReadAs, MayBeAdopted, AreKnownFirst};
     ghost use Rattle.hist_core.specs.Transit.{MoveTheirOwn};
-    ghost use Rattle.hist_core.specs.Moves.{Makes, FaultsAt};
-    ghost use Rattle.hist_core.specs.World.{world_checks, begin_checks, TakesMemory, BeginSays, step_checks, ChangesOneWord, ended_of, begun_of, taken_of};
+    ghost use Rattle.hist_core.specs.Moves.{Makes, MakesAll, FaultsAt, StopsAt};
+    ghost use Rattle.hist_core.specs.World.{actor_checks, world_checks, IsAdoptFault, begin_checks, TakesMemory, BeginSays, step_checks, ChangesOneWord, ended_of, begun_of, taken_of};
 
     /// A new segment of `size` words in pages of `page` words, of version 1 or 2, with so many actors that have done nothing.
     ///
@@ -45,7 +48,8 @@ impl World {
         actors: usize,
         version: u64,
     ) -> Result<World, WorldFault>
-        ensures { MatchOption (first_fault (world_checks size page actors version)) (MatchResult result (λ world. IsNewWorldState (record { size = size; page = page }) version id actors world.world_state) (λ fault. fault ≡ WorldFault.NoMemory)) (λ fault. result ≡ Err fault) }
+        ensures world { MatchOption (first_fault (world_checks size page actors version)) (MatchResult result (λ world. IsNewWorldState (record { size = size; page = page }) version id actors world.world_state) (λ fault. fault ≡ WorldFault.NoMemory)) (λ fault. result ≡ Err fault) }
+        ensures starts { IfOk result (λ world. ∥ IsReachedFromNew (record { size = size; page = page }) version id world.world_state ∥₁) }
     {
         let Ok(shape) = Shape::of(size, page) else {
             return Err(WorldFault::BadShape);
@@ -70,22 +74,61 @@ impl World {
         requires shaped { IsShape shape }
         requires few { actors ≤ 64 }
         requires versioned { (version ≡ 1) ⊎ (version ≡ 2) }
-        ensures { IfOk result (λ world. IsNewWorldState shape version id actors world.world_state) }
+        ensures world { IfOk result (λ world. IsNewWorldState shape version id actors world.world_state) }
+        ensures starts { IfOk result (λ world. ∥ IsReachedFromNew shape version id world.world_state ∥₁) }
     {
         Ok(World {
             world_state: WorldState::new(alloc, shape, version, id, actors)?,
         })
     }
 
+    /// A segment that goes on with the words of an image, with so many actors that have done nothing and know no histogram. Its names,
+    /// counts, sums, marks and free space go on where they stood, and its pool has the units that the image has not used.
+    ///
+    /// - `words`: those of an image of version 2. They are copied, and may be any.
+    ///
+    /// `BadShape` where the actors are not 1 to 64; then `Adopt` with the first fault of the image, in the order of `AdoptFault`.
+    /// `NoMemory` also where there was none to look further.
+    pub fn adopt(alloc: Global, words: &[u64], actors: usize) -> Result<World, WorldFault>
+        ensures world { MatchOption (first_fault (actor_checks actors)) (MatchResult result (λ world. IsAdoptedWorldState words.now actors world.world_state) (IsAdoptFault words.now)) (λ fault. result ≡ Err fault) }
+        ensures starts { IfOk result (λ world. ∥ IsReachedFromImage words.now world.world_state ∥₁) }
+    {
+        if actors == 0 || actors > MAX_ACTORS {
+            return Err(WorldFault::BadShape);
+        }
+        let adoptable = check(alloc, words, 0)?;
+        World::open_image(alloc, words, &adoptable, actors).map_err(|_| WorldFault::NoMemory)
+    }
+
+    // The world that goes on with an image.
+    fn open_image(
+        alloc: Global,
+        words: &[u64],
+        adoptable: &Adoptable,
+        actors: usize,
+    ) -> Result<World, AllocError>
+        requires adoption { IsAdoption words.now 0 adoptable.now }
+        requires few { actors ≤ 64 }
+        ensures world { IfOk result (λ world. IsAdoptedWorldState words.now actors world.world_state) }
+        ensures starts { IfOk result (λ world. ∥ IsReachedFromImage words.now world.world_state ∥₁) }
+    {
+        Ok(World {
+            world_state: WorldState::adopt(alloc, words, adoptable, actors)?,
+        })
+    }
+
     /// The words of the segment. Their header has no fault, and what they show is consistent; and whenever the world is looked at, they read back as exactly
     /// the published histograms, each once, with no unit that was not begun and all ended ones but those in transit. What a `Hist`
     /// was answered with is the first histogram of its name, and has the same spec. Units that are on their way out of a single word are
-    /// in the hands of a call that counts in just that histogram.
+    /// in the hands of a call that counts in just that histogram. In version 2, unless the corrupt flag is set, they may be gone on from
+    /// by `World::adopt`.
     pub fn words(&self) -> &[u64]
         ensures words { result.now ≡ self.now.world_state.words.items }
         ensures header { header_of self.now.world_state.words.items ≡ Ok (head_of self.now.world_state.words.items) }
-        ensures consistent { ∥ IsConsistentAs self.now.world_state ∥₁ }
-        ensures reads { ∥ IsReadAs self.now.world_state ∥₁ }
+        ensures reached { ∥ IsReached self.now.world_state ∥₁ }
+        ensures consistent { IsConsistentAs self.now.world_state }
+        ensures reads { IsReadAs self.now.world_state }
+        ensures adoptable { MayBeAdopted self.now.world_state }
         ensures names { AreKnownFirst self.now.world_state }
         ensures moves { MoveTheirOwn self.now.world_state }
     {
@@ -131,7 +174,7 @@ impl World {
         ensures faults { MatchOption (first_fault (begin_checks self.old.world_state actor call.now)) (IfErr result (λ fault. (fault ≡ WorldFault.NoMemory) × TakesMemory call.now)) (λ fault. result ≡ Err fault) }
         ensures fault { OnErr result (IsAsBefore self.old.world_state self.new.world_state) }
         ensures words { self.new.world_state.words.items ≡ self.old.world_state.words.items }
-        ensures begins { (state : State) → IsReachedAs self.old.world_state state → BeginsFrom state actor self.new.world_state }
+        ensures begins { (start : Start) (state : State) → IsReachedAs start self.old.world_state state → BeginsFrom start state actor self.new.world_state }
         ensures others { OthersStay actor self.old.world_state self.new.world_state }
         ensures loads { OnOk result (HoldsNoPointer actor self.old.world_state) }
         ensures says { IfOk result (λ said. BeginSays actor call.now self.old.world_state self.new.world_state said) }
@@ -193,7 +236,7 @@ impl World {
     pub fn step(&mut self, actor: usize) -> Result<Stepped, WorldFault>
         ensures faults { MatchOption (first_fault (step_checks self.old.world_state actor)) (IsOk result) (λ fault. result ≡ Err fault) }
         ensures fault { OnErr result (self.new.world_state ≡ self.old.world_state) }
-        ensures steps { IfOk result (λ said. (state : State) → IsReachedAs self.old.world_state state → StepsTo self.old.world_state actor state self.new.world_state said) }
+        ensures steps { IfOk result (λ said. (start : Start) (state : State) → IsReachedAs start self.old.world_state state → StepsTo self.old.world_state actor start state self.new.world_state said) }
         ensures others { OnOk result (OthersStay actor self.old.world_state self.new.world_state) }
         ensures word { OnOk result (∥ ChangesOneWord self.old.world_state.words.items self.new.world_state.words.items ∥₁) }
         ensures says { IfOk result (λ said. Says actor self.old.world_state self.new.world_state said) }
@@ -224,6 +267,17 @@ impl World {
         Ok(())
     }
 
+    // Makes moves, one after the other, up to the first fault.
+    fn make_all(&mut self, moves: &[Move]) -> Result<(), WorldFault>
+        ensures makes { OnOk result (MakesAll moves.now self.old.world_state self.new.world_state) }
+        ensures stops { IfErr result (StopsAt moves.now self.old.world_state) }
+    {
+        for step in moves {
+            self.make(step)?;
+        }
+        Ok(())
+    }
+
     /// What an actor's deltas took, in order. A running one stands last from its first event on, so far as it went. The keys of
     /// each ascend, at every moment. An actor that is not there took nothing.
     pub fn taken(&self, actor: usize) -> &[Taken]
@@ -238,7 +292,7 @@ impl World {
 }
 
 ghost use Rattle.std.specs.Prelude.{IfOk, IfErr};
-ghost use Rattle.hist_core.specs.Moves.{LeadsTo, StopsWith};
+ghost use Rattle.hist_core.specs.Moves.{LeadsOn, LeadsTo, StopsOn, StopsWith};
 
 /// The world after these moves, one after the other. It stops at the first fault, that of `World::new` or of a move.
 pub fn run_schedule(
@@ -254,8 +308,22 @@ pub fn run_schedule(
     ensures fault { IfErr result (StopsWith size page id actors version moves.now) }
 {
     let mut world = World::new(alloc, size, page, id, actors, version)?;
-    for step in moves {
-        world.make(step)?;
-    }
+    world.make_all(moves)?;
+    Ok(world)
+}
+
+/// The world after these moves, one after the other, from one on that goes on with the words of an image. It stops at the first fault,
+/// that of `World::adopt` or of a move.
+pub fn run_schedule_on(
+    alloc: Global,
+    words: &[u64],
+    actors: usize,
+    moves: &[Move],
+) -> Result<World, WorldFault>
+    ensures world { IfOk result (λ world. LeadsOn words.now actors moves.now world.world_state) }
+    ensures fault { IfErr result (StopsOn words.now actors moves.now) }
+{
+    let mut world = World::adopt(alloc, words, actors)?;
+    world.make_all(moves)?;
     Ok(world)
 }

@@ -4,11 +4,12 @@ use crate::actor_run::{ActorRun, Running};
 use crate::call::{Answer, Begun, Stepped};
 use crate::ghost_notes::{are_some, batch_cost};
 use bucket_ranges::Spec;
+use image_adoption::Adoptable;
 use segment_calls::{Asked, BatchRefusal, Refusal};
-use segment_image::Shape;
 use segment_image::layout::{
     HEADER_WORDS, QUEUE, QUEUE_COOKIE, QUEUE_SIZE, SEGMENT_COOKIE, STATE_READY, TYPE_PURGED,
 };
+use segment_image::{Shape, header};
 use std::alloc::{AllocError, Global};
 
 // All units of a world.
@@ -85,7 +86,9 @@ impl WorldState {
     ghost use Rattle.segment_machine.specs.Entry.{batch_cost as cost_of_batch};
     ghost use Rattle.segment_machine.specs.State.{State};
     ghost use Rattle.hist_core.specs.declared.actor_run.ActorRun.{ActorRun};
-    ghost use Rattle.hist_core.specs.WorldState.{IsNewWorldState, IsReached, IsReachedAs, StepsTo, Rests, IsBusy, IsAsBefore, OthersStay, BeginsFrom, HistBegins, AddBegins, IsAddBegun, IsBatchBegun, BatchBegins, AreSome, DeltaBegins, SnapshotBegins, SetCorruptBegins, IsKnownBy, IsPlaceOf, LacksName, Says};
+    ghost use Rattle.image_adoption.specs.Checking.{IsAdoption};
+    ghost use Rattle.hist_core.specs.Start.{Start};
+    ghost use Rattle.hist_core.specs.WorldState.{IsAdoptedWorldState, IsNewWorldState, IsReached, IsReachedAs, StepsTo, Rests, IsBusy, IsAsBefore, OthersStay, BeginsFrom, HistBegins, AddBegins, IsAddBegun, IsBatchBegun, BatchBegins, AreSome, DeltaBegins, SnapshotBegins, SetCorruptBegins, IsKnownBy, IsPlaceOf, LacksName, Says};
     ghost use Rattle.hist_core.specs.declared.call.Begun.TheVariants.{Going};
     ghost use Rattle.hist_core.specs.declared.hist.Known.{Known};
     ghost use Rattle.segment_machine.specs.Actor.{has_buckets};
@@ -110,11 +113,34 @@ impl WorldState {
         })
     }
 
+    // An image that may be adopted, with so many actors.
+    pub(crate) fn adopt(
+        alloc: Global,
+        words: &[u64],
+        adoptable: &Adoptable,
+        actors: usize,
+    ) -> Result<WorldState, AllocError>
+        requires adoption { IsAdoption words.now 0 adoptable.now }
+        ensures { IfOk result (λ world_state. IsAdoptedWorldState words.now actors world_state) }
+    {
+        let Ok(head) = header(words) else {
+            unreachable!()
+        };
+        Ok(WorldState {
+            alloc,
+            shape: head.shape,
+            version: head.version,
+            words: Vec::from_slice(alloc, words)?,
+            actor_runs: new_actor_runs(alloc, actors)?,
+            units: POOL - adoptable.used,
+        })
+    }
+
     // An actor that rests begins to set the corrupt flag.
     pub(crate) fn begin_set_corrupt(&mut self, actor: usize)
         requires near { actor < vec_len self.old.actor_runs }
         requires rests { Rests self.old actor }
-        ensures begins { (state : State) → IsReachedAs self.old state → IsReachedAs self.new state }
+        ensures begins { (start : Start) (state : State) → IsReachedAs start self.old state → IsReachedAs start self.new state }
         ensures others { OthersStay actor self.old self.new }
         ensures runs { SetCorruptBegins actor self.new Going }
     {
@@ -131,7 +157,7 @@ impl WorldState {
     ) -> Result<Begun, AllocError>
         requires near { actor < vec_len self.old.actor_runs }
         requires rests { Rests self.old actor }
-        ensures begins { (state : State) → IsReachedAs self.old state → IsReachedAs self.new state }
+        ensures begins { (start : Start) (state : State) → IsReachedAs start self.old state → IsReachedAs start self.new state }
         ensures others { OthersStay actor self.old self.new }
         ensures says { HistBegins actor name.now spec.now self.old self.new result }
     {
@@ -168,7 +194,7 @@ impl WorldState {
         requires rests { Rests self.old actor }
         requires known { (name : List ℕ) × IsPlaceOf self.old actor name place }
         ensures fault { OnErr result (IsAsBefore self.old self.new) }
-        ensures begins { (state : State) → IsReachedAs self.old state → BeginsFrom state actor self.new }
+        ensures begins { (start : Start) (state : State) → IsReachedAs start self.old state → BeginsFrom start state actor self.new }
         ensures others { OthersStay actor self.old self.new }
         ensures says { IfOk result (λ said. (name : List ℕ) → IsPlaceOf self.old actor name place → AddBegins actor name value count self.old self.new said) }
     {
@@ -196,7 +222,7 @@ impl WorldState {
         requires known { (name : List ℕ) × IsPlaceOf self.old actor name place }
         requires some { (0 < count) × (count ≤ self.old.units) }
         ensures fault { OnErr result (IsAsBefore self.old self.new) }
-        ensures begins { (state : State) → IsReachedAs self.old state → BeginsFrom state actor self.new }
+        ensures begins { (start : Start) (state : State) → IsReachedAs start self.old state → BeginsFrom start state actor self.new }
         ensures others { OthersStay actor self.old self.new }
         ensures says { IfOk result (λ _. (name : List ℕ) → IsPlaceOf self.old actor name place → IsAddBegun actor name value count self.old self.new) }
     {
@@ -220,7 +246,7 @@ impl WorldState {
         requires rests { Rests self.old actor }
         requires known { (name : List ℕ) × IsPlaceOf self.old actor name place }
         ensures fault { OnErr result (IsAsBefore self.old self.new) }
-        ensures begins { (state : State) → IsReachedAs self.old state → BeginsFrom state actor self.new }
+        ensures begins { (start : Start) (state : State) → IsReachedAs start self.old state → BeginsFrom start state actor self.new }
         ensures others { OthersStay actor self.old self.new }
         ensures says { IfOk result (λ said. (name : List ℕ) → IsPlaceOf self.old actor name place → BatchBegins actor name items.now sum self.old self.new said) }
     {
@@ -253,7 +279,7 @@ impl WorldState {
         requires known { (name : List ℕ) × IsPlaceOf self.old actor name place }
         requires some { AreSome items.now × (0 < cost) × (cost ≤ self.old.units) × (cost ≡ cost_of_batch items.now sum) }
         ensures fault { OnErr result (IsAsBefore self.old self.new) }
-        ensures begins { (state : State) → IsReachedAs self.old state → BeginsFrom state actor self.new }
+        ensures begins { (start : Start) (state : State) → IsReachedAs start self.old state → BeginsFrom start state actor self.new }
         ensures others { OthersStay actor self.old self.new }
         ensures says { IfOk result (λ _. (name : List ℕ) → IsPlaceOf self.old actor name place → IsBatchBegun actor name items.now sum self.old self.new) }
     {
@@ -278,7 +304,7 @@ impl WorldState {
         requires rests { Rests self.old actor }
         requires known { (name : List ℕ) × IsPlaceOf self.old actor name place }
         ensures fault { OnErr result (IsAsBefore self.old self.new) }
-        ensures begins { (state : State) → IsReachedAs self.old state → IsReachedAs self.new state }
+        ensures begins { (start : Start) (state : State) → IsReachedAs start self.old state → IsReachedAs start self.new state }
         ensures others { OthersStay actor self.old self.new }
         ensures says { IfOk result (λ said. (name : List ℕ) → IsPlaceOf self.old actor name place → SnapshotBegins actor name self.old self.new said) }
     {
@@ -294,7 +320,7 @@ impl WorldState {
         requires rests { Rests self.old actor }
         requires known { (name : List ℕ) × IsPlaceOf self.old actor name place }
         ensures fault { OnErr result (IsAsBefore self.old self.new) }
-        ensures begins { (state : State) → IsReachedAs self.old state → IsReachedAs self.new state }
+        ensures begins { (start : Start) (state : State) → IsReachedAs start self.old state → IsReachedAs start self.new state }
         ensures others { OthersStay actor self.old self.new }
         ensures says { IfOk result (λ said. (name : List ℕ) → IsPlaceOf self.old actor name place → DeltaBegins actor name self.old self.new said) }
     {
@@ -308,7 +334,7 @@ impl WorldState {
         requires reached { ∥ IsReached self.old ∥₁ }
         requires near { actor < vec_len self.old.actor_runs }
         requires busy { IsBusy self.old actor }
-        ensures steps { (state : State) → IsReachedAs self.old state → StepsTo self.old actor state self.new result }
+        ensures steps { (start : Start) (state : State) → IsReachedAs start self.old state → StepsTo self.old actor start state self.new result }
         ensures others { OthersStay actor self.old self.new }
         ensures says { Says actor self.old self.new result }
     {

@@ -52,8 +52,8 @@ module _ (words : List ℕ) (head : SegmentHead) (header : header_of words ≡ O
         tail = w.tail;
         later = w.later;
         padded = λ at there one. (w.settled at there one).name;
-        unused = λ at i there one. (w.settled at there one).counts i;
-        packed = λ at i there one. (w.settled at there one).mark i;
+        unused = λ at there one. (w.settled at there one).counts;
+        packed = λ at there one. (w.settled at there one).mark;
       })
       (λ (u : IsUndamaged words references reading). record {
         room = u.room;
@@ -61,8 +61,8 @@ module _ (words : List ℕ) (head : SegmentHead) (header : header_of words ≡ O
         tail = u.tail;
         settled = λ at there one. record {
           name = u.padded at there one;
-          counts = λ i. u.unused at i there one;
-          mark = λ i. u.packed at i there one;
+          counts = u.unused at there one;
+          mark = u.packed at there one;
         };
         later = u.later;
         apart = u.apart;

@@ -2,3 +2,4 @@
 pub mod Copies
 pub mod Joined
 pub mod Stopped
+pub mod Onward

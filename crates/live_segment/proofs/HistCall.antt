@@ -1,9 +1,13 @@
 -- The call `hist`.
 pub mod Blocks
+pub mod ByIndex
 pub mod HistAnnounced
 pub mod HistAnswered
+pub mod IndexKept
+pub mod Indexing
 pub mod Knowing
 pub mod KnownNames
+pub mod NamesHeld
 pub mod Naming
 pub mod OwnNames
 pub mod Searching

@@ -1,13 +1,13 @@
 -- What a sample makes of the recorder that adds it, accepted and refused.
-use Rattle.std.specs.Prelude.{◌≡◌, Bool, true, false, nat_lt, ◌==◌, ℕ, ◌+◌, ◌*◌, ◌<◌, if◌then◌else◌, ℤ, List, [], ◌∷◌, ◌++◌, drop, length, None, Result, MatchResult, ⊤}
+use Rattle.std.specs.Prelude.{◌≡◌, Bool, true, false, nat_lt, ◌==◌, ℕ, ◌+◌, ◌<◌, if◌then◌else◌, ℤ, List, [], ◌∷◌, ◌++◌, drop, length, None, Result, MatchResult, ⊤}
 use Rattle.std.specs.List.{All, Contains}
 use Rattle.std.specs.Str.{bytes_eq}
-use Rattle.segment_image.specs.declared.layout.TheConstants.{BLOCK_HEADER, HISTOGRAM_COUNTS, HISTOGRAM_SINGLE, SAMPLE_LEAST}
+use Rattle.segment_image.specs.declared.layout.TheConstants.{HISTOGRAM_COUNTS, HISTOGRAM_SINGLE}
+use Rattle.segment_calls.specs.Blocks.{count_words}
 use Rattle.segment_calls.specs.declared.refusal.Refusal.{Refusal}
 use Rattle.segment_calls.specs.declared.refusal.Refusal.TheVariants.{ZeroCount, NoUnits, Corrupt, Full}
 use Rattle.bucket_ranges.specs.declared.spec.Spec.TheVariants as spec
 use Rattle.bucket_ranges.specs.Ranges.{boundaries_of}
-use Rattle.bucket_ranges.specs.Spec.{buckets_of}
 use Rattle.segment_machine.specs.declared.actor.Actor.{Actor}
 use Rattle.segment_machine.specs.declared.actor.Known.{Known}
 use Rattle.segment_machine.specs.Actor.{cost_of, has_buckets, log_of, word_seen}
@@ -49,7 +49,7 @@ pub record IsRefused (name : List ℕ) (old new : Actor) : Type 0 where
 
 -- the words of the block that a histogram may need when units are counted: its counts and marks, or one sample
 abbrev pub block_words : Known → ℕ
-block_words known = if has_buckets known.spec then BLOCK_HEADER + 2 * buckets_of known.spec else SAMPLE_LEAST
+block_words known = count_words known.spec
 
 -- Units of a value need a block. With buckets: the call has loaded a single word that is not off and cannot take the units, and the counts
 -- reference, which was 0; no recorder's counts were there for it before. Without: it has walked to the end of the list, and of all records

@@ -1,7 +1,8 @@
--- A segment that goes on with the words of an image.
-use Rattle.std.specs.Prelude.{ℕ, ◌≤◌, List}
+-- A segment that goes on with the words of an image, and which images it can go on with.
+use Rattle.std.specs.Prelude.{◌≡◌, false, ℕ, ◌≤◌, List}
 use Rattle.segment_image.specs.Head.{head_of}
 use Rattle.segment_image.specs.declared.head.SegmentHead.{SegmentHead}
+use Rattle.segment_image.specs.declared.layout.TheConstants.{VERSION_FROZEN}
 use Rattle.bucket_ranges.specs.Reading.{IsListed, reading_along}
 use Rattle.segment_promises.specs.Adoption.{IsAdoptable, adopter}
 use Rattle.live_segment.specs.declared.opener.Opener.{Opener}
@@ -21,3 +22,8 @@ pub record IsAdopted (words : List ℕ) (cursors : ℕ) (segment : Segment) (ope
   pub adoptable : IsAdoptable words references (reading_along words (head_of words) references)
   pub few : cursors ≤ 8
   pub opened : IsOpened (setting_of (head_of words) cursors) (adopter words references (reading_along words (head_of words) references) cursors) segment opener
+
+-- Words of version 2 that are not marked as corrupt may be adopted.
+abbrev pub MayGoOn : List ℕ → Type 0
+MayGoOn words = (head_of words).version ≡ VERSION_FROZEN → (head_of words).corrupt ≡ false → (references : List ℕ) → IsListed words (head_of words) references
+    → IsAdoptable words references (reading_along words (head_of words) references)

@@ -1,12 +1,10 @@
 -- What a call of a recorder has claimed where it is answered Ok: for each record that it made, and for the counts that it needed, one block
 -- at most; and what became of that. The rests of pages that an allocation passes over are no claims.
-use Rattle.std.specs.Prelude.{◌≡◌, ◌⊎◌, true, ℕ, ◌+◌, ◌<◌, ◌≤◌, ℤ, List, [], ◌∷◌, ◌++◌, length, None}
+use Rattle.std.specs.Prelude.{◌≡◌, ◌⊎◌, true, ℕ, ◌+◌, ◌<◌, ◌≤◌, ℤ, List, [], ◌∷◌, ◌++◌, None}
 use Rattle.std.specs.List.{All, Contains}
-use Rattle.segment_image.specs.declared.layout.TheConstants.{BLOCK_LEAST, HISTOGRAM_COUNTS, HISTOGRAM_NAME, SAMPLE_LEAST, TYPE_PURGED}
+use Rattle.segment_image.specs.declared.layout.TheConstants.{BLOCK_LEAST, HISTOGRAM_COUNTS, SAMPLE_LEAST, TYPE_PURGED}
 use Rattle.bucket_ranges.specs.declared.spec.Spec.{Spec}
 use Rattle.bucket_ranges.specs.declared.spec.Spec.TheVariants.{Sparse}
-use Rattle.bucket_ranges.specs.Reading.{name_words}
-use Rattle.bucket_ranges.specs.Spec.{spec_ranges}
 use Rattle.list_core.specs.Walk.{stands_behind}
 use Rattle.segment_machine.specs.declared.actor.Actor.{Actor}
 use Rattle.segment_machine.specs.declared.actor.Claim.{Claim}
@@ -48,10 +46,6 @@ pub record MakesOne (made : Made) (words : ℕ) (old new : Done) : Type 0 where
     published = old.published ++ record { reference = claim.at; made = made } ∷ [];
     beaten = new.beaten;
   }
-
--- the words of the record of a histogram
-abbrev pub record_words : List ℕ → Spec → ℕ
-record_words name spec = HISTOGRAM_NAME + (name_words (length name) + length (spec_ranges spec))
 
 -- It has made a record of a name, of so many words, where the list has none: the records that it had met were all of the list when it loaded
 -- the end of that, in the same call, and none of those has the name.

@@ -16,6 +16,7 @@ pub mod Known
 pub mod Steps
 pub mod Hist
 pub mod Holders
+pub mod Indexed
 pub mod Closing
 pub mod Allocation
 pub mod Adding
@@ -24,6 +25,7 @@ pub mod Batching
 pub mod GhostNotes
 pub mod Working
 pub mod Listing
+pub mod Naming
 pub mod Publishing
 pub mod Taking
 pub mod Finding

@@ -17,6 +17,7 @@ use Rattle.segment_machine.specs.State.{State}
 use Rattle.segment_invariant.specs.Body.{Anatomy}
 use Rattle.segment_invariant.specs.Consistent.{units_taken}
 use Rattle.segment_invariant.specs.Invariant.{Invariant}
+use Rattle.segment_invariant.specs.Keeps.{IsOpening}
 use Rattle.segment_promises.specs.Deltas.{SawOpen}
 
 -- ---- what it had seen
@@ -68,9 +69,10 @@ pub record IsEnough (known : Known) (old new : Actor) (units : ℤ → ℕ) : Ty
 -- ---- of all deltas
 
 -- A state of its segment that keeps what holds between any two events, whatever blocks it was opened with, and in which a holder has done
--- and seen this.
+-- and seen this. So it is consistent.
 pub record Standing (a : Actor) : Type 0 where
   pub opened : Anatomy
+  pub opens : IsOpening a.segment.shape opened
   pub version : opened.version ≡ a.segment.version
   pub state : State
   pub kept : Invariant a.segment.shape opened state

@@ -12,6 +12,7 @@ use Rattle.segment_machine.specs.Seats.{opener_of}
 use Rattle.segment_machine.specs.State.{State, memory}
 use Rattle.segment_invariant.specs.Body.{Anatomy}
 use Rattle.segment_invariant.specs.Invariant.{Invariant}
+use Rattle.segment_invariant.specs.Keeps.{IsOpening}
 use Rattle.segment_promises.specs.Adoption.{adopter}
 use Rattle.segment_promises.specs.Follows.{Running}
 use Rattle.live_segment.specs.declared.fault.OpenFault.{OpenFault}
@@ -50,8 +51,9 @@ abbrev pub opening_state : Opening → State
 opening_state opening =
     record { words = words_of opening; cursors = replicate opening.setting.cursors QUEUE; actors = opener_for opening ∷ [] }
 
--- blocks are such as the header says that a segment is opened as
+-- blocks open segments, and are such as the header says that a segment is opened as
 pub record IsOpenedAs (setting : Setting) (opened : Anatomy) : Type 0 where
+  pub opens : IsOpening setting.shape opened
   pub version : opened.version ≡ setting.version
   pub id : opened.id ≡ setting.id
   pub intact : opened.corrupt ≡ false

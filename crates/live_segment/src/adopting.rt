@@ -57,7 +57,7 @@ impl Segment {
         words: &[u64],
         cursors: usize,
     ) -> Result<(Segment, Opener), AdoptFault>
-        ensures { MatchResult result (λ made. IsAdopted words.now cursors made.0 made.1) (λ fault. IsFaultOf words.now cursors fault) }
+        ensures answer { MatchResult result (λ made. IsAdopted words.now cursors made.0 made.1) (λ fault. IsFaultOf words.now cursors fault) }
     {
         let Adoptable {
             references,

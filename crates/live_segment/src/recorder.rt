@@ -2,16 +2,21 @@
 
 ghost use Rattle.std.specs.Prelude.{◌≡◌, [], map};
 ghost use Rattle.segment_machine.specs.Seats.{newcomer};
-ghost use Rattle.live_segment.specs.Claims.{ClaimsFor, ClaimsForAll, NamesAtMostOne, record_words};
+ghost use Rattle.segment_calls.specs.Blocks.{record_words};
+ghost use Rattle.live_segment.specs.Claims.{ClaimsFor, ClaimsForAll, NamesAtMostOne};
 ghost use Rattle.live_segment.specs.Rule.{IsOf};
 ghost use Rattle.live_segment.specs.Seated.{IsSeated};
 ghost use Rattle.live_segment.specs.Steps.{IsAtRest};
+ghost use Rattle.live_segment.specs.Indexed.{IsIndexed};
 ghost use Rattle.live_segment.specs.Known.{known_view, KnowsRight};
+ghost use Rattle.live_segment.specs.Naming.{HasNames};
 ghost use Rattle.live_segment.specs.Walks.{HasCome};
 ghost use Rattle.std.specs.List.{All};
 ghost use Rattle.std.proofs.Props.{props};
 
 use crate::costs::{price, units_of_items};
+use crate::indexing::RecordIndex;
+use crate::naming::KnownNames;
 use crate::records::WalkPlace;
 use crate::rule::Pass;
 use crate::segment::Segment;
@@ -69,6 +74,10 @@ pub struct Recorder<'a> {
     known: Vec<KnownHistogram>,
     // Up to where it was given fresh records.
     fresh: WalkPlace,
+    // Where what it knows stands, by names.
+    names: KnownNames,
+    // What it met along the list.
+    index: RecordIndex,
     ghost seated: { IsSeated segment.now seat },
     ghost rests: { IsAtRest seat.me.0 },
     ghost counted: { units ≡ seat.me.0.units.share },
@@ -76,6 +85,8 @@ pub struct Recorder<'a> {
     ghost right: { All (KnowsRight segment.now.setting seat.me.0) known.items } by { Prim.hlevel props },
     ghost free: { seat.me.1 ≡ [] } by { Prim.hlevel props },
     ghost come: { HasCome segment.now.setting.shape.size seat.me.0.seen.chain fresh } by { Prim.hlevel props },
+    ghost named: { HasNames known.items names } by { Prim.hlevel props },
+    ghost indexed: { IsIndexed segment.now.setting.shape.size seat.me.0.seen index } by { Prim.hlevel props },
 }
 
 impl<'a> Recorder<'a> {
@@ -106,6 +117,8 @@ impl<'a> Recorder<'a> {
         requires rests { IsAtRest seat.me.0 × (units ≡ seat.me.0.units.share) × (seat.me.0.answers.names ≡ []) }
         ensures { (result.segment ≡ segment.entry) × (result.seat ≡ seat) × (given_fresh result ≡ 0) }
     {
+        let names = KnownNames::new(alloc);
+        let index = RecordIndex::new(alloc);
         Recorder {
             alloc,
             segment,
@@ -113,6 +126,8 @@ impl<'a> Recorder<'a> {
             units,
             known: Vec::new(alloc),
             fresh: WalkPlace::start(),
+            names,
+            index,
         }
     }
 
@@ -128,6 +143,8 @@ impl<'a> Recorder<'a> {
             units,
             known: _,
             fresh: _,
+            names: _,
+            index: _,
         } = self;
         (segment, seat, units)
     }
@@ -150,12 +167,8 @@ impl<'a> Recorder<'a> {
     fn index_of(&self, name: &[u8]) -> Option<usize>
         ensures { MatchOption result (NoneHasName self.now.known.items name.now) (IsKnownAt self.now.known.items name.now) }
     {
-        for (index, known) in self.known.iter().enumerate() {
-            if known.name.as_slice() == name {
-                return Some(index);
-            }
-        }
-        None
+        let known = self.known.as_slice();
+        self.names.find(known, name)
     }
 
     /// The histogram of a name: that of the first record of the name on the list, which is made where there is none. One of a
@@ -171,7 +184,8 @@ impl<'a> Recorder<'a> {
     /// of the list, of which none has the name.
     ///
     /// It asks for memory for the name, the values of a custom spec, the boundaries of the buckets and the words of a record, and where
-    /// the list of the histograms that it knows is full, for one twice as long.
+    /// the list of the histograms that it knows is full, for one twice as long. It also lets its indexes of names grow: where there is no
+    /// memory for that, later calls walk and search further.
     pub fn hist(&mut self, name: &[u8], spec: &Spec) -> Result<Hist, Refusal>
         ensures same { KnowsOn self.old self.new }
         ensures named { IfOk result (IsNamed name.now spec.now self.new) }
@@ -187,8 +201,10 @@ impl<'a> Recorder<'a> {
             };
         }
         self.known.reserve(1)?;
-        let known = self.segment.ask(&mut self.seat, asked)?;
+        let known = self.segment.ask(&mut self.seat, &mut self.index, asked)?;
         let index = self.known.len();
+        let before = self.known.as_slice();
+        self.names.enter(before, name);
         self.known.push_reserved(known);
         Ok(Hist { index })
     }

@@ -10,6 +10,7 @@ use crate::opener::Opener;
 use crate::rule::{Announcement, Opening, Pass, SegmentRule, Setting};
 use crate::seats::{Bound, Cut, Glue, Offer};
 use atomic_table::Table;
+use image_adoption::MAX_CURSORS;
 use segment_image::layout::{
     HEADER_WORDS, QUEUE, QUEUE_COOKIE, QUEUE_SIZE, SEGMENT_COOKIE, STATE_READY, TYPE_PURGED,
     VERSION_FROZEN, VERSION_MOVING,
@@ -17,9 +18,6 @@ use segment_image::layout::{
 use segment_image::{Image, Shape};
 use segment_machine::Actor;
 use std::alloc::{AllocError, Global};
-
-/// The most shared cursors of a segment.
-pub const MAX_CURSORS: usize = 8;
 
 /// A segment whose words threads share. Word 0 of its table never changes, and the segment's words and those of the
 /// shared cursors stand behind it.
@@ -71,6 +69,7 @@ impl Segment {
     ghost use Rattle.segment_image.specs.Checks.{first_fault};
     ghost use Rattle.segment_machine.specs.Actor.{outstanding_of};
     ghost use Rattle.segment_machine.specs.Seats.{MayOffer, offering, MaySplit, parent, newcomer, joined};
+    ghost use Rattle.live_segment.specs.Adopted.{MayGoOn};
     ghost use Rattle.live_segment.specs.Closing.{IsImageOf, ReadsJoined, DeltasAddUp, SnapshotsAgree, ReadsStopped};
     ghost use Rattle.live_segment.specs.Rule.{IsKeptOpening, open_checks, opener_for};
     ghost use Rattle.live_segment.specs.Steps.{IsSame, Joinable};
@@ -157,7 +156,8 @@ impl Segment {
         Ok((segment, Opener::new(alloc, seat, units)))
     }
 
-    /// Ends the segment, which no recorder holds any more, and gives its image. The opener was made with it.
+    /// Ends the segment, which no recorder holds any more, and gives its image. The opener was made with it. An image of version 2 that nobody
+    /// marked as corrupt can be recorded into again, by [`Segment::adopt`].
     pub fn close(self, opener: Opener) -> Image
         requires { IsMadeWith self opener }
         ensures image { IsImageOf self.setting result }
@@ -165,6 +165,7 @@ impl Segment {
         ensures deltas { outstanding_of (view_of_opener opener).role ≡ 0 → DeltasAddUp (view_of_opener opener) }
         ensures snapshots { outstanding_of (view_of_opener opener).role ≡ 0 → SnapshotsAgree (view_of_opener opener) }
         ensures stopped { ReadsStopped self.setting (view_of_opener opener) result }
+        ensures goes_on { MayGoOn result }
     {
         let Segment {
             table,

@@ -8,13 +8,14 @@ ghost use Rattle.live_segment.specs.Making.{SaysAsked};
 ghost use Rattle.live_segment.specs.Settling.{IsAnnouncedOf, LooksUp, MakesFor, Settles};
 
 use crate::finding::Search;
+use crate::indexing::RecordIndex;
 use crate::recorder::KnownHistogram;
 use crate::rule::{Announcement, Pass};
 use crate::segment::Segment;
 use segment_calls::{Asked, Refusal};
-use segment_image::layout::QUEUE;
 
 impl Segment {
+    ghost use Rattle.live_segment.specs.Indexed.{IsIndexed};
     ghost use Rattle.live_segment.specs.Seated.{IsSeated};
     ghost use Rattle.live_segment.specs.Steps.{IsSame};
 
@@ -24,18 +25,21 @@ impl Segment {
     fn first_named(
         &self,
         seat: &mut Pass,
+        index: &mut RecordIndex,
         asked: &Asked,
         said: &Announcement,
     ) -> Result<u64, Refusal>
         requires seat { IsSeated self.now seat.old }
+        requires indexed { IsIndexed self.now.setting.shape.size seat.old.me.0.seen index.old }
         requires rests { MayTurn seat.old.me.0 × (seat.old.me.0.entries.running ≡ []) × (seat.old.me.0.answers.owed ≡ []) }
         requires asked { IsAsked self.now.setting.shape asked.now }
         requires says { SaysAsked asked.now said.now }
         ensures same { IsSame seat.old seat.new }
+        ensures indexed { IsIndexed self.now.setting.shape.size seat.new.me.0.seen index.new }
         ensures outcome { LooksUp asked.now seat.old.me.0 result seat.new.me.0 }
         ensures claims { MatchResult result (λ _. MakesFor asked.now seat.old.me.0 seat.new.me.0) (λ why. why ≡ OtherSpec → MakesFor asked.now seat.old.me.0 seat.new.me.0) }
     {
-        let end = match self.find(seat, QUEUE, asked) {
+        let end = match self.search(seat, index, asked) {
             Search::Met(reference) => return Ok(reference),
             Search::OtherSpec => return Err(Refusal::OtherSpec),
             Search::End(at) => at,
@@ -55,18 +59,21 @@ impl Segment {
     pub(crate) fn settle(
         &self,
         seat: &mut Pass,
+        index: &mut RecordIndex,
         asked: &Asked,
         said: &Announcement,
     ) -> Result<u64, Refusal>
         requires seat { IsSeated self.now seat.old }
+        requires indexed { IsIndexed self.now.setting.shape.size seat.old.me.0.seen index.old }
         requires rests { MayTurn seat.old.me.0 × (seat.old.me.0.entries.running ≡ []) × (seat.old.me.0.answers.owed ≡ []) }
         requires asked { IsAsked self.now.setting.shape asked.now }
         requires says { SaysAsked asked.now said.now }
         ensures same { IsSame seat.old seat.new }
+        ensures indexed { IsIndexed self.now.setting.shape.size seat.new.me.0.seen index.new }
         ensures outcome { Settles asked.now seat.old.me.0 result seat.new.me.0 }
         ensures claims { MatchResult result (λ _. MakesFor asked.now seat.old.me.0 seat.new.me.0) (λ why. why ≡ OtherSpec → MakesFor asked.now seat.old.me.0 seat.new.me.0) }
     {
-        match self.first_named(seat, asked, said) {
+        match self.first_named(seat, index, asked, said) {
             Ok(reference) => {
                 self.know(seat, reference, said);
                 Ok(reference)
@@ -82,11 +89,18 @@ impl Segment {
     ///
     /// `Corrupt` or `Full` where no block could be claimed for its record, `OtherSpec` where the first record of the name has
     /// another spec.
-    pub(crate) fn ask(&self, seat: &mut Pass, asked: Asked) -> Result<KnownHistogram, Refusal>
+    pub(crate) fn ask(
+        &self,
+        seat: &mut Pass,
+        index: &mut RecordIndex,
+        asked: Asked,
+    ) -> Result<KnownHistogram, Refusal>
         requires seat { IsSeated self.now seat.old }
+        requires indexed { IsIndexed self.now.setting.shape.size seat.old.me.0.seen index.old }
         requires rests { MayTurn seat.old.me.0 × (seat.old.me.0.entries.running ≡ []) × (seat.old.me.0.answers.owed ≡ []) }
         requires asked { IsAsked self.now.setting.shape asked }
         ensures same { IsSame seat.old seat.new }
+        ensures indexed { IsIndexed self.now.setting.shape.size seat.new.me.0.seen index.new }
         ensures outcome { IsAnnouncedOf asked seat.old.me.0 result seat.new.me.0 }
         ensures claims { MatchResult result (λ _. MakesFor asked seat.old.me.0 seat.new.me.0) (λ why. why ≡ OtherSpec → MakesFor asked seat.old.me.0 seat.new.me.0) }
     {
@@ -94,7 +108,7 @@ impl Segment {
         let Announcement::Histogram(asked) = &said else {
             unreachable!()
         };
-        let reference = self.settle(seat, asked, &said)?;
+        let reference = self.settle(seat, index, asked, &said)?;
         Ok(KnownHistogram::of(said.into_asked(), reference))
     }
 }

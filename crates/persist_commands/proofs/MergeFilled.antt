@@ -34,7 +34,8 @@ use Rattle.live_segment.specs.Closing.{IsJoinedReading}
 use Rattle.live_segment.specs.Hist.{KnowsNone}
 use Rattle.live_segment.specs.Rule.{first_view}
 use Rattle.segment_merge.specs.Merge.{IsMerged, IsOneOf, KnowsAs, StopsAt, items_left}
-use Rattle.persist_commands.specs.MergeFiles.{LacksRoomFor, count_words, entries_until, record_words}
+use Rattle.segment_calls.specs.Blocks.{count_words, record_words}
+use Rattle.persist_commands.specs.MergeFiles.{LacksRoomFor, entries_until}
 use Rattle.persist_commands.proofs.MergeClosed.{IsClosed, closing}
 
 -- ---- the words of its blocks

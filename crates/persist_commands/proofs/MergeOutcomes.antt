@@ -82,7 +82,7 @@ pub not_failed : {T : Type 0} (r : Result T CliFault) (x : T) (failed : Bool) �
 not_failed r x failed is told e = let other : r ≡ Err cli.Read = told.1 e in cc (is, other)
 
 -- so the second reader is read only where the first has not failed, and its bytes are an image
-sound : (failed : Bool) → (failed ≡ true → ⊥) → failed ≡ false
+pub sound : (failed : Bool) → (failed ≡ true → ⊥) → failed ≡ false
 sound true other = absurd (other refl)
 sound false other = refl
 

@@ -57,6 +57,11 @@ took_nothing : (old new : Actor) → new.deltas.taken ≡ old.deltas.taken
     → (more : List Taken) × (new.deltas.taken ≡ old.deltas.taken ++ more) × (map (λ (t : Taken). t.name) more ≡ [])
 took_nothing old new same = ([], same ∙ sym (append-nil old.deltas.taken), refl)
 
+-- no histogram more
+knows_no_more : (hists : List HistRecord) (old new : Actor) → new.answers.names ≡ old.answers.names
+    → (more : List Known) × (new.answers.names ≡ old.answers.names ++ more) × All (IsAskedIn hists) more
+knows_no_more hists old new same = ([], same ∙ sym (append-nil old.answers.names), λ k d below. absurd (omega (arith, below)))
+
 pub went_nowhere : (hists : List HistRecord) (old new : Actor) → new ≡ old → WentOn hists [] old new
 went_nowhere hists old new still = record {
   first = ap (λ (a : Actor). a.entries.first) still;
@@ -65,7 +70,7 @@ went_nowhere hists old new still = record {
   first_taken = ap (λ (a : Actor). a.deltas.first_taken) still;
   took = took_nothing old new (ap (λ (a : Actor). a.deltas.taken) still);
   deltas = λ front behind name is. absurd (none_among front behind (Takes name) is);
-  names = subst (λ (a : Actor). All (IsAskedIn hists) old.answers.names → All (IsAskedIn hists) a.answers.names) (sym still) (λ all. all);
+  names = knows_no_more hists old new (ap (λ (a : Actor). a.answers.names) still);
   spoiled = ap (λ (a : Actor). a.done.spoiled) still;
   filled = ap (λ (a : Actor). a.done.filled) still;
 }
@@ -120,7 +125,13 @@ went_twice hists xs ys a b c one two = record {
         rest = did.rest;
       })
       (in_either xs ys front behind (Takes name) is);
-  names = λ all. two.names (one.names all);
+  names =
+      let (first, first_is, first_asked) = one.names in
+      let (second, second_is, second_asked) = two.names in (
+        first ++ second,
+        second_is ∙ (ap (λ (l : List Known). l ++ second) first_is ∙ append_assoc a.answers.names first second),
+        All-append (IsAskedIn hists) first second first_asked second_asked,
+      );
   spoiled = two.spoiled ∙ one.spoiled;
   filled = two.filled ∙ one.filled;
 }
@@ -134,7 +145,7 @@ went_handing hists n old new hands = record {
   first_taken = ap (λ d. d.first_taken) hands.deltas;
   took = took_nothing old new (ap (λ d. d.taken) hands.deltas);
   deltas = λ front behind name is. absurd (none_among front behind (Takes name) is);
-  names = subst (λ a. All (IsAskedIn hists) old.answers.names → All (IsAskedIn hists) a.names) (sym hands.answers) (λ all. all);
+  names = knows_no_more hists old new (ap (λ a. a.names) hands.answers);
   spoiled = ap (λ d. d.spoiled) hands.done;
   filled = ap (λ d. d.filled) hands.done;
 }
@@ -161,9 +172,11 @@ went_asking hists hist histogram old new has (inr comes_to) =
       first_taken = ap (λ d. d.first_taken) deltas;
       took = took_nothing old new (ap (λ d. d.taken) deltas);
       deltas = λ front behind name is. absurd (none_among front behind (Takes name) is);
-      names = λ all. subst (All (IsAskedIn hists)) (sym names)
-          (All-append (IsAskedIn hists) old.answers.names (record { name = asked.name.items; spec = asked.spec; reference = reference } ∷ []) all
-          (All-cons (IsAskedIn hists) (record { name = asked.name.items; spec = asked.spec; reference = reference }) [] mine (λ k d below. absurd (omega (arith, below)))));
+      names = (
+        record { name = asked.name.items; spec = asked.spec; reference = reference } ∷ [],
+        names,
+        All-cons (IsAskedIn hists) (record { name = asked.name.items; spec = asked.spec; reference = reference }) [] mine (λ k d below. absurd (omega (arith, below))),
+      );
       spoiled = ap (λ (a : Actor). a.done.spoiled) comes.view ∙ ap (λ d. d.spoiled) looks.done.same;
       filled = comes.filled;
     }
@@ -182,7 +195,7 @@ went_adding hists hist known value count old new named same added =
       deltas = λ front behind name is.
           let apart : Records (sample_entry hist.name (boundaries_of hist.spec) (value, count)) ≡ Takes name =
           (one_among front behind (Records (sample_entry hist.name (boundaries_of hist.spec) (value, count))) (Takes name) is).1 in absurd (cc apart);
-      names = subst (λ (l : List Known). All (IsAskedIn hists) old.answers.names → All (IsAskedIn hists) l) (sym (ap (λ (a : Actor). a.answers.names) on.same)) (λ all. all);
+      names = knows_no_more hists old new (ap (λ (a : Actor). a.answers.names) on.same);
       spoiled = ap (λ d. d.spoiled) on.done.same;
       filled = added.filled;
     }
@@ -208,7 +221,7 @@ went_taking hists hist known counts sum old new named taken = record {
         begun = omega (arith, nothing);
         rest = sym (ap deltas_among last);
       };
-  names = subst (λ (l : List Known). All (IsAskedIn hists) old.answers.names → All (IsAskedIn hists) l) (sym (ap (λ (a : Actor). a.answers.names) taken.same)) (λ all. all);
+  names = knows_no_more hists old new (ap (λ (a : Actor). a.answers.names) taken.same);
   spoiled = ap (λ (a : Actor). a.done.spoiled) taken.same;
   filled = ap (λ (a : Actor). a.done.filled) taken.same;
 }
@@ -266,7 +279,7 @@ recorded_taking hists hist known counts sum old new named taken = record {
 
 -- ---- joins
 
-unset : (b c : Bool) → c ≡ false → (b || c) ≡ b
+pub unset : (b c : Bool) → c ≡ false → (b || c) ≡ b
 unset true c none = refl
 unset false c none = none
 
@@ -308,8 +321,9 @@ went_joining hists deeds opener fresh recorder is went =
             begun = omega (arith, log, empty);
             rest = names_shifted n did.behind ∙ did.rest;
           };
-      names = λ all. All-append (IsAskedIn hists) opener.answers.names recorder.answers.names all
-          (went.names (subst (All (IsAskedIn hists)) (sym is.names) (λ k d below. absurd (omega (arith, below)))));
+      names =
+          let (more, names_are, asked) = went.names in
+          (recorder.answers.names, refl, subst (All (IsAskedIn hists)) (sym (names_are ∙ ap (λ (l : List Known). l ++ more) is.names)) asked);
       spoiled = unset opener.done.spoiled recorder.done.spoiled (went.spoiled ∙ is.spoiled);
       filled = unset opener.done.filled recorder.done.filled (went.filled ∙ is.filled);
     }

@@ -1,21 +1,19 @@
 -- What is written where two images are merged, and why nothing is.
-use Rattle.std.specs.Prelude.{◌≡◌, ◌≢◌, ◌⊎◌, false, ℕ, ◌+◌, ◌*◌, ◌<◌, if◌then◌else◌, List, [], ◌∷◌, ◌++◌, map, take, length, sum_by, Some, Ok, ⊤}
+use Rattle.std.specs.Prelude.{◌≡◌, ◌≢◌, ◌⊎◌, false, ℕ, ◌+◌, ◌<◌, List, [], ◌∷◌, ◌++◌, map, take, sum_by, Some, Ok, ⊤}
 use Rattle.std.specs.List.{Contains, flat_map}
 use Rattle.std.specs.declared.alloc.Global.{Global}
 use Rattle.std.specs.declared.vec.Vec.{Vec}
 use Rattle.segment_image.specs.Head.{header_of, head_of}
 use Rattle.segment_image.specs.declared.head.SegmentHead.{SegmentHead}
-use Rattle.segment_image.specs.declared.layout.TheConstants.{BLOCK_HEADER, HISTOGRAM_NAME, SAMPLE_LEAST}
-use Rattle.bucket_ranges.specs.declared.spec.Spec.{Spec}
 use Rattle.bucket_ranges.specs.Ranges.{boundaries_of}
-use Rattle.bucket_ranges.specs.Reading.{Histogram, Reading, IsReading, is_name, name_words}
-use Rattle.bucket_ranges.specs.Spec.{SameSpec, buckets_of, spec_fault, spec_ranges}
+use Rattle.bucket_ranges.specs.Reading.{Histogram, Reading, IsReading, is_name}
+use Rattle.bucket_ranges.specs.Spec.{SameSpec, spec_fault}
 use Rattle.segment_machine.specs.declared.actor.Actor.{Actor}
 use Rattle.segment_machine.specs.declared.entry.Entry.{Entry}
-use Rattle.segment_machine.specs.Actor.{has_buckets}
 use Rattle.segment_machine.specs.Entry.{item_entry}
 use Rattle.segment_promises.specs.Reads.{HasNoFault}
 use Rattle.segment_calls.specs.Asked.{IsTooLarge}
+use Rattle.segment_calls.specs.Blocks.{count_words, record_words}
 use Rattle.segment_calls.specs.declared.refusal.Refusal.{Refusal}
 use Rattle.segment_calls.specs.declared.refusal.Refusal.TheVariants as refusal
 use Rattle.segment_merge.specs.Image.{IsMergedImage}
@@ -52,14 +50,6 @@ pub record AreMerged (base dead words : List ℕ) : Type 0 where
 -- one of these has the name of a histogram and another spec
 abbrev pub HaveOtherSpec : List Histogram → Histogram → Type 0
 HaveOtherSpec hists h = (other : Histogram) × Contains hists other × (other.name ≡ h.name) × (¬ (SameSpec other.spec h.spec))
-
--- the words of the record of a name and a spec
-abbrev pub record_words : List ℕ → Spec → ℕ
-record_words name spec = HISTOGRAM_NAME + (name_words (length name) + length (spec_ranges spec))
-
--- those of its counts and marks; or of one sample, where it has no buckets
-abbrev pub count_words : Spec → ℕ
-count_words spec = if has_buckets spec then BLOCK_HEADER + 2 * buckets_of spec else SAMPLE_LEAST
 
 -- a histogram needs a block of so many words in a segment that reads so: its record, where none has the name; or, where one has, its counts or a sample
 abbrev pub NeedsBlockOf : List Histogram → Histogram → ℕ → Type 0

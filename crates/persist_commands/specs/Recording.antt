@@ -61,7 +61,7 @@ pub record WentOn (hists : List HistRecord) (deeds : List Deed) (old new : Actor
   pub took : (more : List Taken) × (new.deltas.taken ≡ old.deltas.taken ++ more) × (map (λ t. t.name) more ≡ deltas_among deeds)
   pub deltas : (front behind : List Deed) (name : List ℕ) → deeds ≡ front ++ Takes name ∷ behind
       → HasDelta name (length (log_of old) + length (entries_among front)) (deltas_among behind) new
-  pub names : All (IsAskedIn hists) old.answers.names → All (IsAskedIn hists) new.answers.names
+  pub names : (more : List Known) × (new.answers.names ≡ old.answers.names ++ more) × All (IsAskedIn hists) more
   pub spoiled : new.done.spoiled ≡ old.done.spoiled
   pub filled : new.done.filled ≡ old.done.filled
 

@@ -1,5 +1,5 @@
 -- What a script that was run leaves.
-use Rattle.std.specs.Prelude.{◌≡◌, ◌↔◌, ◌<◌, ◌≤◌, false, ℕ, ℤ, List, ◌∷◌, ◌++◌, length, Ok, MatchResult, ⊤}
+use Rattle.std.specs.Prelude.{◌≡◌, ◌↔◌, ◌<◌, ◌≤◌, false, ℕ, ℤ, List, length, Result, Ok, MatchResult, ⊤}
 use Rattle.std.specs.List.{Contains}
 use mathlib.Core.Option.{some}
 use lib.ListN.{get_elem?}
@@ -16,21 +16,15 @@ use Rattle.persist_report_core.specs.declared.fault.CliFault.TheVariants as cli
 use Rattle.persist_report_core.specs.declared.script.fault.ScriptFault.{ScriptFault}
 use Rattle.persist_report_core.specs.declared.script.fault.ScriptFault.TheVariants as told
 use Rattle.persist_report_core.specs.Script.{HistRecord, Script, script_of}
-use Rattle.persist_report_core.specs.Text.{IsTextOf}
-use Rattle.persist_commands.specs.Entries.{Deed, Takes, deeds_of, deltas_among, deltas_of, entries_among, entries_of}
+use Rattle.reading_texts.specs.Text.{IsTextOf}
+use Rattle.persist_commands.specs.Entries.{deeds_of, deltas_of, entries_among, entries_of}
+use Rattle.persist_commands.specs.Recorded.{LastDelta}
 
 -- a histogram that is read has what entries add up to: the units of each key, the sum, and all units as its redundant count
 pub record IsTallyOf (entries : List Entry) (h : Histogram) : Type 0 where
   pub units : (key : ℤ) → units_read h key ≡ tally_units entries h.name key
   pub sum : h.sum ≡ tally_sum entries h.name
   pub redundant : h.redundant ≡ tally_noted entries h.name
-
--- a delta of a name is taken, behind which there is none of the name
-pub record LastDelta (deeds : List Deed) (name : List ℕ) : Type 0 where
-  pub front : List Deed
-  pub behind : List Deed
-  pub split : deeds ≡ front ++ Takes name ∷ behind
-  pub last : ¬ (Contains (deltas_among behind) name)
 
 -- deltas have taken of a histogram exactly what entries add up to: the mark of each key is its units, and the sum mark is the sum
 pub record AreTaken (entries : List Entry) (h : Histogram) : Type 0 where
@@ -94,11 +88,14 @@ MayEndRun cli.Gate = ⊤
 MayEndRun (cli.Refused number why) = ⊤
 MayEndRun _ = ⊥
 
--- A fault of a run has its cause in the bytes of the script: they are too many; or it is the first fault that they have as a script; or they
--- have none, and it came later. A device that fails and want of memory have none there.
+-- A fault of a run has its cause in the bytes of the script, which mean this: they are too many; or it is the first fault that they have as a
+-- script; or they have none, and it came later. A device that fails and want of memory have none there.
+abbrev pub IsFaultOfScript : Result Script ScriptFault → List ℕ → CliFault → Type 0
+IsFaultOfScript meaning bytes cli.Read = ⊤
+IsFaultOfScript meaning bytes cli.NoMemory = ⊤
+IsFaultOfScript meaning bytes cli.TooLong = 16777216 < length bytes
+IsFaultOfScript meaning bytes fault = (length bytes ≤ 16777216) × MatchResult meaning (λ script. MayEndRun fault) (λ why. fault ≡ fault_of_script why)
+
+-- in a new segment, which has all units
 abbrev pub IsFaultOfRun : List ℕ → CliFault → Type 0
-IsFaultOfRun bytes cli.Read = ⊤
-IsFaultOfRun bytes cli.NoMemory = ⊤
-IsFaultOfRun bytes cli.TooLong = 16777216 < length bytes
-IsFaultOfRun bytes fault =
-    (length bytes ≤ 16777216) × MatchResult (script_of 4294967295 bytes) (λ script. MayEndRun fault) (λ why. fault ≡ fault_of_script why)
+IsFaultOfRun bytes fault = IsFaultOfScript (script_of 4294967295 bytes) bytes fault

@@ -4,30 +4,28 @@ ghost use Rattle.std.specs.Prelude.{◌≡◌, ◌≢◌, ◌↔◌, ◌⊎◌, 
 ghost use Rattle.std.specs.Io.KnownBytes.{Appends};
 ghost use Rattle.segment_image.specs.Words.{bytes_of_words};
 ghost use Rattle.segment_image.specs.Watched.{has_failed, is_flushed, watched_inner};
-ghost use Rattle.live_segment.specs.Holders.{IsMadeWith, IsSameOpener, table_of, view_of_opener};
-ghost use Rattle.persist_report_core.specs.Script.{script_of, script_view};
+ghost use Rattle.live_segment.specs.Holders.{IsMadeWith, IsNew, IsSameOpener, table_of, view_of_opener};
+ghost use Rattle.persist_report_core.specs.Script.{script_view};
 ghost use Rattle.persist_commands.specs.Recording.{EndedAt, HandsOut, HasRun, IsReady, all_joined, view_of_ended};
-ghost use Rattle.persist_commands.specs.Run.{IsFaultOfRun, IsImageOfRun, IsRunOf};
+ghost use Rattle.persist_commands.specs.Recorded.{HasOnlyOpened, IsImageFrom, setting_for};
+ghost use Rattle.persist_commands.specs.Run.{IsFaultOfRun, IsReportOfImage, IsRunOf, MayEndRun};
 ghost use Rattle.persist_commands.specs.Stop.{EndTogether, StopTellsWant, TellsWant};
 
 use crate::beside::{NotRun, run_beside};
 use crate::gate::Gate;
 use crate::opening::make_histograms;
 use crate::outputs::{text_of_image, write_image, write_text};
+use crate::scripts::take_script;
 use crate::stop::{Stop, both};
 use crate::worker::{Ended, Part, Worker, units_of};
 use live_segment::{Opener, Segment};
-use persist_report_core::{CliFault, Script, ScriptFault, read_script};
-use segment_calls::Refusal;
+use persist_report_core::{CliFault, Script};
 use segment_image::layout::VERSION_FROZEN;
 use segment_image::{Image, Watched};
 use std::alloc::Global;
 use std::io::{Read, Write};
 use std::sync::Wait;
 use std::thread::Threads;
-
-// The units of a segment.
-const UNITS: u64 = 4_294_967_295;
 
 // The workers that are to be started, each with a recorder that has the units of its calls.
 fn make_workers<'w, G: Gate>(
@@ -110,59 +108,25 @@ fn work<R: Threads + Wait, G: Gate + Sync>(
     }
 }
 
-// The image of the segment in which a script was run.
-fn record_script<R: Threads + Wait, G: Gate + Sync>(
+// The image of a segment that was just opened, in which a script was run.
+fn record_in<R: Threads + Wait, G: Gate + Sync>(
     rt: &R,
     alloc: Global,
+    segment: Segment,
+    mut opener: Opener,
     script: &Script,
     workers: u32,
     gate: &G,
 ) -> Result<Image, Stop>
-    requires { 0 < workers }
-    ensures image { IfOk result (IsImageOfRun (script_view script.now) workers) }
+    requires made { IsMadeWith segment opener }
+    requires opened { HasOnlyOpened (view_of_opener opener) }
+    requires some { 0 < workers }
+    ensures image { IfOk result (IsImageFrom segment.setting (view_of_opener opener) (script_view script.now) workers) }
     ensures tells { IfErr result StopTellsWant }
 {
-    let (size, page) = (script.shape.size(), script.shape.page());
-    let (segment, mut opener) = match Segment::create(
-        alloc,
-        size,
-        page,
-        script.id,
-        0,
-        VERSION_FROZEN,
-    ) {
-        Ok(made) => made,
-        Err(_) => return Err(Stop::NoMemory),
-    };
     make_histograms(&segment, &mut opener, &script.hists)?;
     work(rt, alloc, &segment, &mut opener, script, workers, gate)?;
     Ok(segment.close(opener))
-}
-
-// The script that the reader has left, or its first fault.
-fn take_script<S: Read>(alloc: Global, reader: &mut Watched<S>) -> Result<Script, CliFault>
-    requires { has_failed reader.old ≡ false }
-    ensures script { IfOk result (λ script. IfSome (S.remaining (watched_inner reader.old)) (λ bytes. (length bytes ≤ 16777216) × (script_of 4294967295 bytes ≡ Ok (script_view script)))) }
-    ensures cause { IfErr result (λ fault. IfSome (S.remaining (watched_inner reader.old)) (λ bytes. IsFaultOfRun bytes fault)) }
-    ensures read { IsErrOf result CliFault.Read ↔ (has_failed reader.new ≡ true) }
-    ensures other { IfErr result (λ fault. fault ≢ CliFault.Write) }
-    ensures tells { IfErr result TellsWant }
-{
-    match read_script(alloc, reader, UNITS) {
-        Ok(script) => Ok(script),
-        Err(ScriptFault::Read) => Err(CliFault::Read),
-        Err(ScriptFault::TooLong) => Err(CliFault::TooLong),
-        Err(ScriptFault::NoMemory) => Err(CliFault::NoMemory),
-        Err(ScriptFault::BadLine(number)) => Err(CliFault::BadLine(number)),
-        Err(ScriptFault::ZeroCount(number)) => {
-            let why = Refusal::ZeroCount;
-            Err(CliFault::Refused { number, why })
-        }
-        Err(ScriptFault::NoUnits(number)) => {
-            let why = Refusal::NoUnits;
-            Err(CliFault::Refused { number, why })
-        }
-    }
 }
 
 // Writes an image and then its report.
@@ -183,6 +147,52 @@ fn write_both<I: Write, W: Write>(
 {
     write_image(image_out, words)?;
     write_text(report_out, text)
+}
+
+/// Runs a script in a segment that was just opened, a new one or one that goes on with an image. Writes the image of that segment, and
+/// then the report of that image.
+pub(crate) fn run_in<R: Threads + Wait, I: Write, W: Write, G: Gate + Sync>(
+    rt: &R,
+    alloc: Global,
+    segment: Segment,
+    opener: Opener,
+    script: &Script,
+    image_out: &mut Watched<I>,
+    report_out: &mut Watched<W>,
+    workers: u32,
+    gate: &G,
+) -> Result<(), CliFault>
+    requires made { IsMadeWith segment opener }
+    requires opened { HasOnlyOpened (view_of_opener opener) }
+    requires some { 0 < workers }
+    requires image_sound { has_failed image_out.old ≡ false }
+    requires report_sound { has_failed report_out.old ≡ false }
+    ensures recorded { OnOk result ((words : List ℕ) × (text : List ℕ) × IsImageFrom segment.setting (view_of_opener opener) (script_view script.now) workers words
+        × IsReportOfImage words text
+        × Appends (I.contents (watched_inner image_out.old)) (I.contents (watched_inner image_out.new)) (bytes_of_words words)
+        × Appends (W.contents (watched_inner report_out.old)) (W.contents (watched_inner report_out.new)) text) }
+    ensures late { IfErr result MayEndRun }
+    ensures tells { IfErr result TellsWant }
+    ensures write { IsErrOf result CliFault.Write ↔ ((has_failed image_out.new ≡ true) ⊎ (has_failed report_out.new ≡ true)) }
+    ensures flushed { OnOk result ((is_flushed image_out.new ≡ true) × (is_flushed report_out.new ≡ true)) }
+    ensures untouched { IfErr result (λ fault. fault ≢ CliFault.Write → (image_out.new ≡ image_out.old) × (report_out.new ≡ report_out.old)) }
+    ensures unbegun { has_failed image_out.new ≡ true → report_out.new ≡ report_out.old }
+{
+    let image = record_in(rt, alloc, segment, opener, script, workers, gate)?;
+    let text = text_of_image(alloc, image.words())?;
+    write_both(image_out, report_out, image.words(), &text)
+}
+
+// A new segment for a script, of its shape and id.
+fn new_segment(alloc: Global, script: &Script) -> Result<(Segment, Opener), CliFault>
+    ensures made { IfOk result (λ made. IsNew (setting_for (script_view script.now)) made.0 made.1) }
+    ensures fault { IfErr result (λ fault. fault ≡ CliFault.NoMemory) }
+{
+    let (size, page) = (script.shape.size(), script.shape.page());
+    match Segment::create(alloc, size, page, script.id, 0, VERSION_FROZEN) {
+        Ok(made) => Ok(made),
+        Err(_) => Err(CliFault::NoMemory),
+    }
 }
 
 /// Runs the script that the reader has left, by 1 to 16 workers, each in a thread of its own. Writes the image of the segment in
@@ -225,7 +235,9 @@ pub fn run_script<R: Threads + Wait, S: Read, I: Write, W: Write, G: Gate + Sync
     ensures unbegun { has_failed image_out.new ≡ true → report_out.new ≡ report_out.old }
 {
     let script = take_script(alloc, script)?;
-    let image = record_script(rt, alloc, &script, workers, gate)?;
-    let text = text_of_image(alloc, image.words())?;
-    write_both(image_out, report_out, image.words(), &text)
+    let made = new_segment(alloc, &script)?;
+    let (segment, opener) = made;
+    run_in(
+        rt, alloc, segment, opener, &script, image_out, report_out, workers, gate,
+    )
 }

@@ -5,12 +5,12 @@ use Rattle.clap.specs.declared.error.Error.{Error}
 use Rattle.clap.specs.declared.error.kind.ErrorKind.{ErrorKind}
 use Rattle.clap.specs.declared.error.kind.ErrorKind.TheVariants.{DisplayHelp, DisplayVersion, OutOfMemory}
 use Rattle.persist_report_core.specs.declared.fault.CliFault.{CliFault}
-use Rattle.persist_report_core.specs.declared.fault.CliFault.TheVariants.{Read, Write, TooLong, NotWords, Image, BadLine, Refused, Gate, Merge, NoThread, NoMemory}
+use Rattle.persist_report_core.specs.declared.fault.CliFault.TheVariants.{Read, Write, TooLong, NotWords, Image, BadLine, Refused, Gate, Merge, NoThread, NoMemory, Adopt, NoSegment}
 use Rattle.persist_report.specs.declared.failure.Failure.{Failure}
 use Rattle.persist_report.specs.declared.failure.Failure.TheVariants.{Usage, Fault, Explained}
 
--- the status of a fault: 3 for bytes that are no image or no script, and for what is refused; 4 for a device that failed;
--- 5 for want of a thread or of memory
+-- the status of a fault: 3 for bytes that are no image or no script, and for what is refused, as an image that is to be
+-- recorded into again; 4 for a device that failed; 5 for want of a thread or of memory
 abbrev pub fault_status : CliFault → ℕ
 fault_status Read = 4
 fault_status Write = 4
@@ -23,6 +23,8 @@ fault_status Gate = 3
 fault_status (Merge name why) = 3
 fault_status NoThread = 5
 fault_status NoMemory = 5
+fault_status (Adopt fault) = 3
+fault_status NoSegment = 3
 
 -- the status of a failure: 2 for a command line that asks for nothing that the program does
 abbrev pub failure_status : Failure → ℕ

@@ -5,7 +5,8 @@ ghost use Rattle.persist_report.specs.Failure.{UsageIsMistake};
 use crate::cause::Cause;
 use crate::failure::Failure;
 use fault_texts::{
-    Origin, Source, device_lines, image_lines, merge_lines, remedy_lines, script_lines, size_lines,
+    Origin, Source, adopt_lines, base_lines, device_lines, image_lines, merge_lines, remedy_lines,
+    script_lines, size_lines,
 };
 use persist_report_core::CliFault;
 use std::alloc::{AllocError, Global};
@@ -16,12 +17,27 @@ use std::io;
 pub struct Known<'a, 'b> {
     /// The input that was read last.
     pub input: Source<'a, 'b>,
-    /// The image that was read before it, of a merge.
+    /// The image that was read before it, of two inputs.
     pub base: Option<Source<'a, 'b>>,
     /// What failed, where it is a fault of a device.
     pub device: Origin<'a>,
     /// The reason that the system gave for it.
     pub reason: Option<io::Error>,
+}
+
+// The lines of a record of a script, and what the image has that is recorded into again, where there is one.
+fn record_lines(
+    alloc: Global,
+    fault: &CliFault,
+    number: u32,
+    known: Known<'_, '_>,
+) -> Result<String, AllocError> {
+    let mut lines = script_lines(alloc, known.input, number, fault)?;
+    if let Some(base) = known.base {
+        let more = base_lines(alloc, base, known.input, fault)?;
+        lines.push_str(more.as_str())?;
+    }
+    Ok(lines)
 }
 
 // The lines that follow the line of a fault.
@@ -31,13 +47,16 @@ fn lines_of(alloc: Global, fault: &CliFault, known: Known<'_, '_>) -> Result<Str
         CliFault::Image(fault) => image_lines(alloc, known.input, *fault)?,
         CliFault::NotWords | CliFault::TooLong => size_lines(alloc, known.input)?,
         CliFault::BadLine(number) | CliFault::Refused { number, .. } => {
-            script_lines(alloc, known.input, *number, fault)?
+            record_lines(alloc, fault, *number, known)?
         }
+        CliFault::Adopt(fault) => adopt_lines(alloc, known.input, *fault)?,
         CliFault::Merge { name, .. } => {
             let base = known.base.unwrap_or(known.input);
             merge_lines(alloc, base, known.input, name.as_slice())?
         }
-        CliFault::Gate | CliFault::NoThread | CliFault::NoMemory => String::new(alloc),
+        CliFault::Gate | CliFault::NoThread | CliFault::NoMemory | CliFault::NoSegment => {
+            String::new(alloc)
+        }
     };
     let more = remedy_lines(alloc, fault)?;
     lines.push_str(more.as_str())?;

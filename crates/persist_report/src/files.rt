@@ -8,12 +8,13 @@ ghost use Rattle.segment_image.specs.Watched.{has_failed};
 use crate::cause::Cause;
 use crate::explaining::{Known, told, unopened};
 use crate::failure::Failure;
+use crate::form::{Form, write_form};
 use crate::noted::Noted;
 use crate::output::{Output, open_output};
 use crate::workers::Workers;
 use fault_texts::{Origin, Source};
-use persist_commands::{OpenGate, merge_files, run_script};
-use persist_report_core::{CliFault, report};
+use persist_commands::{OpenGate, merge_files, resume_script, run_script};
+use persist_report_core::CliFault;
 use segment_image::Watched;
 use std::io::Read;
 use std::random::RandomSource;
@@ -22,7 +23,26 @@ use std::sync::Wait;
 use std::thread::Threads;
 use std::{fs, io};
 
-// A file that is there, to read it.
+/// A file that is there, to read it. A copy of what is read is kept where it `copies`.
+pub fn open_copying<R: Files + AllocGlobal>(
+    rt: &R,
+    path: &str,
+    copies: bool,
+    explains: bool,
+) -> Result<Watched<Noted<R::File>>, Failure>
+    ensures file { IfOk result (λ file. has_failed file ≡ false) }
+    ensures fault { IfErr result UsageIsMistake }
+{
+    match fs::open(rt, path) {
+        Ok(file) => Ok(Watched::new(Noted::copying(rt.alloc(), file, copies))),
+        Err(error) => {
+            let cause = Cause::of(CliFault::Read, error);
+            Err(unopened(rt.alloc(), cause, explains, path))
+        }
+    }
+}
+
+// A file that is there, to read it, with a copy of what is read for what is explained.
 fn open<R: Files + AllocGlobal>(
     rt: &R,
     path: &str,
@@ -31,17 +51,11 @@ fn open<R: Files + AllocGlobal>(
     ensures file { IfOk result (λ file. has_failed file ≡ false) }
     ensures fault { IfErr result UsageIsMistake }
 {
-    match fs::open(rt, path) {
-        Ok(file) => Ok(Watched::new(Noted::copying(rt.alloc(), file, explains))),
-        Err(error) => {
-            let cause = Cause::of(CliFault::Read, error);
-            Err(unopened(rt.alloc(), cause, explains, path))
-        }
-    }
+    open_copying(rt, path, explains, explains)
 }
 
-// The file that is written.
-fn open_out<R: Files + RandomSource + AllocGlobal>(
+/// The file that is written.
+pub fn open_out<R: Files + RandomSource + AllocGlobal>(
     rt: &R,
     path: &str,
     explains: bool,
@@ -55,17 +69,41 @@ fn open_out<R: Files + RandomSource + AllocGlobal>(
     }
 }
 
-// An input that was read, as far as it is known.
-fn source_of<'a, 'b, T>(origin: Origin<'a>, reader: &'b Noted<T>) -> Source<'a, 'b> {
+/// An input that was read, as far as it is known.
+pub fn source_of<'a, 'b, T>(origin: Origin<'a>, reader: &'b Noted<T>) -> Source<'a, 'b> {
     Source {
         origin,
         bytes: reader.bytes(),
     }
 }
 
-// Writes the report of what a reader has left to standard output.
-fn report_of<R: Print + AllocGlobal, I: Read + Drop>(
+// Of two inputs, of which the first is read whole before the second, the one that was read last.
+fn last_read<'a, 'b, T>(
+    first: (&'a str, &'b Noted<T>),
+    second: (&'a str, &'b Noted<T>),
+) -> (Origin<'a>, &'b Noted<T>) {
+    let (path, reader) = if second.1.is_used() { second } else { first };
+    (Origin::File(path), reader)
+}
+
+/// Where a device failed, it and the system's reason: those of the input, of standard output or of OUT.
+pub fn failed_device<'a>(
+    fault: &CliFault,
+    input: (Origin<'a>, Option<io::Error>),
+    report: Option<io::Error>,
+    out: (&'a str, Option<io::Error>),
+) -> (Origin<'a>, Option<io::Error>) {
+    match (fault, report) {
+        (CliFault::Read, _) => input,
+        (_, Some(reason)) => (Origin::Output, Some(reason)),
+        _ => (Origin::File(out.0), out.1),
+    }
+}
+
+// Writes a form of what a reader has left to standard output.
+fn write_from<R: Print + AllocGlobal, I: Read + Drop>(
     rt: &R,
+    form: Form<'_>,
     mut reader: Watched<Noted<I>>,
     origin: Origin<'_>,
     explains: bool,
@@ -74,7 +112,7 @@ fn report_of<R: Print + AllocGlobal, I: Read + Drop>(
     ensures { IfErr result UsageIsMistake }
 {
     let mut writer = Watched::new(Noted::new(io::writer(rt)));
-    let Err(fault) = report(rt.alloc(), &mut reader, &mut writer) else {
+    let Err(fault) = write_form(rt.alloc(), form, &mut reader, &mut writer) else {
         return Ok(());
     };
     let (reader, writer) = (reader.into_inner(), writer.into_inner());
@@ -91,22 +129,24 @@ fn report_of<R: Print + AllocGlobal, I: Read + Drop>(
     Err(told(rt.alloc(), fault, explains, known))
 }
 
-/// Writes the report of the image in a file, or on standard input, to standard output.
-pub fn report_file<R: Files + Input + Print + AllocGlobal>(
+/// Writes a form of the image in a file to standard output. The image on standard input is meant where no file is named, or
+/// `-`.
+pub fn write_file<R: Files + Input + Print + AllocGlobal>(
     rt: &R,
+    form: Form<'_>,
     file: Option<&str>,
     explains: bool,
 ) -> Result<(), Failure>
     ensures { IfErr result UsageIsMistake }
 {
     match file {
-        Some(path) => {
+        Some(path) if path != "-" => {
             let reader = open(rt, path, explains)?;
-            report_of(rt, reader, Origin::File(path), explains)
+            write_from(rt, form, reader, Origin::File(path), explains)
         }
-        None => {
+        _ => {
             let reader = Watched::new(Noted::copying(rt.alloc(), rt.reader(), explains));
-            report_of(rt, reader, Origin::Input, explains)
+            write_from(rt, form, reader, Origin::Input, explains)
         }
     }
 }
@@ -139,14 +179,58 @@ pub fn run_file<'a, R: Files + Print + RandomSource + AllocGlobal + Threads + Wa
     let Err(cause) = image.into_inner().end(rt, outcome) else {
         return Ok(());
     };
-    let (device, reason) = match (&cause.fault, report.reason()) {
-        (CliFault::Read, _) => (Origin::File(script), reader.reason()),
-        (_, Some(reason)) => (Origin::Output, Some(reason)),
-        _ => (Origin::File(out), cause.reason.or(written)),
-    };
+    let origin = Origin::File(script);
+    let input = (origin, reader.reason());
+    let output = (out, cause.reason.or(written));
+    let (device, reason) = failed_device(&cause.fault, input, report.reason(), output);
     let known = Known {
-        input: source_of(Origin::File(script), &reader),
+        input: source_of(origin, &reader),
         base: None,
+        device,
+        reason,
+    };
+    Err(told(rt.alloc(), cause.fault, explains, known))
+}
+
+/// Goes on with the image in a file and runs the script in another on it. Writes the new image to a third file and its report to
+/// standard output. The image takes the third file's place behind the report.
+pub fn resume_file<'a, R: Files + Print + RandomSource + AllocGlobal + Threads + Wait>(
+    rt: &R,
+    base: &'a str,
+    script: &'a str,
+    out: &'a str,
+    workers: Workers,
+    explains: bool,
+) -> Result<(), Failure>
+    ensures { IfErr result UsageIsMistake }
+{
+    let mut first = open(rt, base, explains)?;
+    let mut second = open(rt, script, explains)?;
+    let mut image = open_out(rt, out, explains)?;
+    let mut report = Watched::new(Noted::new(io::writer(rt)));
+    let outcome = resume_script(
+        rt,
+        rt.alloc(),
+        &mut first,
+        &mut second,
+        &mut image,
+        &mut report,
+        workers.count(),
+        &OpenGate,
+    );
+    let (first, second) = (first.into_inner(), second.into_inner());
+    let (image, report) = (image.into_inner(), report.into_inner());
+    let written = image.reason();
+    let Err(cause) = image.into_inner().end(rt, outcome) else {
+        return Ok(());
+    };
+    let (origin, last) = last_read((base, &first), (script, &second));
+    let input = (origin, last.reason());
+    let output = (out, cause.reason.or(written));
+    let (device, reason) = failed_device(&cause.fault, input, report.reason(), output);
+    let known = Known {
+        input: source_of(origin, last),
+        base: Some(source_of(Origin::File(base), &first)),
         device,
         reason,
     };
@@ -172,16 +256,10 @@ pub fn merge_files_into<'a, R: Files + RandomSource + AllocGlobal>(
     let Err(cause) = image.into_inner().end(rt, outcome) else {
         return Ok(());
     };
-    // BASE is read whole before DEAD.
-    let (origin, last) = if second.is_used() {
-        (Origin::File(dead), &second)
-    } else {
-        (Origin::File(base), &first)
-    };
-    let (device, reason) = match cause.fault {
-        CliFault::Read => (origin, last.reason()),
-        _ => (Origin::File(out), cause.reason.or(written)),
-    };
+    let (origin, last) = last_read((base, &first), (dead, &second));
+    let input = (origin, last.reason());
+    let output = (out, cause.reason.or(written));
+    let (device, reason) = failed_device(&cause.fault, input, None, output);
     let known = Known {
         input: source_of(origin, last),
         base: Some(source_of(Origin::File(base), &first)),

@@ -1,12 +1,15 @@
-//! The program `persist_report`: writes the histograms of an image as a report, runs scripts, merges images, and
-//! explains faults.
+//! The program `persist_report`: writes the histograms of an image as a report or as metrics, runs scripts, in new segments and on in
+//! those of images, merges images, and explains faults.
 #![tactic(auto)]
 
 mod cause;
 mod explaining;
+mod extracting;
 mod failure;
 mod files;
+mod form;
 mod noted;
+mod nth;
 mod output;
 mod place;
 mod request;

@@ -3,6 +3,7 @@
 ghost use Rattle.std.specs.Prelude.{◌≡◌, IfOk};
 ghost use Rattle.clap.specs.Words.{kind_of};
 
+use crate::nth::Nth;
 use crate::workers::Workers;
 use clap::error::ErrorKind;
 use clap::{Arg, ArgAction, ArgMatches, Command, Error, value_parser};
@@ -17,8 +18,22 @@ pub enum Request<'a> {
         file: Option<&'a str>,
         explains: bool,
     },
+    /// Write the metrics of the image in the file, or on standard input, under names that begin so.
+    Export {
+        file: Option<&'a str>,
+        prefix: &'a str,
+        explains: bool,
+    },
     /// Run a script by workers, and write the image to a file and its report to standard output.
     Run {
+        script: &'a str,
+        out: &'a str,
+        workers: Workers,
+        explains: bool,
+    },
+    /// Go on with an image and run a script on it by workers, and write the new image to a file and its report to standard output.
+    Resume {
+        base: &'a str,
         script: &'a str,
         out: &'a str,
         workers: Workers,
@@ -29,6 +44,13 @@ pub enum Request<'a> {
         base: &'a str,
         dead: &'a str,
         out: &'a str,
+        explains: bool,
+    },
+    /// Find a segment in a file, and write its image to another and where it lay to standard output.
+    Extract {
+        file: &'a str,
+        out: &'a str,
+        nth: Nth,
         explains: bool,
     },
     /// Write what the fault of a name means, or what each means where none is named.
@@ -50,24 +72,44 @@ fn explain_flag<'a>(alloc: Global) -> Arg<'a> {
         .help("Tells more of a fault, as on a terminal: its file, line and reason")
 }
 
+// The image that is read.
+fn image<'a>(alloc: Global) -> Arg<'a> {
+    Arg::new(alloc, "FILE").help("The image of a segment; standard input where it is left out or -")
+}
+
 fn report_command<'a>(alloc: Global) -> Result<Command<'a>, AllocError> {
-    let file = Arg::new(alloc, "FILE").help(
-        "The image of a segment; standard input where it is left out",
-    );
     Command::new(alloc, "report")
         .about("Writes the histograms of an image to standard output")
         .after_help("Example:\n  persist_report report examples/three_samples.img")
-        .arg(file)?
+        .arg(image(alloc))?
         .arg(explain_flag(alloc))
 }
 
-fn run_command<'a>(alloc: Global) -> Result<Command<'a>, AllocError> {
-    let workers = Arg::new(alloc, "workers")
+fn export_command<'a>(alloc: Global) -> Result<Command<'a>, AllocError> {
+    let prefix = Arg::new(alloc, "prefix")
+        .long("prefix")
+        .value_name("PREFIX")
+        .default_value("povundiri")
+        .help("What the names of all metrics begin with: letters, digits, _ and :, no digit first");
+    Command::new(alloc, "export")
+        .about("Writes the histograms of an image in the Prometheus text format to standard output")
+        .after_help("Example:\n  persist_report export examples/three_samples.img")
+        .arg(image(alloc))?
+        .arg(prefix)?
+        .arg(explain_flag(alloc))
+}
+
+// How many workers record.
+fn workers_option<'a>(alloc: Global) -> Arg<'a> {
+    Arg::new(alloc, "workers")
         .long("workers")
         .value_name("K")
         .value_parser(value_parser!(u32).range(1..=16))
         .default_value("1")
-        .help("How many workers record, each in a thread of its own: 1 to 16");
+        .help("How many workers record, each in a thread of its own: 1 to 16")
+}
+
+fn run_command<'a>(alloc: Global) -> Result<Command<'a>, AllocError> {
     Command::new(alloc, "run")
         .about(
             "Records what a script says: writes the image to OUT and its report to standard output",
@@ -77,7 +119,26 @@ fn run_command<'a>(alloc: Global) -> Result<Command<'a>, AllocError> {
         )
         .arg(file(alloc, "SCRIPT", "What is to be recorded, as CSV"))?
         .arg(file(alloc, "OUT", "Where the image of the segment is written"))?
-        .arg(workers)?
+        .arg(workers_option(alloc))?
+        .arg(explain_flag(alloc))
+}
+
+fn resume_command<'a>(alloc: Global) -> Result<Command<'a>, AllocError> {
+    Command::new(alloc, "resume")
+        .about(
+            "Goes on with an image and records what a script says: writes the new image to OUT and its report to standard output",
+        )
+        .after_help(
+            "Example:\n  persist_report resume three.img examples/three_samples.csv six.img --workers 2",
+        )
+        .arg(file(alloc, "BASE", "The image to go on with; it is of version 2"))?
+        .arg(file(
+            alloc,
+            "SCRIPT",
+            "What is to be recorded, as CSV; its segment record has the size, page and id of BASE",
+        ))?
+        .arg(file(alloc, "OUT", "Where the new image is written"))?
+        .arg(workers_option(alloc))?
         .arg(explain_flag(alloc))
 }
 
@@ -97,6 +158,28 @@ fn merge_command<'a>(alloc: Global) -> Result<Command<'a>, AllocError> {
         .arg(explain_flag(alloc))
 }
 
+fn extract_command<'a>(alloc: Global) -> Result<Command<'a>, AllocError> {
+    let nth = Arg::new(alloc, "nth")
+        .long("nth")
+        .value_name("N")
+        .value_parser(value_parser!(u64).range(1..))
+        .default_value("1")
+        .help("Which of the segments in the file, from 1");
+    Command::new(alloc, "extract")
+        .about(
+            "Finds a segment in any file: writes its image to OUT, and to standard output at which byte it lay",
+        )
+        .after_help("Example:\n  persist_report extract core.1234 found.img --nth 2")
+        .arg(file(
+            alloc,
+            "FILE",
+            "What is searched, as a mapped file or a dump of memory",
+        ))?
+        .arg(file(alloc, "OUT", "Where the image of the segment is written"))?
+        .arg(nth)?
+        .arg(explain_flag(alloc))
+}
+
 fn explain_command<'a>(alloc: Global) -> Result<Command<'a>, AllocError> {
     let name = Arg::new(alloc, "NAME").help(
         "The name of a fault; all of them where it is left out",
@@ -113,8 +196,11 @@ fn command<'a>(alloc: Global) -> Result<Command<'a>, AllocError> {
         .about("Records into segments with shared histograms, reads their images and merges them")
         .subcommand_required(true)
         .subcommand(report_command(alloc)?)?
+        .subcommand(export_command(alloc)?)?
         .subcommand(run_command(alloc)?)?
+        .subcommand(resume_command(alloc)?)?
         .subcommand(merge_command(alloc)?)?
+        .subcommand(extract_command(alloc)?)?
         .subcommand(explain_command(alloc)?)
 }
 
@@ -127,6 +213,21 @@ fn run_request<'a>(run: &ArgMatches<'a>) -> Option<Request<'a>> {
         out,
         workers,
         explains: run.get_flag("explain"),
+    })
+}
+
+fn resume_request<'a>(resume: &ArgMatches<'a>) -> Option<Request<'a>> {
+    let base = resume.get_str("BASE")?;
+    let script = resume.get_str("SCRIPT")?;
+    let out = resume.get_str("OUT")?;
+    let workers = Workers::of(resume.get_one::<u32>("workers")?)?;
+    let explains = resume.get_flag("explain");
+    Some(Request::Resume {
+        base,
+        script,
+        out,
+        workers,
+        explains,
     })
 }
 
@@ -143,6 +244,29 @@ fn merge_request<'a>(merge: &ArgMatches<'a>) -> Option<Request<'a>> {
     })
 }
 
+fn export_request<'a>(export: &ArgMatches<'a>) -> Option<Request<'a>> {
+    let file = export.get_str("FILE");
+    let prefix = export.get_str("prefix")?;
+    let explains = export.get_flag("explain");
+    Some(Request::Export {
+        file,
+        prefix,
+        explains,
+    })
+}
+
+fn extract_request<'a>(extract: &ArgMatches<'a>) -> Option<Request<'a>> {
+    let file = extract.get_str("FILE")?;
+    let out = extract.get_str("OUT")?;
+    let nth = Nth::of(extract.get_one::<u64>("nth")?)?;
+    Some(Request::Extract {
+        file,
+        out,
+        nth,
+        explains: extract.get_flag("explain"),
+    })
+}
+
 // What a parsed command line asks for; none where something is missing, which the parse refuses.
 fn request_of<'a>(matches: &ArgMatches<'a>) -> Option<Request<'a>> {
     match matches.subcommand()? {
@@ -150,8 +274,11 @@ fn request_of<'a>(matches: &ArgMatches<'a>) -> Option<Request<'a>> {
             file: report.get_str("FILE"),
             explains: report.get_flag("explain"),
         }),
+        ("export", export) => export_request(export),
         ("run", run) => run_request(run),
+        ("resume", resume) => resume_request(resume),
         ("merge", merge) => merge_request(merge),
+        ("extract", extract) => extract_request(extract),
         ("explain", explain) => Some(Request::Explain {
             name: explain.get_str("NAME"),
         }),
@@ -188,4 +315,14 @@ pub fn no_fault(alloc: Global) -> Result<Error, AllocError>
     ensures { IfOk result (λ error. kind_of error ≡ ErrorKind.InvalidValue) }
 {
     command(alloc)?.error(ErrorKind::InvalidValue, "no fault has this name")
+}
+
+/// What is wrong with a command line whose prefix is none.
+pub fn no_prefix(alloc: Global) -> Result<Error, AllocError>
+    ensures { IfOk result (λ error. kind_of error ≡ ErrorKind.ValueValidation) }
+{
+    command(alloc)?.error(
+        ErrorKind::ValueValidation,
+        "a prefix has letters, digits, _ and : alone, and no digit first",
+    )
 }

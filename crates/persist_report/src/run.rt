@@ -3,12 +3,15 @@
 ghost use Rattle.std.specs.Prelude.{IfErr};
 ghost use Rattle.persist_report.specs.Failure.{UsageIsMistake};
 
+use crate::extracting::extract_file;
 use crate::failure::Failure;
-use crate::files::{merge_files_into, report_file, run_file};
-use crate::request::{Request, no_fault, not_text};
+use crate::files::{merge_files_into, resume_file, run_file, write_file};
+use crate::form::Form;
+use crate::request::{Request, no_fault, no_prefix, not_text};
 use crate::terminal::is_terminal;
 use fault_texts::{AllTexts, text_of};
 use persist_report_core::CliFault;
+use reading_texts::is_prefix;
 use std::random::RandomSource;
 use std::rt::{Env, Files};
 use std::sync::Wait;
@@ -59,6 +62,21 @@ fn explain<R: Print + AllocGlobal>(rt: &R, name: Option<&str>) -> Result<(), Fai
     Ok(())
 }
 
+// Writes the metrics of an image, where their names may begin so.
+fn export<R: Files + Input + Print + AllocGlobal>(
+    rt: &R,
+    file: Option<&str>,
+    prefix: &str,
+    explains: bool,
+) -> Result<(), Failure>
+    ensures { IfErr result UsageIsMistake }
+{
+    if !is_prefix(prefix.as_bytes()) {
+        return Err(Failure::Usage(no_prefix(rt.alloc())?));
+    }
+    write_file(rt, Form::Export { prefix }, file, explains)
+}
+
 fn meet<R: Files + Input + Print + RandomSource + AllocGlobal + Threads + Wait>(
     rt: &R,
     request: Request<'_>,
@@ -66,19 +84,39 @@ fn meet<R: Files + Input + Print + RandomSource + AllocGlobal + Threads + Wait>(
     ensures { IfErr result UsageIsMistake }
 {
     match request {
-        Request::Report { file, explains } => report_file(rt, file, explains || is_terminal(rt)),
+        Request::Report { file, explains } => {
+            write_file(rt, Form::Report, file, explains || is_terminal(rt))
+        }
+        Request::Export {
+            file,
+            prefix,
+            explains,
+        } => export(rt, file, prefix, explains || is_terminal(rt)),
         Request::Run {
             script,
             out,
             workers,
             explains,
         } => run_file(rt, script, out, workers, explains || is_terminal(rt)),
+        Request::Resume {
+            base,
+            script,
+            out,
+            workers,
+            explains,
+        } => resume_file(rt, base, script, out, workers, explains || is_terminal(rt)),
         Request::Merge {
             base,
             dead,
             out,
             explains,
         } => merge_files_into(rt, base, dead, out, explains || is_terminal(rt)),
+        Request::Extract {
+            file,
+            out,
+            nth,
+            explains,
+        } => extract_file(rt, file, out, nth, explains || is_terminal(rt)),
         Request::Explain { name } => explain(rt, name),
     }
 }

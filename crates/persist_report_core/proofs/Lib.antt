@@ -1,6 +1,4 @@
-pub mod Adding
 pub mod Answering
-pub mod Buckets
 pub mod Numbers
 pub mod FieldLemmas
 pub mod DraftLemmas
@@ -8,3 +6,4 @@ pub mod Requests
 pub mod ScriptRows
 pub mod Records
 pub mod ReadScripts
+mod ReadWhole

@@ -4,6 +4,8 @@ use Rattle.segment_image.specs.declared.fault.ImageFault.{ImageFault}
 use Rattle.segment_image.specs.declared.fault.ImageFault.TheVariants as image
 use Rattle.segment_image.specs.declared.fault.ReadFault.{ReadFault}
 use Rattle.segment_image.specs.declared.fault.ReadFault.TheVariants as reading
+use Rattle.image_adoption.specs.declared.fault.AdoptFault.{AdoptFault}
+use Rattle.image_adoption.specs.declared.fault.AdoptFault.TheVariants as adopting
 use Rattle.persist_report_core.specs.declared.fault.CliFault.{CliFault}
 use Rattle.persist_report_core.specs.declared.fault.CliFault.TheVariants as cli
 
@@ -20,6 +22,8 @@ cli_fault_number cli.Gate = 8
 cli_fault_number (cli.Merge name why) = 9
 cli_fault_number cli.NoThread = 10
 cli_fault_number cli.NoMemory = 11
+cli_fault_number (cli.Adopt fault) = 12
+cli_fault_number cli.NoSegment = 13
 
 -- the fault of a call whose reading of words failed
 abbrev pub fault_of_read : ReadFault → CliFault
@@ -32,3 +36,8 @@ fault_of_read reading.NotWords = cli.NotWords
 abbrev pub fault_of_image : ImageFault → CliFault
 fault_of_image image.NoMemory = cli.NoMemory
 fault_of_image fault = cli.Image fault
+
+-- the fault of a call whose image may not be recorded into again; want of memory is no fault of the image
+abbrev pub fault_of_adoption : AdoptFault → CliFault
+fault_of_adoption adopting.NoMemory = cli.NoMemory
+fault_of_adoption fault = cli.Adopt fault

@@ -1,7 +1,6 @@
 pub use Rattle.segment_image.specs.Watched
 pub use Rattle.bucket_ranges.specs.Reading
 pub mod Fault
-pub mod Text
 pub mod Report
 pub mod Number
 pub mod Request

@@ -5,8 +5,9 @@ use Rattle.segment_image.specs.Head.{header_of}
 use Rattle.segment_image.specs.declared.head.SegmentHead.{SegmentHead}
 use Rattle.bucket_ranges.specs.Reading.{Reading, IsReading}
 use Rattle.persist_report_core.specs.declared.fault.CliFault.{CliFault}
-use Rattle.persist_report_core.specs.declared.fault.CliFault.TheVariants.{Read, Write, TooLong, NotWords, Image, BadLine, Refused, Gate, Merge, NoThread, NoMemory}
-use Rattle.persist_report_core.specs.Text.{IsTextOf}
+use Rattle.persist_report_core.specs.declared.fault.CliFault.TheVariants.{Read, Write, TooLong, NotWords, Image, BadLine, Refused, Gate, Merge, NoThread, NoMemory, Adopt, NoSegment}
+use Rattle.reading_texts.specs.Text.{IsTextOf}
+use Rattle.reading_texts.specs.Exporting.{IsExportOf}
 
 -- the words of 64 bits that the bytes are; a number past them would have the bytes of another word
 pub record AreWordsOf (bytes words : List ℕ) : Type 0 where
@@ -23,8 +24,22 @@ pub record IsReportOf (bytes : List ℕ) (text : List ℕ) : Type 0 where
   pub reading_is : IsReading words head reading
   pub text_is : IsTextOf reading text
 
+-- this is the reading of the words that the bytes are
+pub record IsReadingOf (bytes : List ℕ) (reading : Reading) : Type 0 where
+  pub words : List ℕ
+  pub words_are : AreWordsOf bytes words
+  pub head : SegmentHead
+  pub head_is : header_of words ≡ Ok head
+  pub reading_is : IsReading words head reading
+
+-- the text is that of this reading for what scrapes metrics; their names begin so
+pub record IsExportedFrom (prefix bytes text : List ℕ) : Type 0 where
+  pub reading : Reading
+  pub reading_is : IsReadingOf bytes reading
+  pub text_is : IsExportOf prefix reading text
+
 -- A fault has its cause in the bytes of the image. Devices that fail and want of memory have none there. The faults of
--- scripts, of merges and of workers come of no image alone.
+-- scripts, of merges, of workers and of images that are recorded into again come of no report.
 abbrev pub IsCausedBy : List ℕ → CliFault → Type 0
 IsCausedBy bytes Read = ⊤
 IsCausedBy bytes Write = ⊤
@@ -37,3 +52,5 @@ IsCausedBy bytes Gate = ⊥
 IsCausedBy bytes (Merge name why) = ⊥
 IsCausedBy bytes NoThread = ⊥
 IsCausedBy bytes NoMemory = ⊤
+IsCausedBy bytes (Adopt fault) = ⊥
+IsCausedBy bytes NoSegment = ⊥

@@ -1,5 +1,5 @@
 -- What the bytes of a script mean, or their first fault.
-use Rattle.std.specs.Prelude.{◌≡◌, ◌<◌, ◌≤◌, ⊤, Bool, not, ◌&&◌, ◌==◌, nat_lt, if◌then◌else◌, ℕ, ◌+◌, List, [], ◌∷◌, ◌++◌, length, map, sum_by, slice_index_or, Option, Some, None, Result, Ok, Err}
+use Rattle.std.specs.Prelude.{◌≡◌, ◌<◌, ◌≤◌, ⊤, Bool, false, not, ◌&&◌, ◌==◌, nat_lt, if◌then◌else◌, ℕ, ◌+◌, List, [], ◌∷◌, ◌++◌, length, map, sum_by, slice_index_or, Option, Some, None, Result, Ok, Err}
 use Rattle.std.specs.List.{enumerate_from, filter_map, position_or_len, scan}
 use Rattle.std.specs.Str.{bytes_eq}
 use Rattle.csv.specs.Reading.{records, default_config, strip_bom}
@@ -134,15 +134,33 @@ script_from pool (first ∷ more) = unless_faults (faults_of pool (first ∷ mor
 abbrev pub script_of : ℕ → List ℕ → Result Script ScriptFault
 script_of pool bytes = script_from pool (records default_config (strip_bom bytes))
 
--- A fault of a call that reads a script of at most 16,777,216 bytes has its cause in the bytes that the reader had
--- left. Want of memory and a device that fails have none there.
+-- the first of the records that bytes are; no fields where there is none
+abbrev pub first_record : List ℕ → List (List ℕ)
+first_record bytes = slice_index_or (records default_config (strip_bom bytes)) 0 []
+
+-- whether a record names the segment of this shape and id
+abbrev pub names_segment : Dimensions → ℕ → Option Request → Bool
+names_segment shape id (Some (Segment size page other)) = size == shape.size && page == shape.page && other == id
+names_segment shape id _ = false
+
+-- what bytes mean as a script for the segment of this shape and id: the first record has to name that one
+abbrev pub script_for : Dimensions → ℕ → ℕ → List ℕ → Result Script ScriptFault
+script_for shape id pool bytes =
+    if names_segment shape id (request_in (first_record bytes)) then script_of pool bytes else Err (BadLine 1)
+
+-- A fault of a call that reads a script of at most 16,777,216 bytes, which mean this, has its cause in the bytes that the reader
+-- had left. Want of memory and a device that fails have none there.
+abbrev pub IsFaultOfBytes : Result Script ScriptFault → List ℕ → ScriptFault → Type 0
+IsFaultOfBytes meaning bytes Read = ⊤
+IsFaultOfBytes meaning bytes TooLong = 16777216 < length bytes
+IsFaultOfBytes meaning bytes NoMemory = ⊤
+IsFaultOfBytes meaning bytes (BadLine number) = (length bytes ≤ 16777216) × (meaning ≡ Err (BadLine number))
+IsFaultOfBytes meaning bytes (ZeroCount number) = (length bytes ≤ 16777216) × (meaning ≡ Err (ZeroCount number))
+IsFaultOfBytes meaning bytes (NoUnits number) = (length bytes ≤ 16777216) × (meaning ≡ Err (NoUnits number))
+
+-- of a script for any segment
 abbrev pub IsScriptFault : ℕ → List ℕ → ScriptFault → Type 0
-IsScriptFault pool bytes Read = ⊤
-IsScriptFault pool bytes TooLong = 16777216 < length bytes
-IsScriptFault pool bytes NoMemory = ⊤
-IsScriptFault pool bytes (BadLine number) = (length bytes ≤ 16777216) × (script_of pool bytes ≡ Err (BadLine number))
-IsScriptFault pool bytes (ZeroCount number) = (length bytes ≤ 16777216) × (script_of pool bytes ≡ Err (ZeroCount number))
-IsScriptFault pool bytes (NoUnits number) = (length bytes ≤ 16777216) × (script_of pool bytes ≡ Err (NoUnits number))
+IsScriptFault pool bytes fault = IsFaultOfBytes (script_of pool bytes) bytes fault
 
 -- ---- the program's values
 

@@ -1,5 +1,6 @@
 //! Why a call of the program did not do its work.
 
+use image_adoption::AdoptFault;
 use segment_calls::Refusal;
 use segment_image::{ImageFault, ReadFault};
 use std::alloc::AllocError;
@@ -15,7 +16,8 @@ pub enum CliFault {
     /// A write of an image or of a report failed, or its flush did. How much went out is not said.
     #[error("Write")]
     Write,
-    /// The image has more than 8,388,608 bytes, or the script more than 16,777,216.
+    /// The image has more than 8,388,608 bytes, or the script more than 16,777,216; or 2^64 bytes
+    /// were searched.
     #[error("TooLong")]
     TooLong,
     /// The number of the image's bytes is no multiple of eight.
@@ -42,6 +44,12 @@ pub enum CliFault {
     /// There was no memory for what was read, for what was to be written, or for the work between.
     #[error("NoMemory")]
     NoMemory,
+    /// The image may not be recorded into again, for this reason; never for want of memory.
+    #[error("Adopt {0}")]
+    Adopt(AdoptFault),
+    /// Fewer segments stand among the bytes that were searched.
+    #[error("NoSegment")]
+    NoSegment,
 }
 
 // The bytes of a name as text: those of a lawful name are letters, digits and signs of ASCII.
@@ -77,6 +85,8 @@ impl CliFault {
             CliFault::Merge { .. } => 9,
             CliFault::NoThread => 10,
             CliFault::NoMemory => 11,
+            CliFault::Adopt(_) => 12,
+            CliFault::NoSegment => 13,
         }
     }
 }
@@ -107,6 +117,20 @@ impl From<ImageFault> for CliFault {
         match fault {
             ImageFault::NoMemory => CliFault::NoMemory,
             fault => CliFault::Image(fault),
+        }
+    }
+}
+
+impl From<AdoptFault> for CliFault {
+    ghost use Rattle.std.specs.Prelude.{◌≡◌};
+    ghost use Rattle.persist_report_core.specs.Fault.{fault_of_adoption};
+
+    ghost from_gives = { λ fault result. result ≡ fault_of_adoption fault };
+
+    fn from(fault: AdoptFault) -> CliFault {
+        match fault {
+            AdoptFault::NoMemory => CliFault::NoMemory,
+            fault => CliFault::Adopt(fault),
         }
     }
 }

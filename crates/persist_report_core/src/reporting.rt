@@ -1,19 +1,34 @@
 //! The report of an image.
 
-ghost use Rattle.std.specs.Prelude.{◌≡◌, ◌≢◌, ◌↔◌, ℕ, List, true, false, OnOk, IfOk, IfErr, IfSome, IsErrOf, is_err};
+ghost use Rattle.std.specs.Prelude.{◌≡◌, ◌≢◌, ◌↔◌, ℕ, List, All, map, true, false, OnOk, IfOk, IfErr, IfSome, IsErrOf, is_err};
 ghost use Rattle.std.specs.Io.KnownBytes.{Appends};
 ghost use Rattle.segment_image.specs.Words.{bytes_of_words};
 ghost use Rattle.segment_image.specs.Watched.{has_failed, is_flushed, watched_inner};
-ghost use Rattle.persist_report_core.specs.Report.{IsReportOf, IsCausedBy};
+ghost use Rattle.persist_report_core.specs.Report.{IsReadingOf, IsReportOf, IsCausedBy};
+ghost use Rattle.image_reader.specs.Readable.{IsReadable};
+ghost use Rattle.image_reader.specs.Views.{histogram_view, reading_view};
 
 use crate::fault::CliFault;
-use crate::text::text_of;
+use image_reader::Reading;
+use reading_texts::text_of;
 use segment_image::{Watched, read_words};
 use std::alloc::Global;
 use std::io::{Read, Write};
 
 // An image has at most so many words.
-const MAX_WORDS: usize = 1_048_576;
+pub(crate) const MAX_WORDS: usize = 1_048_576;
+
+// What the image that the words are reads as. `Image` with the first fault of its header, and `NoMemory` where there is none;
+// never another.
+pub(crate) fn reading_of(alloc: Global, words: &[u64]) -> Result<Reading, CliFault>
+    ensures reading { IfOk result (λ reading. IsReadingOf (bytes_of_words words.now) (reading_view reading)) }
+    ensures readable { IfOk result (λ reading. All IsReadable (map histogram_view reading.hists.items)) }
+    ensures cause { IfErr result (λ fault. IsCausedBy (bytes_of_words words.now) fault) }
+    ensures other { IfErr result (λ fault. (fault ≢ CliFault.Read) × (fault ≢ CliFault.Write)) }
+{
+    let reading = image_reader::read(alloc, words)?;
+    Ok(reading)
+}
 
 /// The text of the report of the image that the words are.
 ///
@@ -24,12 +39,12 @@ pub fn report_of(alloc: Global, words: &[u64]) -> Result<Vec<u8>, CliFault>
     ensures cause { IfErr result (λ fault. IsCausedBy (bytes_of_words words.now) fault) }
     ensures other { IfErr result (λ fault. (fault ≢ CliFault.Read) × (fault ≢ CliFault.Write)) }
 {
-    let reading = image_reader::read(alloc, words)?;
+    let reading = reading_of(alloc, words)?;
     Ok(text_of(alloc, &reading)?)
 }
 
 // Writes a text out to the device itself.
-fn write_out<W: Write>(writer: &mut Watched<W>, text: &[u8]) -> Result<(), CliFault>
+pub(crate) fn write_out<W: Write>(writer: &mut Watched<W>, text: &[u8]) -> Result<(), CliFault>
     requires { has_failed writer.old ≡ false }
     ensures ok { OnOk result (Appends (W.contents (watched_inner writer.old)) (W.contents (watched_inner writer.new)) text.now) }
     ensures err { IfErr result (λ fault. fault ≡ CliFault.Write) }

@@ -3,11 +3,13 @@
 mod draft;
 mod fault;
 mod names;
+mod naming;
 mod reading;
 mod request;
 
 use bucket_ranges::Spec;
 pub use fault::ScriptFault;
+pub use naming::read_script_for;
 pub use reading::read_script;
 use segment_image::Shape;
 

@@ -1,7 +1,7 @@
 -- Records with too few fields.
 use Rattle.std.proofs.Common.{◌≡◌, ◌<◌, ℕ, List, [], ◌∷◌, length, None, refl, arith}
 use Rattle.schedule.specs.Call.{batch_in, sample_in}
-use Rattle.schedule.specs.Order.{order_in}
+use Rattle.schedule.specs.Order.{image_in, order_in}
 
 -- a batch has two or more
 pub batch_in-few : (fields : List (List ℕ)) → length fields < 2 → batch_in fields ≡ None
@@ -22,3 +22,11 @@ sample_in-other (a ∷ []) other = refl
 sample_in-other (a ∷ b ∷ []) other = refl
 sample_in-other (a ∷ b ∷ c ∷ []) other = absurd (other refl)
 sample_in-other (a ∷ b ∷ c ∷ d ∷ rest) other = refl
+
+-- an image with the word before it has three
+pub image_in-other : (fields : List (List ℕ)) → (length fields ≡ 3 → ⊥) → image_in fields ≡ None
+image_in-other [] other = refl
+image_in-other (a ∷ []) other = refl
+image_in-other (a ∷ b ∷ []) other = refl
+image_in-other (a ∷ b ∷ c ∷ []) other = absurd (other refl)
+image_in-other (a ∷ b ∷ c ∷ d ∷ rest) other = refl

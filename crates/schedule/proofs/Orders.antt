@@ -1,16 +1,11 @@
 -- What the later records of a schedule ask for, one by one.
 use Rattle.std.proofs.Common.{◌⊎◌, ◌≡◌, ◌∙◌, ℕ, zero, suc, ◌+◌, ◌<◌, ◌≤◌, List, [], ◌∷◌, ◌++◌, length, map, take, get_or, Some, None, inl, inr, ap, sym, refl, subst, arith}
 use Rattle.std.proofs.lemmas.List.{get_or-map, get_or-take, length-map, length-take-le, map-append, take_more}
-use Rattle.schedule.specs.declared.order.Opening.{Opening}
 use Rattle.schedule.specs.declared.order.Order.{Order}
-use Rattle.schedule.specs.Order.{opening_in, order_in, order_view}
+use Rattle.schedule.specs.Order.{Opening, opening_in, order_in, order_view}
 use Rattle.schedule.specs.declared.fault.ScheduleFault.{ScheduleFault}
 use Rattle.schedule.specs.declared.fault.ScheduleFault.TheVariants.{BadLine, NoMemory}
-use Rattle.schedule.specs.Schedule.{IsBadAt, IsFirstBad, IsRowFault}
-
--- records ask for these, in order
-abbrev pub AreOrders : List (List (List ℕ)) → List Order → Type 0
-AreOrders rows orders = map order_in rows ≡ map (λ order. Some (order_view order)) orders
+use Rattle.schedule.specs.Schedule.{AreOrders, IsBadAt, IsFirstBad, IsRowFault}
 
 -- one more
 pub AreOrders-more : (rows : List (List (List ℕ))) (orders : List Order) (order : Order) (i : ℕ) → i < length rows → AreOrders (take i rows) orders

@@ -1,10 +1,12 @@
 -- What a record of a schedule asks for, by its fields.
 use Rattle.std.specs.Prelude.{if◌then◌else◌, nat_le, ℕ, List, [], ◌∷◌, codes, Option, Some, None, option_map}
-use Rattle.std.specs.Option.{option_and_then}
+use Rattle.std.specs.Option.{option_and_then, option_or}
 use Rattle.std.specs.Str.{bytes_eq}
 use Rattle.persist_report_core.specs.Number.{long_number}
 use Rattle.persist_report_core.specs.Request.{from_two}
-use Rattle.schedule.specs.declared.order.Opening.{Opening}
+use Rattle.schedule.specs.declared.order.NewWorld.{NewWorld}
+use Rattle.schedule.specs.declared.order.Opening as code_opening
+use Rattle.schedule.specs.declared.order.Opening.TheVariants as opening
 use Rattle.schedule.specs.declared.order.Order.{Order}
 use Rattle.schedule.specs.declared.order.OrderKind as code
 use Rattle.schedule.specs.declared.order.OrderKind.TheVariants as kind
@@ -15,16 +17,30 @@ abbrev pub from_five : {A B C D E X : Type 0} → (A → B → C → D → E →
 from_five make (Some a) (Some b) (Some c) (Some d) (Some e) = Some (make a b c d e)
 from_five make _ _ _ _ _ = None
 
--- a world of so many words, so many to a page, an id, so many actors and a version
-abbrev pub opening_of : ℕ → ℕ → ℕ → ℕ → ℕ → Opening
-opening_of size page id actors version = record { size = size; page = page; id = id; actors = actors; version = version }
+-- a world of a new segment: so many words, so many to a page, an id, so many actors and a version
+abbrev pub new_world_of : ℕ → ℕ → ℕ → ℕ → ℕ → NewWorld
+new_world_of size page id actors version = record { size = size; page = page; id = id; actors = actors; version = version }
 
--- the world of the first record
-abbrev pub opening_in : List (List ℕ) → Option Opening
-opening_in (word ∷ size ∷ page ∷ id ∷ actors ∷ version ∷ []) =
-    if bytes_eq word (codes "world") then from_five opening_of (long_number size) (long_number page) (long_number id) (long_number actors) (long_number version)
+-- what the first record asks for that makes a new segment
+abbrev pub new_world_in : List (List ℕ) → Option NewWorld
+new_world_in (word ∷ size ∷ page ∷ id ∷ actors ∷ version ∷ []) =
+    if bytes_eq word (codes "world") then from_five new_world_of (long_number size) (long_number page) (long_number id) (long_number actors) (long_number version)
     else None
-opening_in _ = None
+new_world_in _ = None
+
+-- and one that goes on with an image: its file, and how many actors
+abbrev pub image_in : List (List ℕ) → Option (List ℕ × ℕ)
+image_in (word ∷ file ∷ actors ∷ []) = if bytes_eq word (codes "adopt") then option_map (λ actors. (file, actors)) (long_number actors) else None
+image_in _ = None
+
+-- what a world starts with: a new segment, or the image in a file
+pub data Opening : Type 0 where
+  New : NewWorld → Opening
+  Adopt : (file : List ℕ) (actors : ℕ) → Opening
+
+-- what the first record asks for, by either form
+abbrev pub opening_in : List (List ℕ) → Option Opening
+opening_in fields = option_or (option_map New (new_world_in fields)) (option_map (λ image. Adopt image.0 image.1) (image_in fields))
 
 -- how many events: one or more
 abbrev pub some_number : ℕ → Option ℕ
@@ -50,6 +66,11 @@ order_in (word ∷ actor ∷ behind) = from_two (λ actor kind. (actor, kind)) (
 order_in _ = None
 
 -- ---- the program's values
+
+-- what a world of the code starts with, as it is defined here
+abbrev pub opening_view : code_opening.Opening → Opening
+opening_view (opening.New segment) = New segment
+opening_view (opening.Adopt file actors) = Adopt file.items actors
 
 -- what an actor of the code is to do, as it is defined here
 abbrev pub kind_view : code.OrderKind → Kind

@@ -4,15 +4,20 @@ use Rattle.csv.specs.Reading.{records, default_config, strip_bom}
 use Rattle.schedule.specs.declared.fault.ScheduleFault.{ScheduleFault}
 use Rattle.schedule.specs.declared.fault.ScheduleFault.TheVariants.{Read, TooLong, NoMemory, BadLine}
 use Rattle.schedule.specs.declared.reading.Schedule.{Schedule}
-use Rattle.schedule.specs.Order.{opening_in, order_in, order_view}
+use Rattle.schedule.specs.declared.order.Order.{Order}
+use Rattle.schedule.specs.Order.{Opening, opening_in, opening_view, order_in, order_view}
+
+-- records ask for these, in order
+abbrev pub AreOrders : List (List (List ℕ)) → List Order → Type 0
+AreOrders rows orders = map order_in rows ≡ map (λ order. Some (order_view order)) orders
 
 -- records are a schedule: the first opens its world, and each later one is what an actor is to do, in order
 pub record IsReadAs (rows : List (List (List ℕ))) (schedule : Schedule) : Type 0 where
   pub first : List (List ℕ)
   pub later : List (List (List ℕ))
   pub rows_are : rows ≡ first ∷ later
-  pub opening : opening_in first ≡ Some schedule.opening
-  pub orders : map order_in later ≡ map (λ order. Some (order_view order)) schedule.orders.items
+  pub opening : opening_in first ≡ Some (opening_view schedule.opening)
+  pub orders : AreOrders later schedule.orders.items
 
 -- a record has no lawful form for its place, which is counted from 0; one that is missing has none
 abbrev pub IsBadAt : List (List (List ℕ)) → ℕ → Type 0
@@ -31,6 +36,10 @@ abbrev pub IsRowFault : List (List (List ℕ)) → ScheduleFault → Type 0
 IsRowFault rows NoMemory = ⊤
 IsRowFault rows (BadLine number) = IsFirstBad rows number
 IsRowFault rows _ = ⊥
+
+-- why later records are no orders, behind a first one that opens a world
+abbrev pub IsLaterFault : List (List (List ℕ)) → ScheduleFault → Type 0
+IsLaterFault later fault = (first : List (List ℕ)) (opening : Opening) → opening_in first ≡ Some opening → IsRowFault (first ∷ later) fault
 
 -- the records of bytes
 abbrev pub rows_of : List ℕ → List (List (List ℕ))

@@ -10,5 +10,5 @@ mod order;
 mod reading;
 
 pub use fault::ScheduleFault;
-pub use order::{Opening, Order, OrderKind};
+pub use order::{NewWorld, Opening, Order, OrderKind};
 pub use reading::{Schedule, read_schedule};

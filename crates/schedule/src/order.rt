@@ -3,7 +3,7 @@
 ghost use Rattle.std.specs.Prelude.{◌≡◌, IfOk, option_map, drop};
 ghost use Rattle.csv.specs.Records.{fields_of};
 ghost use Rattle.schedule.specs.Fields.{texts};
-ghost use Rattle.schedule.specs.Order.{kind_in, kind_view, opening_in, order_in, order_view, times_in};
+ghost use Rattle.schedule.specs.Order.{image_in, kind_in, kind_view, new_world_in, opening_in, opening_view, order_in, order_view, times_in};
 
 use crate::call::read_call;
 use crate::fields::list_fields;
@@ -12,9 +12,18 @@ use hist_core::Call;
 use persist_report_core::long_number;
 use std::alloc::{AllocError, Global};
 
-/// What a world is made as: the first record.
+/// What a world starts with: the first record.
+#[derive(Debug, Drop)]
+pub enum Opening {
+    /// A new segment.
+    New(NewWorld),
+    /// The image in a file of this name, whether there is one or not, with so many actors, lawful or not.
+    Adopt(Vec<u8>, usize),
+}
+
+/// What a world of a new segment is made as.
 #[derive(Clone, Copy, Debug, PartialEq, Eq)]
-pub struct Opening {
+pub struct NewWorld {
     /// How many words its segment has, lawful or not.
     pub size: u64,
     /// How many words a page has, lawful or not.
@@ -45,9 +54,9 @@ pub enum OrderKind {
     Step(u64),
 }
 
-// The world of these fields.
-fn opening_of(fields: &[&[u8]]) -> Option<Opening>
-    ensures { result ≡ opening_in (texts fields.now) }
+// The world of a new segment that these fields ask for.
+fn new_world_of(fields: &[&[u8]]) -> Option<NewWorld>
+    ensures { result ≡ new_world_in (texts fields.now) }
 {
     let [word, size, page, id, actors, version] = fields else {
         return None;
@@ -55,7 +64,7 @@ fn opening_of(fields: &[&[u8]]) -> Option<Opening>
     if *word != b"world".as_slice() {
         return None;
     }
-    Some(Opening {
+    Some(NewWorld {
         size: long_number(size)?,
         page: long_number(page)?,
         id: long_number(id)?,
@@ -64,15 +73,35 @@ fn opening_of(fields: &[&[u8]]) -> Option<Opening>
     })
 }
 
+// The file of an image, and how many actors.
+fn image_of<'a>(fields: &[&'a [u8]]) -> Option<(&'a [u8], usize)>
+    ensures { option_map (λ image. (image.0.now, image.1)) result ≡ image_in (texts fields.now) }
+{
+    let [word, file, actors] = fields else {
+        return None;
+    };
+    if *word != b"adopt".as_slice() {
+        return None;
+    }
+    let actors = long_number(actors)? as usize;
+    Some((file, actors))
+}
+
 /// The world that the first record asks for, or nothing where it has no lawful form.
 pub(crate) fn read_opening(
     alloc: Global,
     record: &ByteRecord,
 ) -> Result<Option<Opening>, AllocError>
-    ensures { IfOk result (λ opening. opening ≡ opening_in (fields_of record.now)) }
+    ensures { IfOk result (λ opening. option_map opening_view opening ≡ opening_in (fields_of record.now)) }
 {
     let fields = list_fields(alloc, record)?;
-    Ok(opening_of(&fields))
+    if let Some(segment) = new_world_of(&fields) {
+        return Ok(Some(Opening::New(segment)));
+    }
+    match image_of(&fields) {
+        Some((file, actors)) => Ok(Some(Opening::Adopt(Vec::from_slice(alloc, file)?, actors))),
+        None => Ok(None),
+    }
 }
 
 // How many events: one or more.

@@ -7,7 +7,7 @@ ghost use Rattle.segment_image.specs.Transfer.{TakesAtMost};
 ghost use Rattle.segment_image.specs.Watched.{has_failed, watched_inner};
 ghost use Rattle.schedule.specs.declared.fault.ScheduleFault.TheVariants.{BadLine, NoMemory};
 ghost use Rattle.schedule.specs.Order.{order_in, order_view};
-ghost use Rattle.schedule.specs.Schedule.{IsReadAs, IsRowFault, IsScheduleFault, IsScheduleOf};
+ghost use Rattle.schedule.specs.Schedule.{AreOrders, IsLaterFault, IsReadAs, IsRowFault, IsScheduleFault, IsScheduleOf};
 
 use crate::fault::ScheduleFault;
 use crate::order::{Opening, Order, read_opening, read_order};
@@ -39,6 +39,18 @@ fn order_of(alloc: Global, fields: &ByteRecord, number: u64) -> Result<Order, Sc
     }
 }
 
+// The orders that later records are.
+fn orders_of(alloc: Global, later: &[ByteRecord]) -> Result<Vec<Order>, ScheduleFault>
+    requires { length later.now ≤ 16777216 }
+    ensures { MatchResult result (λ orders. AreOrders (map fields_of later.now) orders.items) (IsLaterFault (map fields_of later.now)) }
+{
+    let mut orders = Vec::with_capacity(alloc, later.len())?;
+    for i in 0..later.len() {
+        orders.push_reserved(order_of(alloc, &later[i], i as u64 + 2)?);
+    }
+    Ok(orders)
+}
+
 // The schedule that records are.
 fn schedule_of(alloc: Global, rows: &[ByteRecord]) -> Result<Schedule, ScheduleFault>
     requires { length rows.now ≤ 16777216 }
@@ -50,10 +62,7 @@ fn schedule_of(alloc: Global, rows: &[ByteRecord]) -> Result<Schedule, ScheduleF
     let Some(opening) = read_opening(alloc, first)? else {
         return Err(ScheduleFault::BadLine(1));
     };
-    let mut orders = Vec::with_capacity(alloc, later.len())?;
-    for i in 0..later.len() {
-        orders.push_reserved(order_of(alloc, &later[i], i as u64 + 2)?);
-    }
+    let orders = orders_of(alloc, later)?;
     Ok(Schedule { opening, orders })
 }
 
@@ -75,13 +84,13 @@ fn bytes_of<R: Read>(alloc: Global, reader: &mut Watched<R>) -> Result<Vec<u8>, 
     }
 }
 
-/// The schedule that the reader has left, which is CSV: `world,SIZE,PAGE,ID,ACTORS,VERSION` first, and then what the
-/// actors are to do.
+/// The schedule that the reader has left, which is CSV: `world,SIZE,PAGE,ID,ACTORS,VERSION` or `adopt,FILE,ACTORS` first, and then what
+/// the actors are to do.
 ///
 /// It is read whole before any record is looked at: `Read` where a read fails; `TooLong` where more than 16,777,216 bytes
 /// come, of which one more than these is taken at most. Otherwise the first record without a lawful form, or with a
 /// number out of its type, is told by its number as `BadLine`; a schedule without records is `BadLine` of record 1.
-/// `NoMemory` where there is none. Shapes, actors, names and specs are taken as they are, lawful or not.
+/// `NoMemory` where there is none. Shapes, files, actors, names and specs are taken as they are, lawful or not.
 pub fn read_schedule<R: Read>(
     alloc: Global,
     reader: &mut Watched<R>,

@@ -1,6 +1,8 @@
 pub mod Blocks
+pub mod Amounts
 pub mod Books
 pub mod Chain
+pub mod Chained
 pub mod Firsts
 pub mod Flags
 pub mod Forms
@@ -8,8 +10,11 @@ pub mod Held
 pub mod Keys
 pub mod Made
 pub mod Marks
+pub mod OneChain
+pub mod Opened
 pub mod PassedOver
 pub mod Records
+pub mod Since
 pub mod Specs
 pub mod Sums
 pub mod Totals

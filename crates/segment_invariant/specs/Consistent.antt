@@ -1,6 +1,6 @@
 -- What holds of the words, the shared cursors and all actors at every moment, whatever happened and in whatever order: eight
 -- parts. `opened` are the words with which the segment was opened: those of a new segment, or an adopted image.
-use Rattle.std.specs.Prelude.{◌≡◌, ◌≢◌, ◌⊎◌, ◌↔◌, true, false, ◌==◌, nat_lt, max, ℕ, ◌+◌, ◌*◌, ◌/◌, ◌%◌, ◌<◌, ◌≤◌, ℤ, pos, ◌-ℤ◌, unsigned_abs, List, ◌∷◌, ◌++◌, map, length, take, sum_by, slice_index, bit_and, if◌then◌else◌, Some, None, IsPermutation, []}
+use Rattle.std.specs.Prelude.{◌≡◌, ◌≢◌, ◌⊎◌, ◌↔◌, true, false, ◌==◌, max, ℕ, ◌+◌, ◌*◌, ◌/◌, ◌%◌, ◌<◌, ◌≤◌, ℤ, pos, ◌-ℤ◌, unsigned_abs, List, ◌∷◌, ◌++◌, map, length, take, sum_by, slice_index, bit_and, if◌then◌else◌, Some, None, IsPermutation, []}
 use mathlib.Core.Option.{some}
 use lib.ListN.{get_elem?}
 use Rattle.std.specs.List.{slice_range, flat_map, Contains, All}
@@ -130,13 +130,20 @@ HoldsMade words chain at (Sample histogram value) =
     × ((name front behind : List ℕ) × IsHistogram words chain name histogram × (is_sparse words histogram ≡ true)
     × (chain ≡ front ++ at ∷ behind) × Contains front histogram)
 
--- what an adopted image's histograms and samples were given: what they held at the opening
+-- A word of a record of such a type never changes: of a histogram's record its kind, its minimum, its maximum and its number of buckets, and
+-- all from the length of its name on; of a sample its histogram, its value, and all behind its mark; of a record of another type all
+-- behind its header.
+abbrev pub IsGiven : ℕ → ℕ → Type 0
+IsGiven tag i =
+    ((tag ≡ TYPE_HISTOGRAM) × (((HISTOGRAM_KIND ≤ i) × (i < HISTOGRAM_COUNTS)) ⊎ (HISTOGRAM_NAME_LENGTH ≤ i)))
+    ⊎ ((tag ≡ TYPE_SAMPLE) × ((i ≡ SAMPLE_HISTOGRAM) ⊎ (i ≡ SAMPLE_VALUE) ⊎ (SAMPLE_LEAST ≤ i)))
+    ⊎ ((tag ≢ TYPE_HISTOGRAM) × (tag ≢ TYPE_SAMPLE) × (BLOCK_HEADER ≤ i))
+
+-- a record of the opening holds what it held there
 abbrev pub HoldsStill : List ℕ → List ℕ → ℕ → Type 0
 HoldsStill opened words at =
     (field_at words at BLOCK_SIZE ≡ field_at opened at BLOCK_SIZE) × (field_at words at BLOCK_TYPE ≡ field_at opened at BLOCK_TYPE)
-    × ((i : ℕ) → i < 4 → field_at opened at BLOCK_TYPE ≢ TYPE_SAMPLE → field_at words at (HISTOGRAM_KIND + i) ≡ field_at opened at (HISTOGRAM_KIND + i))
-    × ((i : ℕ) → HISTOGRAM_NAME_LENGTH ≤ i → i < field_at opened at BLOCK_SIZE → field_at words at i ≡ field_at opened at i)
-    × (field_at opened at BLOCK_TYPE ≡ TYPE_SAMPLE → (field_at words at SAMPLE_HISTOGRAM ≡ field_at opened at SAMPLE_HISTOGRAM) × (field_at words at SAMPLE_VALUE ≡ field_at opened at SAMPLE_VALUE))
+    × ((i : ℕ) → i < field_at opened at BLOCK_SIZE → IsGiven (field_at opened at BLOCK_TYPE) i → field_at words at i ≡ field_at opened at i)
 
 -- the counts, the single word and the marks of a record have a lawful form. The counts reference is 0 or a counts block, and
 -- is not 0 once the single word is off. Until then all counts and their marks are 0; the mark of the packed bucket is the
@@ -169,7 +176,7 @@ CountsStill opened words at =
     × ((i : ℕ) → i < counts_words words at → counts_word words at i ≡ counts_word opened at i)
 
 pub record RecordsHold (opened : List ℕ) (first : List Claim) (words : List ℕ) (actors : List Actor) (chain : List ℕ) : Type 0 where
-  -- each record that an actor linked holds what it was given, and each of an adopted image what it held
+  -- each record that an actor linked holds what it was given, and each of the opening what it held
   pub made : (p : Published) → Contains (all_published actors) p → HoldsMade words chain p.reference p.made
   pub still : (front : List ℕ) (at : ℕ) → IsChain opened (head_of opened) front → Contains front at → HoldsStill opened words at
   -- each histogram's record has a lawful form; a counts block was claimed, is no record, and no two records name one
@@ -181,11 +188,11 @@ pub record RecordsHold (opened : List ℕ) (first : List Claim) (words : List �
   -- the single word leads on from each one that an actor has seen
   pub singles : Each actors (λ a. (s : Sighting) (at : ℕ) → Contains a.seen.singles s → Contains chain at → s.at ≡ at + HISTOGRAM_SINGLE
       → Leads (word_at opened VERSION_WORD) (record_buckets words at) s.word (word_at words s.at))
-  -- in a record that is not the first of its name nobody counts, nor in a sample that is not the first of its value
-  pub later : (at other : ℕ) → Contains chain at → field_at words at BLOCK_TYPE ≡ TYPE_HISTOGRAM
+  -- in a record that is not the first of its name nobody counts, nor in a sample that is not the first of its value: a record of the opening
+  -- is as it was, and one that an actor linked holds nothing
+  pub later : (front : List ℕ) (at other : ℕ) → IsChain opened (head_of opened) front → Contains chain at → field_at words at BLOCK_TYPE ≡ TYPE_HISTOGRAM
       → IsHistogram words chain (name_of words at) other → other ≢ at
-      → (nat_lt at (word_at opened FREE_WORD) ≡ true → CountsStill opened words at)
-      × (nat_lt at (word_at opened FREE_WORD) ≡ false → HoldsNothing words at)
+      → (Contains front at → CountsStill opened words at) × (¬ (Contains front at) → HoldsNothing words at)
   pub later_samples : (at other : ℕ) → Contains chain at → field_at words at BLOCK_TYPE ≡ TYPE_SAMPLE
       → IsSample words chain (field_at words at SAMPLE_HISTOGRAM) (sample_value words at) other → other ≢ at
       → (field_at words at SAMPLE_COUNT ≡ 0) × (field_at words at SAMPLE_MARK ≡ 0)
@@ -250,15 +257,13 @@ pub record MarksAreTaken (version : ℕ) (words : List ℕ) (actors : List Actor
 
 -- ---- 5: sums are amounts
 
--- the redundant count that a record had at the opening, 0 where it was not there
-abbrev pub redundant_at_opening : List ℕ → ℕ → ℕ
-redundant_at_opening opened at = if nat_lt at (word_at opened FREE_WORD) then field_at opened at HISTOGRAM_REDUNDANT else 0
-
 pub record SumsAreAmounts (opened words : List ℕ) (actors : List Actor) (chain : List ℕ) : Type 0 where
-  -- the sum is the sum of the amounts, and the redundant count grew by the units, whose events have happened
+  -- The sum is the sum of the amounts, and the redundant count grew by the units, whose events have happened: from what a record of the
+  -- opening had there, or from 0 where an actor linked the record.
   pub sum : (name : List ℕ) (at : ℕ) → IsHistogram words chain name at → sum_of words at ≡ tally_sum (all_summed actors) name
-  pub redundant : (name : List ℕ) (at : ℕ) → IsHistogram words chain name at
-      → field_at words at HISTOGRAM_REDUNDANT ≡ redundant_at_opening opened at + tally_noted (all_noted actors) name
+  pub redundant : (front name : List ℕ) (at : ℕ) → IsChain opened (head_of opened) front → IsHistogram words chain name at
+      → (Contains front at → field_at words at HISTOGRAM_REDUNDANT ≡ field_at opened at HISTOGRAM_REDUNDANT + tally_noted (all_noted actors) name)
+      × (¬ (Contains front at) → field_at words at HISTOGRAM_REDUNDANT ≡ tally_noted (all_noted actors) name)
 
 -- ---- 6: transit is local
 

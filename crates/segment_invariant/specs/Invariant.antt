@@ -43,7 +43,7 @@ use Rattle.segment_machine.specs.Seats.{spent}
 use Rattle.segment_machine.specs.State.{State}
 use Rattle.segment_invariant.specs.Body.{Record, Counts, Sample, Body, held, histogram, counts, sample, other, words_of, is_claimed, Piece, extent_of, Listed, listed, Anatomy, layout_of, order_of, claims_of}
 use Rattle.segment_invariant.specs.Ledger.{form_at, key_of_bucket, noted_held, all_held, IsBalanced}
-use Rattle.segment_invariant.specs.Seen.{Stands, HasStill, HoldsAs, HasPlain, HasOwn, HasRecord, HasCounts, HasSample, IsFirst, IsFirstOf, IsReachedAt, Sees, Knows}
+use Rattle.segment_invariant.specs.Seen.{Stands, HasStill, HoldsAs, HasPlain, HasOwn, HasRecord, HasCounts, HasSample, IsFirst, IsFirstOf, IsReachedAt, WasFixed, Sees, Knows}
 
 -- ---- the list
 
@@ -171,9 +171,10 @@ abbrev pub HasPassedOver : Anatomy → ℕ → Record → Type 0
 HasPassedOver opened at r = Contains opened.records (record { reference = at; made = None }) × HoldsAs opened.pieces at (histogram r)
 
 -- Of the records of the opening those to which nothing was given are of another type, or passed over. The counts block that one of these
--- names is no other's, and not on the list. All these blocks stay.
+-- names is no other's, and not on the list. All these blocks stay, and so does each word of the opening that never changes.
 pub record ArePassedOver (page : ℕ) (opened : Anatomy) (pieces : List Piece) : Type 0 where
   pub stay : (at size tag : ℕ) (payload : List ℕ) → HasStill opened.pieces at size tag payload → HasStill pieces at size tag payload
+  pub fixed : (s : Sighting) → WasFixed opened.pieces s → WasFixed pieces s
   pub each : (front behind : List Listed) (at : ℕ) → opened.records ≡ front ++ record { reference = at; made = None } ∷ behind
       → IsOfOtherType opened.pieces at ⊎ ((r : Record) × IsPassedOver opened.version page opened.pieces front at r)
   pub apart : (at place : ℕ) (r q : Record) → HasPassedOver opened at r → HasPassedOver opened place q → r.counts ≢ 0 → r.counts ≡ q.counts → at ≡ place

@@ -1,12 +1,12 @@
 -- What is to be shown of what holds between any two events: it holds of a new segment, each event keeps it, recorders that are made
 -- and joined keep it, and it has the parts of consistency in it.
-use Rattle.std.specs.Prelude.{◌≡◌, ◌⊎◌, ℕ, zero, suc, [], take, drop, length, slice_set, false}
+use Rattle.std.specs.Prelude.{◌≡◌, ◌⊎◌, ℕ, zero, suc, take, drop, length, slice_set, false}
 use mathlib.Core.Option.{some}
 use lib.ListN.{get_elem?}
 use Rattle.segment_image.specs.declared.layout.TheConstants.{VERSION_WORD}
 use Rattle.segment_image.specs.Shape.{Dimensions}
 use Rattle.segment_image.specs.Words.{word_at}
-use Rattle.alloc_core.specs.Layout.{IsShape}
+use Rattle.alloc_core.specs.Layout.{IsShape, render}
 use Rattle.segment_machine.specs.declared.actor.Actor.{Actor}
 use Rattle.segment_machine.specs.Event.{Event, allocating_event, publishing_event, walking_event, counting_event, packing_event, taking_event, cursor_event, spot, after, next, Ready, Learned}
 use Rattle.segment_machine.specs.Allocating.{AllocatingEvent}
@@ -17,9 +17,9 @@ use Rattle.segment_machine.specs.Packing.{PackingEvent}
 use Rattle.segment_machine.specs.Taking.{TakingEvent}
 use Rattle.segment_machine.specs.Cursors.{CursorEvent}
 use Rattle.segment_machine.specs.State.{State, memory}
-use Rattle.segment_invariant.specs.Consistent.{ListIsChain, FlagsAreSet, UnitsAreKept, RecordsHold, TotalsAreCounted, MarksAreTaken, SumsAreAmounts, TransitIsLocal, IsConsistent, new_opening}
+use Rattle.segment_invariant.specs.Consistent.{ListIsChain, FlagsAreSet, UnitsAreKept, RecordsHold, TotalsAreCounted, MarksAreTaken, SumsAreAmounts, TransitIsLocal, IsConsistent, Opening, new_opening}
 use Rattle.segment_machine.specs.Reached.{new_state, IsAnnounced, IsOffered, IsSplit, IsJoin, IsLent, IsReturned}
-use Rattle.segment_invariant.specs.Body.{Anatomy, blank, order_of}
+use Rattle.segment_invariant.specs.Body.{Anatomy, blank, layout_of, order_of, claims_of}
 use Rattle.segment_invariant.specs.Invariant.{Invariant}
 use Rattle.segment_machine.specs.Note.{Note, MayNote, noted}
 use Rattle.segment_machine.specs.Actor.{is_opener}
@@ -135,47 +135,60 @@ ReturnsKeep = (shape : Dimensions) (opened : Anatomy) (old new : State) (id othe
 
 -- ---- what it has in it
 
--- the list of a kept state is the chain, its flags are set rightly, and its units are kept
-abbrev pub KeptIsChain : Type 0
-KeptIsChain = (shape : Dimensions) (version id : ℕ) (state : State) → IsShape shape → (kept : Invariant shape (blank version id shape.size) state)
-    → ListIsChain (new_opening shape version id).words [] state.words state.cursors state.actors (order_of kept.anatomy)
+-- blocks open segments: in some state they are kept, just as they are
+abbrev pub IsOpening : Dimensions → Anatomy → Type 0
+IsOpening shape opened = (start : State) × (kept : Invariant shape opened start) × (kept.anatomy ≡ opened)
 
--- its flags are set where somebody set them
+-- the words of such blocks, and those that were claimed
+abbrev pub opening_of : Dimensions → Anatomy → Opening
+opening_of shape opened = record { words = render shape (layout_of opened); claims = claims_of opened.pieces }
+
+-- a new segment's
+abbrev pub NewIsOpening : Type 0
+NewIsOpening = (shape : Dimensions) (version id : ℕ) → IsShape shape → (version ≡ 1) ⊎ (version ≡ 2)
+    → IsOpening shape (blank version id shape.size) × (opening_of shape (blank version id shape.size) ≡ new_opening shape version id)
+
+-- the list of a kept state is the chain, which begins with the records of the opening
+abbrev pub KeptIsChain : Type 0
+KeptIsChain = (shape : Dimensions) (opened : Anatomy) (state : State) → IsOpening shape opened → (kept : Invariant shape opened state)
+    → ListIsChain (opening_of shape opened).words (opening_of shape opened).claims state.words state.cursors state.actors (order_of kept.anatomy)
+
+-- its flags are set where they were at the opening, or somebody set them
 abbrev pub KeptFlagsAreSet : Type 0
-KeptFlagsAreSet = (shape : Dimensions) (version id : ℕ) (state : State) → IsShape shape → Invariant shape (blank version id shape.size) state
-    → FlagsAreSet (new_opening shape version id).words state.words state.actors
+KeptFlagsAreSet = (shape : Dimensions) (opened : Anatomy) (state : State) → Invariant shape opened state
+    → FlagsAreSet (opening_of shape opened).words state.words state.actors
 
 -- its units are kept
 abbrev pub KeptUnitsAreKept : Type 0
-KeptUnitsAreKept = (shape : Dimensions) (version id : ℕ) (state : State) → IsShape shape → (kept : Invariant shape (blank version id shape.size) state)
+KeptUnitsAreKept = (shape : Dimensions) (opened : Anatomy) (state : State) → (kept : Invariant shape opened state)
     → UnitsAreKept state.words state.actors (order_of kept.anatomy)
 
 -- its units in transit are local
 abbrev pub KeptTransitIsLocal : Type 0
-KeptTransitIsLocal = (shape : Dimensions) (version id : ℕ) (state : State) → IsShape shape → (kept : Invariant shape (blank version id shape.size) state)
-    → TransitIsLocal (word_at (new_opening shape version id).words VERSION_WORD) state.words state.actors
+KeptTransitIsLocal = (shape : Dimensions) (opened : Anatomy) (state : State) → Invariant shape opened state
+    → TransitIsLocal (word_at (opening_of shape opened).words VERSION_WORD) state.words state.actors
 
 -- its marks are what was taken
 abbrev pub KeptMarksAreTaken : Type 0
-KeptMarksAreTaken = (shape : Dimensions) (version id : ℕ) (state : State) → IsShape shape → (kept : Invariant shape (blank version id shape.size) state)
-    → MarksAreTaken (word_at (new_opening shape version id).words VERSION_WORD) state.words state.actors (order_of kept.anatomy)
+KeptMarksAreTaken = (shape : Dimensions) (opened : Anatomy) (state : State) → (kept : Invariant shape opened state)
+    → MarksAreTaken (word_at (opening_of shape opened).words VERSION_WORD) state.words state.actors (order_of kept.anatomy)
 
 -- its sums are the amounts
 abbrev pub KeptSumsAreAmounts : Type 0
-KeptSumsAreAmounts = (shape : Dimensions) (version id : ℕ) (state : State) → IsShape shape → (kept : Invariant shape (blank version id shape.size) state)
-    → SumsAreAmounts (new_opening shape version id).words state.words state.actors (order_of kept.anatomy)
+KeptSumsAreAmounts = (shape : Dimensions) (opened : Anatomy) (state : State) → IsOpening shape opened → (kept : Invariant shape opened state)
+    → SumsAreAmounts (opening_of shape opened).words state.words state.actors (order_of kept.anatomy)
 
 -- its records hold what they were given
 abbrev pub KeptRecordsHold : Type 0
-KeptRecordsHold = (shape : Dimensions) (version id : ℕ) (state : State) → IsShape shape → (kept : Invariant shape (blank version id shape.size) state)
-    → RecordsHold (new_opening shape version id).words [] state.words state.actors (order_of kept.anatomy)
+KeptRecordsHold = (shape : Dimensions) (opened : Anatomy) (state : State) → IsOpening shape opened → (kept : Invariant shape opened state)
+    → RecordsHold (opening_of shape opened).words (opening_of shape opened).claims state.words state.actors (order_of kept.anatomy)
 
 -- its totals are what was counted
 abbrev pub KeptTotalsAreCounted : Type 0
-KeptTotalsAreCounted = (shape : Dimensions) (version id : ℕ) (state : State) → IsShape shape → (kept : Invariant shape (blank version id shape.size) state)
-    → TotalsAreCounted (word_at (new_opening shape version id).words VERSION_WORD) state.words state.actors (order_of kept.anatomy)
+KeptTotalsAreCounted = (shape : Dimensions) (opened : Anatomy) (state : State) → (kept : Invariant shape opened state)
+    → TotalsAreCounted (word_at (opening_of shape opened).words VERSION_WORD) state.words state.actors (order_of kept.anatomy)
 
--- a kept state is consistent, in all its parts
+-- a kept state is consistent, in all its parts, whatever its segment was opened with
 abbrev pub KeptIsConsistent : Type 0
-KeptIsConsistent = (shape : Dimensions) (version id : ℕ) (state : State) → IsShape shape → Invariant shape (blank version id shape.size) state
-    → IsConsistent (new_opening shape version id) state
+KeptIsConsistent = (shape : Dimensions) (opened : Anatomy) (state : State) → IsOpening shape opened → Invariant shape opened state
+    → IsConsistent (opening_of shape opened) state

@@ -10,7 +10,7 @@ use Rattle.bucket_ranges.specs.Spec.{buckets_of, SameSpec}
 use Rattle.alloc_core.specs.Laws.{Behind}
 use Rattle.list_core.specs.Chain.{stops}
 use Rattle.list_core.specs.Walk.{IsPrefix}
-use Rattle.segment_image.specs.declared.layout.TheConstants.{BLOCK_HEADER, BLOCK_TYPE, HISTOGRAM_COUNTS, HISTOGRAM_KIND, HISTOGRAM_NAME_LENGTH, HISTOGRAM_REDUNDANT, HISTOGRAM_SINGLE, HISTOGRAM_SINGLE_MARK, SAMPLE_COUNT, SAMPLE_HISTOGRAM, SAMPLE_MARK, SAMPLE_VALUE}
+use Rattle.segment_image.specs.declared.layout.TheConstants.{BLOCK_HEADER, BLOCK_TYPE, HISTOGRAM_COUNTS, HISTOGRAM_KIND, HISTOGRAM_NAME_LENGTH, HISTOGRAM_REDUNDANT, HISTOGRAM_SINGLE, HISTOGRAM_SINGLE_MARK, SAMPLE_COUNT, SAMPLE_HISTOGRAM, SAMPLE_LEAST, SAMPLE_MARK, SAMPLE_VALUE}
 use Rattle.segment_machine.specs.declared.seen.Seen.{Seen}
 use Rattle.segment_machine.specs.declared.actor.Known.{Known}
 use Rattle.segment_machine.specs.declared.actor.Made.TheVariants as made
@@ -78,7 +78,8 @@ abbrev pub IsFixedIn : Body → ℕ → Type 0
 IsFixedIn (histogram r) i =
     (i ≡ BLOCK_TYPE) ⊎ ((HISTOGRAM_KIND ≤ i) × (i < HISTOGRAM_COUNTS)) ⊎ ((i ≡ HISTOGRAM_COUNTS) × (r.counts ≢ 0))
     ⊎ ((HISTOGRAM_NAME_LENGTH ≤ i) × (i < length (words_of (histogram r))))
-IsFixedIn (sample s) i = (i ≡ BLOCK_TYPE) ⊎ (i ≡ SAMPLE_HISTOGRAM) ⊎ (i ≡ SAMPLE_VALUE)
+IsFixedIn (sample s) i =
+    (i ≡ BLOCK_TYPE) ⊎ (i ≡ SAMPLE_HISTOGRAM) ⊎ (i ≡ SAMPLE_VALUE) ⊎ ((SAMPLE_LEAST ≤ i) × (i < length (words_of (sample s))))
 IsFixedIn (other size tag next payload) i = (i ≡ BLOCK_TYPE) ⊎ ((BLOCK_HEADER ≤ i) × (i < BLOCK_HEADER + length payload))
 IsFixedIn _ i = ⊥
 

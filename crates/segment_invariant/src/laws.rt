@@ -6,7 +6,7 @@
 ghost use Rattle.segment_invariant.specs.Examples.{PackedThenMounted, StoppedInTransit, PackingLimit, DeltasAndMarks, TwoTakers, SparseSamples, MountedIsConsistent, ListBreaks, RecordsBreak, TotalsBreak, MarksBreak, SumsBreak, TransitBreaks, FlagsBreak, UnitsBreak};
 ghost use Rattle.segment_invariant.specs.Accounts.{MountedAgrees, LimitAgrees, TakersAgree, SparseAgrees, BatchAgrees};
 ghost use Rattle.segment_invariant.specs.Refused.{CountsLoaded, UnitsSpent, CountsOwe, WordsFormed, KindsRead};
-ghost use Rattle.segment_invariant.specs.Keeps.{OpeningIsKept, OpeningsAreKept, AllocatingKeeps, PublishingKeeps, WalkingKeeps, CountingKeeps, PackingKeeps, TakingKeeps, CursorsKeep, EventsKeep, OffersKeep, SplitsKeep, JoinsKeep, LendsKeep, ReturnsKeep, AnnouncementsKeep, KeptFlagsAreSet, KeptIsChain, KeptUnitsAreKept, KeptTransitIsLocal, KeptSumsAreAmounts, KeptTotalsAreCounted, KeptMarksAreTaken, NotesKeep, KeptRecordsHold, KeptIsConsistent};
+ghost use Rattle.segment_invariant.specs.Keeps.{OpeningIsKept, NewIsOpening, OpeningsAreKept, AllocatingKeeps, PublishingKeeps, WalkingKeeps, CountingKeeps, PackingKeeps, TakingKeeps, CursorsKeep, EventsKeep, OffersKeep, SplitsKeep, JoinsKeep, LendsKeep, ReturnsKeep, AnnouncementsKeep, KeptFlagsAreSet, KeptIsChain, KeptUnitsAreKept, KeptTransitIsLocal, KeptSumsAreAmounts, KeptTotalsAreCounted, KeptMarksAreTaken, NotesKeep, KeptRecordsHold, KeptIsConsistent};
 
 /// Two packed units are moved to the counts, where the next sample is counted: the words become those of the segment, and the
 /// totals, the sum and the redundant count are those of the entries.
@@ -140,7 +140,12 @@ pub fn opening_is_kept()
     ensures { OpeningIsKept }
 {}
 
-/// So does it with any number of recorders that its opener has made.
+/// Its blocks open segments, and it was opened with its words.
+pub fn new_is_opening()
+    ensures { NewIsOpening }
+{}
+
+/// What holds between any two events holds of a new segment with any number of recorders that its opener has made.
 pub fn openings_are_kept()
     ensures { OpeningsAreKept }
 {}
@@ -225,12 +230,13 @@ pub fn announcements_keep()
     ensures { AnnouncementsKeep }
 {}
 
-/// The flags of a kept state are set exactly where an actor has set them, and so the corrupt one where an actor has seen it.
+/// The flags of a kept state are set exactly where they were at the opening or an actor has set them, and so the corrupt one where an actor
+/// has seen it.
 pub fn kept_flags_are_set()
     ensures { KeptFlagsAreSet }
 {}
 
-/// The list of a kept state is the chain.
+/// The list of a kept state is the chain: the records of the opening, and behind them those that actors linked.
 pub fn kept_is_chain()
     ensures { KeptIsChain }
 {}
@@ -245,7 +251,7 @@ pub fn kept_transit_is_local()
     ensures { KeptTransitIsLocal }
 {}
 
-/// The sums of a kept state are the amounts, and its redundant counts the units, of which nothing is left out or counted twice.
+/// The sums of a kept state are the amounts, and its redundant counts grew by the units, of which nothing is left out or counted twice.
 pub fn kept_sums_are_amounts()
     ensures { KeptSumsAreAmounts }
 {}
@@ -267,12 +273,12 @@ pub fn notes_keep()
     ensures { NotesKeep }
 {}
 
-/// The records of a kept state hold what they were given, and have lawful forms.
+/// The records of a kept state hold what they were given, those of the opening what they held there, and have lawful forms.
 pub fn kept_records_hold()
     ensures { KeptRecordsHold }
 {}
 
-/// A kept state is consistent, in all its parts.
+/// A kept state is consistent, in all its parts, whatever its segment was opened with.
 pub fn kept_is_consistent()
     ensures { KeptIsConsistent }
 {}

@@ -19,7 +19,7 @@ use Rattle.list_core.proofs.Chains.{one_place, last_stop}
 use Rattle.segment_machine.specs.declared.actor.Actor.{Actor}
 use Rattle.segment_machine.specs.declared.actor.Own.{Own}
 use Rattle.segment_machine.specs.declared.actor.Made.{Made}
-use Rattle.segment_machine.specs.declared.place.Place.TheVariants.{Idle, Linked}
+use Rattle.segment_machine.specs.declared.place.Place.TheVariants.{Linked}
 use Rattle.segment_machine.specs.Actor.{all_published, is_opener}
 use Rattle.segment_machine.specs.Event.{Event, Ready, after, next, allocating_event, publishing_event, walking_event, counting_event, taking_event, packing_event, cursor_event}
 use Rattle.segment_machine.specs.Allocating.{load_flags, load_free, exchange_free, store_size, store_cookie, store_type, store_payload, set_corrupt, set_full, after_free}

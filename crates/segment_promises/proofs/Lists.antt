@@ -1,19 +1,18 @@
 -- What walks and shared cursors give, of any kept state.
-use Rattle.std.proofs.Common.{◌≡◌, ◌≢◌, ℕ, zero, suc, ◌+◌, ◌<◌, ◌≤◌, ◌==◌, Bool, true, false, cond, List, [], ◌∷◌, take, length, inl, inr, ⊎_elim, refl, sym, ap, subst, ◌∙◌, length-append, eqb-true, arith}
+use Rattle.std.proofs.Common.{◌≡◌, ◌≢◌, ℕ, zero, suc, ◌+◌, ◌<◌, ◌≤◌, ◌==◌, Bool, true, false, cond, List, [], ◌∷◌, take, length, ⊎_elim, refl, sym, ap, subst, ◌∙◌, length-append, eqb-true, arith}
 use Rattle.std.specs.Prelude.{slice_index, IsPermutation}
 use Rattle.std.specs.List.{filter, Contains}
 use mathlib.Core.Option.{some, some-injective, some-ne-none}
 use lib.ListN.{get_elem?}
-use Rattle.std.proofs.lemmas.Bool.{cases_order}
-use Rattle.std.proofs.lemmas.List.{ext_get_or, take_all}
+use Rattle.std.proofs.lemmas.List.{take_all}
 use Rattle.std.proofs.lemmas.List.Elements.{All-contains, Contains-append_left, Contains-append_cases}
 use Rattle.std.proofs.lemmas.List.Sorted.{IsPermutation-sym, Contains-permutation}
 use Rattle.segment_image.specs.Shape.{Dimensions}
 use Rattle.segment_image.specs.Words.{word_at}
 use Rattle.segment_image.specs.Head.{head_of}
-use Rattle.list_core.specs.Chain.{stops, IsLinked, IsChain}
+use Rattle.list_core.specs.Chain.{stops, IsChain}
 use Rattle.list_core.specs.Walk.{IsPrefix}
-use Rattle.list_core.proofs.Chains.{linked_of, one_place, no_queue, next_inside, next_last, last_stop}
+use Rattle.list_core.proofs.Chains.{linked_of, one_place, last_stop}
 use Rattle.segment_machine.specs.declared.actor.Actor.{Actor}
 use Rattle.segment_machine.specs.declared.actor.Given.{Given}
 use Rattle.segment_machine.specs.declared.place.Place.TheVariants.{Spent, CursorLoaded}
@@ -23,41 +22,11 @@ use Rattle.segment_machine.specs.Walking.{records_met}
 use Rattle.segment_invariant.specs.Body.{Anatomy, order_of}
 use Rattle.segment_invariant.specs.Seen.{IsNoLater}
 use Rattle.segment_invariant.specs.Invariant.{Invariant, StandsRight}
+use Rattle.segment_invariant.proofs.Consistency.OneChain.{one_chain}
 use Rattle.segment_invariant.proofs.Lists.Elements.{from_map}
 use Rattle.segment_invariant.proofs.Frames.Growth.{stop_at}
 use Rattle.segment_invariant.proofs.Walking.Learned.{whole_front, met_listed}
 use Rattle.segment_promises.specs.Lists.{HasMet, WalksGiveAll, CursorsKeepOrder, CursorsGiveFronts, CursorsGiveAll}
-
--- ---- words have one chain
-
-same_stops : (words a b : List ℕ) → IsLinked words a → IsLinked words b → (i : ℕ) → i ≤ length a → i ≤ length b
-    → slice_index (stops a) i ≡ slice_index (stops b) i
-same_stops words a b first second zero low high = refl
-same_stops words a b first second (suc i) low high =
-    sym (next_inside words a i first (omega (arith, low)))
-    ∙ ap (λ (at : ℕ). word_at words (at + 3)) (same_stops words a b first second i (omega (arith, low)) (omega (arith, high)))
-    ∙ next_inside words b i second (omega (arith, high))
-
--- none ends before another
-no_shorter : (words a b : List ℕ) → IsLinked words a → IsLinked words b → length a < length b → ⊥
-no_shorter words a b first second less =
-    no_queue words b (length a) second less
-    (sym (next_inside words b (length a) second less)
-    ∙ ap (λ (at : ℕ). word_at words (at + 3)) (sym (same_stops words a b first second (length a) (omega arith) (omega (arith, less))))
-    ∙ next_last words a first)
-
-one_chain : (words a b : List ℕ) → IsLinked words a → IsLinked words b → a ≡ b
-one_chain words a b first second = ext_get_or 0 a b as_long
-    (λ i below. same_stops words a b first second (suc i) (omega (arith, below)) (omega (arith, below, as_long)))
-  where
-    as_long : length a ≡ length b
-    as_long = elim (cases_order (length a) (length b)) [
-      | inl here ↦ here
-      | inr apart ↦ elim apart [
-        | inl less ↦ absurd (no_shorter words a b first second less)
-        | inr more ↦ absurd (no_shorter words b a second first more)
-      ]
-    ]
 
 module _ (shape : Dimensions) (opened : Anatomy) (state : State) (kept : Invariant shape opened state) where
   abbrev order : List ℕ

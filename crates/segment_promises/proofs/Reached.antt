@@ -1,9 +1,11 @@
 -- Every state that is reached from a kept one is kept; one that is reached from a new segment is consistent.
+use Rattle.std.proofs.Common.{subst}
 use Rattle.segment_machine.specs.State.{State}
 use Rattle.segment_machine.specs.Reached.{new_state, IsReached, started, stepped, announced, offered, split, lent, returned, joined_in}
 use Rattle.segment_invariant.specs.Body.{blank}
+use Rattle.segment_invariant.specs.Consistent.{Opening, IsConsistent}
 use Rattle.segment_invariant.specs.Invariant.{Invariant}
-use Rattle.segment_invariant.proofs.Openings.Segments.{opening_is_kept}
+use Rattle.segment_invariant.proofs.Openings.Segments.{opening_is_kept, new_is_opening}
 use Rattle.segment_invariant.proofs.Consistency.Whole.{is_consistent}
 use Rattle.segment_invariant.proofs.Notes.Announcements.{announcements_keep}
 use Rattle.segment_invariant.proofs.Recorders.Splits.{splits_keep}
@@ -32,4 +34,6 @@ states_are_kept shape version id cursors state (lawful, versions, few, reached) 
 
 pub states_are_consistent : StatesAreConsistent
 states_are_consistent shape version id cursors state reached =
-    is_consistent shape version id state reached.0 (states_are_kept shape version id cursors state reached)
+    let new = new_is_opening shape version id reached.0 reached.1 in
+    subst (λ (opening : Opening). IsConsistent opening state) new.1
+    (is_consistent shape (blank version id shape.size) state new.0 (states_are_kept shape version id cursors state reached))

@@ -23,10 +23,10 @@ use Rattle.segment_machine.specs.Taking.{load_count, raise_mark, load_sum, swap_
 use Rattle.segment_machine.specs.Packing.{load_single, pack, mount_counts, purge_block, disable, add_moved, after_pack, after_mount, after_disable}
 use Rattle.segment_machine.specs.Cursors.{load_cursor, move_cursor, after_cursor}
 use Rattle.segment_machine.specs.Note.{Note, Notes, noted, begins, goes_on, amounts, asks, knows, takes, has_taken, looks, answers, ends, refused, declines}
-use Rattle.segment_machine.specs.Reached.{IsReached, IsState, new_state, started, stepped, announced, offered, split, lent, returned, joined_in}
-use Rattle.segment_machine.specs.Seats.{joined, newcomer, offering, opener_of, parent, spent}
+use Rattle.segment_machine.specs.Reached.{IsReached, started, stepped, announced, offered, split, lent, returned, joined_in}
+use Rattle.segment_machine.specs.Seats.{joined, newcomer, offering, parent, spent}
 use Rattle.segment_machine.specs.State.{State, IsStep}
-use Rattle.segment_invariant.specs.Body.{blank}
+use Rattle.segment_invariant.specs.Body.{Anatomy}
 use Rattle.segment_invariant.specs.Invariant.{Invariant}
 use Rattle.segment_invariant.specs.Keeps.{found_at}
 use Rattle.segment_image.specs.Shape.{Dimensions}
@@ -34,7 +34,7 @@ use Rattle.segment_invariant.proofs.Lists.Elements.{all_at, below_length}
 use Rattle.std.proofs.lemmas.List.Elements.{All-cons, All-nil, All-push, All-set}
 use Rattle.std.specs.List.{All}
 use Rattle.segment_promises.specs.Spoilers.{SpoilersClaimNothing}
-use Rattle.segment_promises.proofs.Reached.{reached_states_follow, states_are_kept}
+use Rattle.segment_promises.proofs.Reached.{reached_states_follow}
 use Rattle.segment_promises.proofs.Steps.{steps_follow}
 
 -- ---- places
@@ -357,64 +357,66 @@ spoilers_claim_nothing shape opened start state who a b kept there records spoil
         (another claimed _ other who y _ (set_else old.actors id other _ (λ e. apart (sym e)) ∙ beside) (λ still. inl refl)
         (c, set_else old.actors id who _ other_one ∙ here, still))
 
--- ---- in the states that are reached from a new segment
+-- ---- in the states that are reached from a kept one in which an opener stands alone
 
 -- a recorder stands at no allocation once it has set the corrupt flag
 abbrev RecorderRests : Actor → Type 0
 RecorderRests x = is_opener x.role ≡ false → Rests x
 
 -- its step
-module _ (shape : Dimensions) (version id cursors : ℕ) (old new : State) (who : ℕ) (event : Event) (state : IsState shape version id cursors old)
-    (step : IsStep version old who event new) (rests : RecorderRests step.actor) where
+module _ (shape : Dimensions) (opened : Anatomy) (old new : State) (who : ℕ) (event : Event) (kept : Invariant shape opened old)
+    (step : IsStep opened.version old who event new) (rests : RecorderRests step.actor) where
   step_of : Rests step.then_is × (step.actor.done.spoiled ≡ true → (step.then_is.done.spoiled ≡ true) × (step.then_is.done.claimed ≡ step.actor.done.claimed))
   step_of =
       let first = notes_leave step.before step.actor step.at step.notes_before in
       let last = notes_leave step.behind (next step.at event (found_at old event)) step.then_is step.notes_behind in
-      let learned = (steps_follow shape (blank version id shape.size) old new who event step (states_are_kept shape version id cursors old state)).1 in
+      let learned = (steps_follow shape opened old new who event step kept).1 in
       let stood : Rests step.at = subst (λ (x : Place × Done). x.1.spoiled ≡ true → allocates x.0 ≡ false) (λ i. (sym first.0 i, sym first.1 i)) (rests step.is_recorder) in
       let steady = steady_on step.at stood event (found_at old event) step.ready learned in
       subst (λ (x : Place × Done × Done). (x.1.spoiled ≡ true → allocates x.0 ≡ false) × (x.2.spoiled ≡ true → (x.1.spoiled ≡ true) × (x.1.claimed ≡ x.2.claimed)))
       (λ i. (sym last.0 i, sym last.1 i, first.1 i)) steady
 
-module _ (shape : Dimensions) (version id cursors : ℕ) where
-  -- so it is of all of them
-  all_rest : (state : State) → IsState shape version id cursors state → All RecorderRests state.actors
-  all_rest state (shaped, versions, few, reached) = go state reached
-    where
-      opens : (x : Actor) → is_opener x.role ≡ true → RecorderRests x
-      opens x is records = absurd (true≢false (sym is ∙ records))
+module _ (shape : Dimensions) (opened : Anatomy) (start : State) (kept : Invariant shape opened start) (opener : Actor) (alone : start.actors ≡ opener ∷ [])
+    (first_opens : is_opener opener.role ≡ true) where
+  keeps : (state : State) → IsReached opened.version start state → Invariant shape opened state
+  keeps state reached = reached_states_follow shape opened start state kept reached
 
-      go : (state : State) → IsReached version (new_state shape version id cursors) state → All RecorderRests state.actors
-      go state started = All-cons RecorderRests (opener_of shape version cursors) [] (opens (opener_of shape version cursors) refl) (All-nil RecorderRests)
-      go state (stepped old new who event before step) =
-          let all = go old before in
-          subst (All RecorderRests) (sym step.actors_are) (All-set RecorderRests old.actors who step.then_is
-          (λ records. (step_of shape version id cursors old new who event (shaped, versions, few, before) step (all_at RecorderRests old.actors who step.actor all step.there)).0) all)
-      go state (announced old new who before (x, y, notes, there, recorder, noting, is)) =
-          let same = notes_leave notes x y noting in
-          let all = go old before in
-          let stood = all_at RecorderRests old.actors who x all there recorder in
-          subst (All RecorderRests) (sym (ap (λ (s : State). s.actors) is)) (All-set RecorderRests old.actors who y
-          (λ records. subst (λ (p : Place × Done). p.1.spoiled ≡ true → allocates p.0 ≡ false) (λ i. (sym same.0 i, sym same.1 i)) stood) all)
-      go state (offered old new who units before (x, there, may, is)) =
-          subst (All RecorderRests) (sym (ap (λ (s : State). s.actors) is)) (All-set RecorderRests old.actors who _ (opens (offering x units) refl) (go old before))
-      go state (split old new who before (x, there, may, is)) =
-          subst (All RecorderRests) (sym (ap (λ (s : State). s.actors) is)) (All-push RecorderRests _ (newcomer x)
-          (All-set RecorderRests old.actors who _ (opens (parent x) refl) (go old before)) (λ records spoiled. refl))
-      go state (lent old new who other units before (x, y, apart, there, beside, may, is)) =
-          let all = go old before in
-          subst (All RecorderRests) (sym (ap (λ (s : State). s.actors) is)) (All-set RecorderRests _ other _ (all_at RecorderRests old.actors other y all beside)
-          (All-set RecorderRests old.actors who _ (all_at RecorderRests old.actors who x all there) all))
-      go state (returned old new who other units before (x, y, apart, there, beside, may, is)) =
-          let all = go old before in
-          subst (All RecorderRests) (sym (ap (λ (s : State). s.actors) is)) (All-set RecorderRests _ other _ (all_at RecorderRests old.actors other y all beside)
-          (All-set RecorderRests old.actors who _ (all_at RecorderRests old.actors who x all there) all))
-      go state (joined_in old new who other before (x, y, apart, there, beside, may, is)) =
-          subst (All RecorderRests) (sym (ap (λ (s : State). s.actors) is)) (All-set RecorderRests _ other spent (λ records spoiled. refl)
-          (All-set RecorderRests old.actors who _ (opens (joined x y) refl) (go old before)))
+  opens : (x : Actor) → is_opener x.role ≡ true → RecorderRests x
+  opens x is records = absurd (true≢false (sym is ∙ records))
+
+  -- so it is of all of them
+  all_rest : (state : State) → IsReached opened.version start state → All RecorderRests state.actors
+  all_rest state started =
+      subst (All RecorderRests) (sym alone) (All-cons RecorderRests opener [] (opens opener first_opens) (All-nil RecorderRests))
+  all_rest state (stepped old new who event before step) =
+      let all = all_rest old before in
+      subst (All RecorderRests) (sym step.actors_are) (All-set RecorderRests old.actors who step.then_is
+      (λ records. (step_of shape opened old new who event (keeps old before) step (all_at RecorderRests old.actors who step.actor all step.there)).0) all)
+  all_rest state (announced old new who before (x, y, notes, there, recorder, noting, is)) =
+      let same = notes_leave notes x y noting in
+      let all = all_rest old before in
+      let stood = all_at RecorderRests old.actors who x all there recorder in
+      subst (All RecorderRests) (sym (ap (λ (s : State). s.actors) is)) (All-set RecorderRests old.actors who y
+      (λ records. subst (λ (p : Place × Done). p.1.spoiled ≡ true → allocates p.0 ≡ false) (λ i. (sym same.0 i, sym same.1 i)) stood) all)
+  all_rest state (offered old new who units before (x, there, may, is)) =
+      subst (All RecorderRests) (sym (ap (λ (s : State). s.actors) is)) (All-set RecorderRests old.actors who _ (opens (offering x units) refl) (all_rest old before))
+  all_rest state (split old new who before (x, there, may, is)) =
+      subst (All RecorderRests) (sym (ap (λ (s : State). s.actors) is)) (All-push RecorderRests _ (newcomer x)
+      (All-set RecorderRests old.actors who _ (opens (parent x) refl) (all_rest old before)) (λ records spoiled. refl))
+  all_rest state (lent old new who other units before (x, y, apart, there, beside, may, is)) =
+      let all = all_rest old before in
+      subst (All RecorderRests) (sym (ap (λ (s : State). s.actors) is)) (All-set RecorderRests _ other _ (all_at RecorderRests old.actors other y all beside)
+      (All-set RecorderRests old.actors who _ (all_at RecorderRests old.actors who x all there) all))
+  all_rest state (returned old new who other units before (x, y, apart, there, beside, may, is)) =
+      let all = all_rest old before in
+      subst (All RecorderRests) (sym (ap (λ (s : State). s.actors) is)) (All-set RecorderRests _ other _ (all_at RecorderRests old.actors other y all beside)
+      (All-set RecorderRests old.actors who _ (all_at RecorderRests old.actors who x all there) all))
+  all_rest state (joined_in old new who other before (x, y, apart, there, beside, may, is)) =
+      subst (All RecorderRests) (sym (ap (λ (s : State). s.actors) is)) (All-set RecorderRests _ other spent (λ records spoiled. refl)
+      (All-set RecorderRests old.actors who _ (opens (joined x y) refl) (all_rest old before)))
 
   -- a recorder that has set the corrupt flag has still set it behind a step, which claims nothing
-  pub spoilers_step_on : (old new : State) (who : ℕ) (event : Event) (state : IsState shape version id cursors old) (step : IsStep version old who event new)
+  pub spoilers_step_on : (old new : State) (who : ℕ) (event : Event) → IsReached opened.version start old → (step : IsStep opened.version old who event new)
       → step.actor.done.spoiled ≡ true → (step.then_is.done.spoiled ≡ true) × (step.then_is.done.claimed ≡ step.actor.done.claimed)
-  spoilers_step_on old new who event state step =
-      (step_of shape version id cursors old new who event state step (all_at RecorderRests old.actors who step.actor (all_rest old state) step.there)).1
+  spoilers_step_on old new who event reached step =
+      (step_of shape opened old new who event (keeps old reached) step (all_at RecorderRests old.actors who step.actor (all_rest old reached) step.there)).1

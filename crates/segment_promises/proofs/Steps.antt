@@ -1,6 +1,5 @@
 -- What follows at once for those who step a segment.
 use Rattle.std.proofs.Common.{◌≡◌, ℕ, Bool, true, false, eqb, List, take, drop, length, set, refl, sym, ap, subst, ◌∙◌}
-use Rattle.std.specs.Prelude.{if◌then◌else◌}
 use Rattle.std.proofs.lemmas.List.{set-set}
 use Rattle.std.proofs.Math.Seq.{take-append_seam, drop-append_seam}
 use mathlib.Core.Option.{some}
@@ -8,7 +7,6 @@ use lib.ListN.{get_elem?}
 use Rattle.alloc_core.proofs.Owners.{set_at}
 use Rattle.segment_image.specs.Shape.{Dimensions}
 use Rattle.segment_machine.specs.declared.actor.Actor.{Actor}
-use Rattle.segment_machine.specs.declared.place.Place.TheVariants.{Idle}
 use Rattle.segment_machine.specs.Event.{Event, Ready, Learned, allocating_event, publishing_event, walking_event, counting_event, taking_event, packing_event, cursor_event, after, next}
 use Rattle.segment_machine.specs.Allocating.{load_flags, load_free, exchange_free, store_size, store_cookie, store_type, store_payload, set_corrupt, set_full, after_free}
 use Rattle.segment_machine.specs.Publishing.{store_own_next, load_tail, link, move_tail, after_link}

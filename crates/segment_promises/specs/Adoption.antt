@@ -28,6 +28,7 @@ use Rattle.segment_machine.specs.State.{State}
 use Rattle.segment_invariant.specs.Body.{Anatomy, layout_of, order_of}
 use Rattle.segment_invariant.specs.Consistent.{IsSample, counts_word}
 use Rattle.segment_invariant.specs.Invariant.{Invariant}
+use Rattle.segment_invariant.specs.Keeps.{IsOpening, opening_of}
 use Rattle.segment_promises.specs.Reads.{HasNoFault}
 use Rattle.segment_machine.specs.declared.actor.Role.TheVariants.{Opener}
 
@@ -59,26 +60,53 @@ blocks_of words references = references ++ flat_map (named_counts words) referen
 abbrev pub run_at : List ℕ → ℕ → ℕ × ℕ
 run_at words at = (at, field_at words at BLOCK_SIZE)
 
+-- no two of these blocks overlap
+abbrev pub AreApart : List ℕ → List ℕ → Type 0
+AreApart words blocks =
+    (i j a b : ℕ) → i < j → get_elem? blocks i ≡ some a → get_elem? blocks j ≡ some b → Apart (run_at words a) (run_at words b)
+
+-- from a word on all is 0
+abbrev pub AreZerosFrom : List ℕ → ℕ → Type 0
+AreZerosFrom words free = (i : ℕ) → free ≤ i → i < length words → word_at words i ≡ 0
+
+-- a sample that is not the first of its histogram and value counts nothing
+abbrev pub AreLaterEmpty : List ℕ → List ℕ → Type 0
+AreLaterEmpty words references =
+    (at first : ℕ) → Contains references at → field_at words at BLOCK_TYPE ≡ TYPE_SAMPLE
+    → IsSample words references (field_at words at SAMPLE_HISTOGRAM) (sample_value words at) first → first ≢ at
+    → (field_at words at SAMPLE_COUNT ≡ 0) × (field_at words at SAMPLE_MARK ≡ 0)
+
+-- the name of a histogram's record is padded with zeros
+abbrev pub HasPaddedName : List ℕ → ℕ → Type 0
+HasPaddedName words at =
+    AreNameWords (name_of words at) (slice_range words (at + HISTOGRAM_NAME) (at + HISTOGRAM_NAME + name_words (length (name_of words at))))
+
+-- its counts and marks are 0 until its single word is frozen
+abbrev pub HasUnusedCounts : List ℕ → ℕ → Type 0
+HasUnusedCounts words at =
+    (i : ℕ) → is_sparse words at ≡ false → field_at words at HISTOGRAM_COUNTS ≢ 0 → is_off (field_at words at HISTOGRAM_SINGLE) ≡ false
+    → i < 2 * record_buckets words at → counts_word words at i ≡ 0
+
+-- the mark of its packed bucket stands in the record alone
+abbrev pub HasPackedMark : List ℕ → ℕ → Type 0
+HasPackedMark words at =
+    (i : ℕ) → is_sparse words at ≡ false → field_at words at HISTOGRAM_COUNTS ≢ 0
+    → packed_bucket (record_single VERSION_FROZEN words at) ≡ Some i → counts_word words at (record_buckets words at + i) ≡ 0
+
 -- Words with such a list are not damaged. They read without a fault, no two blocks overlap, behind the free pointer all is 0 and in its
 -- page there is room for a smallest block, and the tail is on the list. A sample that is not the first of its value counts nothing;
 -- names are padded with zeros. Of each record of a histogram with buckets, a later one of a name too, the counts are 0 until its single word
 -- is frozen, and the mark of the packed bucket stands in the record alone.
 pub record IsUndamaged (words references : List ℕ) (reading : Reading) : Type 0 where
   pub lawful : HasNoFault reading
-  pub apart : (i j a b : ℕ) → i < j → get_elem? (blocks_of words references) i ≡ some a → get_elem? (blocks_of words references) j ≡ some b
-      → Apart (run_at words a) (run_at words b)
-  pub zeros : (i : ℕ) → (head_of words).free ≤ i → i < length words → word_at words i ≡ 0
+  pub apart : AreApart words (blocks_of words references)
+  pub zeros : AreZerosFrom words (head_of words).free
   pub room : is_pointer (head_of words).shape (head_of words).free ≡ true
   pub tail : IsStop references (head_of words).tail
-  pub later : (at first : ℕ) → Contains references at → field_at words at BLOCK_TYPE ≡ TYPE_SAMPLE
-      → IsSample words references (field_at words at SAMPLE_HISTOGRAM) (sample_value words at) first → first ≢ at
-      → (field_at words at SAMPLE_COUNT ≡ 0) × (field_at words at SAMPLE_MARK ≡ 0)
-  pub padded : (at : ℕ) → Contains references at → field_at words at BLOCK_TYPE ≡ TYPE_HISTOGRAM
-      → AreNameWords (name_of words at) (slice_range words (at + HISTOGRAM_NAME) (at + HISTOGRAM_NAME + name_words (length (name_of words at))))
-  pub unused : (at i : ℕ) → Contains references at → field_at words at BLOCK_TYPE ≡ TYPE_HISTOGRAM → is_sparse words at ≡ false → field_at words at HISTOGRAM_COUNTS ≢ 0
-      → is_off (field_at words at HISTOGRAM_SINGLE) ≡ false → i < 2 * record_buckets words at → counts_word words at i ≡ 0
-  pub packed : (at i : ℕ) → Contains references at → field_at words at BLOCK_TYPE ≡ TYPE_HISTOGRAM → is_sparse words at ≡ false → field_at words at HISTOGRAM_COUNTS ≢ 0
-      → packed_bucket (record_single VERSION_FROZEN words at) ≡ Some i → counts_word words at (record_buckets words at + i) ≡ 0
+  pub later : AreLaterEmpty words references
+  pub padded : (at : ℕ) → Contains references at → field_at words at BLOCK_TYPE ≡ TYPE_HISTOGRAM → HasPaddedName words at
+  pub unused : (at : ℕ) → Contains references at → field_at words at BLOCK_TYPE ≡ TYPE_HISTOGRAM → HasUnusedCounts words at
+  pub packed : (at : ℕ) → Contains references at → field_at words at BLOCK_TYPE ≡ TYPE_HISTOGRAM → HasPackedMark words at
 
 -- An image may be adopted: its header is lawful, it is of version 2 and not corrupt, it is not damaged, and it has used no more units than
 -- a segment has.
@@ -139,13 +167,14 @@ adopted words references reading cursors =
 -- ---- both ways
 
 -- An image that may be adopted opens a kept segment, with any number of shared cursors; its blocks are the image's, and its records those
--- on its list.
+-- on its list. So each state of the segment is consistent, beside the words of the image.
 abbrev pub AdoptionOpens : Type 0
 AdoptionOpens = (words references : List ℕ) (reading : Reading) (cursors : ℕ) → All (λ word. word < 2 ^ 64) words
     → IsListed words (head_of words) references → reading ≡ reading_along words (head_of words) references
     → IsAdoptable words references reading
     → (opened : Anatomy) × IsShown (head_of words).shape words (layout_of opened) × (order_of opened ≡ references)
     × Invariant (head_of words).shape opened (adopted words references reading cursors)
+    × IsOpening (head_of words).shape opened × ((opening_of (head_of words).shape opened).words ≡ words)
 
 -- The words of every kept state of version 2 without the corrupt flag may be adopted.
 abbrev pub KeptAreAdoptable : Type 0

@@ -18,6 +18,7 @@ use Rattle.hist_core.specs.declared.call.Move.TheVariants.{Step}
 use Rattle.hist_core.specs.declared.call.Stepped.{Stepped}
 use Rattle.hist_core.specs.declared.fault.WorldFault.{WorldFault}
 use Rattle.hist_core.specs.declared.fault.WorldFault.TheVariants.{NoMemory}
+use Rattle.hist_core.specs.Start.{Start}
 use Rattle.hist_core.specs.WorldState.{BeginsFrom, IsReachedAs, OthersStay, Says, StepsTo}
 use Rattle.hist_core.specs.Moves.{IsBegun, IsStepped}
 use Rattle.hist_core.specs.World.{BeginSays, ChangesOneWord, TakesMemory, begin_checks, step_checks}
@@ -120,7 +121,7 @@ same_ok F (Err e) said is = absurd is
 abbrev pub StepPromises : ℕ → WorldState → WorldState → Result Stepped WorldFault → Type 0
 StepPromises actor old new made =
     MatchOption (first_fault (step_checks old actor)) (IsOk made) (λ fault. made ≡ Err fault) × OnOk made (OthersStay actor old new)
-    × IfOk made (λ said. Says actor old new said) × IfOk made (λ said. (state : State) → IsReachedAs old state → StepsTo old actor state new said)
+    × IfOk made (λ said. Says actor old new said) × IfOk made (λ said. (start : Start) (state : State) → IsReachedAs start old state → StepsTo old actor start state new said)
 
 pub is_stepped : (actor : ℕ) (old new : WorldState) (made : Result Stepped WorldFault) (said : Stepped) → made ≡ Ok said → StepPromises actor old new made
     → IsStepped actor old new said
@@ -139,7 +140,7 @@ BeginPromises actor call old new made =
     × IfOk made (λ said. BeginSays actor call old new said)
 
 pub is_begun : (actor : ℕ) (call : Call) (old new : WorldState) (made : Result Begun WorldFault) (said : Begun) → made ≡ Ok said
-    → BeginPromises actor call old new made → OthersStay actor old new → ((state : State) → IsReachedAs old state → BeginsFrom state actor new)
+    → BeginPromises actor call old new made → OthersStay actor old new → ((start : Start) (state : State) → IsReachedAs start old state → BeginsFrom start state actor new)
     → IsBegun actor call old new said
 is_begun actor call old new made said is promises others leads =
     let here : BeginPromises actor call old new (Ok said) = subst (BeginPromises actor call old new) is promises in record {

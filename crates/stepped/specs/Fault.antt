@@ -4,14 +4,17 @@ use Rattle.hist_core.specs.declared.fault.WorldFault.{WorldFault}
 use Rattle.hist_core.specs.declared.fault.WorldFault.TheVariants as of_world
 use Rattle.schedule.specs.declared.fault.ScheduleFault.{ScheduleFault}
 use Rattle.schedule.specs.declared.fault.ScheduleFault.TheVariants as of_schedule
+use Rattle.segment_image.specs.declared.fault.ReadFault.{ReadFault}
+use Rattle.segment_image.specs.declared.fault.ReadFault.TheVariants as of_read
 use Rattle.stepped.specs.declared.fault.ReplayFault.{ReplayFault}
-use Rattle.stepped.specs.declared.fault.ReplayFault.TheVariants.{Read, Write, TooLong, BadLine, World, NoMemory}
+use Rattle.stepped.specs.declared.fault.ReplayFault.TheVariants.{Read, Write, TooLong, NotWords, BadLine, World, NoMemory}
 
--- 3 for bytes that are no schedule, and for what a world does not take; 4 for a device that failed; 5 for want of memory
+-- 3 for bytes that are no schedule or no words, and for what a world does not take; 4 for a device that failed; 5 for want of memory
 abbrev pub replay_status : ReplayFault → ℕ
 replay_status Read = 4
 replay_status Write = 4
 replay_status TooLong = 3
+replay_status NotWords = 3
 replay_status (BadLine number) = 3
 replay_status (World number fault) = 3
 replay_status NoMemory = 5
@@ -27,3 +30,10 @@ fault_of_schedule of_schedule.Read = Read
 fault_of_schedule of_schedule.TooLong = TooLong
 fault_of_schedule of_schedule.NoMemory = NoMemory
 fault_of_schedule (of_schedule.BadLine number) = BadLine number
+
+-- what a fault of an image's bytes comes to
+abbrev pub fault_of_read : ReadFault → ReplayFault
+fault_of_read of_read.NoMemory = NoMemory
+fault_of_read of_read.Device = Read
+fault_of_read of_read.TooLong = TooLong
+fault_of_read of_read.NotWords = NotWords

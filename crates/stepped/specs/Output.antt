@@ -1,7 +1,7 @@
 -- What is written of the words that a replay leaves.
 use Rattle.std.specs.Prelude.{ℕ, List}
 use Rattle.bucket_ranges.specs.Reading.{Reading, IsReading}
-use Rattle.persist_report_core.specs.Text.{IsTextOf}
+use Rattle.reading_texts.specs.Text.{IsTextOf}
 use Rattle.segment_image.specs.Head.{head_of}
 
 -- a text is the report of what words read as

@@ -1,45 +1,52 @@
 //! Why a schedule is not replayed to its end.
 
 ghost use Rattle.std.specs.Prelude.{◌≡◌};
-ghost use Rattle.stepped.specs.Fault.{fault_of_schedule, fault_of_world, replay_status};
+ghost use Rattle.stepped.specs.Fault.{fault_of_read, fault_of_schedule, fault_of_world, replay_status};
 ghost use Rattle.stepped.specs.declared.fault.ReplayFault.TheVariants.{NoMemory};
 
 use hist_core::WorldFault;
 use schedule::ScheduleFault;
+use segment_image::ReadFault;
 use std::alloc::AllocError;
 use thiserror::Error;
 
 /// Why a schedule is not replayed to its end, or what it leads to is not shown.
 #[derive(Clone, Copy, Debug, PartialEq, Eq, Error)]
 pub enum ReplayFault {
-    /// A read of the schedule failed.
+    /// The schedule or the image cannot be opened, or a read of it failed.
     #[error("Read")]
     Read,
     /// A write of what is shown failed, or its flush did. How much went out is not said.
     #[error("Write")]
     Write,
-    /// The schedule has more than 16,777,216 bytes.
+    /// The schedule has more than 16,777,216 bytes, or the image more than 8,388,608.
     #[error("TooLong")]
     TooLong,
+    /// The number of the image's bytes is no multiple of eight.
+    #[error("NotWords")]
+    NotWords,
     /// The record of this number, from 1, has no lawful form, or a number out of its type.
     #[error("BadLine {0}")]
     BadLine(u64),
     /// The world is not made, or takes no move of the record of this number; never for want of memory.
     #[error("World {0} {1}")]
     World(u64, WorldFault),
-    /// There was no memory for the schedule, for the world, for a call, or for what is shown.
+    /// There was no memory for the schedule, for the image, for the world, for a call, or for what is shown.
     #[error("NoMemory")]
     NoMemory,
 }
 
 impl ReplayFault {
-    /// The status with which the program ends: 3 where the bytes are no schedule, or the world does not take it; 4 where a
-    /// device failed; 5 for want of memory.
+    /// The status with which the program ends: 3 where the bytes are no schedule or no words, or the world does not take it; 4 where
+    /// a device failed; 5 for want of memory.
     pub fn status(&self) -> u8
         ensures { result ≡ replay_status self.now }
     {
         match self {
-            ReplayFault::TooLong | ReplayFault::BadLine(_) | ReplayFault::World(..) => 3,
+            ReplayFault::TooLong
+            | ReplayFault::NotWords
+            | ReplayFault::BadLine(_)
+            | ReplayFault::World(..) => 3,
             ReplayFault::Read | ReplayFault::Write => 4,
             ReplayFault::NoMemory => 5,
         }
@@ -65,6 +72,19 @@ impl From<ScheduleFault> for ReplayFault {
             ScheduleFault::TooLong => ReplayFault::TooLong,
             ScheduleFault::NoMemory => ReplayFault::NoMemory,
             ScheduleFault::BadLine(number) => ReplayFault::BadLine(number),
+        }
+    }
+}
+
+impl From<ReadFault> for ReplayFault {
+    ghost from_gives = { λ fault result. result ≡ fault_of_read fault };
+
+    fn from(fault: ReadFault) -> ReplayFault {
+        match fault {
+            ReadFault::NoMemory => ReplayFault::NoMemory,
+            ReadFault::Device => ReplayFault::Read,
+            ReadFault::TooLong => ReplayFault::TooLong,
+            ReadFault::NotWords => ReplayFault::NotWords,
         }
     }
 }

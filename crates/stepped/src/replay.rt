@@ -5,8 +5,8 @@ ghost use Rattle.std.specs.Prelude.{◌≡◌};
 use crate::fault::ReplayFault;
 use crate::lines::{Change, Place, show_answer, show_begin, show_step};
 use hist_core::{Answer, Begun, Call, Stepped, World};
-use schedule::{Opening, Order, OrderKind};
-use std::alloc::Global;
+use schedule::{NewWorld, Order, OrderKind};
+use std::alloc::{AllocError, Global};
 use std::io::Write;
 
 /// A world in which a schedule is replayed, to its end or to where it is to stop.
@@ -25,9 +25,9 @@ ghost use Rattle.std.specs.Prelude.{◌⊎◌, List, ℕ, MatchOption, OnOk, IfO
 ghost use Rattle.std.specs.Io.KnownBytes.{Appends};
 ghost use Rattle.hist_core.specs.declared.call.Move.TheVariants.{Begin, Step};
 ghost use Rattle.hist_core.specs.declared.fault.WorldFault.{WorldFault};
-ghost use Rattle.hist_core.specs.WorldState.{IsNewWorldState};
+ghost use Rattle.hist_core.specs.WorldState.{IsAdoptedWorldState, IsNewWorldState};
 ghost use Rattle.hist_core.specs.Moves.{FaultsAt, IsStepped};
-ghost use Rattle.hist_core.specs.World.{world_checks};
+ghost use Rattle.hist_core.specs.World.{actor_checks, world_checks, IsAdoptFault};
 ghost use Rattle.segment_image.specs.Checks.{first_fault};
 ghost use Rattle.segment_image.specs.Head.{head_of, header_of};
 ghost use Rattle.stepped.specs.Fault.{fault_of_world};
@@ -58,12 +58,12 @@ fn show<W: Write>(writer: &mut W, place: Place, answer: &Answer) -> Result<(), R
 
 impl Replay {
     /// A new world, in which so many events may happen. `World` of record 1 where it cannot be, `NoMemory` where there is none.
-    pub fn new(alloc: Global, opening: Opening, events: u64) -> Result<Replay, ReplayFault>
+    pub fn new(alloc: Global, opening: NewWorld, events: u64) -> Result<Replay, ReplayFault>
         ensures world { IfOk result (λ replay. IsNewWorldState (record { size = opening.size; page = opening.page }) opening.version opening.id opening.actors replay.world.world_state) }
         ensures left { IfOk result (λ replay. replay.left ≡ events) }
         ensures faults { MatchOption (first_fault (world_checks opening.size opening.page opening.actors opening.version)) (IfErr result (λ fault. fault ≡ ReplayFault.NoMemory)) (λ why. result ≡ Err (fault_of_world 1 why)) }
     {
-        let Opening {
+        let NewWorld {
             size,
             page,
             id,
@@ -73,6 +73,31 @@ impl Replay {
         let world = World::new(alloc, size, page, id, actors, version).map_err(
             |fault| ReplayFault::of_world(1, fault),
         )?;
+        Ok(Replay::of(alloc, world, events)?)
+    }
+
+    /// A world that goes on with the words of an image, in which so many events may happen. `World` of record 1 where it cannot be: with
+    /// `BadShape` of the actors, or with `Adopt` and the first fault of the image; `NoMemory` where there is none.
+    pub fn adopt(
+        alloc: Global,
+        words: &[u64],
+        actors: usize,
+        events: u64,
+    ) -> Result<Replay, ReplayFault>
+        ensures world { IfOk result (λ replay. IsAdoptedWorldState words.now actors replay.world.world_state) }
+        ensures left { IfOk result (λ replay. replay.left ≡ events) }
+        ensures faults { MatchOption (first_fault (actor_checks actors)) (IfErr result (λ fault. (why : WorldFault) × IsAdoptFault words.now why × (fault ≡ fault_of_world 1 why))) (λ why. result ≡ Err (fault_of_world 1 why)) }
+    {
+        let world = World::adopt(alloc, words, actors).map_err(|fault| ReplayFault::of_world(
+            1, fault,
+        ))?;
+        Ok(Replay::of(alloc, world, events)?)
+    }
+
+    // In a world so many events may happen.
+    fn of(alloc: Global, world: World, events: u64) -> Result<Replay, AllocError>
+        ensures { IfOk result (λ replay. (replay.world ≡ world) × (replay.left ≡ events)) }
+    {
         let before = Vec::from_slice(alloc, world.words())?;
         Ok(Replay {
             world,
@@ -188,7 +213,8 @@ impl Replay {
         }
     }
 
-    /// Does what the records from 2 on say, in order, as long as events are left, and writes the lines of what it does.
+    /// Does what the records from 2 on say, in order, as long as events are left, and writes the lines of what it does. The world is as `new`
+    /// or `adopt` made it, or as an earlier `run` left it.
     ///
     /// `Write` where a write failed; then `World` of the first record at which the world has a fault, or `NoMemory` where there was none
     /// for a call. The lines of what was done before such a fault are written.

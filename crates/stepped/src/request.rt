@@ -61,7 +61,9 @@ fn command<'a>(alloc: Global) -> Result<Command<'a>, AllocError> {
     );
     Command::new(alloc, "stepped")
         .version("0.1.0")
-        .about("Replays a schedule of calls on a segment, event by event")
+        .about(
+            "Replays a schedule of calls on a segment, event by event; the segment is new, or goes on with an image",
+        )
         .after_help("Example:\n  stepped examples/race_for_a_name.csv --stop 20 --report")
         .arg(schedule)?
         .arg(stop_argument(alloc))?

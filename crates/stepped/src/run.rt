@@ -14,8 +14,9 @@ use crate::fault::ReplayFault;
 use crate::replay::Replay;
 use crate::request::{Request, Show, not_text};
 use persist_report_core::text_of;
-use schedule::{Order, Schedule, read_schedule};
-use segment_image::{ImageFault, Watched, write_words};
+use schedule::{Opening, Order, Schedule, read_schedule};
+use segment_image::layout::MAX_SIZE;
+use segment_image::{ImageFault, Watched, read_words, write_words};
 use std::alloc::Global;
 use std::io::Write;
 use std::rt::{Env, Files};
@@ -55,11 +56,33 @@ fn schedule_in<R: Files + AllocGlobal>(rt: &R, path: &str) -> Result<Schedule, R
     Ok(read_schedule(rt.alloc(), &mut Watched::new(file))?)
 }
 
+// The words in the file of an image. A name that is no text is one that cannot be opened.
+fn words_in<R: Files + AllocGlobal>(rt: &R, name: &[u8]) -> Result<Vec<u64>, ReplayFault> {
+    let path = str::from_utf8(name).map_err(|_| ReplayFault::Read)?;
+    let file = fs::open(rt, path).map_err(|_| ReplayFault::Read)?;
+    Ok(read_words(rt.alloc(), &mut Watched::new(file), MAX_SIZE as usize)?)
+}
+
+// A world with what it starts with.
+fn start<R: Files + AllocGlobal>(
+    rt: &R,
+    opening: Opening,
+    events: u64,
+) -> Result<Replay, ReplayFault> {
+    match opening {
+        Opening::New(world) => Replay::new(rt.alloc(), world, events),
+        Opening::Adopt(file, actors) => {
+            let words = words_in(rt, &file)?;
+            Replay::adopt(rt.alloc(), &words, actors, events)
+        }
+    }
+}
+
 // Replays a schedule, and shows what was asked for.
 fn meet<R: Files + Print + AllocGlobal>(rt: &R, request: Request<'_>) -> Result<(), ReplayFault> {
     let alloc = rt.alloc();
     let Schedule { opening, orders } = schedule_in(rt, request.schedule)?;
-    let mut replay = Replay::new(alloc, opening, request.events)?;
+    let mut replay = start(rt, opening, request.events)?;
     let mut writer = Watched::new(io::writer(rt));
     match request.show {
         Show::Lines => write_lines(alloc, writer, &mut replay, &orders).map(|_| ()),

@@ -5,6 +5,7 @@
 //! has changed. So a run in which one growth is refused prints the lines of any other run and that one, with the exception of a merge:
 //! what it added before stays, and it is made once more into another segment.
 
+mod adopting;
 mod again;
 mod making;
 mod merging;
@@ -18,5 +19,6 @@ pub(crate) fn show(rt: &(impl Print + AllocGlobal)) -> Result<()> {
     making::show(rt)?;
     stepping::show(rt)?;
     let image = recording::show(rt)?;
-    merging::show(rt, image.words())
+    let merged = merging::show(rt, image.words())?;
+    adopting::show(rt, merged.words())
 }

@@ -18,11 +18,15 @@
 //!
 //! `trials growths`: each call that takes memory is made, and once more where it is refused. The module `growths` has what it prints.
 //!
+//! `trials adopt IMAGES..`: each image is adopted and recorded into, and its segment is read again. The module `adopting` has what it prints.
+//!
 //! `trials time record FORM SHARING THREADS BURSTS`: how long threads take to record samples into a running segment.
 //! `trials time step ADDS TURNS`: how long a world takes for its steps.
 //! `trials time script BYTES STEP TURNS`: how long a script takes to be read.
+//! `trials time adopt IMAGE TURNS`: how long an image takes to be adopted.
 #![tactic(auto)]
 
+mod adopting;
 mod growths;
 mod threads;
 mod timing;
@@ -36,13 +40,14 @@ fn main(rt: HostRuntime) -> Result<()> {
         words.push(word)?;
     }
     let [what, parameters @ ..] = words.as_slice() else {
-        bail!("give record, walk, growths or time");
+        bail!("give record, walk, growths, adopt or time");
     };
     match what.as_str() {
         "record" => threads::record_rounds(&rt, parameters),
         "walk" => threads::walk_rounds(&rt, parameters),
         "growths" => growths::show(&rt),
+        "adopt" => adopting::show(&rt, parameters),
         "time" => timing::run(&rt, parameters),
-        _ => bail!("give record, walk, growths or time"),
+        _ => bail!("give record, walk, growths, adopt or time"),
     }
 }

@@ -1,7 +1,7 @@
 //! Threads record beside one another into one segment, and what they recorded is printed beside what the image tells.
 
-mod calls;
-mod lines;
+pub(crate) mod calls;
+pub(crate) mod lines;
 mod round;
 mod walk;
 

@@ -1,25 +1,27 @@
 //! How long the calls of the libraries take, for the scripts of `bench/`.
 
+mod adopt;
 mod record;
 mod script;
 mod step;
 
 use anyhow::{Result, bail};
-use std::rt::Clock;
+use std::rt::{Clock, Files};
 use std::thread::Threads;
 
 /// Measures what the first word says, with the parameters behind it.
-pub(crate) fn run<R: Threads + Clock + Print + AllocGlobal + Sync>(
+pub(crate) fn run<R: Threads + Clock + Files + Print + AllocGlobal + Sync>(
     rt: &R,
     words: &[String],
 ) -> Result<()> {
     let [what, parameters @ ..] = words else {
-        bail!("give record, step or script");
+        bail!("give record, step, script or adopt");
     };
     match what.as_str() {
         "record" => record::run(rt, parameters),
         "step" => step::run(rt, parameters),
         "script" => script::run(rt, parameters),
-        _ => bail!("give record, step or script"),
+        "adopt" => adopt::run(rt, parameters),
+        _ => bail!("give record, step, script or adopt"),
     }
 }

@@ -10,8 +10,124 @@ use std::test::Fail;
 // The highest bit of a single word: it is frozen.
 const OFF: u64 = 1 << 63;
 
-// The image of three samples in version 2, in which these words are others: two units stay in the single word.
-fn image_with(changes: &[(usize, u64)]) -> [u64; 128] {
+const BLOCK: u64 = 0xC879_9269;
+
+// Two boolean histograms, `A` and `B`, whose counts are in the same block, with one sample 0.
+const SHARED_COUNTS: [u64; 58] = [
+    0x4083_05DC,
+    2,
+    128,
+    64,
+    7,
+    1,
+    0,
+    58,
+    32,
+    0,
+    0,
+    0,
+    4,
+    1,
+    0,
+    16,
+    16,
+    BLOCK,
+    1,
+    32,
+    2,
+    1,
+    2,
+    3,
+    48,
+    OFF,
+    0,
+    0,
+    0,
+    0,
+    1,
+    65,
+    16,
+    BLOCK,
+    1,
+    12,
+    2,
+    1,
+    2,
+    3,
+    48,
+    OFF,
+    0,
+    0,
+    0,
+    0,
+    1,
+    66,
+    10,
+    BLOCK,
+    2,
+    0,
+    1,
+    0,
+    0,
+    0,
+    0,
+    0,
+];
+
+// A sparse histogram `S` with three samples -5: two recorders made a block for the value at once, and that at 40 stands first on the list.
+const RACED: [u64; 48] = [
+    0x4083_05DC,
+    2,
+    128,
+    64,
+    7,
+    1,
+    0,
+    48,
+    32,
+    0,
+    0,
+    0,
+    4,
+    1,
+    0,
+    16,
+    16,
+    BLOCK,
+    1,
+    40,
+    4,
+    0,
+    0,
+    0,
+    0,
+    0,
+    0,
+    0xFFFF_FFFF_FFFF_FFF1,
+    0,
+    3,
+    1,
+    83,
+    8,
+    BLOCK,
+    3,
+    12,
+    16,
+    0xFFFF_FFFF_FFFF_FFFB,
+    0,
+    0,
+    8,
+    BLOCK,
+    3,
+    32,
+    16,
+    0xFFFF_FFFF_FFFF_FFFB,
+    3,
+    0,
+];
+
+/// The image of three samples in version 2, in which these words are others: two units stay in the single word.
+pub(crate) fn image_with(changes: &[(usize, u64)]) -> [u64; 128] {
     let mut words = [0; 128];
     words[..38].copy_from_slice(&THREE_SAMPLES);
     for (at, word) in [(1, 2), (25, OFF + (1 << 32) + 2), (37, 0)] {
@@ -21,6 +137,15 @@ fn image_with(changes: &[(usize, u64)]) -> [u64; 128] {
         if let Some(changed) = words.get_mut(*at) {
             *changed = *word;
         }
+    }
+    words
+}
+
+// The words of an image that begins with these, and is 0 behind them.
+fn whole(front: &[u64]) -> [u64; 128] {
+    let mut words = [0; 128];
+    for (place, word) in words.iter_mut().zip(front.iter()) {
+        *place = *word;
     }
     words
 }
@@ -86,6 +211,25 @@ fn refused_images(rt: HostRuntime) -> Result<(), Fail> {
     for change in [(8, 12), (6, 2)] {
         assert!(rt; Segment::adopt(rt.alloc(), &image_with(&[change]), 8).is_ok());
     }
+    Ok(())
+}
+
+// Each block is of one record, but a value may have more than one, of which the first counts.
+#[test]
+fn shared_blocks(rt: HostRuntime) -> Result<(), Fail> {
+    let made = Segment::adopt(rt.alloc(), &whole(&SHARED_COUNTS), 0);
+    assert_eq!(rt; made.err(), Some(AdoptFault::Damaged));
+    let mut words = whole(&RACED);
+    let (segment, mut opener) = Segment::adopt(rt.alloc(), &words, 0)?;
+    let mut recorder = opener.recorder(&segment, 1)?;
+    let histogram = recorder.hist(b"S", &Spec::Sparse)?;
+    recorder.add(histogram, -5, 1)?;
+    opener.join(recorder);
+    let image = segment.close(opener);
+    assert!(rt; stand(image.words(), 46, &[4]) && stand(image.words(), 38, &[0]));
+    words[38] = 1;
+    let made = Segment::adopt(rt.alloc(), &words, 0);
+    assert_eq!(rt; made.err(), Some(AdoptFault::Damaged));
     Ok(())
 }
 

@@ -1,8 +1,10 @@
 //! The commands, where each call of each of their readers and writers fails in turn: the fault comes, and nothing more is asked of
 //! that device. After a failed read nothing was written, and after a failed write of the image no report is begun.
 
+use crate::adopting::image_with;
+use crate::resuming::bytes_of;
 use crate::streams::{FailAt, Sink, Source, image};
-use persist_commands::{OpenGate, merge_files, run_script};
+use persist_commands::{OpenGate, merge_files, resume_script, run_script};
 use persist_report_core::{CliFault, report};
 use segment_image::Watched;
 use std::alloc::Global;
@@ -20,16 +22,18 @@ const NEVER: usize = usize::MAX;
 enum Command {
     Report,
     Run,
+    Resume,
     Merge,
 }
 
-// A device of a command, and whether it is read: the script or the first image, the report or the second image, and the image
-// that is written.
+// A device of a command, and whether it is read: the script or the first image, the report or the second image, the image
+// that is written, and the image that goes on.
 #[derive(Clone, Copy)]
 enum Device {
     First,
     Second { is_read: bool },
     Third,
+    Fourth,
 }
 
 // Of each device the call that fails.
@@ -38,6 +42,7 @@ struct Places {
     first: usize,
     second: usize,
     third: usize,
+    fourth: usize,
 }
 
 // How a command ended, and of each device the calls that were made. What was written to the image and to the report.
@@ -55,11 +60,13 @@ impl Device {
             first: NEVER,
             second: NEVER,
             third: NEVER,
+            fourth: NEVER,
         };
         match self {
             Device::First => places.first = place,
             Device::Second { .. } => places.second = place,
             Device::Third => places.third = place,
+            Device::Fourth => places.fourth = place,
         }
         places
     }
@@ -69,6 +76,7 @@ impl Device {
             Device::First => made.first,
             Device::Second { .. } => made.second,
             Device::Third => made.third,
+            Device::Fourth => made.fourth,
         }
     }
 
@@ -77,6 +85,7 @@ impl Device {
             Device::First => true,
             Device::Second { is_read } => is_read,
             Device::Third => false,
+            Device::Fourth => true,
         }
     }
 }
@@ -105,6 +114,7 @@ fn report_failing(alloc: Global, image: &[u8], places: Places) -> Outcome {
         first: reader.calls.made,
         second: writer.calls.made,
         third: 0,
+        fourth: 0,
     };
     Outcome {
         fault,
@@ -132,9 +142,45 @@ fn run_failing<R: Threads + Wait>(rt: &R, alloc: Global, places: Places) -> Outc
         first: script.calls.made,
         second: report.calls.made,
         third: image.calls.made,
+        fourth: 0,
     };
     Outcome {
         fault: ran.err(),
+        made,
+        image: image.text,
+        report: report.text,
+    }
+}
+
+fn resume_failing<R: Threads + Wait>(
+    rt: &R,
+    alloc: Global,
+    base: &[u8],
+    places: Places,
+) -> Outcome {
+    let mut script = Watched::new(source(SCRIPT, places.first));
+    let mut report = Watched::new(sink(alloc, places.second));
+    let mut image = Watched::new(sink(alloc, places.third));
+    let mut base = Watched::new(source(base, places.fourth));
+    let resumed = resume_script(
+        rt,
+        alloc,
+        &mut base,
+        &mut script,
+        &mut image,
+        &mut report,
+        1,
+        &OpenGate,
+    );
+    let (script, report, image) = (script.into_inner(), report.into_inner(), image.into_inner());
+    let made = Places {
+        first: script.calls.made,
+        second: report.calls.made,
+        third: image.calls.made,
+        fourth: base.into_inner().calls.made,
+    };
+    Outcome {
+        fault: resumed.err(),
         made,
         image: image.text,
         report: report.text,
@@ -151,6 +197,7 @@ fn merge_failing(alloc: Global, image: &[u8], places: Places) -> Outcome {
         first: base.calls.made,
         second: dead.calls.made,
         third: out.calls.made,
+        fourth: 0,
     };
     Outcome {
         fault,
@@ -171,6 +218,7 @@ impl Command {
         match self {
             Command::Report => report_failing(alloc, image, places),
             Command::Run => run_failing(rt, alloc, places),
+            Command::Resume => resume_failing(rt, alloc, image, places),
             Command::Merge => merge_failing(alloc, image, places),
         }
     }
@@ -195,7 +243,10 @@ fn fail_each<R: Threads + Wait + Abort>(
     command: Command,
     device: Device,
 ) -> Result<usize, Fail> {
-    let image = image(alloc)?;
+    let image = match command {
+        Command::Resume => bytes_of(alloc, &image_with(&[]))?,
+        _ => image(alloc)?,
+    };
     let whole = command.run(rt, alloc, &image, device.failing(NEVER));
     assert!(rt; whole.fault.is_none());
     let calls = device.calls(whole.made);
@@ -228,6 +279,22 @@ fn devices_of_a_run(rt: HostRuntime) -> Result<(), Fail> {
     assert_eq!(rt; fail_each(&rt, rt.alloc(), Command::Run, text)?, 4);
     assert_eq!(rt;
         fail_each(&rt, rt.alloc(), Command::Run, Device::Third)?,
+        65
+    );
+    Ok(())
+}
+
+#[test]
+fn devices_of_a_resume(rt: HostRuntime) -> Result<(), Fail> {
+    let (script, text) = (Device::First, Device::Second { is_read: false });
+    assert_eq!(rt;
+        fail_each(&rt, rt.alloc(), Command::Resume, Device::Fourth)?,
+        65
+    );
+    assert_eq!(rt; fail_each(&rt, rt.alloc(), Command::Resume, script)?, 5);
+    assert_eq!(rt; fail_each(&rt, rt.alloc(), Command::Resume, text)?, 4);
+    assert_eq!(rt;
+        fail_each(&rt, rt.alloc(), Command::Resume, Device::Third)?,
         65
     );
     Ok(())

@@ -21,6 +21,8 @@ mod images;
 #[cfg(test)]
 mod records;
 #[cfg(test)]
+mod resuming;
+#[cfg(test)]
 mod streams;
 #[cfg(test)]
 mod tallies;

@@ -11,7 +11,9 @@ use std::test::Fail;
 use std::thread;
 use std::thread::Threads;
 
-const SCRIPT: &[u8] = b"segment,128,64,7\nhist,A,boolean\nadd,A,1,1\nadd,A,1,1\nadd,A,0,1\n";
+/// Three samples, which two workers share out.
+pub(crate) const SCRIPT: &[u8] =
+    b"segment,128,64,7\nhist,A,boolean\nadd,A,1,1\nadd,A,1,1\nadd,A,0,1\n";
 
 const REPORT: &[u8] = b"A,boolean,0,1,1\nA,boolean,1,2,2\nA,total,3,2\n";
 
@@ -21,11 +23,21 @@ const FULL: &[u8] =
 // How often a worker looks for the other.
 const LOOKS: u32 = 1_000_000;
 
-// A gate at which the first calls of two workers wait for each other.
+/// A gate at which the first calls of two workers wait for each other.
 #[derive(Drop)]
-struct Meeting {
+pub(crate) struct Meeting {
     first: AtomicU64,
     second: AtomicU64,
+}
+
+impl Meeting {
+    /// No call has come yet.
+    pub(crate) fn new() -> Meeting {
+        Meeting {
+            first: AtomicU64::new(0),
+            second: AtomicU64::new(0),
+        }
+    }
 }
 
 fn comes(flag: &AtomicU64) -> bool {
@@ -84,10 +96,7 @@ fn run<R: Threads + Wait, G: Gate + Sync>(
 
 #[test]
 fn gate_meets_two_workers(rt: HostRuntime) -> Result<(), Fail> {
-    let gate = Meeting {
-        first: AtomicU64::new(0),
-        second: AtomicU64::new(0),
-    };
+    let gate = Meeting::new();
     let (fault, len, report) = run(&rt, rt.alloc(), SCRIPT, &gate);
     assert!(rt; fault.is_none() && len == 1024 && report.as_slice() == REPORT);
     Ok(())

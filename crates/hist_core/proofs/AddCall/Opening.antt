@@ -37,12 +37,12 @@ use Rattle.hist_core.specs.declared.actor_run.Running.{Running}
 use Rattle.hist_core.specs.declared.actor_run.Running.TheVariants.{Add}
 use Rattle.hist_core.specs.declared.actor_run.ActorRun.{ActorRun}
 use Rattle.hist_core.specs.declared.world_state.WorldState.{WorldState}
+use Rattle.hist_core.specs.Start.{Start}
 use Rattle.hist_core.specs.WorldState.{IsReached, IsReachedAs, BeginsFrom, IsPlaceOf, LacksName, IsCountBegun}
+use Rattle.hist_core.proofs.Worlds.Starts.{kept_there, shape_there, versions_there}
 use Rattle.hist_core.proofs.Worlds.WorldStates.{lends, is_long}
 use Rattle.hist_core.proofs.HistCall.Asking.{place_below}
 use Rattle.atomic_table.proofs.Lists.{set_here}
-use Rattle.segment_promises.proofs.Reached.{states_are_kept}
-use Rattle.segment_invariant.specs.Body.{blank}
 use Rattle.hist_core.specs.Add.{alone, counted_entry, IsAdd, IsCounting, IsStarted}
 use Rattle.hist_core.specs.ActorRun.{entry_of, known_of, pending_by, IsKnown, NoneHasName, HaveOwnNames, IsKnownAt, IsQuiet, HasDraft, HasRoom, StandsIn, IsRun, IsGhostNoting, BeginsToCount, BeginsAdd}
 use Rattle.hist_core.proofs.Worlds.Free.{free_turns}
@@ -259,16 +259,16 @@ module _ (old new : WorldState) (actor : ℕ) (r now : ActorRun) (here : get_ele
   pub count_begins : ∥ IsReached old ∥₁ → HasRoom (Some running) (vec_len r.known) (vec_capacity r.known) → HasDraft (Some running) r.taken
       → ((a : Actor) → IsRun old.shape old.version r a → IsShape old.shape → (old.version ≡ 1) ⊎ (old.version ≡ 2)
       → known_at a.answers.names known.reference ≡ Some (known_of known) → is_reference old.shape.size known.reference ≡ true → StandsIn old.shape r.known.items starts.pending (Some running) (getter a cost))
-      → (state : State) → IsReachedAs old state → BeginsFrom state actor new
-  count_begins reached room draft stood state reach =
-      let kept = states_are_kept old.shape old.version reach.id 0 state reach.reached in
-      lends old state reach (is_long old reached) actor r now new here shaped versioned actor_runs cost (ap (λ w. w.items) worded) pooled (λ a there run.
+      → (start : Start) (state : State) → IsReachedAs start old state → BeginsFrom start state actor new
+  count_begins reached room draft stood start state reach =
+      let kept = kept_there start old state reach in
+      lends start old state reach (is_long old reached) actor r now new here shaped versioned actor_runs cost (ap (λ w. w.items) worded) pooled (λ a there run.
       let free = free_turns a.hand.place (subst (λ running. StandsIn old.shape r.known.items (pending_by r) running a) rests run.stands).0 in
       let lives = not_spent a.hand.place free in (
         lives,
-        begins_with old.shape old.version r now entries running starts rests a run cost (stood a run reach.reached.0 reach.reached.1
-            (alone_there old.shape (blank old.version reach.id old.shape.size) state kept (actor + 1) a there lives r.known.items run.once run.names place known at)
-            (reference_there old.shape (blank old.version reach.id old.shape.size) state kept (actor + 1) a there lives known.reference (run.met (known_of known) (known_inside r.known.items a.answers.names known run.names place at)))) room draft,
+        begins_with old.shape old.version r now entries running starts rests a run cost (stood a run (shape_there start old state reach) (versions_there start old state reach)
+            (alone_there old.shape start.opened state kept (actor + 1) a there lives r.known.items run.once run.names place known at)
+            (reference_there old.shape start.opened state kept (actor + 1) a there lives known.reference (run.met (known_of known) (known_inside r.known.items a.answers.names known run.names place at)))) room draft,
       ))
 
   pub count_begun : (name : List ℕ) → known.name.items ≡ name → (all : length r.entries.items ≡ r.ended) → (begun : r.begun ≡ r.ended)

@@ -39,6 +39,7 @@ use Rattle.hist_core.specs.declared.delta_call.Stage.TheVariants.{LoadingSingle,
 use Rattle.hist_core.specs.declared.delta_call.DeltaCall.{DeltaCall}
 use Rattle.hist_core.specs.declared.delta_call.DeltaCallStep.{DeltaCallStep}
 use Rattle.hist_core.specs.declared.delta_call.DeltaCallStep.TheVariants.{More, Took, Done}
+use Rattle.hist_core.specs.Start.{Start}
 use Rattle.hist_core.specs.WorldState.{IsReached, IsReachedAs, TakesOf}
 use Rattle.hist_core.specs.StepsBy.{StepsBy, IsFree, WalksInOrder}
 use Rattle.hist_core.specs.declared.walk.Walk.{Walk}
@@ -123,8 +124,8 @@ shown_units (t ∷ list) (m ∷ machine) (first, rest) (suc i) taken at = shown_
 
 pub taken_ascends : (world_state : WorldState) → ∥ IsReached world_state ∥₁ → (i : ℕ) (r : ActorRun) → get_elem? world_state.actor_runs.items i ≡ some r
     → ∥ All (λ (taken : Taken). AreUnits taken.counts.items) r.taken.items ∥₁
-taken_ascends world_state reached i r at = ∥∥₁_elim reached (hlevel props) (λ (state, reach).
-    let run = each_runs world_state state reach i r at in
+taken_ascends world_state reached i r at = ∥∥₁_elim reached (hlevel props) (λ (start, state, reach).
+    let run = each_runs start world_state state reach i r at in
     let a : Actor = run.0 in
     ∣ all_from (λ (taken : Taken). AreUnits taken.counts.items) r.taken.items (shown_units r.taken.items a.deltas.taken run.1.taken) ∣₁)
 
@@ -566,7 +567,7 @@ module _ (shape : Dimensions) (version : ℕ) (known : Known) (old new : ActorRu
 module _ (old new : WorldState) (actor : ℕ) (r now : ActorRun) (here : get_elem? old.actor_runs.items actor ≡ some r) (place : ℕ) (known : Known)
     (at : get_elem? r.known.items place ≡ some known) (starts : BeginsDelta old.shape old.version known r now) where
   pub delta_begins : r.running ≡ None → new.shape ≡ old.shape → new.version ≡ old.version → new.words ≡ old.words → new.units ≡ old.units
-      → new.actor_runs.items ≡ set old.actor_runs.items actor now → (state : State) → IsReachedAs old state → IsReachedAs new state
+      → new.actor_runs.items ≡ set old.actor_runs.items actor now → (start : Start) (state : State) → IsReachedAs start old state → IsReachedAs start new state
   delta_begins rests shaped versioned worded pooled actor_runs =
       call_begins old new actor r now here place known at rests shaped versioned worded pooled actor_runs
       (begins_with old.shape old.version known r now starts place at rests)

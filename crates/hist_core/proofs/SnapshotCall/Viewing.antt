@@ -25,15 +25,15 @@ use Rattle.alloc_core.specs.Layout.{IsShape}
 use Rattle.atomic_table.proofs.Lists.{set_here}
 use Rattle.bucket_ranges.specs.Ranges.{boundaries_of}
 use Rattle.bucket_ranges.specs.Spec.{buckets_of}
-use Rattle.segment_invariant.specs.Body.{blank}
 use Rattle.segment_invariant.proofs.Lists.Elements.{all_at, contains_at}
 use Rattle.segment_invariant.proofs.Lists.Maps.{contains_map}
-use Rattle.segment_promises.proofs.Reached.{states_are_kept}
 use Rattle.segment_machine.specs.State.{State}
 use Rattle.segment_machine.specs.Actor.{bucket_key, known_at}
 use Rattle.hist_core.specs.declared.world_state.WorldState.{WorldState}
 use Rattle.hist_core.specs.declared.hist.Known.{Known}
+use Rattle.hist_core.specs.Start.{Start}
 use Rattle.hist_core.specs.WorldState.{IsReachedAs, LooksAt}
+use Rattle.hist_core.proofs.Worlds.Starts.{kept_there, shape_there}
 use Rattle.hist_core.specs.SnapshotCall.{HasListed, HasSeenValues, HasTotal, IsStarted, OpensWith, StandsAtStage}
 use Rattle.hist_core.specs.declared.snapshot_call.Stage.{Stage}
 use Rattle.hist_core.specs.declared.snapshot_call.Stage.TheVariants.{LoadingSingle, LoadingCounts, LoadingCount, Walking, LoadingSample, LoadingSum, LoadingRedundant}
@@ -255,16 +255,16 @@ module _ (old new : WorldState) (actor : ℕ) (r now : ActorRun) (here : get_ele
     (worded : new.words ≡ old.words) (pooled : new.units ≡ old.units) (actor_runs : new.actor_runs.items ≡ set old.actor_runs.items actor now) where
   -- a call on a known histogram begins, which is no event
   pub call_begins : ((a : Actor) → IsRun old.shape old.version r a → IsShape old.shape → known_at a.answers.names known.reference ≡ Some (known_of known)
-      → IsRun old.shape old.version now a) → (state : State) → IsReachedAs old state → IsReachedAs new state
-  call_begins begins state reach =
-      let kept = states_are_kept old.shape old.version reach.id 0 state reach.reached in
-      same_there old state reach actor r now new here (λ a there run.
+      → IsRun old.shape old.version now a) → (start : Start) (state : State) → IsReachedAs start old state → IsReachedAs start new state
+  call_begins begins start state reach =
+      let kept = kept_there start old state reach in
+      same_there start old state reach actor r now new here (λ a there run.
       let free = free_turns a.hand.place (subst (λ running. StandsIn old.shape r.known.items (pending_by r) running a) rests run.stands).0 in
-      begins a run reach.reached.0
-      (alone_there old.shape (blank old.version reach.id old.shape.size) state kept (actor + 1) a there (not_spent a.hand.place free) r.known.items run.once run.names place known at))
+      begins a run (shape_there start old state reach)
+      (alone_there old.shape start.opened state kept (actor + 1) a there (not_spent a.hand.place free) r.known.items run.once run.names place known at))
       shaped versioned pooled (ap (λ w. w.items) worded) actor_runs
 
-  pub snapshot_begins : BeginsSnapshot old.shape old.version known r now → (state : State) → IsReachedAs old state → IsReachedAs new state
+  pub snapshot_begins : BeginsSnapshot old.shape old.version known r now → (start : Start) (state : State) → IsReachedAs start old state → IsReachedAs start new state
   snapshot_begins starts = call_begins (begins_with old.shape old.version known r now starts place at rests)
 
 -- so it is among the actors

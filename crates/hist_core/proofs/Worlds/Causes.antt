@@ -1,7 +1,8 @@
 -- Why a call is refused.
-use Rattle.std.proofs.Common.{◌≡◌, ◌≢◌, ℕ, ◌+◌, true, map, inl, inr, refl, sym, ap, subst, ◌∙◌}
-use Rattle.std.specs.Prelude.{List, Option, Some, None, ⊤}
+use Rattle.std.proofs.Common.{◌≡◌, ◌≢◌, ℕ, ◌+◌, Bool, true, false, ◌||◌, map, inl, inr, refl, sym, ap, subst, ◌∙◌}
+use Rattle.std.specs.Prelude.{List, Option, Some, None, ⊤, bit_and}
 use Rattle.std.specs.List.{Contains}
+use Rattle.atomic_table.proofs.Lists.{at_map}
 use mathlib.Core.Option.{some}
 use lib.ListN.{get_elem?}
 use Rattle.segment_machine.specs.declared.actor.Actor.{Actor}
@@ -11,16 +12,23 @@ use Rattle.segment_machine.specs.declared.seen.Seen.{Seen}
 use Rattle.segment_machine.specs.Actor.{word_seen}
 use Rattle.segment_machine.specs.declared.place.Place.TheVariants.{Spent}
 use Rattle.segment_machine.specs.State.{State}
-use Rattle.segment_invariant.proofs.Lists.Elements.{contains_at}
-use Rattle.segment_invariant.proofs.Lists.Maps.{contains_map}
-use Rattle.segment_invariant.specs.Consistent.{FlagsAreSet}
-use Rattle.segment_promises.proofs.Reached.{states_are_consistent}
+use Rattle.segment_image.specs.Shape.{Dimensions}
+use Rattle.segment_image.specs.Words.{word_at}
+use Rattle.alloc_core.specs.Layout.{flags_of}
+use Rattle.alloc_core.proofs.Flags.{corrupt_bit, full_bit}
+use Rattle.alloc_core.proofs.Layouts.{flags_word}
+use Rattle.segment_invariant.specs.Body.{Anatomy, layout_of}
+use Rattle.segment_invariant.specs.Invariant.{Invariant}
+use Rattle.segment_invariant.proofs.Lists.Elements.{any_there}
+use Rattle.segment_invariant.proofs.Frames.Books.{noticed_there}
 use Rattle.segment_calls.specs.declared.refusal.Refusal.{Refusal}
 use Rattle.segment_calls.specs.declared.refusal.Refusal.TheVariants as why
 use Rattle.hist_core.specs.declared.world_state.WorldState.{WorldState}
 use Rattle.hist_core.specs.declared.actor_run.Running.{Running}
 use Rattle.hist_core.specs.declared.actor_run.Running.TheVariants.{SetCorrupt, Hist, Add, Delta, Snapshot, Batch}
+use Rattle.hist_core.specs.Start.{Start}
 use Rattle.hist_core.specs.WorldState.{IsFlagSet, IsReachedAs}
+use Rattle.hist_core.proofs.Worlds.Starts.{kept_there}
 use Rattle.hist_core.specs.Hist.{HasOtherSpec}
 use Rattle.hist_core.specs.Making.{IsCause}
 use Rattle.hist_core.specs.ActorRun.{IsRefusedBy, LacksBlock}
@@ -70,20 +78,39 @@ has_flag (Some (Delta delta_call fresh)) cause a b is = absurd is
 has_flag (Some (Snapshot snapshot_call)) cause a b is = absurd is
 has_flag (Some (Batch batch)) cause a b (known, knows, reference, is, met) = own_flag cause _ a b is
 
-flag_set : (world_state : WorldState) (state : State) → IsReachedAs world_state state → (id : ℕ) (b : Actor) → get_elem? state.actors id ≡ some b → b.hand.place ≢ Spent
-    → (cause : Refusal) → HasFlag cause b → IsFlagSet cause world_state.words.items
-flag_set world_state state reach id b there living why.Full is =
-    let flags : FlagsAreSet _ state.words state.actors = (states_are_consistent world_state.shape world_state.version reach.id 0 state reach.reached).flags_are_set in
-    subst (IsFlagSet why.Full) reach.shows.words
-    (flags.full.1 (inr (subst (Contains (map (λ (a : Actor). a.done.filled) state.actors)) is
-    (contains_map (λ (a : Actor). a.done.filled) state.actors b (contains_at state.actors id b there)))))
-flag_set world_state state reach id b there living why.Corrupt is =
-    let flags : FlagsAreSet _ state.words state.actors = (states_are_consistent world_state.shape world_state.version reach.id 0 state reach.reached).flags_are_set in
-    subst (IsFlagSet why.Corrupt) reach.shows.words (flags.noticed id b there living is)
-flag_set world_state state reach id b there living _ is = tt
+-- a flag that an actor has set or seen is set in the words of a kept state
+or_true : (b : Bool) → (b || true) ≡ true
+or_true true = refl
+or_true false = refl
+
+module _ (shape : Dimensions) (opened : Anatomy) (state : State) (kept : Invariant shape opened state) (id : ℕ) (b : Actor) (there : get_elem? state.actors id ≡ some b) where
+  abbrev anatomy : Anatomy
+  anatomy = kept.anatomy
+
+  flags : flags_of anatomy.corrupt anatomy.full anatomy.other_flags ≡ word_at state.words 6
+  flags = sym (flags_word shape state.words (layout_of anatomy) kept.shown)
+
+  full_there : b.done.filled ≡ true → bit_and (word_at state.words 6) 2 ≡ 2
+  full_there is =
+      let set = any_there (map (λ (a : Actor). a.done.filled) state.actors) id false (at_map (λ (a : Actor). a.done.filled) state.actors id b there ∙ ap some is) in
+      let on : anatomy.full ≡ true = kept.full ∙ (ap (λ c. opened.full || c) set ∙ or_true opened.full) in
+      subst (λ (n : ℕ). bit_and n 2 ≡ 2) flags ((full_bit anatomy.corrupt anatomy.full anatomy.other_flags).1 on)
+
+  corrupt_there : b.seen.corrupt ≡ true → bit_and (word_at state.words 6) 1 ≡ 1
+  corrupt_there is = subst (λ (n : ℕ). bit_and n 1 ≡ 1) flags
+      ((corrupt_bit anatomy.corrupt anatomy.full anatomy.other_flags).1 (noticed_there anatomy.corrupt state.actors id b there kept.noticed is))
+
+flag_set : (start : Start) (world_state : WorldState) (state : State) → IsReachedAs start world_state state → (id : ℕ) (b : Actor)
+    → get_elem? state.actors id ≡ some b → b.hand.place ≢ Spent → (cause : Refusal) → HasFlag cause b → IsFlagSet cause world_state.words.items
+flag_set start world_state state reach id b there living why.Full is =
+    subst (IsFlagSet why.Full) reach.shows.words (full_there world_state.shape start.opened state (kept_there start world_state state reach) id b there is)
+flag_set start world_state state reach id b there living why.Corrupt is =
+    subst (IsFlagSet why.Corrupt) reach.shows.words (corrupt_there world_state.shape start.opened state (kept_there start world_state state reach) id b there is)
+flag_set start world_state state reach id b there living _ is = tt
 
 -- it is set where a call is refused for it
-pub flagged : (world_state : WorldState) (state : State) → IsReachedAs world_state state → (actor : ℕ) (a b : Actor) → get_elem? state.actors (actor + 1) ≡ some b
-    → b.hand.place ≢ Spent → (running : Option Running) (cause : Refusal) → IsRefusedBy running cause a b → IsFlagSet cause world_state.words.items
-flagged world_state state reach actor a b there living running cause is =
-    flag_set world_state state reach (actor + 1) b there living cause (has_flag running cause a b is)
+pub flagged : (start : Start) (world_state : WorldState) (state : State) → IsReachedAs start world_state state → (actor : ℕ) (a b : Actor)
+    → get_elem? state.actors (actor + 1) ≡ some b → b.hand.place ≢ Spent → (running : Option Running) (cause : Refusal) → IsRefusedBy running cause a b
+    → IsFlagSet cause world_state.words.items
+flagged start world_state state reach actor a b there living running cause is =
+    flag_set start world_state state reach (actor + 1) b there living cause (has_flag running cause a b is)

@@ -9,6 +9,7 @@ use Rattle.segment_machine.specs.Event.{change, spot}
 use Rattle.segment_machine.specs.State.{State, memory}
 use Rattle.hist_core.specs.declared.world_state.WorldState.{WorldState}
 use Rattle.hist_core.specs.declared.call.Stepped.{Stepped}
+use Rattle.hist_core.specs.Start.{Start}
 use Rattle.hist_core.specs.WorldState.{BeginsFrom, GivesBack, IsReached, IsReachedAs, Lends, Shows, StepsTo}
 use Rattle.hist_core.specs.World.{ChangesOneWord}
 
@@ -23,9 +24,10 @@ same_memory actor old new (inl is) = ap memory is
 same_memory actor old new (inr (units, (a, b, apart, there, other, may, is))) = ap memory is
 
 -- a step changes one word at most
-pub one_word : (old : WorldState) (actor : ℕ) (state : State) (new : WorldState) (said : Stepped) → IsReachedAs old state → StepsTo old actor state new said
+pub one_word : (start : Start) (old : WorldState) (actor : ℕ) (state : State) (new : WorldState) (said : Stepped) → IsReachedAs start old state
+    → StepsTo old actor start state new said
     → ChangesOneWord old.words.items new.words.items
-one_word old actor state new said reach (event, then_is, step, (last, gives, (reached, promised, looks, claims, loads))) =
+one_word start old actor state new said reach (event, then_is, step, (last, gives, (reached, promised, looks, claims, loads))) =
     let at = spot (length state.words) event in let word = change old.version event (word_at (memory state) at) in (
       at,
       word,
@@ -39,12 +41,12 @@ lent_memory actor old new (inl is) = ap memory is
 lent_memory actor old new (inr (units, (a, b, apart, there, other, may, is))) = ap memory is
 
 -- the begin of a call changes no word
-pub no_word : (old : WorldState) (actor : ℕ) (new : WorldState) → ∥ IsReached old ∥₁ → ((state : State) → IsReachedAs old state → BeginsFrom state actor new)
+pub no_word : (old : WorldState) (actor : ℕ) (new : WorldState) → ∥ IsReached old ∥₁ → ((start : Start) (state : State) → IsReachedAs start old state → BeginsFrom start state actor new)
     → new.words.items ≡ old.words.items
-no_word old actor new reached begins = ∥∥₁_elim reached (hlevel props) (λ (state, reach). let begun = begins state reach in
+no_word old actor new reached begins = ∥∥₁_elim reached (hlevel props) (λ (start, state, reach). let begun = begins start state reach in
     sym (memory_is new begun.0 begun.2.shows) ∙ (lent_memory actor state begun.0 begun.1 ∙ memory_is old state reach.shows))
 
 -- and so it is where the begin lends no units
-pub no_word_alone : (old new : WorldState) → ∥ IsReached old ∥₁ → ((state : State) → IsReachedAs old state → IsReachedAs new state)
+pub no_word_alone : (old new : WorldState) → ∥ IsReached old ∥₁ → ((start : Start) (state : State) → IsReachedAs start old state → IsReachedAs start new state)
     → new.words.items ≡ old.words.items
-no_word_alone old new reached begins = no_word old 0 new reached (λ state reach. (state, inl refl, begins state reach))
+no_word_alone old new reached begins = no_word old 0 new reached (λ start state reach. (state, inl refl, begins start state reach))

@@ -1,48 +1,62 @@
--- A new world stands for a state of the machine: an opener that has made a recorder for each actor, one after the other.
-use Rattle.std.proofs.Common.{◌≡◌, ◌⊎◌, ℕ, zero, suc, ◌+◌, ◌<◌, ◌≤◌, List, [], ◌∷◌, ◌++◌, map, take, drop, length, All, inl, inr, refl, sym, ap, ◌∙◌, subst, arith, length-append, zero-le, vec_len}
+-- A world whose actors have done nothing stands for a state of the machine: an opener that has made a recorder for each actor, one after the
+-- other. It starts with a new segment, or with an image.
+use Rattle.std.proofs.Common.{◌≡◌, ◌⊎◌, ℕ, zero, suc, ◌+◌, ◌-◌, ◌<◌, ◌≤◌, ◌^◌, List, [], ◌∷◌, ◌++◌, map, take, drop, length, All, inl, inr, refl, sym, ap, ◌∙◌, subst, arith, length-append, vec_len}
 use Rattle.std.specs.Prelude.{vec_capacity}
 use Rattle.std.proofs.Math.Numerals.{add-one}
 use Rattle.std.proofs.Math.Seq.{take-nil, drop-nil}
 use mathlib.Core.Option.{some, some-ne-none}
 use lib.ListN.{get_elem?}
 use Rattle.atomic_table.proofs.Lists.{at_snoc}
+use Rattle.segment_image.specs.Head.{head_of}
 use Rattle.segment_image.specs.Shape.{Dimensions}
+use Rattle.bucket_ranges.specs.Reading.{Reading, reading_along}
 use Rattle.alloc_core.specs.Layout.{IsShape}
 use Rattle.segment_machine.specs.declared.actor.Actor.{Actor}
 use Rattle.segment_machine.specs.declared.actor.Role.TheVariants.{Opener}
-use Rattle.segment_machine.specs.Seats.{opener_of, newcomer}
+use Rattle.segment_machine.specs.declared.place.Place.TheVariants.{Idle}
+use Rattle.segment_machine.specs.Seats.{newcomer}
 use Rattle.segment_machine.specs.State.{State}
-use Rattle.segment_machine.specs.Reached.{new_state, IsReached, IsState, started, offered, split}
+use Rattle.segment_machine.specs.Reached.{IsReached, started, offered, split}
 use Rattle.segment_invariant.proofs.Lists.Elements.{all_at, all_from}
+use Rattle.segment_promises.specs.Adoption.{adopter}
+use Rattle.segment_promises.proofs.Adopting.Opened.Opens.{adoption_opens}
 use Rattle.hist_core.specs.declared.actor_run.ActorRun.{ActorRun}
 use Rattle.hist_core.specs.declared.world_state.WorldState.{WorldState}
 use Rattle.hist_core.specs.ActorRun.{entry_of, known_of, AreShown, HasDraft, IsFresh, IsKnown, HaveOwnNames, StandsIn, HasRoom, IsRun, pending_by}
-use Rattle.hist_core.specs.WorldState as world_state
-use Rattle.hist_core.specs.WorldState.{AreRun, IsNewWorldState}
+use Rattle.hist_core.specs.Start.{IsImage, MayStart, Start, new_start, start_state}
+use Rattle.hist_core.specs.WorldState.{AreRun, IsAdoptedWorldState, IsNewWorldState, IsReachedFrom, IsReachedFromImage, IsReachedFromNew}
+use Rattle.hist_core.proofs.Worlds.Starts.{start_role}
 
-module _ (shape : Dimensions) (version id : ℕ) where
+module _ (shape : Dimensions) (version : ℕ) (start : Start) (role : start.opener.role ≡ Opener 0 0 0) (idle : start.opener.hand.place ≡ Idle)
+    (segment : start.opener.segment ≡ record { shape = shape; version = version; cursors = 0 }) where
   -- the opener that has made so many, and the recorder that it makes next
   abbrev opener : ℕ → Actor
-  opener n = record (opener_of shape version 0) { role = Opener n n 0 }
+  opener n = record start.opener { role = Opener n n 0 }
 
   abbrev recorders : ℕ → List Actor
   recorders zero = []
   recorders (suc n) = recorders n ++ newcomer (opener n) ∷ []
 
   abbrev made : ℕ → State
-  made n = record (new_state shape version id 0) { actors = opener n ∷ recorders n }
+  made n = record (start_state start) { actors = opener n ∷ recorders n }
 
   -- the machine reaches it
-  reaches : (n : ℕ) → n ≤ 64 → IsReached version (new_state shape version id 0) (made n)
-  reaches zero few = started
+  reaches : (n : ℕ) → n ≤ 64 → IsReached version (start_state start) (made n)
+  reaches zero few = subst (λ (a : Actor). IsReached version (start_state start) (record (start_state start) { actors = a ∷ [] }))
+      (λ i. record start.opener { role = role i }) started
   reaches (suc n) few =
       let before : n ≤ 64 = omega (arith, few) in
       let may : n < 256 = omega (arith, few) in
-      let none : 0 ≤ 4294967295 = omega arith in
-      subst (λ (k : ℕ). IsReached version (new_state shape version id 0) (record (new_state shape version id 0) { actors = opener k ∷ recorders (suc n) })) (add-one n)
-      (split (made n) (record (new_state shape version id 0) { actors = opener (n + 1) ∷ recorders (suc n) }) 0
-      (offered (made n) (made n) 0 0 (reaches n before) (opener n, refl, (refl, refl, none, may), refl))
-      (opener n, refl, (refl, refl, none, may), refl))
+      let none : 0 ≤ start.opener.units.share = omega arith in
+      let same : start.opener.units.share ≡ start.opener.units.share - 0 = omega arith in
+      subst (λ (k : ℕ). IsReached version (start_state start) (record (start_state start) { actors = opener k ∷ recorders (suc n) })) (add-one n)
+      (split (made n) (record (start_state start) { actors = opener (n + 1) ∷ recorders (suc n) }) 0
+      (offered (made n) (made n) 0 0 (reaches n before) (opener n, refl, (idle, refl, none, may), refl)) (
+        opener n,
+        refl,
+        (idle, refl, none, may),
+        (λ i. record (start_state start) { actors = record (opener (n + 1)) { units = record start.opener.units { share = same i } } ∷ recorders (suc n) }),
+      ))
 
   -- an actor that has done nothing stands for a recorder that has just been made
   one_runs : (n : ℕ) (actor_run : ActorRun) → IsFresh actor_run → IsRun shape version actor_run (newcomer (opener n))
@@ -50,7 +64,7 @@ module _ (shape : Dimensions) (version id : ℕ) where
       let nothing : (k : ℕ) → k ≡ 0 → map entry_of (take k actor_run.entries.items) ≡ [] = λ k none. ap (λ l. map entry_of (take k l)) fresh.entries ∙ ap (map entry_of) (take-nil k) in
       record {
         records = refl;
-        segment = refl;
+        segment = segment;
         first = refl;
         within = (subst (λ (k : ℕ). k ≤ actor_run.begun) (sym fresh.ended) (omega arith), subst (λ (k : ℕ). k ≤ length actor_run.entries.items) (sym fresh.begun) (omega arith));
         ended = nothing actor_run.ended fresh.ended;
@@ -88,29 +102,66 @@ module _ (shape : Dimensions) (version id : ℕ) where
   each_new zero i a at = absurd (some-ne-none a (sym at))
   each_new (suc n) i a at = elim (at_snoc (recorders n) (newcomer (opener n)) a i at) [ inl before ↦ each_new n i a before | inr last ↦ (n, sym last) ]
 
--- a new world is one that the machine reaches
-pub new_is_reached : (shape : Dimensions) (version id actors : ℕ) (new : WorldState) → IsNewWorldState shape version id actors new → IsShape shape
-    → (version ≡ 1) ⊎ (version ≡ 2) → actors ≤ 64 → world_state.IsReached new
-new_is_reached shape version id actors new made_so lawful versions few =
-    let runs = all_run shape version id new.actor_runs.items (recorders shape version id actors)
-    (sym new.actor_runs.ok.0 ∙ made_so.count ∙ sym (counted shape version id actors)) made_so.rest (each_new shape version id actors) in
-    let at = made shape version id actors in (
-      at,
+-- a world of so many actors that have done nothing is one that the machine reaches from its start
+fresh_is_reached : (start : Start) (actors : ℕ) (new : WorldState) → MayStart new.shape new.version start → start.opener.hand.place ≡ Idle
+    → start.opener.segment ≡ record { shape = new.shape; version = new.version; cursors = 0 } → new.words.items ≡ start.words → vec_len new.actor_runs ≡ actors
+    → All IsFresh new.actor_runs.items → start.opener.units.share ≡ new.units → actors ≤ 64 → IsReachedFrom start new
+fresh_is_reached start actors new starts idle segment worded many fresh pooled few =
+    let role = start_role new.shape new.version start starts in
+    let made_there = made new.shape new.version start role idle segment actors in (
+      made_there,
       record {
-        id = id;
-        reached = subst (λ (p : Dimensions × ℕ). IsState p.0 p.1 id 0 at) (λ i. (sym made_so.shaped i, sym made_so.versioned i))
-            (lawful, versions, zero-le, reaches shape version id actors few);
+        starts = starts;
+        reached = reaches new.shape new.version start role idle segment actors few;
         shows = record {
-          words = sym made_so.words;
+          words = sym worded;
           cursors = refl;
-          opener = opener shape version id actors;
-          recorders = recorders shape version id actors;
+          opener = opener new.shape new.version start role idle segment actors;
+          recorders = recorders new.shape new.version start role idle segment actors;
           actors = refl;
           opens = refl;
-          waits = refl;
+          waits = idle;
           offers = refl;
-          pool = sym made_so.units;
-          runs = subst (λ (p : Dimensions × ℕ). AreRun p.0 p.1 new.actor_runs.items (recorders shape version id actors)) (λ i. (sym made_so.shaped i, sym made_so.versioned i)) runs;
+          pool = pooled;
+          runs = all_run new.shape new.version start role idle segment new.actor_runs.items (recorders new.shape new.version start role idle segment actors)
+              (sym new.actor_runs.ok.0 ∙ many ∙ sym (counted new.shape new.version start role idle segment actors)) fresh (each_new new.shape new.version start role idle segment actors);
         };
+        entries = refl;
+        deltas = refl;
+        answers = refl;
       },
+    )
+
+-- a new one from a new segment
+pub new_is_reached : (shape : Dimensions) (version id actors : ℕ) (new : WorldState) → IsNewWorldState shape version id actors new → IsShape shape
+    → (version ≡ 1) ⊎ (version ≡ 2) → actors ≤ 64 → IsReachedFromNew shape version id new
+new_is_reached shape version id actors new made_so lawful versions few = fresh_is_reached (new_start shape version id) actors new
+    (subst (λ (p : Dimensions × ℕ). MayStart p.0 p.1 (new_start shape version id)) (λ i. (sym made_so.shaped i, sym made_so.versioned i)) (inl (id, lawful, versions, refl)))
+    refl (λ i. record { shape = sym made_so.shaped i; version = sym made_so.versioned i; cursors = 0 }) made_so.words made_so.count made_so.rest (sym made_so.units) few
+
+-- and one that goes on with an image from that
+pub image_is_reached : (words : List ℕ) (actors : ℕ) (new : WorldState) → IsAdoptedWorldState words actors new → All (λ word. word < 2 ^ 64) words → actors ≤ 64
+    → IsReachedFromImage words new
+image_is_reached words actors new goes_on narrow few =
+    let references : List ℕ = goes_on.references in
+    let reading : Reading = reading_along words (head_of words) references in
+    let opens = adoption_opens words references reading 0 narrow goes_on.listed refl goes_on.adoptable in
+    let start : Start = record { opened = opens.0; words = words; opener = adopter words references reading 0 } in
+    let image : IsImage words references start = record {
+      listed = goes_on.listed;
+      adoptable = goes_on.adoptable;
+      words_are = refl;
+      opener_is = refl;
+      shown = opens.1;
+      order = opens.2;
+      kept = opens.3;
+      opens = opens.4;
+    } in
+    let units = goes_on.units in (
+      references,
+      start,
+      image,
+      fresh_is_reached start actors new (inr (words, references, image, goes_on.shaped, goes_on.versioned)) refl
+          (λ i. record { shape = sym goes_on.shaped i; version = sym goes_on.versioned i; cursors = 0 }) goes_on.words_are goes_on.count goes_on.rest
+          (omega (arith, units)) few,
     )

@@ -1,10 +1,15 @@
 -- Moves one after the other.
-use Rattle.std.proofs.Common.{◌≡◌, ℕ, ◌+◌, ◌<◌, List, [], ◌∷◌, ◌++◌, take, drop, get_or, length, refl, sym, ap, subst, ◌∙◌}
+use Rattle.std.proofs.Common.{true≢false, ◌≡◌, ◌⊎◌, inl, ℕ, ◌+◌, ◌<◌, List, [], ◌∷◌, ◌++◌, take, drop, get_or, length, refl, sym, ap, subst, ◌∙◌}
 use Rattle.std.proofs.lemmas.List.{drop_more, take_more, take-append-drop}
-use Rattle.std.specs.Prelude.{Option, Some, None, Ok, Err, MatchOption}
+use Rattle.std.specs.Prelude.{Option, Some, None, Result, Ok, Err, IfOk, MatchOption, MatchResult, is_ok}
 use Rattle.hist_core.specs.declared.world_state.WorldState.{WorldState}
 use Rattle.hist_core.specs.declared.call.Move.{Move}
 use Rattle.hist_core.specs.declared.fault.WorldFault.{WorldFault}
+use Rattle.image_adoption.specs.Checking.{IsFaultOf}
+use Rattle.image_adoption.specs.declared.fault.AdoptFault.{AdoptFault}
+use Rattle.image_adoption.specs.declared.fault.AdoptFault.TheVariants as adopt
+use Rattle.hist_core.specs.WorldFault.{fault_of_adoption}
+use Rattle.hist_core.specs.World.{IsAdoptFault}
 use Rattle.hist_core.specs.Moves.{FaultsAt, Makes, MakesAll, StopsAt}
 
 -- one move more
@@ -50,3 +55,30 @@ is_fine (Some fault) a fine is = absurd (cc is)
 -- what stops behind a beginning without fault
 pub stops_behind : (first : Option WorldFault) (fault : WorldFault) (Stops : Type 0) → first ≡ None → Stops → MatchOption first Stops (λ why. fault ≡ why)
 stops_behind first fault Stops none stops = subst (λ (f : Option WorldFault). MatchOption f Stops (λ why. fault ≡ why)) (sym none) stops
+
+-- what stops before the first move
+pub stops_before : {A : Type 0} (first : Option WorldFault) (made : Result A WorldFault) (fault : WorldFault) (Fails Stops : Type 0) → made ≡ Err fault
+    → MatchOption first Fails (λ why. made ≡ Err why) → MatchOption first (Fails ⊎ Stops) (λ why. fault ≡ why)
+stops_before None made fault Fails Stops so is = inl is
+stops_before (Some why) made fault Fails Stops so is = cc (sym so ∙ is)
+
+-- ---- from an image on
+
+-- what a fault of it comes to
+pub image_faults : (words : List ℕ) (fault : AdoptFault) → IsFaultOf words 0 fault → IsAdoptFault words (fault_of_adoption fault)
+image_faults words (adopt.Image why) is = is
+image_faults words adopt.OldVersion is = is
+image_faults words adopt.Corrupt is = is
+image_faults words adopt.Damaged is = is
+image_faults words adopt.NoUnits is = is
+image_faults words adopt.BadCursors is = is
+image_faults words adopt.NoMemory is = tt
+
+-- ---- results
+
+-- what holds of a value that is Ok still holds where it is told with another error
+pub ok_still : {A E F : Type 0} (P : A → Type 0) (made : Result A E) (told : Result A F) (Fails : E → Type 0) → IfOk made P
+    → MatchResult made (λ x. told ≡ Ok x) Fails → is_ok told ≡ is_ok made → IfOk told P
+ok_still P (Ok x) told Fails holds same alike = subst (λ r. IfOk r P) (sym same) holds
+ok_still P (Err e) (Ok x) Fails holds same alike = absurd (true≢false alike)
+ok_still P (Err e) (Err f) Fails holds same alike = tt

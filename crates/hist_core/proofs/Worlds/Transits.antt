@@ -143,7 +143,7 @@ stands_here shape known pending (Some (Batch call)) a (of, telling) look bucket 
     (λ (none, counts). batches_here a look bucket units at shape of call counts) telling.stands
 
 pub move_their_own : (world_state : WorldState) → MoveTheirOwn world_state
-move_their_own world_state state reach actor r a at there look bucket units moves =
-    let (b, mine, run) = its_recorder world_state state reach actor r at in
+move_their_own world_state start state reach actor r a at there look bucket units moves =
+    let (b, mine, run) = its_recorder start world_state state reach actor r at in
     stands_here world_state.shape r.known.items (pending_by r) r.running a
     (subst (StandsIn world_state.shape r.known.items (pending_by r) r.running) (some-injective b a (sym mine ∙ there)) run.stands) look bucket units moves

@@ -13,7 +13,7 @@ use Rattle.segment_machine.specs.declared.actor.Actor.{Actor}
 use Rattle.segment_machine.specs.Event.{Event, spot, after, next, Learned}
 use Rattle.segment_machine.specs.Note.{Notes}
 use Rattle.segment_machine.specs.State.{State, memory, IsStep}
-use Rattle.segment_machine.specs.Reached.{IsState, IsLent, IsReturned, new_state, stepped, lent, returned}
+use Rattle.segment_machine.specs.Reached.{IsLent, IsReturned, stepped, lent, returned}
 use Rattle.segment_machine.specs.Reached as machine
 use Rattle.segment_machine.specs.Seats.{giver, getter}
 use Rattle.segment_machine.specs.declared.actor.Answered.{Answered}
@@ -23,20 +23,22 @@ use Rattle.segment_machine.specs.Actor.{is_opener, units_listed, units_of, AreAp
 use Rattle.segment_invariant.proofs.Lists.Elements.{all_at, sum_at_least}
 use Rattle.alloc_core.proofs.Layouts.{length_shown}
 use Rattle.alloc_core.proofs.Owners.{set_at}
-use Rattle.segment_invariant.specs.Body.{blank, layout_of}
+use Rattle.segment_invariant.specs.Body.{layout_of}
 use Rattle.segment_invariant.specs.Keeps.{found_at}
 use Rattle.segment_invariant.proofs.Lists.Pairs.{element_at}
 use Rattle.segment_promises.proofs.Adopting.Headers.{header_is}
-use Rattle.segment_promises.proofs.Reached.{states_are_kept, states_are_consistent}
 use Rattle.segment_promises.proofs.Readings.Stopped.{stopped_reads}
+use Rattle.segment_promises.specs.Reads.{ReadsUnits}
 use Rattle.segment_promises.specs.Deltas.{IsEnough}
 use Rattle.segment_promises.proofs.Deltas.{deltas_take_accepted}
 use Rattle.segment_promises.proofs.Snapshots.{snapshots_see_accepted}
 use Rattle.segment_promises.proofs.Steps.{happens}
 use Rattle.segment_promises.proofs.Names.{names_are_first}
-use Rattle.segment_promises.proofs.Spoilers.{notes_leave, spoilers_step_on}
+use Rattle.segment_promises.proofs.Spoilers.{notes_leave}
 use Rattle.std.specs.List.{Contains}
-use Rattle.bucket_ranges.specs.Reading.{spec_of}
+use Rattle.bucket_ranges.specs.Reading.{IsListed, reading_along, spec_of}
+use Rattle.segment_promises.specs.Adoption.{IsAdoptable}
+use Rattle.segment_promises.proofs.Adopting.Kept.{kept_are_adoptable}
 use Rattle.bucket_ranges.specs.Spec.{SameSpec}
 use Rattle.list_core.specs.Chain.{IsChain}
 use Rattle.segment_image.specs.Head.{head_of, header_of}
@@ -52,9 +54,10 @@ use Rattle.segment_calls.specs.declared.answer.Snapshot.{Snapshot}
 use Rattle.hist_core.specs.declared.call.Stepped.{Stepped}
 use Rattle.hist_core.specs.declared.call.Stepped.TheVariants.{More, Done}
 use Rattle.hist_core.specs.declared.call.Answer.TheVariants as answer
+use Rattle.hist_core.specs.Start.{MayStart, Start, start_state}
 use Rattle.hist_core.specs.StepsBy.{StepsBy, WalksInOrder, has_pointer}
 use Rattle.hist_core.specs.ActorRun.{IsAnswer, IsTook, IsKnown, IsRun, IsSomeRun, Lands, Advances, held_by, looked_by, returned_by, LooksSince, StandsIn, known_of, pending_by, IsRefusedBy}
-use Rattle.hist_core.specs.WorldState.{AreRun, IsReachedAs, IsReached, IsConsistentAs, IsReadAs, AreKnownFirst, HasSeen, HasTaken, ClaimsNothing, HoldsNoPointer, LoadsPointer, IsPromised, StepsTo, Rests, BeginsFrom, IsDue, LooksFrom}
+use Rattle.hist_core.specs.WorldState.{AreRun, IsReachedAs, IsReached, IsConsistentAs, IsReadAs, MayBeAdopted, AreKnownFirst, HasSeen, HasTaken, ClaimsNothing, HoldsNoPointer, LoadsPointer, IsPromised, StepsTo, Rests, BeginsFrom, IsDue, LooksFrom}
 use Rattle.bucket_ranges.specs.Ranges.{boundaries_of}
 use Rattle.bucket_ranges.specs.Spec.{spec_fault}
 use Rattle.std.specs.Prelude.{None, Ok}
@@ -66,6 +69,7 @@ use Rattle.hist_core.proofs.Worlds.Landing.{looks_still}
 use Rattle.hist_core.proofs.Worlds.Causes.{flagged, refused_still}
 use Rattle.segment_calls.specs.declared.refusal.Refusal.{Refusal}
 use Rattle.hist_core.proofs.Worlds.Quiet.{not_spent, counts_none, some_quiet}
+use Rattle.hist_core.proofs.Worlds.Starts.{consistent_there, kept_there, shape_there, spoiled_there, version_there}
 
 -- ---- actors and those that they stand for
 
@@ -102,14 +106,14 @@ set_behind_first x xs i y = ap (λ n. set (x ∷ xs) n y) (add-one i)
 -- ---- what is answered
 
 -- what an actor answers of a snapshot is at least what it had accepted and seen
-has_seen : (world_state : WorldState) (state : State) (reach : IsReachedAs world_state state) (actor : ℕ) (b : Actor) → get_elem? state.actors (actor + 1) ≡ some b
-    → is_opener b.role ≡ false → (histogram : ℕ) (snapshot : Snapshot) → IsAnswer histogram snapshot b → HasSeen actor histogram snapshot world_state state reach
-has_seen world_state state reach actor b there records histogram snapshot is =
-    let opened = blank world_state.version reach.id world_state.shape.size in
-    let kept = states_are_kept world_state.shape world_state.version reach.id 0 state reach.reached in
+has_seen : (start : Start) (world_state : WorldState) (state : State) (reach : IsReachedAs start world_state state) (actor : ℕ) (b : Actor)
+    → get_elem? state.actors (actor + 1) ≡ some b → is_opener b.role ≡ false → (histogram : ℕ) (snapshot : Snapshot) → IsAnswer histogram snapshot b
+    → HasSeen actor histogram snapshot start world_state state reach
+has_seen start world_state state reach actor b there records histogram snapshot is =
+    let kept = kept_there start world_state state reach in
     let known : MachineKnown = is.known in
     let answered : Answered = is.answered in
-    let sees = snapshots_see_accepted world_state.shape opened state (actor + 1) reach.shows.opener b known answered kept
+    let sees = snapshots_see_accepted world_state.shape start.opened state (actor + 1) reach.shows.opener b known answered kept
     (ap (λ l. get_elem? l 0) reach.shows.actors) there records is.knows is.saw in
     let noted = sees.1 in
     let redundant = is.redundant in record {
@@ -125,20 +129,21 @@ has_seen world_state state reach actor b there records histogram snapshot is =
     }
 
 -- of a delta, that all of them took together
-has_taken : (world_state : WorldState) (state : State) (reach : IsReachedAs world_state state) (actor : ℕ) (b : Actor) → get_elem? state.actors (actor + 1) ≡ some b
-    → is_opener b.role ≡ false → (histogram : ℕ) (delta : Delta) → IsTook histogram delta b → HasTaken actor histogram delta world_state state reach
-has_taken world_state state reach actor b there records histogram delta is =
-    let kept = states_are_kept world_state.shape world_state.version reach.id 0 state reach.reached in record {
+has_taken : (start : Start) (world_state : WorldState) (state : State) (reach : IsReachedAs start world_state state) (actor : ℕ) (b : Actor)
+    → get_elem? state.actors (actor + 1) ≡ some b → is_opener b.role ≡ false → (histogram : ℕ) (delta : Delta) → IsTook histogram delta b
+    → HasTaken actor histogram delta start world_state state reach
+has_taken start world_state state reach actor b there records histogram delta is =
+    let kept = kept_there start world_state state reach in record {
       recorder = b;
       there = there;
       answer = is;
       kept = kept;
-      enough = deltas_take_accepted world_state.shape (blank world_state.version reach.id world_state.shape.size) state (actor + 1) b is.known kept there records is.knows is.took;
+      enough = deltas_take_accepted world_state.shape start.opened state (actor + 1) b is.known kept there records is.knows is.took;
     }
 
 -- ---- a step
 
-module _ (old : WorldState) (state : State) (reach : IsReachedAs old state) (size : length old.words.items ≡ old.shape.size) where
+module _ (start : Start) (old : WorldState) (state : State) (reach : IsReachedAs start old state) (size : length old.words.items ≡ old.shape.size) where
   -- without shared cursors the memory is the words
   abbrev words : List ℕ
   words = old.words.items
@@ -176,10 +181,11 @@ module _ (old : WorldState) (state : State) (reach : IsReachedAs old state) (siz
         (λ i. (sym shaped i, sym versioned i, sym actor_runs i))
         (one_goes_on old.shape old.version old.actor_runs.items reach.shows.recorders actor r' b reach.shows.runs run)
 
-    reaches : (then_is : State) → machine.IsReached old.version (new_state old.shape old.version reach.id 0) then_is
-        → IsState new.shape new.version reach.id 0 then_is
-    reaches then_is led = subst (λ (p : Dimensions × ℕ). IsState p.0 p.1 reach.id 0 then_is) (λ i. (sym shaped i, sym versioned i))
-        (reach.reached.0, reach.reached.1, reach.reached.2, led)
+    starts_there : MayStart new.shape new.version start
+    starts_there = subst (λ (p : Dimensions × ℕ). MayStart p.0 p.1 start) (λ i. (sym shaped i, sym versioned i)) reach.starts
+
+    reaches : (then_is : State) → machine.IsReached old.version (start_state start) then_is → machine.IsReached new.version (start_state start) then_is
+    reaches then_is led = subst (λ (v : ℕ). machine.IsReached v (start_state start) then_is) (sym versioned) led
 
     -- what it does is a step of the machine
     does_step : {holds : Actor → Type 0} → StepsBy old.shape.size old.version its.0 words new.words.items holds
@@ -187,9 +193,9 @@ module _ (old : WorldState) (state : State) (reach : IsReachedAs old state) (siz
     does_step {holds = holds} e =
         let run = its.2 in
         let event : Event = e.event in
-        let kept = states_are_kept old.shape old.version reach.id 0 state reach.reached in
+        let kept = kept_there start old state reach in
         let acted : Actor = next e.at event (found_at state event) in
-        let did = happens old.shape (blank old.version reach.id old.shape.size) state (actor + 1) its.0 e.at e.before event kept there run.records e.told
+        let did = happens old.shape start.opened state (actor + 1) its.0 e.at e.before event kept there run.records e.told
         e.ready [] acted (λ learned. refl) in
         let learned = subst (Learned e.at event) (finds event) did.1 in
         let stood = set_at state.actors (actor + 1) its.0 (next e.at event (found_at state event)) there in
@@ -219,10 +225,10 @@ module _ (old : WorldState) (state : State) (reach : IsReachedAs old state) (siz
 
     -- the state where its actor is this is reached
     reached_so : (event : Event) (b : Actor) → IsStep old.version state (actor + 1) event (changed b) → new.units ≡ old.units → IsRun old.shape old.version r' b
-        → IsReachedAs new (changed b)
+        → IsReachedAs start new (changed b)
     reached_so event b step pooled run = record {
-      id = reach.id;
-      reached = reaches (changed b) (stepped state (changed b) (actor + 1) event reach.reached.3 step);
+      starts = starts_there;
+      reached = reaches (changed b) (stepped state (changed b) (actor + 1) event reach.reached step);
       shows = record {
         words = refl;
         cursors = refl;
@@ -235,6 +241,9 @@ module _ (old : WorldState) (state : State) (reach : IsReachedAs old state) (siz
         pool = reach.shows.pool ∙ sym pooled;
         runs = runs_there b run;
       };
+      entries = reach.entries;
+      deltas = reach.deltas;
+      answers = reach.answers;
     }
 
     -- since when it looks
@@ -273,14 +282,14 @@ module _ (old : WorldState) (state : State) (reach : IsReachedAs old state) (siz
     claims_none event b step last c is_last done a d is_a is_d spoiled =
         let (first, then_is) = stepped_from event b step a is_a in
         let ends : d.done ≡ step.then_is.done = ap (λ (x : Actor). x.done) (sym (some-injective c d (sym is_last ∙ is_d))) ∙ (done ∙ ap (λ (x : Actor). x.done) (sym then_is)) in
-        let (sets, claimed) = spoilers_step_on old.shape old.version reach.id 0 state (changed b) (actor + 1) event reach.reached step
+        let (sets, claimed) = spoiled_there start old state reach (changed b) (actor + 1) event step
         (ap (λ (x : Actor). x.done.spoiled) first ∙ spoiled) in
         (ap (λ (x : Deeds). x.spoiled) ends ∙ sets, ap (λ (x : Deeds). x.claimed) ends ∙ (claimed ∙ ap (λ (x : Actor). x.done.claimed) first))
 
     -- it lands there, where no units come back
     lands : (event : Event) (b : Actor) (step : IsStep old.version state (actor + 1) event (changed b)) (pooled : new.units ≡ old.units)
         (run : IsRun old.shape old.version r' b) → LooksSince r.running its.0 b → (said : Stepped)
-        → IsPromised old actor state said new (changed b) (reached_so event b step pooled run) → StepsTo old actor state new said
+        → IsPromised old actor state said start new (changed b) (reached_so event b step pooled run) → StepsTo old actor start state new said
     lands event b step pooled run looks said promised = (
       event,
       changed b,
@@ -324,15 +333,15 @@ module _ (old : WorldState) (state : State) (reach : IsReachedAs old state) (siz
     -- it lands there once its units have come back
     lands_back : (event : Event) (b : Actor) (units : ℕ) → IsStep old.version state (actor + 1) event (changed b) → new.units ≡ old.units + units
         → b.hand.place ≢ Spent → is_opener b.role ≡ false → units ≤ b.units.share → IsRun old.shape old.version r' (giver b units) → LooksSince r.running its.0 b → (said : Stepped)
-        → ((there : IsReachedAs new (traded b (getter reach.shows.opener units) (giver b units))) → IsPromised old actor state said new _ there) → StepsTo old actor state new said
+        → ((there : IsReachedAs start new (traded b (getter reach.shows.opener units) (giver b units))) → IsPromised old actor state said start new _ there) → StepsTo old actor start state new said
     lands_back event b units step pooled living recorder fits run looks said promised =
         let opener : Actor = reach.shows.opener in
         let last : State = traded b (getter opener units) (giver b units) in
         let back : IsReturned (changed b) 0 (actor + 1) units last =
         (opener, b, not_first, first_is b, set_at state.actors (actor + 1) its.0 b there, (reach.shows.opens, recorder, living, fits), refl) in
-        let there : IsReachedAs new last = record {
-          id = reach.id;
-          reached = reaches last (returned (changed b) last 0 (actor + 1) units (stepped state (changed b) (actor + 1) event reach.reached.3 step) back);
+        let there : IsReachedAs start new last = record {
+          starts = starts_there;
+          reached = reaches last (returned (changed b) last 0 (actor + 1) units (stepped state (changed b) (actor + 1) event reach.reached step) back);
           shows = record {
             words = refl;
             cursors = refl;
@@ -345,6 +354,9 @@ module _ (old : WorldState) (state : State) (reach : IsReachedAs old state) (siz
             pool = ap (λ n. n + units) reach.shows.pool ∙ sym pooled;
             runs = runs_there (giver b units) run;
           };
+          entries = reach.entries;
+          deltas = reach.deltas;
+          answers = reach.answers;
         } in (
           event,
           changed b,
@@ -364,7 +376,7 @@ module _ (old : WorldState) (state : State) (reach : IsReachedAs old state) (siz
 
     -- why it was refused shows there
     due_back : (b : Actor) (units : ℕ) (cause : Refusal) → b.hand.place ≢ Spent → IsRefusedBy r.running cause its.0 b
-        → (there : IsReachedAs new (traded b (getter reach.shows.opener units) (giver b units))) (before : ActorRun) → get_elem? old.actor_runs.items actor ≡ some before
+        → (there : IsReachedAs start new (traded b (getter reach.shows.opener units) (giver b units))) (before : ActorRun) → get_elem? old.actor_runs.items actor ≡ some before
         → IsDue actor before.running cause state new (traded b (getter reach.shows.opener units) (giver b units))
     due_back b units cause living is reaches_it before was =
         let last : State = traded b (getter reach.shows.opener units) (giver b units) in
@@ -375,12 +387,12 @@ module _ (old : WorldState) (state : State) (reach : IsReachedAs old state) (siz
           recorder = giver b units;
           there = mine_last b units;
           refused = still;
-          flagged = flagged new last reaches_it actor its.0 (giver b units) (mine_last b units) living r.running cause still;
+          flagged = flagged start new last reaches_it actor its.0 (giver b units) (mine_last b units) living r.running cause still;
         })
 
     -- where its actor lands by what its call says
     lands_so : (event : Event) (b : Actor) → IsStep old.version state (actor + 1) event (changed b) → (said : Stepped)
-        → new.units ≡ old.units + returned_by said (held_by r.running) → Lands old.shape old.version r r' said its.0 b → LooksSince r.running its.0 b → StepsTo old actor state new said
+        → new.units ≡ old.units + returned_by said (held_by r.running) → Lands old.shape old.version r r' said its.0 b → LooksSince r.running its.0 b → StepsTo old actor start state new said
     lands_so event b step More pooled run looks = lands event b step (omega (arith, pooled)) run looks More tt
     lands_so event b step (Done answer.Added) pooled run looks = lands event b step (omega (arith, pooled)) run looks (Done answer.Added) tt
     lands_so event b step (Done answer.Flagged) pooled (run, spoiled) looks =
@@ -389,13 +401,13 @@ module _ (old : WorldState) (state : State) (reach : IsReachedAs old state) (siz
     lands_so event b step (Done (answer.Delta delta)) pooled (run, is) looks =
         let same : new.units ≡ old.units = omega (arith, pooled) in
         lands event b step same run looks (Done (answer.Delta delta)) (λ before was.
-        subst (λ (x : ActorRun). HasTaken actor (looked_by x.running) delta new (changed b) (reached_so event b step same run)) (some-injective r before (sym at ∙ was))
-        (has_taken new (changed b) (reached_so event b step same run) actor b (set_at state.actors (actor + 1) its.0 b there) run.records (looked_by r.running) delta is))
+        subst (λ (x : ActorRun). HasTaken actor (looked_by x.running) delta start new (changed b) (reached_so event b step same run)) (some-injective r before (sym at ∙ was))
+        (has_taken start new (changed b) (reached_so event b step same run) actor b (set_at state.actors (actor + 1) its.0 b there) run.records (looked_by r.running) delta is))
     lands_so event b step (Done (answer.Snapshot snapshot)) pooled (run, is) looks =
         let same : new.units ≡ old.units = omega (arith, pooled) in
         lands event b step same run looks (Done (answer.Snapshot snapshot)) (λ before was.
-        subst (λ (x : ActorRun). HasSeen actor (looked_by x.running) snapshot new (changed b) (reached_so event b step same run)) (some-injective r before (sym at ∙ was))
-        (has_seen new (changed b) (reached_so event b step same run) actor b (set_at state.actors (actor + 1) its.0 b there) run.records (looked_by r.running) snapshot is))
+        subst (λ (x : ActorRun). HasSeen actor (looked_by x.running) snapshot start new (changed b) (reached_so event b step same run)) (some-injective r before (sym at ∙ was))
+        (has_seen start new (changed b) (reached_so event b step same run) actor b (set_at state.actors (actor + 1) its.0 b there) run.records (looked_by r.running) snapshot is))
     lands_so event b step (Done (answer.BatchRefused refused)) pooled ((living, fits, run), cause) looks =
         lands_back event b (held_by r.running) step pooled living run.records fits run looks (Done (answer.BatchRefused refused)) (due_back b (held_by r.running) refused.why living cause)
     lands_so event b step (Done (answer.Refused why)) pooled ((living, fits, run), cause) looks =
@@ -403,16 +415,16 @@ module _ (old : WorldState) (state : State) (reach : IsReachedAs old state) (siz
 
     -- an actor that goes on by an event leads to the next state
     pub steps : (said : Stepped) → ((a : Actor) → WalksInOrder a → IsRun old.shape old.version r a → Advances old.shape old.version r words r' new.words.items said a)
-        → new.units ≡ old.units + returned_by said (held_by r.running) → StepsTo old actor state new said
+        → new.units ≡ old.units + returned_by said (held_by r.running) → StepsTo old actor start state new said
     steps said advances pooled =
-        let kept = states_are_kept old.shape old.version reach.id 0 state reach.reached in
-        let order = walks_in_order old.shape (blank old.version reach.id old.shape.size) state kept (actor + 1) its.0 there in
+        let kept = kept_there start old state reach in
+        let order = walks_in_order old.shape start.opened state kept (actor + 1) its.0 there in
         let did = does_step (advances its.0 order its.2) in lands_so did.0 did.1 did.2 said pooled did.3.0 did.3.1
 
     -- its actor is lent units, and may begin a call with them
     pub lends : (units : ℕ) → new.words.items ≡ old.words.items → new.units + units ≡ old.units
         → ((a : Actor) → get_elem? state.actors (actor + 1) ≡ some a → IsRun old.shape old.version r a
-        → (a.hand.place ≢ Spent) × IsRun old.shape old.version r' (getter a units)) → BeginsFrom state actor new
+        → (a.hand.place ≢ Spent) × IsRun old.shape old.version r' (getter a units)) → BeginsFrom start state actor new
     lends units worded pooled begins =
         let opener : Actor = reach.shows.opener in
         let a : Actor = its.0 in
@@ -425,8 +437,8 @@ module _ (old : WorldState) (state : State) (reach : IsReachedAs old state) (siz
           then_is,
           inr (units, lent_so),
           record {
-            id = reach.id;
-            reached = reaches then_is (lent state then_is 0 (actor + 1) units reach.reached.3 lent_so);
+            starts = starts_there;
+            reached = reaches then_is (lent state then_is 0 (actor + 1) units reach.reached lent_so);
             shows = record {
               words = reach.shows.words ∙ sym worded;
               cursors = reach.shows.cursors;
@@ -440,15 +452,18 @@ module _ (old : WorldState) (state : State) (reach : IsReachedAs old state) (siz
               pool = omega (arith, pool, pooled);
               runs = runs_there b may.1;
             };
+            entries = reach.entries;
+            deltas = reach.deltas;
+            answers = reach.answers;
           },
         )
 
 -- an actor changes at run time alone, and stands for the same actor of the machine as before: so does its world
-pub same_there : (old : WorldState) (state : State) → IsReachedAs old state → (actor : ℕ) (r r' : ActorRun) (new : WorldState) → get_elem? old.actor_runs.items actor ≡ some r
+pub same_there : (start : Start) (old : WorldState) (state : State) → IsReachedAs start old state → (actor : ℕ) (r r' : ActorRun) (new : WorldState) → get_elem? old.actor_runs.items actor ≡ some r
     → ((a : Actor) → get_elem? state.actors (actor + 1) ≡ some a → IsRun old.shape old.version r a → IsRun old.shape old.version r' a)
     → new.shape ≡ old.shape → new.version ≡ old.version → new.units ≡ old.units → new.words.items ≡ old.words.items → new.actor_runs.items ≡ set old.actor_runs.items actor r'
-    → IsReachedAs new state
-same_there old state reach actor r r' new at same shaped versioned pooled worded actor_runs =
+    → IsReachedAs start new state
+same_there start old state reach actor r r' new at same shaped versioned pooled worded actor_runs =
     let shows = reach.shows in
     let found = recorder_at old.shape old.version old.actor_runs.items shows.recorders actor r shows.runs at in
     let there : get_elem? state.actors (actor + 1) ≡ some found.0 =
@@ -456,8 +471,8 @@ same_there old state reach actor r r' new at same shaped versioned pooled worded
     let goes = one_goes_on old.shape old.version old.actor_runs.items shows.recorders actor r' found.0 shows.runs (same found.0 there found.2) in
     let stays = set_again shows.recorders actor found.0 found.1 in
     record {
-      id = reach.id;
-      reached = subst (λ (p : Dimensions × ℕ). IsState p.0 p.1 reach.id 0 state) (λ i. (sym shaped i, sym versioned i)) reach.reached;
+      starts = subst (λ (p : Dimensions × ℕ). MayStart p.0 p.1 start) (λ i. (sym shaped i, sym versioned i)) reach.starts;
+      reached = subst (λ (v : ℕ). machine.IsReached v (start_state start) state) (sym versioned) reach.reached;
       shows = record {
         words = shows.words ∙ sym worded;
         cursors = shows.cursors;
@@ -470,37 +485,40 @@ same_there old state reach actor r r' new at same shaped versioned pooled worded
         pool = shows.pool ∙ sym pooled;
         runs = subst (λ (p : Dimensions × ℕ × List ActorRun × List Actor). AreRun p.0 p.1 p.2 p.3) (λ i. (sym shaped i, sym versioned i, sym actor_runs i, stays i)) goes;
       };
+      entries = reach.entries;
+      deltas = reach.deltas;
+      answers = reach.answers;
     }
 
 -- whichever that is
-pub same_state : (old : WorldState) (state : State) → IsReachedAs old state → (actor : ℕ) (r r' : ActorRun) (new : WorldState) → get_elem? old.actor_runs.items actor ≡ some r
+pub same_state : (start : Start) (old : WorldState) (state : State) → IsReachedAs start old state → (actor : ℕ) (r r' : ActorRun) (new : WorldState) → get_elem? old.actor_runs.items actor ≡ some r
     → ((a : Actor) → IsRun old.shape old.version r a → IsRun old.shape old.version r' a)
     → new.shape ≡ old.shape → new.version ≡ old.version → new.units ≡ old.units → new.words.items ≡ old.words.items → new.actor_runs.items ≡ set old.actor_runs.items actor r'
-    → IsReachedAs new state
-same_state old state reach actor r r' new at same = same_there old state reach actor r r' new at (λ a there run. same a run)
+    → IsReachedAs start new state
+same_state start old state reach actor r r' new at same = same_there start old state reach actor r r' new at (λ a there run. same a run)
 
 -- ---- at any moment
 
 -- what holds of each actor that is there
-pub each_runs : (world_state : WorldState) (state : State) → IsReachedAs world_state state → (i : ℕ) (r : ActorRun) → get_elem? world_state.actor_runs.items i ≡ some r
+pub each_runs : (start : Start) (world_state : WorldState) (state : State) → IsReachedAs start world_state state → (i : ℕ) (r : ActorRun) → get_elem? world_state.actor_runs.items i ≡ some r
     → (a : Actor) × IsRun world_state.shape world_state.version r a
-each_runs world_state state reach i r at =
+each_runs start world_state state reach i r at =
     let found = recorder_at world_state.shape world_state.version world_state.actor_runs.items reach.shows.recorders i r reach.shows.runs at in (found.0, found.2)
 
 -- it is an actor of a segment of so many words
 pub some_run : (world_state : WorldState) → ∥ IsReached world_state ∥₁ → (i : ℕ) (r : ActorRun) → get_elem? world_state.actor_runs.items i ≡ some r → (n : ℕ) → n ≡ length world_state.words.items
     → ∥ IsSomeRun n r ∥₁
-some_run world_state reached i r at n count = ∥∥₁_elim reached (hlevel props) (λ (state, reach).
-    let found = each_runs world_state state reach i r at in
-    let kept = states_are_kept world_state.shape world_state.version reach.id 0 state reach.reached in
+some_run world_state reached i r at n count = ∥∥₁_elim reached (hlevel props) (λ (start, state, reach).
+    let found = each_runs start world_state state reach i r at in
+    let kept = kept_there start world_state state reach in
     let long : n ≡ world_state.shape.size = count ∙ (sym (ap length reach.shows.words) ∙ length_shown world_state.shape state.words (layout_of kept.anatomy) kept.shown) in
-    let from = reach.reached.0.wide in let to = reach.reached.0.one in
+    let shaped = shape_there start world_state state reach in let from = shaped.wide in let to = shaped.one in
     ∣ (world_state.shape, world_state.version, found.0, long, omega (arith, from, to, long), found.1) ∣₁)
 
 -- no more entries have begun than there are, and none of them has not begun that has ended
 pub within : (world_state : WorldState) → ∥ IsReached world_state ∥₁ → (i : ℕ) (r : ActorRun) → get_elem? world_state.actor_runs.items i ≡ some r
     → (r.ended ≤ r.begun) × (r.begun ≤ length r.entries.items)
-within world_state reached i r at = ∥∥₁_elim reached (hlevel props) (λ (state, reach). (each_runs world_state state reach i r at).1.within)
+within world_state reached i r at = ∥∥₁_elim reached (hlevel props) (λ (start, state, reach). (each_runs start world_state state reach i r at).1.within)
 
 -- a front of a list that is long enough
 pub front_is : {A : Type 0} (n : ℕ) (l : List A) → n ≤ length l → n ≡ length (take n l)
@@ -513,67 +531,84 @@ shown_is shown world_state i r at = sym (ap (of_actor shown) at)
 
 -- the words are the words of a kept state
 pub is_long : (world_state : WorldState) → ∥ IsReached world_state ∥₁ → length world_state.words.items ≡ world_state.shape.size
-is_long world_state reached = ∥∥₁_elim reached (hlevel props) (λ (state, reach).
-    let kept = states_are_kept world_state.shape world_state.version reach.id 0 state reach.reached in
+is_long world_state reached = ∥∥₁_elim reached (hlevel props) (λ (start, state, reach).
+    let kept = kept_there start world_state state reach in
     sym (ap length reach.shows.words) ∙ length_shown world_state.shape state.words (layout_of kept.anatomy) kept.shown)
 
 -- they are more than those of a header
 pub has_header : (world_state : WorldState) → ∥ IsReached world_state ∥₁ → 16 ≤ length world_state.words.items
 has_header world_state reached =
-    let wide : 64 ≤ world_state.shape.size = ∥∥₁_elim reached (hlevel props) (λ (state, reach). let wide = reach.reached.0.wide in let one = reach.reached.0.one in omega (arith, wide, one)) in
+    let wide : 64 ≤ world_state.shape.size = ∥∥₁_elim reached (hlevel props) (λ (start, state, reach). let shaped = shape_there start world_state state reach in let wide = shaped.wide in let one = shaped.one in omega (arith, wide, one)) in
     let long = is_long world_state reached in
     omega (arith, wide, long)
 
 -- their header has no fault
 pub has_sound_header : (world_state : WorldState) → ∥ IsReached world_state ∥₁ → header_of world_state.words.items ≡ Ok (head_of world_state.words.items)
-has_sound_header world_state reached = ∥∥₁_elim reached (hlevel props) (λ (state, reach).
-    let kept = states_are_kept world_state.shape world_state.version reach.id 0 state reach.reached in
+has_sound_header world_state reached = ∥∥₁_elim reached (hlevel props) (λ (start, state, reach).
+    let kept = kept_there start world_state state reach in
     subst (λ (l : List ℕ). header_of l ≡ Ok (head_of l)) reach.shows.words
-    (header_is world_state.shape (blank world_state.version reach.id world_state.shape.size) state kept))
+    (header_is world_state.shape start.opened state kept))
 
-pub is_consistent_now : (world_state : WorldState) → ∥ IsReached world_state ∥₁ → ∥ IsConsistentAs world_state ∥₁
-is_consistent_now world_state reached = ∥∥₁_elim reached (hlevel props) (λ (state, reach).
-    ∣ (state, reach, states_are_consistent world_state.shape world_state.version reach.id 0 state reach.reached) ∣₁)
+pub is_consistent_now : (world_state : WorldState) → IsConsistentAs world_state
+is_consistent_now world_state start state reach = consistent_there start world_state state reach
 
-pub is_read_now : (world_state : WorldState) → ∥ IsReached world_state ∥₁ → ∥ IsReadAs world_state ∥₁
-is_read_now world_state reached = ∥∥₁_elim reached (hlevel props) (λ (state, reach).
-    let kept = states_are_kept world_state.shape world_state.version reach.id 0 state reach.reached in
-    ∣ (state, reach, kept, λ reading is. stopped_reads world_state.shape (blank world_state.version reach.id world_state.shape.size) state reading kept is) ∣₁)
+pub is_read_now : (world_state : WorldState) → IsReadAs world_state
+is_read_now world_state start state reach =
+    let kept = kept_there start world_state state reach in (
+      kept,
+      λ reading is.
+          let reads = stopped_reads world_state.shape start.opened state reading kept is in (
+            reads.0,
+            reads.1,
+            reads.2,
+            λ h inside.
+                let (units, amounts) = reads.3 h inside in (subst (λ (v : ℕ). ReadsUnits v state h) (version_there start world_state state reach) units, amounts),
+          ),
+    )
+
+-- words of version 2 may be adopted, unless the corrupt flag is set
+pub may_be_adopted_now : (world_state : WorldState) → ∥ IsReached world_state ∥₁ → MayBeAdopted world_state
+may_be_adopted_now world_state reached frozen intact references listed = ∥∥₁_elim reached (hlevel props) (λ (start, state, reach).
+    let words = reach.shows.words in
+    ∣ subst (λ (l : List ℕ). IsAdoptable l references (reading_along l (head_of l) references)) words
+    (kept_are_adoptable world_state.shape start.opened state references (kept_there start world_state state reach) (version_there start world_state state reach ∙ frozen)
+    (subst (λ (l : List ℕ). (head_of l).corrupt ≡ false) (sym words) intact)
+    (subst (λ (l : List ℕ). IsListed l (head_of l) references) (sym words) listed)) ∣₁)
 
 -- what a resting actor knows is the first of its name
 pub are_known_first : (world_state : WorldState) → ∥ IsReached world_state ∥₁ → AreKnownFirst world_state
-are_known_first world_state reached chain is_chain i r known at rests inside = ∥∥₁_elim reached (hlevel props) (λ (state, reach).
+are_known_first world_state reached chain is_chain i r known at rests inside = ∥∥₁_elim reached (hlevel props) (λ (start, state, reach).
     let found = recorder_at world_state.shape world_state.version world_state.actor_runs.items reach.shows.recorders i r reach.shows.runs at in
     let a : Actor = found.0 in
     let run = found.2 in
-    let kept = states_are_kept world_state.shape world_state.version reach.id 0 state reach.reached in
+    let kept = kept_there start world_state state reach in
     let there : get_elem? state.actors (i + 1) ≡ some a =
     ap (λ actors. get_elem? actors (i + 1)) reach.shows.actors ∙ behind_first reach.shows.opener reach.shows.recorders i ∙ found.1 in
     let words = reach.shows.words in
     let knows : Contains a.answers.names (known_of known) = subst (λ (l : List MachineKnown). Contains l (known_of known)) run.names (contains_map known_of r.known.items known inside) in
     let may = free_turns a.hand.place (subst (λ running. StandsIn world_state.shape r.known.items (pending_by r) running a) rests run.stands).0 in
-    let first = names_are_first world_state.shape (blank world_state.version reach.id world_state.shape.size) state chain kept
+    let first = names_are_first world_state.shape start.opened state chain kept
     (subst (λ (l : List ℕ). IsChain l (head_of l) chain) (sym words) is_chain) (i + 1) a there (not_spent a.hand.place may) (known_of known) knows in
     ∣ subst (λ (l : List ℕ). IsHistogram l chain known.name.items known.reference × SameSpec (spec_of l known.reference) known.spec) words first ∣₁)
 
 -- the recorder of an actor that is there
-pub its_recorder : (world_state : WorldState) (state : State) → IsReachedAs world_state state → (actor : ℕ) (r : ActorRun) → get_elem? world_state.actor_runs.items actor ≡ some r
+pub its_recorder : (start : Start) (world_state : WorldState) (state : State) → IsReachedAs start world_state state → (actor : ℕ) (r : ActorRun) → get_elem? world_state.actor_runs.items actor ≡ some r
     → (a : Actor) × (get_elem? state.actors (actor + 1) ≡ some a) × IsRun world_state.shape world_state.version r a
-its_recorder world_state state reach actor r at =
+its_recorder start world_state state reach actor r at =
     let found = recorder_at world_state.shape world_state.version world_state.actor_runs.items reach.shows.recorders actor r reach.shows.runs at in
     (found.0, ap (λ actors. get_elem? actors (actor + 1)) reach.shows.actors ∙ behind_first reach.shows.opener reach.shows.recorders actor ∙ found.1, found.2)
 
 -- an actor that rests holds no free pointer
 pub rests_without : (world_state : WorldState) (actor : ℕ) (r : ActorRun) → get_elem? world_state.actor_runs.items actor ≡ some r → Rests world_state actor → HoldsNoPointer actor world_state
-rests_without world_state actor r at rests state reach a there =
-    let (b, mine, run) = its_recorder world_state state reach actor r at in
+rests_without world_state actor r at rests start state reach a there =
+    let (b, mine, run) = its_recorder start world_state state reach actor r at in
     let free = (subst (λ running. StandsIn world_state.shape r.known.items (pending_by r) running b) (rests r at) run.stands).0 in
     ap (λ (x : Actor). has_pointer x.hand.place) (some-injective a b (sym there ∙ mine)) ∙ free_holds_none b.hand.place free
 
 -- the pool has no more than all units
 pub pool_fits : (world_state : WorldState) → ∥ IsReached world_state ∥₁ → world_state.units ≤ 4294967295
-pool_fits world_state reached = ∥∥₁_elim reached (hlevel props) (λ (state, reach).
-    let kept = states_are_kept world_state.shape world_state.version reach.id 0 state reach.reached in
+pool_fits world_state reached = ∥∥₁_elim reached (hlevel props) (λ (start, state, reach).
+    let kept = kept_there start world_state state reach in
     let opener : Actor = reach.shows.opener in
     let part = sum_at_least units_of state.actors 0 opener (ap (λ l. get_elem? l 0) reach.shows.actors) in
     let all = kept.pool in let pool = reach.shows.pool in
@@ -583,14 +618,14 @@ pool_fits world_state reached = ∥∥₁_elim reached (hlevel props) (λ (state
 -- what an actor knows is lawful
 module _ (world_state : WorldState) (reached : ∥ IsReached world_state ∥₁) (i : ℕ) (r : ActorRun) (at : get_elem? world_state.actor_runs.items i ≡ some r) (place : ℕ) (known : Known)
     (there : get_elem? r.known.items place ≡ some known) where
-  known_in : (state : State) → IsReachedAs world_state state → IsKnown world_state.shape known
-  known_in state reach = all_at (IsKnown world_state.shape) r.known.items place known (each_runs world_state state reach i r at).1.lawful there
+  known_in : (start : Start) (state : State) → IsReachedAs start world_state state → IsKnown world_state.shape known
+  known_in start state reach = all_at (IsKnown world_state.shape) r.known.items place known (each_runs start world_state state reach i r at).1.lawful there
 
   pub lawful_now : spec_fault known.spec ≡ None
-  lawful_now = ∥∥₁_elim reached (hlevel props) (λ (state, reach). (known_in state reach).lawful)
+  lawful_now = ∥∥₁_elim reached (hlevel props) (λ (start, state, reach). (known_in start state reach).lawful)
 
   pub ranges_now : known.ranges ≡ boundaries_of known.spec
-  ranges_now = ∥∥₁_elim reached (hlevel props) (λ (state, reach). (known_in state reach).ranges)
+  ranges_now = ∥∥₁_elim reached (hlevel props) (λ (start, state, reach). (known_in start state reach).ranges)
 
 -- of an actor that rests all entries have ended
 pub quiet_now : (world_state : WorldState) → ∥ IsReached world_state ∥₁ → (i : ℕ) (r : ActorRun) → get_elem? world_state.actor_runs.items i ≡ some r → r.running ≡ None

@@ -21,7 +21,7 @@ use Rattle.live_segment.specs.Rule.{Closes, IsOpenedAs}
 use Rattle.live_segment.specs.Closing.{IsImageOf, ReadsJoined, DeltasAddUp, SnapshotsAgree}
 
 -- the words of a kept state are an image of what the segment was opened as
-of_kept : (setting : Setting) (opened : Anatomy) (state : State) → IsOpenedAs setting opened → Invariant setting.shape opened state → IsImageOf setting state.words
+pub of_kept : (setting : Setting) (opened : Anatomy) (state : State) → IsOpenedAs setting opened → Invariant setting.shape opened state → IsImageOf setting state.words
 of_kept setting opened state as_said kept =
     let reading = reading_along state.words (head_of state.words) (order_of kept.anatomy) in
     let is : IsReading state.words (head_of state.words) reading = (order_of kept.anatomy, is_list setting.shape opened state kept, refl) in

@@ -17,7 +17,8 @@ use Rattle.segment_promises.proofs.Growing.{grows_not, grows_same}
 use Rattle.segment_invariant.proofs.Walking.Words.{letters_long}
 use Rattle.segment_calls.specs.declared.asked.Asked.{Asked}
 use Rattle.segment_calls.specs.Asked.{IsAskedFor}
-use Rattle.live_segment.specs.Claims.{KeepsBlocks, MakesOne, NamesAtMostOne, record_words}
+use Rattle.segment_calls.specs.Blocks.{record_words}
+use Rattle.live_segment.specs.Claims.{KeepsBlocks, MakesOne, NamesAtMostOne}
 use Rattle.live_segment.specs.Ends.{SawAllOfList}
 use Rattle.live_segment.specs.Making.{HasMade}
 use Rattle.live_segment.specs.Searching.{HasSearched}

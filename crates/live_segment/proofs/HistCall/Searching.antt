@@ -234,7 +234,7 @@ module _ {segment : Segment} {old : Pass} {name : List ℕ} {at : ℕ} (seated :
 
 -- ---- a record of the name
 
-name_still : (a b : Seen) → Grows a.words b.words → (name : List ℕ) (at : ℕ) → SawName a name at → SawName b name at
+pub name_still : (a b : Seen) → Grows a.words b.words → (name : List ℕ) (at : ℕ) → SawName a name at → SawName b name at
 name_still a b grows name at (tag, len, letters, spells, words) = (
   still a.words b.words grows (at + 2) 1 tag,
   still a.words b.words grows (at + 14) (length name) len,
@@ -255,6 +255,23 @@ seat_on old seated same searched = record {
   };
 }
 
+-- the first of the name, with the spec or another
+module _ {shape : Dimensions} {asked : Asked} (is : IsAsked shape asked) (found : ℕ) (last : Actor) (met : Meets found last)
+    (first : IsFirstNamed last.seen asked.name.items found) where
+  pub first_with : found + 15 + asked.letters ≤ last.segment.shape.size → ShowsSpec asked found true last.seen → Searches asked (search.Met found) last
+  first_with within spec = (
+    met.0,
+    (first, (is.payload.letters, is.payload.spells, subst (λ (n : ℕ). SawSpec last.seen asked.spec n found) is.payload.count_is spec)),
+    met.1,
+    omega (arith, within),
+  )
+
+  pub first_without : ShowsSpec asked found false last.seen → Searches asked search.OtherSpec last
+  first_without other = (
+    met.0,
+    (found, is.payload.letters, first, is.payload.spells, subst (λ (n : ℕ). SawOtherSpec last.seen asked.spec n found) is.payload.count_is other),
+  )
+
 module _ {segment : Segment} {old : Pass} {asked : Asked} (is : IsAsked segment.setting.shape asked) {at : ℕ} (seated : IsSeated segment old)
     (walks : WalksAt asked.name.items at old.me.0) (found : ℕ) (new : Pass) (load : Stepped old (walking_event (load_next at)) found new) (miss : found ≢ 12)
     (named : Actor) (sees : SeesWords new.me.0 named) (name : ShowsName asked found true named) (last : Actor) (then_sees : SeesWords named last) where
@@ -270,16 +287,9 @@ module _ {segment : Segment} {old : Pass} {asked : Asked} (is : IsAsked segment.
       (name_still named.seen last.seen then_sees.words asked.name.items found name.0)
 
   pub met_spec : ShowsSpec asked found true last.seen → Searches asked (search.Met found) last
-  met_spec spec =
-      let within = name.1 in let size = ap (λ (a : Actor). a.segment.shape.size) then_sees.view in (
-        it_meets.0,
-        (is_first, (is.payload.letters, is.payload.spells, subst (λ (n : ℕ). SawSpec last.seen asked.spec n found) is.payload.count_is spec)),
-        it_meets.1,
-        omega (arith, within, size),
-      )
+  met_spec =
+      let within = name.1 in let size = ap (λ (a : Actor). a.segment.shape.size) then_sees.view in
+      first_with is found last it_meets is_first (omega (arith, within, size))
 
   pub met_other : ShowsSpec asked found false last.seen → Searches asked search.OtherSpec last
-  met_other other = (
-    it_meets.0,
-    (found, is.payload.letters, is_first, is.payload.spells, subst (λ (n : ℕ). SawOtherSpec last.seen asked.spec n found) is.payload.count_is other),
-  )
+  met_other = first_without is found last it_meets is_first

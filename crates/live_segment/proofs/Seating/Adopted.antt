@@ -13,7 +13,7 @@ use Rattle.segment_promises.specs.Adoption.{IsAdoptable, adopted, adopter}
 use Rattle.segment_promises.specs.Reads.{ReadsHead}
 use Rattle.segment_promises.proofs.Adopting.Images.{size_word}
 use Rattle.segment_promises.proofs.Adopting.Opened.Anatomy.{opened}
-use Rattle.segment_promises.proofs.Adopting.Opened.Opens.{kept}
+use Rattle.segment_promises.proofs.Adopting.Opened.Opens.{kept, image_opens}
 use Rattle.segment_promises.proofs.Readings.Heads.{reads_head, version_is}
 use Rattle.live_segment.specs.declared.rule.Opening.{Opening}
 use Rattle.live_segment.specs.declared.rule.Setting.{Setting}
@@ -72,6 +72,7 @@ module _ (given : Opening) (words references : List ℕ) (cursors : ℕ) (narrow
 
   said_so : IsOpenedAs (setting_of (head_of words) cursors) its
   said_so = record {
+    opens = image_opens words references reading narrow listed refl adoptable;
     version = sym (version_is (head_of words).shape its image kept_image ∙ kept_image.same.0);
     id = sym heads.id;
     intact = no_more reading.corrupt its.corrupt heads.corrupt ∙ adoptable.intact;

@@ -18,7 +18,7 @@ use Rattle.segment_machine.specs.State.{State, memory}
 use Rattle.segment_machine.specs.Reached.{new_state}
 use Rattle.segment_invariant.specs.Body.{Anatomy, blank, layout_of}
 use Rattle.segment_invariant.specs.Invariant.{Invariant, is_living, RolesAreKept}
-use Rattle.segment_invariant.proofs.Openings.Segments.{opening_is_kept}
+use Rattle.segment_invariant.proofs.Openings.Segments.{opening_is_kept, new_is_opening}
 use Rattle.segment_invariant.proofs.Frames.OneActor.{lives_on}
 use Rattle.segment_invariant.proofs.Frames.Roles.{opens_first}
 use Rattle.segment_invariant.proofs.Lists.Elements.{sum_at_least}
@@ -87,7 +87,13 @@ module _ (given : Opening) (shaped : IsShape given.setting.shape) (versioned : (
   pub opens_new : IsKeptOpening given
   opens_new = record {
     opened = blank given.setting.version given.setting.id given.setting.shape.size;
-    as_said = record { version = refl; id = refl; intact = refl; full = sym not_full };
+    as_said = record {
+      opens = (new_is_opening given.setting.shape given.setting.version given.setting.id shaped versioned).0;
+      version = refl;
+      id = refl;
+      intact = refl;
+      full = sym not_full;
+    };
     kept = subst (Invariant given.setting.shape (blank given.setting.version given.setting.id given.setting.shape.size)) (sym state_is_new) kept_new;
     words = same ∙ ap (λ (state : State). 0 ∷ memory state) (sym state_is_new);
   }

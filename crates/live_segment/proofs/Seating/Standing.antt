@@ -11,6 +11,7 @@ use Rattle.segment_machine.specs.Actor.{is_opener}
 use Rattle.segment_machine.specs.Event.{Event, Learned, Ready, change, next, spot}
 use Rattle.segment_machine.specs.Note.{Note}
 use Rattle.segment_invariant.specs.Invariant.{Invariant}
+use Rattle.segment_invariant.specs.Keeps.{IsOpening}
 use Rattle.segment_invariant.proofs.Lists.Elements.{below_length}
 use Rattle.segment_promises.specs.Follows.{MayNoteAll, noted_by}
 use Rattle.live_segment.specs.declared.rule.Announcement.{Announcement}
@@ -29,6 +30,7 @@ stands_kept setting s run id a there lives =
     let kept = run.running.kept in
     let fits = kept.each id a here lives in record {
       opened = run.opened;
+      opens = subst (λ (shape : Dimensions). IsOpening shape run.opened) (sym fits.shaped) run.as_said.opens;
       version = sym (fits.versioned ∙ kept.same.0);
       state = run.running.segment;
       kept = subst (λ (shape : Dimensions). Invariant shape run.opened run.running.segment) (sym fits.shaped) kept;

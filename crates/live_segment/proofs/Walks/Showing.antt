@@ -104,7 +104,7 @@ same_on a b c one two = (two.0 ∙ one.0, two.1 ∙ one.1, two.2 ∙ one.2)
 -- ---- several words
 
 -- words of 64 bits that differ have other bytes
-words_apart : (x y : ℕ) → x < 2 ^ 64 → y < 2 ^ 64 → x ≢ y → bytes_of_words (x ∷ []) ≢ bytes_of_words (y ∷ [])
+pub words_apart : (x y : ℕ) → x < 2 ^ 64 → y < 2 ^ 64 → x ≢ y → bytes_of_words (x ∷ []) ≢ bytes_of_words (y ∷ [])
 words_apart x y low below apart same =
     apart (sym (from_le_bytes-to_le_bytes_8 x low) ∙ (ap (from_le_bytes w64) same ∙ from_le_bytes-to_le_bytes_8 y below))
 

@@ -102,7 +102,7 @@ begins size first place free sized come =
     }
 
 -- a block where a walk stands lies within the segment
-stands_within : (size : ℕ) (given : List ℕ) → 17 ≤ size → All (λ r. (16 ≤ r) × (r + 5 ≤ size)) given → stands_behind given + 5 ≤ size
+pub stands_within : (size : ℕ) (given : List ℕ) → 17 ≤ size → All (λ r. (16 ≤ r) × (r + 5 ≤ size)) given → stands_behind given + 5 ≤ size
 stands_within size [] wide all = omega arith
 stands_within size (x ∷ xs) wide all = (all (length xs) 0 (omega arith)).1
 

@@ -4,7 +4,7 @@ ghost use Rattle.std.specs.Prelude.{◌≡◌, ◌≢◌, ◌↔◌, ◌≤◌, 
 ghost use Rattle.std.specs.Io.KnownBytes.{IsAtEnd};
 ghost use Rattle.segment_image.specs.Transfer.{TakesAtMost};
 ghost use Rattle.segment_image.specs.Watched.{has_failed, watched_inner};
-ghost use Rattle.persist_report_core.specs.Script.{IsScriptFault, script_of, script_view};
+ghost use Rattle.persist_report_core.specs.Script.{IsFaultOfBytes, IsScriptFault, script_of, script_view};
 
 use crate::rows::next_fields;
 use crate::script::draft::open_draft;
@@ -18,8 +18,8 @@ use std::io::Read;
 // A script has at most so many bytes.
 const MAX_BYTES: usize = 16_777_216;
 
-// The script that the bytes are.
-fn script_in(alloc: Global, bytes: &[u8], pool: u64) -> Result<Script, ScriptFault>
+/// The script that the bytes are.
+pub(crate) fn script_in(alloc: Global, bytes: &[u8], pool: u64) -> Result<Script, ScriptFault>
     requires { length bytes.now ≤ 16777216 }
     ensures answer { MatchResult result (λ script. script_of pool bytes.now ≡ Ok (script_view script)) (IsScriptFault pool bytes.now) }
     ensures other { IfErr result (λ fault. fault ≢ ScriptFault.Read) }
@@ -41,10 +41,13 @@ fn script_in(alloc: Global, bytes: &[u8], pool: u64) -> Result<Script, ScriptFau
     Ok(draft.script)
 }
 
-// All bytes that the reader has left.
-fn bytes_of<R: Read>(alloc: Global, reader: &mut Watched<R>) -> Result<Vec<u8>, ScriptFault>
+/// All bytes that the reader has left.
+pub(crate) fn bytes_of<R: Read>(
+    alloc: Global,
+    reader: &mut Watched<R>,
+) -> Result<Vec<u8>, ScriptFault>
     requires { has_failed reader.old ≡ false }
-    ensures bytes { IfSome (R.remaining (watched_inner reader.old)) (λ bytes. MatchResult result (λ read. (read.items ≡ bytes) × (length bytes ≤ 16777216)) (λ fault. (pool : ℕ) → IsScriptFault pool bytes fault)) }
+    ensures bytes { IfSome (R.remaining (watched_inner reader.old)) (λ bytes. MatchResult result (λ read. (read.items ≡ bytes) × (length bytes ≤ 16777216)) (λ fault. (meaning : _) → IsFaultOfBytes meaning bytes fault)) }
     ensures within { IfOk result (λ read. length read.items ≤ 16777216) }
     ensures read { IsErrOf result ScriptFault.Read ↔ (has_failed reader.new ≡ true) }
     ensures end { OnOk result (IsAtEnd (R.remaining (watched_inner reader.new))) }

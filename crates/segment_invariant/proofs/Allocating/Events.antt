@@ -1,5 +1,5 @@
 -- Each event that allocates a block or sets a flag keeps what holds, and its actor learns of the free pointer.
-use Rattle.std.proofs.Common.{◌≡◌, ◌≢◌, ℕ, ◌+◌, ◌-◌, ◌==◌, Bool, true, false, List, [], ◌∷◌, ◌++◌, map, length, set, inl, inr, refl, sym, ap, ◌∙◌, subst, eq-eqb, ne_eqb, le-leb, arith}
+use Rattle.std.proofs.Common.{◌≡◌, ◌≢◌, ℕ, ◌+◌, ◌-◌, ◌==◌, Bool, true, false, List, [], ◌∷◌, ◌++◌, map, length, set, inl, refl, sym, ap, ◌∙◌, subst, eq-eqb, ne_eqb, le-leb, arith}
 use Rattle.std.proofs.Math.Bool.{or-true}
 use Rattle.std.specs.Prelude.{bit_and, bit_or, not, nat_le, ◌&&◌, ◌||◌, fold, if◌then◌else◌}
 use Rattle.std.proofs.lemmas.Bool.{and_from}

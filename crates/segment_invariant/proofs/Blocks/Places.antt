@@ -11,7 +11,8 @@ fixed_within (histogram r) i (inr (inr (inl mounted))) = let e = mounted.0 in om
 fixed_within (histogram r) i (inr (inr (inr behind))) = behind.1
 fixed_within (sample s) i (inl e) = omega (arith, e)
 fixed_within (sample s) i (inr (inl e)) = omega (arith, e)
-fixed_within (sample s) i (inr (inr e)) = omega (arith, e)
+fixed_within (sample s) i (inr (inr (inl e))) = omega (arith, e)
+fixed_within (sample s) i (inr (inr (inr behind))) = behind.1
 fixed_within (other size tag next payload) i (inl e) = omega (arith, e)
 fixed_within (other size tag next payload) i (inr between) = let high = between.1 in omega (arith, high)
 fixed_within (queue next) i e = absurd e

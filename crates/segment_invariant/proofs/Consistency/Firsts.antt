@@ -1,9 +1,11 @@
 -- The first record of a name, and of a value, on the list of a kept segment: by the words as by what each record was given.
-use Rattle.std.proofs.Common.{◌≡◌, ℕ, ◌<◌, ℤ, List, ◌∷◌, ◌++◌, refl, sym, ap, subst, ◌∙◌, arith, Some, None, ◌⊎◌, inl, inr, ◌≢◌}
+use Rattle.std.proofs.Common.{◌≡◌, Bool, true, false, ℕ, ◌<◌, ℤ, List, ◌∷◌, ◌++◌, refl, sym, ap, subst, ◌∙◌, arith, Some, None, ◌⊎◌, inl, inr, ◌≢◌}
 use Rattle.std.specs.Prelude as std
 use Rattle.std.specs.Int.{w64, cast_signed}
+use Rattle.std.specs.Str.{bytes_eq}
 use Rattle.std.specs.List.{All, Contains}
 use Rattle.std.proofs.lemmas.List.Elements.{All-contains}
+use Rattle.std.proofs.lemmas.Slice.Eq.{bytes_eq-Decides}
 use Rattle.segment_image.specs.Shape.{Dimensions}
 use Rattle.segment_image.specs.Blocks.{field_at}
 use Rattle.bucket_ranges.specs.declared.spec.Spec.{Spec}
@@ -19,10 +21,11 @@ use Rattle.segment_invariant.specs.Body.{Record, Sample, Listed, Anatomy, order_
 use Rattle.segment_invariant.specs.Seen.{HasRecord, HasSample, IsNamed, IsValued, IsFirst, IsFirstOf}
 use Rattle.segment_invariant.specs.Invariant.{StandsAs, Invariant}
 use Rattle.segment_invariant.proofs.Lists.Elements.{split_at, at_from, from_map}
+use Rattle.segment_invariant.proofs.Lists.Firsts as lists
 use Rattle.segment_invariant.proofs.Lists.Firsts.{OrBefore, split_among, first_image, first_from}
 use Rattle.segment_invariant.proofs.Blocks.Pieces.{piece_word}
 use Rattle.segment_invariant.proofs.Consistency.Records.{record_word, sample_type, record_name}
-use Rattle.segment_invariant.proofs.Frames.PassedOver.{none_given, all_given, PassedOver}
+use Rattle.segment_invariant.proofs.Frames.PassedOver.{none_given, PassedOver}
 use Rattle.segment_invariant.proofs.Consistency.PassedOver.{passed_named}
 
 -- ---- on the list
@@ -38,6 +41,29 @@ pub first_valued : (records : List Listed) (of : ℕ) (value : ℤ) (l : Listed)
     → IsFirstOf records of value at
 first_valued records of value l at first here =
     subst (IsFirstThat (IsValued of value) records) (λ i. record { reference = here i; made = first.4 i }) first
+
+-- a record is of a name or not
+pub named_or_not : (name : List ℕ) (l : Listed) → IsNamed name l ⊎ (¬ (IsNamed name l))
+named_or_not name l = by_made l.made refl
+  where
+    by_made : (m : std.Option Made) → l.made ≡ m → IsNamed name l ⊎ (¬ (IsNamed name l))
+    by_made (Some (made.Histogram other spec)) is = by_test (bytes_eq other name) refl
+      where
+        by_test : (b : Bool) → bytes_eq other name ≡ b → IsNamed name l ⊎ (¬ (IsNamed name l))
+        by_test true same = inl (spec, is ∙ ap (λ (name : List ℕ). Some (made.Histogram name spec)) ((bytes_eq-Decides other name).0 same))
+        by_test false apart = inr (λ (kind, named).
+            let equal : other ≡ name = cc (is, named) in
+            cc (apart, (bytes_eq-Decides other name).1 equal))
+    by_made (Some (made.Sample of value)) is = inr (λ (kind, named). cc (is, named))
+    by_made None is = inr (λ (kind, named). cc (is, named))
+
+-- so a name that is on a list has a first record there
+pub first_there : (records : List Listed) (name : List ℕ) (l : Listed) → Contains records l → IsNamed name l
+    → (kind : Spec) × (place : ℕ) × IsFirst records name kind place
+first_there records name l there named =
+    let (first, its) = lists.first_there (IsNamed name) (named_or_not name) records l there named in
+    let (kind, is) = first_named records name first first.reference its refl in
+    (kind, first.reference, is)
 
 -- ---- a kept state
 
@@ -167,15 +193,6 @@ module _ (shape : Dimensions) (opened : Anatomy) (state : State) (kept : Invaria
         | inr (r, nothing, same, over) ↦
             inr (l, front, r, among, nothing, subst (λ (at : ℕ). PassedOver shape opened state kept front at r) place over)
       ]
-
-  -- where all of the opening was given, it was given so
-  pub listed_record : All (λ l. l.made ≢ None) opened.records → (at : ℕ) → Contains (order_of kept.anatomy) at → field_at state.words at 2 ≡ 1
-      → (l : Listed) × (name : List ℕ) × (spec : Spec) × (r : Record) × Contains kept.anatomy.records l × (l.reference ≡ at)
-      × (l.made ≡ Some (made.Histogram name spec)) × Named shape opened state kept name spec at r
-  listed_record given at there one = elim (record_on_list at there one) [
-    | inl found ↦ found
-    | inr (l, front, r, among, nothing, over) ↦ absurd (all_given shape opened state kept given l among nothing)
-  ]
 
   -- ---- the first ones
 

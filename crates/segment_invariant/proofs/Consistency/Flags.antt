@@ -1,5 +1,5 @@
--- The flags of a kept state are set exactly where an actor has set them.
-use Rattle.std.proofs.Common.{◌≡◌, ◌⊎◌, Bool, true, false, ◌||◌, ℕ, suc, ◌/◌, List, [], ◌∷◌, fold, inr, refl, sym, ap, subst, ◌∙◌, arith, ⊎_elim}
+-- The flags of a kept state are set exactly where they were at the opening or an actor has set them.
+use Rattle.std.proofs.Common.{◌≡◌, ◌⊎◌, Bool, true, false, ◌||◌, ℕ, suc, ◌/◌, List, [], ◌∷◌, fold, inl, inr, refl, true≢false, sym, ap, subst, ◌∙◌, arith, ⊎_elim}
 use Rattle.std.specs.Prelude.{◌↔◌, bit_and}
 use Rattle.std.specs.List.{Contains}
 use Rattle.segment_image.specs.Words.{word_at}
@@ -21,28 +21,33 @@ one_of (false ∷ list) e = let (k, below, is) = one_of list e in (suc k, omega 
 all_of : (list : List Bool) → Contains list true → fold ◌||◌ false list ≡ true
 all_of list there = let place = at_from list true there in any_there list place.0 false place.1
 
--- a flag that was not set at the opening is set where an actor has set it
-set_by : (now : Bool) (set : List Bool) → IsSetBy now false set → (now ≡ true) ↔ Contains set true
-set_by now set is = (λ on. one_of set (sym is ∙ on), λ there. is ∙ all_of set there)
+-- a flag is set where it was at the opening, or an actor has set it
+set_by : (now was : Bool) (set : List Bool) → IsSetBy now was set → (now ≡ true) ↔ ((was ≡ true) ⊎ Contains set true)
+set_by now true set is = (λ on. inl refl, λ either. is)
+set_by now false set is = (
+  λ on. inr (one_of set (sym is ∙ on)),
+  λ either. ⊎_elim (λ before. absurd (true≢false (sym before))) (λ there. is ∙ all_of set there) either,
+)
 
--- a bit of the word is one of a word of flags that has none set, or an actor has set it
-bit_is : (bit word : ℕ) (now : Bool) (set : List Bool) → (bit_and 0 bit ≡ bit → ⊥) → (bit_and word bit ≡ bit) ↔ (now ≡ true) → IsSetBy now false set
-    → (bit_and word bit ≡ bit) ↔ ((bit_and 0 bit ≡ bit) ⊎ Contains set true)
-bit_is bit word now set none shows is = (
-  λ on. inr ((set_by now set is).0 (shows.0 on)),
-  λ either. ⊎_elim (λ before. absurd (none before)) (λ there. shows.1 ((set_by now set is).1 there)) either,
+-- so a bit of the word is one of the word that was there, or an actor has set it
+bit_is : (bit word old : ℕ) (now was : Bool) (set : List Bool) → (bit_and old bit ≡ bit) ↔ (was ≡ true) → (bit_and word bit ≡ bit) ↔ (now ≡ true)
+    → IsSetBy now was set → (bit_and word bit ≡ bit) ↔ ((bit_and old bit ≡ bit) ⊎ Contains set true)
+bit_is bit word old now was set showed shows is = (
+  λ on. ⊎_elim (λ before. inl (showed.1 before)) (λ there. inr there) ((set_by now was set is).0 (shows.0 on)),
+  λ either. shows.1 ((set_by now was set is).1 (⊎_elim (λ before. inl (showed.0 before)) (λ there. inr there) either)),
 )
 
 pub flags_are_set : KeptFlagsAreSet
-flags_are_set shape version id state lawful kept =
+flags_are_set shape opened state kept =
     let anatomy = kept.anatomy in
     let word : flags_of anatomy.corrupt anatomy.full anatomy.other_flags ≡ word_at state.words 6 = sym (flags_word shape state.words (layout_of anatomy) kept.shown) in
     record {
-      corrupt = bit_is 1 (word_at state.words 6) anatomy.corrupt _ (λ e. omega (arith, e))
+      corrupt = bit_is 1 (word_at state.words 6) _ anatomy.corrupt opened.corrupt _ (corrupt_bit opened.corrupt opened.full opened.other_flags)
           (subst (λ (n : ℕ). (bit_and n 1 ≡ 1) ↔ (anatomy.corrupt ≡ true)) word (corrupt_bit anatomy.corrupt anatomy.full anatomy.other_flags)) kept.corrupt;
-      full = bit_is 2 (word_at state.words 6) anatomy.full _ (λ e. omega (arith, e))
+      full = bit_is 2 (word_at state.words 6) _ anatomy.full opened.full _ (full_bit opened.corrupt opened.full opened.other_flags)
           (subst (λ (n : ℕ). (bit_and n 2 ≡ 2) ↔ (anatomy.full ≡ true)) word (full_bit anatomy.corrupt anatomy.full anatomy.other_flags)) kept.full;
       noticed = λ id a mine lives is. subst (λ (n : ℕ). bit_and n 1 ≡ 1) word
           ((corrupt_bit anatomy.corrupt anatomy.full anatomy.other_flags).1 (noticed_there anatomy.corrupt state.actors id a mine kept.noticed is));
-      others = sym (ap (λ (n : ℕ). n / 4) word) ∙ (other_bits anatomy.corrupt anatomy.full anatomy.other_flags ∙ kept.same.2);
+      others = sym (ap (λ (n : ℕ). n / 4) word) ∙ (other_bits anatomy.corrupt anatomy.full anatomy.other_flags
+          ∙ (kept.same.2 ∙ sym (other_bits opened.corrupt opened.full opened.other_flags)));
     }

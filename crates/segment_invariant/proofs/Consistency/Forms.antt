@@ -1,5 +1,5 @@
 -- The records of a kept state have lawful forms: those in which somebody counts or nobody has, and those that are passed over.
-use Rattle.std.proofs.Common.{◌≡◌, ◌≢◌, Bool, true, false, ◌&&◌, nat_le, ℕ, ◌+◌, ◌-◌, ◌*◌, ◌<◌, List, ◌++◌, length, All, inl, inr, refl, sym, ap, subst, ◌∙◌, arith, length-append}
+use Rattle.std.proofs.Common.{◌≡◌, ◌≢◌, Bool, true, false, ◌&&◌, nat_le, ℕ, ◌+◌, ◌-◌, ◌*◌, ◌<◌, ◌≤◌, List, ◌++◌, length, All, Contains, inl, inr, refl, sym, ap, subst, ◌∙◌, arith, length-append}
 use Rattle.std.specs.Prelude.{◌==◌, slice_index}
 use Rattle.std.proofs.lemmas.Bool.{cases_lt, eqb-true, eqb-false, eq-eqb, and_from, or_left, or_right, le-leb}
 use Rattle.segment_image.specs.Shape.{Dimensions}
@@ -9,9 +9,9 @@ use Rattle.bucket_ranges.specs.Spec.{buckets_of}
 use Rattle.bucket_ranges.specs.Reading.{has_counts, record_buckets, record_single}
 use Rattle.bucket_ranges.specs.Single.{packed_bucket}
 use Rattle.segment_machine.specs.State.{State}
-use Rattle.segment_machine.specs.Form.{is_off}
+use Rattle.segment_machine.specs.Form.{is_off, units_in}
 use Rattle.segment_invariant.specs.Consistent.{HasForm}
-use Rattle.segment_invariant.specs.Body.{Record, Counts, record_words, counts_words, histogram, counts, Listed, Anatomy}
+use Rattle.segment_invariant.specs.Body.{Record, Counts, record_words, counts_words, histogram, counts, Listed, Anatomy, order_of}
 use Rattle.segment_invariant.specs.Ledger.{form_at}
 use Rattle.segment_invariant.specs.Seen.{HasRecord, HoldsAs}
 use Rattle.segment_invariant.specs.Invariant.{IsLawfulRecord, IsCountsOf, IsPassedOver, Invariant}
@@ -23,6 +23,7 @@ use Rattle.segment_invariant.proofs.Consistency.Blocks.{lawful_piece}
 use Rattle.segment_invariant.proofs.Consistency.Records.{record_word}
 use Rattle.segment_invariant.proofs.Consistency.Specs.{buckets_are, form_is}
 use Rattle.segment_invariant.proofs.Consistency.Keys.{packed_within}
+use Rattle.segment_invariant.proofs.Consistency.Firsts.{record_on_list}
 use Rattle.segment_invariant.proofs.Consistency.Totals.{sparse_kind}
 use Rattle.segment_invariant.proofs.Consistency.PassedOver.{told, told_shown, told_stands}
 
@@ -33,13 +34,15 @@ pub record TellsCounts (words : List ℕ) (at : ℕ) (c : Counts) : Type 0 where
   pub block : is_block words (head_of words) at ≡ true
   pub word : (j : ℕ) → j < length (counts_words c) → field_at words at j ≡ slice_index (counts_words c) j
 
--- They tell a record: its own words up to its name, its buckets, its form, and its counts where it names some.
+-- They tell a record: its own words up to its name, its buckets, its form, and its counts where it names some; until then its mark is at
+-- most its packed units.
 pub record TellsRecord (words : List ℕ) (page version at : ℕ) (r : Record) : Type 0 where
   pub lawful : IsLawfulRecord version page r
   pub word : (j : ℕ) → j < 15 → field_at words at j ≡ slice_index (record_words r) j
   pub many : record_buckets words at ≡ buckets_of r.spec
   pub form : record_single version words at ≡ form_at version r
   pub counts : r.counts ≢ 0 → (c : Counts) × TellsCounts words r.counts c × IsCountsOf version at r c
+  pub packed : r.counts ≡ 0 → r.mark ≤ units_in (form_at version r)
 
 module _ (words : List ℕ) (version at : ℕ) (r : Record) (c : Counts) (tells : TellsCounts words r.counts c) (of_it : IsCountsOf version at r c) where
   counts_long : length (counts_words c) ≡ 4 + (length c.units + (length c.marks + length c.rest))
@@ -135,7 +138,7 @@ module _ (words : List ℕ) (page version at : ℕ) (r : Record) (tells : TellsR
 
 module _ (shape : Dimensions) (opened : Anatomy) (state : State) (kept : Invariant shape opened state) where
   -- its words tell each record
-  tells_record : (at : ℕ) (r : Record) → HasRecord kept.anatomy.pieces at r → TellsRecord state.words shape.page kept.anatomy.version at r
+  pub tells_record : (at : ℕ) (r : Record) → HasRecord kept.anatomy.pieces at r → TellsRecord state.words shape.page kept.anatomy.version at r
   tells_record at r has =
       let lawful = kept.records.lawful at r has in
       record {
@@ -152,6 +155,7 @@ module _ (shape : Dimensions) (opened : Anatomy) (state : State) (kept : Invaria
               },
               of_it,
             );
+        packed = kept.records.packed at r has;
       }
 
   -- a block that holds what counts would tells them
@@ -178,7 +182,16 @@ module _ (shape : Dimensions) (opened : Anatomy) (state : State) (kept : Invaria
         form = form_is shape state.words anatomy shown kept.anatomy.version at r has over.lawful kept.anatomy.version;
         counts = λ some_there.
             let (c, holds, of_it, bounded) = over.counted some_there in (c, tells_counts r.counts c holds, of_it);
+        packed = over.packed;
       }
+
+  -- so they tell each record on the list
+  pub tells_listed : (at : ℕ) → Contains (order_of kept.anatomy) at → field_at state.words at 2 ≡ 1
+      → (r : Record) × TellsRecord state.words shape.page kept.anatomy.version at r
+  tells_listed at there one = elim (record_on_list shape opened state kept at there one) [
+    | inl (l, name, kind, r, among, place, made, (has, named, specified)) ↦ (r, tells_record at r has)
+    | inr (l, front, r, among, nothing, over) ↦ (r, tells_passed front at r over.0)
+  ]
 
   pub counts_are : (at : ℕ) (r : Record) → HasRecord kept.anatomy.pieces at r → has_counts state.words (head_of state.words) at ≡ true
   counts_are at r has = told_counts state.words shape.page kept.anatomy.version at r (tells_record at r has)

@@ -7,25 +7,23 @@ use Rattle.std.proofs.lemmas.Bool.{cases_lt}
 use mathlib.Core.Option.{none}
 use Rattle.segment_image.specs.Shape.{Dimensions}
 use Rattle.segment_image.specs.Words.{word_at}
-use Rattle.segment_image.specs.Head.{head_of}
 use Rattle.segment_image.specs.Blocks.{field_at}
+use Rattle.alloc_core.specs.Layout.{IsShown}
+use Rattle.bucket_ranges.specs.declared.spec.Spec.{Spec}
 use Rattle.bucket_ranges.specs.Reading.{name_of, record_buckets, sample_value}
-use Rattle.list_core.specs.Chain.{IsChain}
-use Rattle.list_core.proofs.Chains.{linked_of, no_queue}
 use Rattle.segment_machine.specs.declared.seen.Sighting.{Sighting}
 use Rattle.segment_machine.specs.declared.actor.Made.{Made}
 use Rattle.segment_machine.specs.declared.actor.Made.TheVariants as made
 use Rattle.segment_machine.specs.State.{State}
-use Rattle.segment_invariant.specs.Consistent.{new_opening}
 use Rattle.segment_machine.specs.Form.{Leads}
 use Rattle.segment_invariant.specs.Consistent.{IsHistogram, IsSample, HoldsNothing}
-use Rattle.segment_invariant.specs.Body.{Record, record_words, Counts, Body, histogram, counts, sample, other, Listed, Anatomy, order_of, blank, is_claimed}
+use Rattle.segment_invariant.specs.Body.{Record, record_words, Counts, Body, histogram, counts, sample, other, Listed, Anatomy, layout_of, order_of, is_claimed}
 use Rattle.segment_invariant.specs.Seen.{Stands, HasRecord, HasCounts, IsFirst, IsFirstOf, WasSingle, HoldsAs}
-use Rattle.segment_invariant.specs.Invariant.{StandsAs, Invariant}
+use Rattle.segment_invariant.specs.Invariant.{StandsAs, CountsNothing, Invariant}
 use Rattle.segment_invariant.proofs.Blocks.Pieces.{piece_word, one_stands}
 use Rattle.segment_invariant.proofs.Consistency.Records.{record_word, listed_there}
 use Rattle.segment_invariant.proofs.Consistency.Specs.{buckets_are}
-use Rattle.segment_invariant.proofs.Consistency.Firsts.{listed_record, is_named, given_value, first_of_name, first_of_value, record_on_list}
+use Rattle.segment_invariant.proofs.Consistency.Firsts.{is_named, given_value, first_of_name, first_of_value, record_on_list}
 use Rattle.segment_invariant.proofs.Lists.FewTerms.{zero_index}
 use Rattle.segment_machine.proofs.SmallNumbers.{below_three}
 use Rattle.segment_invariant.proofs.Consistency.Totals.{count_word, mark_word}
@@ -182,19 +180,25 @@ module _ (shape : Dimensions) (opened : Anatomy) (state : State) (kept : Invaria
       )
 
   -- in a later record of a name nothing is counted
-  pub later_record : All (λ l. l.made ≢ None) opened.records → (at place : ℕ) → Contains (order_of kept.anatomy) at → field_at state.words at 2 ≡ 1
-      → IsHistogram state.words (order_of kept.anatomy) (name_of state.words at) place → place ≢ at → HoldsNothing state.words at
-  later_record given at place there one is apart =
-      let (l, name, kind, r, among, spot, made, (has, named, specified)) = listed_record shape opened state kept given at there one in
-      let (first_kind, q, first, its) = first_of_name shape opened state kept (name_of state.words at) place is in
+  pub later_record : (at place : ℕ) (r : Record) → HasRecord kept.anatomy.pieces at r → IsHistogram state.words (order_of kept.anatomy) (name_of state.words at) place
+      → place ≢ at → (kind : Spec) × IsFirst kept.anatomy.records r.name kind place × CountsNothing r
+  later_record at place r has is apart =
+      let (kind, q, first, its) = first_of_name shape opened state kept (name_of state.words at) place is in
       let mine : name_of state.words at ≡ r.name = (is_named shape opened state kept at r has).1 in
-      let nothing = kept.records.later at place r first_kind has (subst (λ (name : List ℕ). IsFirst kept.anatomy.records name first_kind place) mine first) apart in
-      λ i from below. six (λ i. field_at state.words at i ≡ 0) (word at r has 8 (omega arith) ∙ nothing.0) (word at r has 9 (omega arith) ∙ nothing.1)
-      (word at r has 10 (omega arith) ∙ nothing.2) (word at r has 11 (omega arith) ∙ nothing.3) (word at r has 12 (omega arith) ∙ nothing.4)
-      (word at r has 13 (omega arith) ∙ nothing.5) i from below
+      let here = subst (λ (name : List ℕ). IsFirst kept.anatomy.records name kind place) mine first in
+      (kind, here, kept.records.later at place r kind has here apart)
+
+-- ---- a record in which nothing is counted
+
+module _ (shape : Dimensions) (words : List ℕ) (anatomy : Anatomy) (shown : IsShown shape words (layout_of anatomy)) where
+  -- by its words
+  pub holds_nothing : (at : ℕ) (r : Record) → HasRecord anatomy.pieces at r → CountsNothing r → HoldsNothing words at
+  holds_nothing at r has nothing i from below =
+      six (λ i. field_at words at i ≡ 0) (word 8 (omega arith) ∙ nothing.0) (word 9 (omega arith) ∙ nothing.1) (word 10 (omega arith) ∙ nothing.2)
+      (word 11 (omega arith) ∙ nothing.3) (word 12 (omega arith) ∙ nothing.4) (word 13 (omega arith) ∙ nothing.5) i from below
     where
-      word : (at : ℕ) (r : Record) → HasRecord kept.anatomy.pieces at r → (j : ℕ) → j < 15 → field_at state.words at j ≡ slice_index (record_words r) j
-      word at r has j below = record_word shape state.words kept.anatomy kept.shown at r j has below
+      word : (j : ℕ) → j < 15 → field_at words at j ≡ slice_index (record_words r) j
+      word j below = record_word shape words anatomy shown at r j has below
 
       six : (holds : ℕ → Type 0) → holds 8 → holds 9 → holds 10 → holds 11 → holds 12 → holds 13 → (i : ℕ) → 8 ≤ i → i < 14 → holds i
       six holds a b c d e f i from below =
@@ -205,14 +209,3 @@ module _ (shape : Dimensions) (opened : Anatomy) (state : State) (kept : Invaria
                 let further : 11 + (i - 8 - 3) ≡ 8 + (i - 8) = omega (arith, high) in
                 subst holds further (below_three (λ k. holds (11 + k)) d e f (i - 8 - 3) (omega (arith, high, from, below)))
           ])
-
--- ---- a new segment
-
-module _ (shape : Dimensions) (version id : ℕ) (state : State) (kept : Invariant shape (blank version id shape.size) state) where
-  -- the list of a new segment has no record
-  pub none_before : (front : List ℕ) (at : ℕ) → IsChain (new_opening shape version id).words (head_of (new_opening shape version id).words) front
-      → ¬ (Contains front at)
-  none_before front at chain (k, below, is) =
-      let opened : List ℕ = (new_opening shape version id).words in
-      let first = chain.walk.linked 0 (omega (arith, below)) in
-      no_queue opened front 0 (linked_of opened front (head_of opened) chain) (omega (arith, below)) (sym first)

@@ -1,15 +1,17 @@
 -- The records of a kept state hold what they were given.
-use Rattle.std.proofs.Common.{◌≡◌, Bool, true, false, if◌then◌else◌, ℕ, ◌+◌, ◌-◌, ◌<◌, ◌≤◌, ℤ, List, [], ◌∷◌, ◌++◌, map, length, inl, refl, sym, ap, subst, ◌∙◌, arith, Option, Some, None}
+use Rattle.std.proofs.Common.{◌≡◌, ◌≢◌, Bool, true, false, if◌then◌else◌, ℕ, ◌+◌, ◌-◌, ◌<◌, ◌≤◌, ℤ, List, [], ◌∷◌, ◌++◌, map, length, inl, inr, refl, sym, ap, subst, ◌∙◌, arith, Option, Some, None}
 use Rattle.std.specs.Prelude.{slice_index, ◌==◌, is_none}
 use Rattle.std.specs.List.{Contains}
-use Rattle.std.proofs.lemmas.Bool.{and_from, eq-eqb, eqb-true, le-leb, le-ltb, lt-ltb}
+use Rattle.std.proofs.lemmas.Bool.{and_from, eq-eqb, eqb-true, le-leb, lt-ltb}
 use Rattle.std.proofs.lemmas.List.{map-append}
-use Rattle.std.proofs.lemmas.List.Elements.{All-contains, Contains-append_right, All-nil}
+use Rattle.std.proofs.lemmas.List.Elements.{All-contains, Contains-append_right}
 use Rattle.std.proofs.lemmas.List.Sorted.{Contains-permutation, IsPermutation-sym}
 use Rattle.atomic_table.proofs.Lists.{at_map}
 use Rattle.segment_image.specs.Shape.{Dimensions}
+use Rattle.segment_image.specs.Head.{head_of}
 use Rattle.segment_image.specs.Blocks.{field_at}
-use Rattle.alloc_core.specs.Layout.{IsShape, IsShown}
+use Rattle.list_core.specs.Chain.{IsChain}
+use Rattle.alloc_core.specs.Layout.{IsShown}
 use Rattle.bucket_ranges.specs.declared.spec.Spec.{Spec}
 use Rattle.bucket_ranges.specs.declared.spec.Spec.TheVariants as spec
 use Rattle.bucket_ranges.specs.Spec.{spec_fault, distinct_values, spec_fields, spec_ranges, SameSpec}
@@ -23,22 +25,25 @@ use Rattle.segment_machine.specs.declared.actor.Made.TheVariants as made
 use Rattle.segment_machine.specs.State.{State}
 use Rattle.segment_machine.specs.Made.{AreNameWords}
 use Rattle.segment_machine.specs.Actor.{all_published}
-use Rattle.segment_invariant.specs.Consistent.{HoldsMade}
-use Rattle.segment_invariant.specs.Body.{Record, Listed, listed, Anatomy, order_of, blank, layout_of}
+use Rattle.segment_machine.specs.declared.actor.Claim.{Claim}
+use Rattle.segment_invariant.specs.Consistent.{HoldsMade, HasForm, IsHistogram, CountsStill, HoldsNothing, RecordsHold, all_claims, places_of}
+use Rattle.segment_invariant.specs.Body.{Record, Listed, listed, Anatomy, order_of, layout_of}
 use Rattle.segment_invariant.specs.Seen.{HasRecord, IsFirst, WasSingle}
 use Rattle.segment_invariant.specs.Invariant.{StandsAs, Invariant, IsLawfulRecord}
-use Rattle.segment_invariant.specs.Keeps.{KeptRecordsHold}
+use Rattle.segment_invariant.specs.Keeps.{KeptRecordsHold, opening_of}
 use Rattle.segment_invariant.proofs.Lists.Elements.{at_from, contains_at, split_at}
 use Rattle.segment_invariant.proofs.Blocks.Pieces.{piece_word}
-use Rattle.segment_invariant.proofs.Consistency.Blocks.{claimed_piece}
-use Rattle.segment_invariant.proofs.Consistency.Chain.{claimed_at}
+use Rattle.segment_invariant.proofs.Consistency.Chained.{claimed_at}
+use Rattle.segment_invariant.proofs.Consistency.Opened.{Opens, opens_as, front_is}
+use Rattle.segment_invariant.proofs.Consistency.Since.{holds_still, later_still, passed_still}
+use Rattle.segment_invariant.proofs.Lists.Maps.{contains_map}
 use Rattle.segment_invariant.proofs.Consistency.Records.{record_word, name_long, letters_part, record_name}
 use Rattle.segment_invariant.proofs.Consistency.Specs.{same_spelled, record_spec, ranges_part, ranges_fewer, buckets_are}
-use Rattle.segment_invariant.proofs.Consistency.Firsts.{standing_of, is_sample_of, listed_record, first_of_name, name_of_first}
+use Rattle.segment_invariant.proofs.Consistency.Firsts.{standing_of, is_sample_of, record_on_list, first_of_name, name_of_first}
 use Rattle.segment_invariant.proofs.Consistency.Books.{one_first, sample_first}
 use Rattle.segment_invariant.proofs.Consistency.Totals.{kind_word}
-use Rattle.segment_invariant.proofs.Consistency.Held.{counts_ref, own_counts, counts_unlisted, single_leads, later_record, later_sample, none_before}
-use Rattle.segment_invariant.proofs.Consistency.Forms.{formed_as}
+use Rattle.segment_invariant.proofs.Consistency.Held.{own_counts, counts_named, single_leads, later_record, later_sample, holds_nothing}
+use Rattle.segment_invariant.proofs.Consistency.Forms.{formed_as, passed_as}
 
 -- ---- lawful specs are named lawfully
 
@@ -124,17 +129,17 @@ pub holds_histogram : (shape : Dimensions) (opened : Anatomy) (state : State) (k
 holds_histogram shape opened state kept at r has =
     record_holds shape state.words kept.anatomy kept.shown kept.anatomy.version (order_of kept.anatomy) at r has (kept.records.lawful at r has)
 
--- ---- a kept state of a new segment
+-- ---- a kept state
 
-module _ (shape : Dimensions) (version id : ℕ) (state : State) (lawful : IsShape shape) (kept : Invariant shape (blank version id shape.size) state) where
+module _ (shape : Dimensions) (opened : Anatomy) (state : State) (kept : Invariant shape opened state) where
   -- what a record of the list holds
   holds_given : (l : Listed) → Contains kept.anatomy.records l → (m : Made) → l.made ≡ Some m → HoldsMade state.words (order_of kept.anatomy) l.reference m
   holds_given l there (made.Histogram name kind) is =
-      let (r, has, named, specified) = subst (StandsAs kept.anatomy.pieces l) is (standing_of shape (blank version id shape.size) state kept l there) in
+      let (r, has, named, specified) = subst (StandsAs kept.anatomy.pieces l) is (standing_of shape opened state kept l there) in
       subst (λ (p : List ℕ × Spec). HoldsMade state.words (order_of kept.anatomy) l.reference (made.Histogram p.0 p.1)) (λ j. (named j, specified j))
-      (holds_histogram shape (blank version id shape.size) state kept l.reference r has)
+      (holds_histogram shape opened state kept l.reference r has)
   holds_given l there (made.Sample of value) is =
-      let (s, has, mine, valued) = subst (StandsAs kept.anatomy.pieces l) is (standing_of shape (blank version id shape.size) state kept l there) in
+      let (s, has, mine, valued) = subst (StandsAs kept.anatomy.pieces l) is (standing_of shape opened state kept l there) in
       let right = kept.records.valued l.reference s has in
       let sized = right.sized in
       let size = piece_word shape state.words kept.anatomy kept.shown has.0 _ 0 has.1 (omega arith) in
@@ -144,12 +149,12 @@ module _ (shape : Dimensions) (version id : ℕ) (state : State) (lawful : IsSha
       split ∙ ap (λ (m : Option Made). front ++ record { reference = l.reference; made = m } ∷ behind) is in
       let (name, (xs, ys, before, none_first, given), its_name) = kept.records.sampled front behind l.reference of value here in
       let first : IsFirst kept.anatomy.records s.name spec.Sparse of =
-      subst (IsFirst kept.anatomy.records s.name spec.Sparse) mine (sample_first shape (blank version id shape.size) state kept l.reference s has) in
-      let histogram_is = name_of_first shape (blank version id shape.size) state kept s.name spec.Sparse of first in
-      let (kind, r, again, (stands, called, sorted)) = first_of_name shape (blank version id shape.size) state kept s.name of histogram_is in
-      let sparse : r.spec ≡ spec.Sparse = sorted ∙ (one_first shape (blank version id shape.size) state kept s.name kind spec.Sparse of of again first).1 in
+      subst (IsFirst kept.anatomy.records s.name spec.Sparse) mine (sample_first shape opened state kept l.reference s has) in
+      let histogram_is = name_of_first shape opened state kept s.name spec.Sparse of first in
+      let (kind, r, again, (stands, called, sorted)) = first_of_name shape opened state kept s.name of histogram_is in
+      let sparse : r.spec ≡ spec.Sparse = sorted ∙ (one_first shape opened state kept s.name kind spec.Sparse of of again first).1 in
       let references = λ (records : List Listed). map (λ (l : Listed). l.reference) records in
-      let says = is_sample_of shape (blank version id shape.size) state kept l.reference s has in (
+      let says = is_sample_of shape opened state kept l.reference s has in (
         (says.0, says.1 ∙ mine, says.2 ∙ valued),
         omega (arith, size, sized),
         subst (λ (v : ℤ). reading.is_i32 v ≡ true) valued right.valued,
@@ -158,7 +163,7 @@ module _ (shape : Dimensions) (version id : ℕ) (state : State) (lawful : IsSha
           references front,
           references behind,
           histogram_is,
-          kind_word shape (blank version id shape.size) state kept of r stands ∙ ap (λ (kind : Spec). slice_index (spec_fields kind) 0 == 4) sparse,
+          kind_word shape opened state kept of r stands ∙ ap (λ (kind : Spec). slice_index (spec_fields kind) 0 == 4) sparse,
           ap references split ∙ map-append (λ (l : Listed). l.reference) front (l ∷ behind),
           subst (λ (list : List ℕ). Contains list of) (sym (ap references before ∙ map-append (λ (l : Listed). l.reference) xs _))
               (Contains-append_right (references xs) (of ∷ references ys) of (0, omega arith, refl)),
@@ -172,28 +177,63 @@ module _ (shape : Dimensions) (version id : ℕ) (state : State) (lawful : IsSha
       let place = at_from (all_published state.actors) p there in
       let among = contains_at (map listed (all_published state.actors)) place.0 (listed p) (at_map listed (all_published state.actors) place.0 p place.1) in
       subst (λ (records : List Listed). Contains records (listed p)) (sym all)
-      (Contains-permutation (map listed (all_published state.actors)) front (listed p) (IsPermutation-sym _ _ permuted) among)
+      (Contains-append_right opened.records front (listed p)
+      (Contains-permutation (map listed (all_published state.actors)) front (listed p) (IsPermutation-sym _ _ permuted) among))
+
+-- ---- with its opening
+
+module _ (shape : Dimensions) (opened : Anatomy) (state : State) (opens : Opens shape opened) (kept : Invariant shape opened state) where
+  abbrev before : List ℕ
+  before = (opening_of shape opened).words
+
+  abbrev first : List Claim
+  first = (opening_of shape opened).claims
+
+  -- the counts that a record names were claimed, and are no record
+  claimed_counts : (at : ℕ) → Contains (order_of kept.anatomy) at → field_at state.words at 2 ≡ 1 → field_at state.words at 8 ≢ 0
+      → Contains (places_of (all_claims first state.actors)) (field_at state.words at 8) × (¬ (Contains (order_of kept.anatomy) (field_at state.words at 8)))
+  claimed_counts at there one some_there =
+      let ((body, stands, claimed), unlisted) = counts_named shape opened state kept at there one some_there in
+      (claimed_at shape opened state kept stands.0 _ stands.1 claimed, unlisted)
+
+  -- a record in which nobody counts is as it was, or holds nothing
+  later : (front : List ℕ) (at other : ℕ) → IsChain before (head_of before) front → Contains (order_of kept.anatomy) at → field_at state.words at 2 ≡ 1
+      → IsHistogram state.words (order_of kept.anatomy) (name_of state.words at) other → other ≢ at
+      → (Contains front at → CountsStill before state.words at) × (¬ (Contains front at) → HoldsNothing state.words at)
+  later front at other chain there one is apart =
+      let order : front ≡ order_of opened = front_is shape opened opens front chain in
+      elim (record_on_list shape opened state kept at there one) [
+        | inl (l, name, kind, r, among, place, made, (has, named, specified)) ↦ (
+          λ inside. later_still shape opened state opens kept at other r has is apart (subst (λ (list : List ℕ). Contains list at) order inside),
+          λ absent. holds_nothing shape state.words kept.anatomy kept.shown at r has (later_record shape opened state kept at other r has is apart).2,
+        )
+        | inr (l, passed, r, among, nothing, over) ↦ (
+          λ inside. passed_still shape opened state opens kept passed at r over,
+          λ absent. absurd (absent (subst (λ (list : List ℕ). Contains list at) (sym order)
+              (contains_map (λ (l : Listed). l.reference) opened.records (record { reference = at; made = None }) over.2.0))),
+        )
+      ]
+
+  -- each record of the list has a lawful form
+  formed : (at : ℕ) → Contains (order_of kept.anatomy) at → field_at state.words at 2 ≡ 1 → HasForm opened.version state.words at
+  formed at there one = elim (record_on_list shape opened state kept at there one) [
+    | inl (l, name, kind, r, among, place, made, (has, named, specified)) ↦ formed_as shape opened state kept at r has
+    | inr (l, front, r, among, nothing, over) ↦ passed_as shape opened state kept front at r over.0
+  ]
+
+  hold : RecordsHold before first state.words state.actors (order_of kept.anatomy)
+  hold = record {
+    made = λ p there. holds_given shape opened state kept (listed p) (published_listed shape opened state kept p there) p.made refl;
+    still = λ front at is there. holds_still shape opened state opens kept at
+        (subst (λ (list : List ℕ). Contains list at) (front_is shape opened opens front is) there);
+    formed = formed;
+    own_counts = own_counts shape opened state kept;
+    claimed_counts = claimed_counts;
+    singles = λ who a alive lives s at seen there same. single_leads shape opened state kept s at
+        (All-contains (WasSingle kept.anatomy.version kept.anatomy.pieces) a.seen.singles s (kept.each who a alive lives).sees.singles seen) same;
+    later = later;
+    later_samples = later_sample shape opened state kept;
+  }
 
 pub records_hold : KeptRecordsHold
-records_hold shape version id state lawful kept = record {
-  made = λ p there. holds_given shape version id state lawful kept (listed p) (published_listed shape version id state lawful kept p there) p.made refl;
-  still = λ front at is there. absurd (none_before shape version id state kept front at is there);
-  formed = λ at there one.
-      let (l, name, kind, r, among, place, made, (has, named, specified)) = listed_record shape (blank version id shape.size) state kept (All-nil _) at there one in
-      formed_as shape (blank version id shape.size) state kept at r has;
-  own_counts = own_counts shape (blank version id shape.size) state kept;
-  claimed_counts = λ at there one some_there.
-      let (l, name, kind, r, among, place, made, (has, named, specified)) = listed_record shape (blank version id shape.size) state kept (All-nil _) at there one in
-      let names_it = counts_ref shape (blank version id shape.size) state kept at r has in
-      let (c, mounted, of_it) = kept.records.mounted at r has (λ e. some_there (names_it ∙ e)) in (
-        subst (Contains _) (sym names_it) (claimed_at shape version id state lawful kept mounted.0 _ mounted.1 refl),
-        subst (λ (at : ℕ). ¬ (Contains (order_of kept.anatomy) at)) (sym names_it) (counts_unlisted shape (blank version id shape.size) state kept r.counts c mounted),
-      );
-  singles = λ who a alive lives s at seen there same. single_leads shape (blank version id shape.size) state kept s at
-      (All-contains (WasSingle kept.anatomy.version kept.anatomy.pieces) a.seen.singles s (kept.each who a alive lives).sees.singles seen) same;
-  later = λ at other there one is apart.
-      let (l, name, kind, r, among, place, made, (has, named, specified)) = listed_record shape (blank version id shape.size) state kept (All-nil _) at there one in
-      let from = (claimed_piece shape state.words kept.anatomy kept.shown kept.blocks has.0 _ has.1 refl).from in
-      (λ below. cc (sym below ∙ le-ltb at 16 from), λ _. later_record shape (blank version id shape.size) state kept (All-nil _) at other there one is apart);
-  later_samples = later_sample shape (blank version id shape.size) state kept;
-}
+records_hold shape opened state opens kept = hold shape opened state (opens_as shape opened opens) kept

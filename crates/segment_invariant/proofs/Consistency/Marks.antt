@@ -3,7 +3,7 @@ use Rattle.std.proofs.Common.{◌≡◌, ◌≢◌, Bool, true, false, if◌then
 use Rattle.std.specs.Prelude.{slice_index, ◌==◌}
 use Rattle.std.specs.Int.{w64, cast_signed}
 use Rattle.std.proofs.lemmas.Bool.{eqb-true, eqb-false, eq-eqb, ne_eqb}
-use Rattle.std.proofs.lemmas.List.Elements.{All-weaker, All-nil}
+use Rattle.std.proofs.lemmas.List.Elements.{All-weaker}
 use Rattle.segment_image.specs.Shape.{Dimensions}
 use Rattle.segment_image.specs.Words.{word_at}
 use Rattle.segment_image.specs.Blocks.{field_at}
@@ -12,7 +12,7 @@ use Rattle.bucket_ranges.specs.declared.spec.Spec.TheVariants as spec
 use Rattle.bucket_ranges.specs.declared.single.SingleWord.{SingleWord}
 use Rattle.bucket_ranges.specs.declared.single.SingleWord.TheVariants.{Empty, Packed, Disabled, FrozenEmpty, Frozen}
 use Rattle.bucket_ranges.specs.Spec.{buckets_of}
-use Rattle.bucket_ranges.specs.Reading.{count_at, mark_at, total_of, mark_of}
+use Rattle.bucket_ranges.specs.Reading.{record_single, count_at, mark_at, total_of, mark_of}
 use Rattle.bucket_ranges.specs.Single.{packed_bucket, is_packed_bucket, units_packed}
 use Rattle.segment_machine.specs.declared.seen.Sighting.{Sighting}
 use Rattle.segment_machine.specs.State.{State}
@@ -20,7 +20,7 @@ use Rattle.segment_machine.specs.Entry.{tally_units}
 use Rattle.segment_machine.specs.Form.{units_in}
 use Rattle.segment_machine.specs.Actor.{all_counted}
 use Rattle.segment_invariant.specs.Consistent.{key_at, units_taken}
-use Rattle.segment_invariant.specs.Body.{Record, Anatomy, blank}
+use Rattle.segment_invariant.specs.Body.{Record, Anatomy}
 use Rattle.segment_invariant.specs.Ledger.{form_at, key_of_bucket, at_bucket, keyed, marks_held, all_held}
 use Rattle.segment_invariant.specs.Seen.{HasRecord, IsFirst, WasCounter}
 use Rattle.segment_invariant.specs.Invariant.{Invariant}
@@ -31,9 +31,10 @@ use Rattle.segment_invariant.proofs.Consistency.Records.{record_word}
 use Rattle.segment_invariant.proofs.Consistency.Specs.{buckets_are, key_is, form_is}
 use Rattle.segment_invariant.proofs.Consistency.Keys.{packed_within, packed_mark}
 use Rattle.segment_invariant.proofs.Consistency.Sums.{sum_mark_is}
-use Rattle.segment_invariant.proofs.Consistency.Firsts.{listed_record, first_of_name, first_of_value}
+use Rattle.segment_invariant.proofs.Consistency.Firsts.{first_of_name, first_of_value}
+use Rattle.segment_invariant.proofs.Consistency.Forms.{TellsRecord, tells_record, tells_listed, told_count}
 use Rattle.segment_invariant.proofs.Consistency.Books.{marks_book, keyed_one, bucket_alone, bucket_mounted, value_held}
-use Rattle.segment_invariant.proofs.Consistency.Totals.{sparse_kind, bucketed_kind, kind_word, count_word, mark_word, total_words, placed}
+use Rattle.segment_invariant.proofs.Consistency.Totals.{sparse_kind, bucketed_kind, kind_word, mark_word, placed}
 
 -- ---- the packed bucket of a form
 
@@ -62,6 +63,28 @@ packed_all None i is = refl
 -- the greater of two numbers is no less than the first
 at_most_greater : (k n m : ℕ) → k ≤ n → k ≤ max n m
 at_most_greater k n m le = omega (arith, le)
+
+-- ---- a record among the words
+
+module _ (words : List ℕ) (page version at : ℕ) (r : Record) (tells : TellsRecord words page version at r) where
+  -- in version 1 the single mark is at most the greater of its bucket's total and 65,535
+  told_bound : version ≡ 1 → (i : ℕ) → packed_bucket (form_at version r) ≡ Some i → r.mark ≤ max (total_of version words at i) 65535
+  told_bound one i packed =
+      subst (λ (n : ℕ). r.mark ≤ max n 65535) (λ j. count_at words (sym (tells.word 8 (omega arith)) j) i + units_packed (sym tells.form j) i)
+      (by_counts (r.counts == 0) (eqb-true r.counts 0) (eqb-false r.counts 0))
+    where
+      by_counts : (b : Bool) → (b ≡ true → r.counts ≡ 0) → (b ≡ false → r.counts ≢ 0)
+          → r.mark ≤ max (count_at words r.counts i + units_packed (form_at version r) i) 65535
+      by_counts true none_there some_there =
+          let bound = tells.packed (none_there refl) in
+          let all = packed_all (form_at version r) i packed in
+          at_most_greater r.mark (count_at words r.counts i + units_packed (form_at version r) i) 65535 (omega (arith, bound, all))
+      by_counts false none_there some_there =
+          let (c, there, of_it) = tells.counts (some_there refl) in
+          let below = packed_within version (buckets_of r.spec) r.single i packed in
+          let count = ap (λ (b : Bool). if b then 0 else field_at words r.counts (4 + i)) (ne_eqb r.counts 0 (some_there refl))
+          ∙ told_count words version at r c there of_it i below in
+          subst (λ (n : ℕ). r.mark ≤ max (n + units_packed (form_at version r) i) 65535) (sym count) (of_it.mark one i packed)
 
 -- ---- a kept state
 
@@ -116,23 +139,7 @@ module _ (shape : Dimensions) (opened : Anatomy) (state : State) (kept : Invaria
   -- in version 1 the single mark is at most the greater of its bucket's total and 65,535
   pub mark_bound : (at : ℕ) (r : Record) → HasRecord kept.anatomy.pieces at r → kept.anatomy.version ≡ 1 → (i : ℕ) → packed_bucket (form r) ≡ Some i
       → r.mark ≤ max (total_of kept.anatomy.version state.words at i) 65535
-  mark_bound at r has one i packed =
-      subst (λ (n : ℕ). r.mark ≤ max n 65535) (sym (total_words shape opened state kept at r has kept.anatomy.version i))
-      (by_counts (r.counts == 0) (eqb-true r.counts 0) (eqb-false r.counts 0))
-    where
-      by_counts : (b : Bool) → (b ≡ true → r.counts ≡ 0) → (b ≡ false → r.counts ≢ 0)
-          → r.mark ≤ max (count_at state.words r.counts i + units_packed (form r) i) 65535
-      by_counts true none_there some_there =
-          let bound = kept.records.packed at r has (none_there refl) in
-          let all = packed_all (form r) i packed in
-          at_most_greater r.mark (count_at state.words r.counts i + units_packed (form r) i) 65535 (omega (arith, bound, all))
-      by_counts false none_there some_there =
-          let (c, mounted, of_it) = kept.records.mounted at r has (some_there refl) in
-          let long : length c.units ≡ buckets_of r.spec = of_it.units in
-          let below = packed_within kept.anatomy.version (buckets_of r.spec) r.single i packed in
-          let count = ap (λ (b : Bool). if b then 0 else field_at state.words r.counts (4 + i)) (ne_eqb r.counts 0 (some_there refl))
-          ∙ count_word shape opened state kept r.counts c i mounted (omega (arith, below, long)) in
-          subst (λ (n : ℕ). r.mark ≤ max (n + units_packed (form r) i) 65535) (sym count) (of_it.mark one i packed)
+  mark_bound at r has = told_bound state.words shape.page kept.anatomy.version at r (tells_record shape opened state kept at r has)
 
   -- a counter that was seen is at most the present one
   seen_within : (s : Sighting) → WasCounter kept.anatomy.pieces s → s.word ≤ word_at state.words s.at
@@ -142,50 +149,45 @@ module _ (shape : Dimensions) (opened : Anatomy) (state : State) (kept : Invaria
       omega (arith, most, word, here)
 
 pub marks_are_taken : KeptMarksAreTaken
-marks_are_taken shape version id state lawful kept = record {
+marks_are_taken shape opened state kept = record {
   buckets = λ name at i is plain below.
-      let (kind, r, first, (has, named, specified)) = first_of_name shape (blank version id shape.size) state kept name at is in
+      let (kind, r, first, (has, named, specified)) = first_of_name shape opened state kept name at is in
       let right = kept.records.lawful at r has in
-      let bucketed = bucketed_kind r.spec (sym (kind_word shape (blank version id shape.size) state kept at r has) ∙ plain) in
+      let bucketed = bucketed_kind r.spec (sym (kind_word shape opened state kept at r has) ∙ plain) in
       let within : i < buckets_of r.spec = subst (λ (n : ℕ). i < n) (buckets_are shape state.words kept.anatomy kept.shown kept.anatomy.version at r has right) below in
-      let held = mark_held shape (blank version id shape.size) state kept name kind at r first has named specified bucketed i within in
+      let held = mark_held shape opened state kept name kind at r first has named specified bucketed i within in
       let key = key_is shape state.words kept.anatomy kept.shown kept.anatomy.version at r has right i in
-      let taken : mark_of version state.words at i ≡ units_taken state.actors name (key_at state.words at i) =
+      let taken : mark_of opened.version state.words at i ≡ units_taken state.actors name (key_at state.words at i) =
       ap (λ (v : ℕ). mark_of v state.words at i) (sym kept.same.0)
       ∙ (held ∙ (kept.balanced.marks name (key_of_bucket r.spec i) ∙ ap (units_taken state.actors name) (sym key))) in
       (taken, subst (λ (n : ℕ). n ≤ tally_units (all_counted state.actors) name (key_at state.words at i)) (sym taken) (kept.balanced.taken name (key_at state.words at i)));
   values = λ name at place value is sparse first_value.
-      let (kind, r, first, (has, named, specified)) = first_of_name shape (blank version id shape.size) state kept name at is in
-      let sparse_spec = sparse_kind r.spec (sym (kind_word shape (blank version id shape.size) state kept at r has) ∙ sparse) in
-      let (s, first_of, (stands, of_it, valued)) = first_of_value shape (blank version id shape.size) state kept at value place first_value in
-      let held = value_held shape (blank version id shape.size) state kept name kind at r first has named specified value _ _ _ _
+      let (kind, r, first, (has, named, specified)) = first_of_name shape opened state kept name at is in
+      let sparse_spec = sparse_kind r.spec (sym (kind_word shape opened state kept at r has) ∙ sparse) in
+      let (s, first_of, (stands, of_it, valued)) = first_of_value shape opened state kept at value place first_value in
+      let held = value_held shape opened state kept name kind at r first has named specified value _ _ _ _
       (marks_book kept.anatomy.version name value) sparse_spec place s first_of stands of_it valued in
       let mark = piece_word shape state.words kept.anatomy kept.shown stands.0 _ 7 stands.1 (omega arith) in
       let units = piece_word shape state.words kept.anatomy kept.shown stands.0 _ 6 stands.1 (omega arith) in
       let most = (kept.records.valued place s stands).taken in
       (mark ∙ (sym held ∙ kept.balanced.marks name value), omega (arith, mark, units, most));
-  placed = λ t count among counted. placed shape version id state kept t.name count.0 (kept.taken_keys t count among counted);
+  placed = λ t count among counted. placed shape opened state kept t.name count.0 (kept.taken_keys t count among counted);
   unpacked = λ at there one empty.
-      let (l, name, kind, r, among, place, made, (has, named, specified)) = listed_record shape (blank version id shape.size) state kept (All-nil _) at there one in
-      let right = kept.records.lawful at r has in
-      let single = form_is shape state.words kept.anatomy kept.shown kept.anatomy.version at r has right version in
+      let (r, tells) = tells_listed shape opened state kept at there one in
       let here : packed_bucket (form_at kept.anatomy.version r) ≡ None =
-      ap (λ (v : ℕ). packed_bucket (form_at v r)) kept.same.0 ∙ (ap packed_bucket (sym single) ∙ empty) in
-      record_word shape state.words kept.anatomy kept.shown at r 10 has (omega arith) ∙ right.unpacked here;
+      sym (ap packed_bucket tells.form) ∙ (ap (λ (v : ℕ). packed_bucket (record_single v state.words at)) kept.same.0 ∙ empty) in
+      tells.word 10 (omega arith) ∙ tells.lawful.unpacked here;
   packed = λ at i there one first packed.
-      let (l, name, kind, r, among, place, made, (has, named, specified)) = listed_record shape (blank version id shape.size) state kept (All-nil _) at there one in
-      let right = kept.records.lawful at r has in
-      let single = form_is shape state.words kept.anatomy kept.shown kept.anatomy.version at r has right version in
+      let (r, tells) = tells_listed shape opened state kept at there one in
       let here : packed_bucket (form_at kept.anatomy.version r) ≡ Some i =
-      ap (λ (v : ℕ). packed_bucket (form_at v r)) kept.same.0 ∙ (ap packed_bucket (sym single) ∙ packed) in
-      let bound = mark_bound shape (blank version id shape.size) state kept at r has (kept.same.0 ∙ first) i here in
-      subst (λ (p : ℕ × ℕ). p.0 ≤ max (total_of p.1 state.words at i) 65535)
-      (λ j. (sym (record_word shape state.words kept.anatomy kept.shown at r 10 has (omega arith)) j, kept.same.0 j)) bound;
+      sym (ap packed_bucket tells.form) ∙ (ap (λ (v : ℕ). packed_bucket (record_single v state.words at)) kept.same.0 ∙ packed) in
+      let bound = told_bound state.words shape.page kept.anatomy.version at r tells (kept.same.0 ∙ first) i here in
+      subst (λ (p : ℕ × ℕ). p.0 ≤ max (total_of p.1 state.words at i) 65535) (λ j. (sym (tells.word 10 (omega arith)) j, kept.same.0 j)) bound;
   sum = λ name at is.
-      let (kind, r, first, (has, named, specified)) = first_of_name shape (blank version id shape.size) state kept name at is in
+      let (kind, r, first, (has, named, specified)) = first_of_name shape opened state kept name at is in
       ap (cast_signed w64) (record_word shape state.words kept.anatomy kept.shown at r 12 has (omega arith))
-      ∙ (sym (sum_mark_is shape (blank version id shape.size) state kept name kind at r first has named) ∙ kept.balanced.sum_marks name);
+      ∙ (sym (sum_mark_is shape opened state kept name kind at r first has named) ∙ kept.balanced.sum_marks name);
   seen = λ who a there lives. All-weaker (WasCounter kept.anatomy.pieces) (λ s. s.word ≤ word_at state.words s.at)
-      (seen_within shape (blank version id shape.size) state kept) a.seen.counts (kept.each who a there lives).sees.counters;
+      (seen_within shape opened state kept) a.seen.counts (kept.each who a there lives).sees.counters;
   snapshots = λ who a there lives. (kept.each who a there lives).snapshots;
 }

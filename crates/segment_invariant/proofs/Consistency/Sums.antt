@@ -1,29 +1,21 @@
--- The sums of a kept state are the amounts: of the records of a name only the first counts.
-use Rattle.std.proofs.Common.{◌≡◌, ◌≢◌, Bool, true, false, ℕ, ◌≤◌, ℤ, pos, nat_lt, if◌then◌else◌, List, refl, sym, ap, subst, ◌∙◌, ⊎_elim, arith}
+-- What all blocks of a kept state hold of a name: of its records only the first counts.
+use Rattle.std.proofs.Common.{◌≡◌, ◌≢◌, Bool, true, false, ℕ, ℤ, pos, if◌then◌else◌, List, refl, sym, ap, subst, ◌∙◌, ⊎_elim}
 use Rattle.std.specs.Int.{w64, cast_signed}
 use Rattle.std.specs.Str.{bytes_eq}
 use Rattle.std.proofs.Math.IntN.{+ℤ_idl}
-use Rattle.std.proofs.lemmas.Bool.{le-ltb}
 use Rattle.std.proofs.lemmas.Slice.Eq.{bytes_eq-Decides}
 use mathlib.Core.Option.{some, none}
 use lib.ListN.{get_elem?}
 use Rattle.segment_image.specs.Shape.{Dimensions}
-use Rattle.segment_image.specs.Blocks.{field_at}
 use Rattle.bucket_ranges.specs.declared.spec.Spec.{Spec}
 use Rattle.segment_machine.specs.declared.actor.Own.{Own}
 use Rattle.segment_machine.specs.State.{State}
-use Rattle.segment_invariant.specs.Consistent.{new_opening}
-use Rattle.segment_invariant.specs.Consistent.{redundant_at_opening}
-use Rattle.segment_invariant.specs.Body.{Record, Body, queue, plain, held, histogram, counts, sample, other, is_claimed, Piece, Anatomy, blank}
+use Rattle.segment_invariant.specs.Body.{Record, Body, queue, plain, held, histogram, counts, sample, other, is_claimed, Piece, Anatomy}
 use Rattle.segment_invariant.specs.Ledger.{of_name, amount_of_name, sum_held, sum_mark_held, noted_held, all_held, all_amounts}
 use Rattle.segment_invariant.specs.Seen.{Stands, HasRecord, IsFirst}
 use Rattle.segment_invariant.specs.Invariant.{Invariant, CountsNothing}
-use Rattle.segment_invariant.specs.Keeps.{KeptSumsAreAmounts}
 use Rattle.segment_invariant.proofs.Blocks.Pieces.{one_piece}
 use Rattle.segment_invariant.proofs.Lists.FewTerms.{Elsewhere, sum_one, amounts_one}
-use Rattle.segment_invariant.proofs.Consistency.Blocks.{claimed_piece}
-use Rattle.segment_invariant.proofs.Consistency.Records.{record_word}
-use Rattle.segment_invariant.proofs.Consistency.Firsts.{first_of_name}
 
 -- ---- numbers of a name
 
@@ -122,30 +114,3 @@ module _ (shape : Dimensions) (opened : Anatomy) (state : State) (kept : Invaria
         sum_one (λ p. noted_held name p.body) kept.anatomy.pieces has.0 _ has.1
         (λ j p there apart. no_noted name p.body (λ r' is same. (other_nothing name spec at r first has j p there apart r' is same).5))
         ∙ of_mine r.name name r.noted named
-
--- ---- a new segment
-
-module _ (shape : Dimensions) (version id : ℕ) (state : State) (kept : Invariant shape (blank version id shape.size) state) where
-  -- no record was there at the opening
-  not_before : (at : ℕ) (r : Record) → HasRecord kept.anatomy.pieces at r → redundant_at_opening (new_opening shape version id).words at ≡ 0
-  not_before at r (k, there) =
-      let behind = (claimed_piece shape state.words kept.anatomy kept.shown kept.blocks k _ there refl).from in
-      ap (λ (b : Bool). if b then field_at (new_opening shape version id).words at 13 else 0) (not_below at behind)
-    where
-      not_below : (at : ℕ) → 16 ≤ at → nat_lt at 16 ≡ false
-      not_below at from = le-ltb at 16 from
-
-pub sums_are_amounts : KeptSumsAreAmounts
-sums_are_amounts shape version id state lawful kept = record {
-  sum = λ name at is.
-      let (spec, r, first, (has, named, specified)) = first_of_name shape (blank version id shape.size) state kept name at is in
-      ap (cast_signed w64) (record_word shape state.words kept.anatomy kept.shown at r 11 has (omega arith))
-      ∙ (sym (sum_is shape (blank version id shape.size) state kept name spec at r first has named) ∙ kept.balanced.sums name);
-  redundant = λ name at is.
-      let (spec, r, first, (has, named, specified)) = first_of_name shape (blank version id shape.size) state kept name at is in
-      let word = record_word shape state.words kept.anatomy kept.shown at r 13 has (omega arith) in
-      let held = noted_is shape (blank version id shape.size) state kept name spec at r first has named in
-      let new = not_before shape version id state kept at r has in
-      let balance = kept.balanced.noted name in
-      omega (arith, word, held, new, balance);
-}

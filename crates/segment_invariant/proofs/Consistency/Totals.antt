@@ -29,7 +29,7 @@ use Rattle.segment_invariant.proofs.Frames.OneActor.{moves_or_not}
 use Rattle.segment_invariant.proofs.Lists.Elements.{at_from}
 use Rattle.segment_invariant.proofs.Lists.FewTerms.{sum_none}
 use Rattle.segment_invariant.specs.Consistent.{HasPlace}
-use Rattle.segment_invariant.specs.Body.{Record, Counts, histogram, counts, words_of, Anatomy, order_of, blank}
+use Rattle.segment_invariant.specs.Body.{Record, Counts, histogram, counts, words_of, Anatomy, order_of}
 use Rattle.segment_invariant.specs.Ledger.{form_at, key_of_bucket, at_bucket, keyed, units_held, all_held, moving_of, moving_at, all_moving}
 use Rattle.segment_invariant.specs.Seen.{HasRecord, HasCounts, IsFirst, Knows}
 use Rattle.segment_invariant.specs.Invariant.{StandsRight, Invariant, HasKey}
@@ -226,15 +226,15 @@ module _ (shape : Dimensions) (opened : Anatomy) (state : State) (kept : Invaria
         (λ still. still.0 a name key)
         (moves_or_not a.hand.place))
 
--- ---- a new segment
+-- ---- keys
 
-module _ (shape : Dimensions) (version id : ℕ) (state : State) (kept : Invariant shape (blank version id shape.size) state) where
+module _ (shape : Dimensions) (opened : Anatomy) (state : State) (kept : Invariant shape opened state) where
   -- what has the key of a bucket, or is the value of a sample, has a place by the words
   pub placed : (name : List ℕ) (key : ℤ) → HasKey kept.anatomy.records name key → HasPlace state.words (order_of kept.anatomy) name key
   placed name key (kind, at, first, keyed_by) =
-      let is = name_of_first shape (blank version id shape.size) state kept name kind at first in
-      let (other, r, again, (has, named, specified)) = first_of_name shape (blank version id shape.size) state kept name at is in
-      let same : r.spec ≡ kind = specified ∙ (one_first shape (blank version id shape.size) state kept name other kind at at again first).1 in
+      let is = name_of_first shape opened state kept name kind at first in
+      let (other, r, again, (has, named, specified)) = first_of_name shape opened state kept name at is in
+      let same : r.spec ≡ kind = specified ∙ (one_first shape opened state kept name other kind at at again first).1 in
       let lawful = kept.records.lawful at r has in (
         at,
         is,
@@ -243,7 +243,7 @@ module _ (shape : Dimensions) (version id : ℕ) (state : State) (kept : Invaria
             let (bucket, below, key_is_it) = by_bucket in
             inl (
               bucket,
-              kind_word shape (blank version id shape.size) state kept at r has ∙ (ap (λ (kind : Spec). slice_index (spec_fields kind) 0 == 4) same ∙ has_buckets kind bucket below),
+              kind_word shape opened state kept at r has ∙ (ap (λ (kind : Spec). slice_index (spec_fields kind) 0 == 4) same ∙ has_buckets kind bucket below),
               subst (λ (n : ℕ). bucket < n) (sym (buckets_are shape state.words kept.anatomy kept.shown kept.anatomy.version at r has lawful ∙ ap buckets_of same)) below,
               key_is_it ∙ sym (key_is shape state.words kept.anatomy kept.shown kept.anatomy.version at r has lawful bucket ∙ ap (λ (kind : Spec). key_of_bucket kind bucket) same),
             ))
@@ -251,36 +251,36 @@ module _ (shape : Dimensions) (version id : ℕ) (state : State) (kept : Invaria
             let (sparse, place, first_value) = by_value in
             inr (
               place,
-              kind_word shape (blank version id shape.size) state kept at r has ∙ ap (λ (kind : Spec). slice_index (spec_fields kind) 0 == 4) (same ∙ sparse),
-              value_of_first shape (blank version id shape.size) state kept at key place first_value,
+              kind_word shape opened state kept at r has ∙ ap (λ (kind : Spec). slice_index (spec_fields kind) 0 == 4) (same ∙ sparse),
+              value_of_first shape opened state kept at key place first_value,
             ))
             keyed_by,
       )
 
 pub totals_are_counted : KeptTotalsAreCounted
-totals_are_counted shape version id state lawful kept = record {
+totals_are_counted shape opened state kept = record {
   buckets = λ name at i is plain below.
-      let (kind, r, first, (has, named, specified)) = first_of_name shape (blank version id shape.size) state kept name at is in
+      let (kind, r, first, (has, named, specified)) = first_of_name shape opened state kept name at is in
       let right = kept.records.lawful at r has in
-      let bucketed = bucketed_kind r.spec (sym (kind_word shape (blank version id shape.size) state kept at r has) ∙ plain) in
+      let bucketed = bucketed_kind r.spec (sym (kind_word shape opened state kept at r has) ∙ plain) in
       let within : i < buckets_of r.spec = subst (λ (n : ℕ). i < n) (buckets_are shape state.words kept.anatomy kept.shown kept.anatomy.version at r has right) below in
-      let held = total_held shape (blank version id shape.size) state kept name kind at r first has named specified bucketed i within in
-      let moved = moved_all shape (blank version id shape.size) state kept name kind at r first has named specified bucketed i within in
+      let held = total_held shape opened state kept name kind at r first has named specified bucketed i within in
+      let moved = moved_all shape opened state kept name kind at r first has named specified bucketed i within in
       let balance = kept.balanced.units name (key_of_bucket r.spec i) in
       let sum : total_of kept.anatomy.version state.words at i + transit_of state.actors at i ≡ tally_units (all_counted state.actors) name (key_of_bucket r.spec i) =
       omega (arith, held, moved, balance) in
       ap (λ (v : ℕ). total_of v state.words at i + transit_of state.actors at i) (sym kept.same.0)
       ∙ (sum ∙ ap (tally_units (all_counted state.actors) name) (sym (key_is shape state.words kept.anatomy kept.shown kept.anatomy.version at r has right i)));
   values = λ name at place value is sparse first_value.
-      let (kind, r, first, (has, named, specified)) = first_of_name shape (blank version id shape.size) state kept name at is in
-      let sparse_spec = sparse_kind r.spec (sym (kind_word shape (blank version id shape.size) state kept at r has) ∙ sparse) in
-      let (s, first_of, (stands, of_it, valued)) = first_of_value shape (blank version id shape.size) state kept at value place first_value in
-      let held = value_held shape (blank version id shape.size) state kept name kind at r first has named specified value _ _ _ _
+      let (kind, r, first, (has, named, specified)) = first_of_name shape opened state kept name at is in
+      let sparse_spec = sparse_kind r.spec (sym (kind_word shape opened state kept at r has) ∙ sparse) in
+      let (s, first_of, (stands, of_it, valued)) = first_of_value shape opened state kept at value place first_value in
+      let held = value_held shape opened state kept name kind at r first has named specified value _ _ _ _
       (units_book kept.anatomy.version name value kept.versions) sparse_spec place s first_of stands of_it valued in
-      let moved = moved_none shape (blank version id shape.size) state kept name kind at r first has named specified sparse_spec value in
+      let moved = moved_none shape opened state kept name kind at r first has named specified sparse_spec value in
       let balance = kept.balanced.units name value in
       let word = piece_word shape state.words kept.anatomy kept.shown stands.0 _ 6 stands.1 (omega arith) in
       omega (arith, held, moved, balance, word);
-  placed = λ entry among units. placed shape version id state kept entry.name entry.key (kept.keys entry among units);
+  placed = λ entry among units. placed shape opened state kept entry.name entry.key (kept.keys entry among units);
   ended = λ who a there lives. (kept.each who a there lives).calls.ended;
 }

@@ -7,7 +7,7 @@ use Rattle.segment_machine.specs.declared.actor.Actor.{Actor}
 use Rattle.segment_machine.specs.declared.place.Place.{Place}
 use Rattle.segment_machine.specs.Actor.{transit_at, transit_of}
 use Rattle.segment_machine.specs.State.{State}
-use Rattle.segment_invariant.specs.Body.{Record, Anatomy, blank}
+use Rattle.segment_invariant.specs.Body.{Record, Anatomy}
 use Rattle.segment_invariant.specs.Ledger.{form_at}
 use Rattle.segment_invariant.specs.Seen.{HasRecord}
 use Rattle.segment_invariant.specs.Invariant.{StandsRight, Invariant}
@@ -45,10 +45,10 @@ module _ (shape : Dimensions) (opened : Anatomy) (state : State) (kept : Invaria
       moves who a at i a.hand.place (kept.standing who a there) counts
 
 pub transit_is_local : KeptTransitIsLocal
-transit_is_local shape version id state lawful kept at i above =
-    let (r, here, first, packed) = in_transit shape (blank version id shape.size) state kept at i above in
-    let one : version ≡ 1 = sym kept.same.0 ∙ first in (
+transit_is_local shape opened state kept at i above =
+    let (r, here, first, packed) = in_transit shape opened state kept at i above in
+    let one : opened.version ≡ 1 = sym kept.same.0 ∙ first in (
       one,
-      ap packed_bucket (form_is shape state.words kept.anatomy kept.shown kept.anatomy.version at r here (kept.records.lawful at r here) version)
+      ap packed_bucket (form_is shape state.words kept.anatomy kept.shown kept.anatomy.version at r here (kept.records.lawful at r here) opened.version)
           ∙ (ap (λ (v : ℕ). packed_bucket (form_at v r)) one ∙ packed),
     )

@@ -24,7 +24,7 @@ use Rattle.segment_machine.specs.declared.actor.Claim.{Claim}
 use Rattle.segment_machine.specs.declared.actor.Published.{Published}
 use Rattle.segment_machine.specs.Entry.{tally_units, tally_sum, tally_noted, has_ended}
 use Rattle.segment_machine.specs.Actor.{Each, all_counted, all_summed, all_noted, transit_of, all_costs}
-use Rattle.segment_invariant.specs.Consistent.{IsHistogram, redundant_at_opening, HasForm, HasPlace, HoldsMade, key_at, units_taken, run_of, places_of, SawBefore, IsSum, IsLoaded, ListIsChain, RecordsHold, TotalsAreCounted, MarksAreTaken, SumsAreAmounts, TransitIsLocal, FlagsAreSet, UnitsAreKept}
+use Rattle.segment_invariant.specs.Consistent.{IsHistogram, HasForm, HasPlace, HoldsMade, key_at, units_taken, run_of, places_of, SawBefore, IsSum, IsLoaded, ListIsChain, RecordsHold, TotalsAreCounted, MarksAreTaken, SumsAreAmounts, TransitIsLocal, FlagsAreSet, UnitsAreKept}
 use Rattle.segment_machine.specs.Examples.{letter_a, mounted, mounter, one, whole}
 use Rattle.segment_invariant.specs.Examples.{opening, MountedIsConsistent}
 use Rattle.segment_invariant.proofs.Lists.Elements.{none_in, none_at, one_in, each_of_one}
@@ -189,7 +189,7 @@ records = record {
       (λ (a : Actor). (s : Sighting) (at : ℕ) → Contains a.seen.singles s → Contains chain at → s.at ≡ at + 9
       → Leads 1 (record_buckets mounted at) s.word (word_at mounted s.at))
       (λ s at there. absurd (none_in s there));
-  later = λ at other there tag is apart.
+  later = λ front at other is_chain there tag is apart.
       absurd (apart (sym (of_the_one mounted letter_a (λ n k. 16 ≡ k) refl refl (name_of mounted at) other is) ∙ here at there));
   later_samples = λ at other there tag. absurd (no_sample at (here at there) tag);
 }
@@ -261,8 +261,10 @@ marks = record {
 sums : SumsAreAmounts opening.words mounted all chain
 sums = record {
   sum = λ name at is. of_the_one mounted letter_a (λ n k. sum_of mounted k ≡ tally_sum (all_summed all) n) refl refl name at is;
-  redundant = λ name at is. of_the_one mounted letter_a
-      (λ n k. field_at mounted k 13 ≡ redundant_at_opening opening.words k + tally_noted (all_noted all) n) refl refl name at is;
+  redundant = λ front name at is_chain is. (
+    λ there. absurd (nobody front at is_chain there),
+    λ absent. of_the_one mounted letter_a (λ n k. field_at mounted k 13 ≡ tally_noted (all_noted all) n) refl refl name at is,
+  );
 }
 
 transit : TransitIsLocal 1 mounted all

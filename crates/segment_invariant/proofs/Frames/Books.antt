@@ -1,5 +1,5 @@
 -- What an invariant says of all actors together, and of the blocks: the books of a segment.
-use Rattle.std.proofs.Common.{◌≡◌, ◌≢◌, ◌⊎◌, ℕ, ◌<◌, ◌≤◌, Bool, true, ◌||◌, ⊎_elim, refl, ℤ, List, ◌++◌, map, take, length, set, inl, inr, sym, ap, ◌∙◌, subst, false}
+use Rattle.std.proofs.Common.{◌≡◌, ◌≢◌, ◌⊎◌, ℕ, ◌<◌, ◌≤◌, Bool, true, ◌||◌, ⊎_elim, ℤ, List, ◌++◌, map, take, length, set, inl, inr, sym, ap, ◌∙◌, subst, false}
 use Rattle.std.specs.Prelude.{sum_by, slice_index, IsPermutation}
 use mathlib.Core.Option.{some}
 use lib.ListN.{get_elem?}

@@ -105,6 +105,15 @@ record_spec r i from below =
     get_or-append_right (slice_index words 0 ∷ slice_index words 1 ∷ slice_index words 2 ∷ slice_index words 3 ∷ []) (fields ++ rest) 4 i 0 refl from
     ∙ get_or_append_left fields rest 0 (i - 4) (omega (arith, from, below))
 
+-- what stands behind the mark of a sample
+sample_behind : (s : Sample) (i : ℕ) → 8 ≤ i → slice_index (words_of (sample s)) i ≡ slice_index s.rest (i - 8)
+sample_behind s i from =
+    let words = words_of (sample s) in
+    get_or-append_right
+    (slice_index words 0 ∷ slice_index words 1 ∷ slice_index words 2 ∷ slice_index words 3 ∷ slice_index words 4 ∷ slice_index words 5
+    ∷ slice_index words 6 ∷ slice_index words 7 ∷ [])
+    s.rest 8 i 0 refl from
+
 -- a fixed word of a block is one of that which it goes on as, and the same
 pub fixed_goes : (version : ℕ) (x y : Body) (i : ℕ) → GoesAs version x y → IsFixedIn x i
     → IsFixedIn y i × (slice_index (words_of y) i ≡ slice_index (words_of x) i)
@@ -135,8 +144,17 @@ fixed_goes version (histogram r) y i (s, is, goes) fixed =
         record_behind s i from
         ∙ (ap (λ (z : Record). slice_index (length z.name ∷ (z.letters ++ spec_ranges z.spec ++ z.rest)) (i - 14)) goes.is ∙ sym (record_behind r i from))
 fixed_goes version (sample s) y i (t, is, goes) fixed =
-    subst (λ (body : Body). IsFixedIn body i × (slice_index (words_of body) i ≡ slice_index (words_of (sample s)) i)) (sym is) (fixed, same fixed)
+    subst (λ (body : Body). IsFixedIn body i × (slice_index (words_of body) i ≡ slice_index (words_of (sample s)) i)) (sym is) (in_it fixed, same fixed)
   where
+    long : length (words_of (sample t)) ≡ length (words_of (sample s))
+    long = ap (λ (z : Sample). length (words_of (sample z))) goes.is
+
+    in_it : IsFixedIn (sample s) i → IsFixedIn (sample t) i
+    in_it (inl two) = inl two
+    in_it (inr (inl four)) = inr (inl four)
+    in_it (inr (inr (inl five))) = inr (inr (inl five))
+    in_it (inr (inr (inr (from, below)))) = inr (inr (inr (from, omega (arith, below, long))))
+
     word : (j : ℕ) → i ≡ j → slice_index (words_of (sample t)) j ≡ slice_index (words_of (sample s)) j
         → slice_index (words_of (sample t)) i ≡ slice_index (words_of (sample s)) i
     word j at e = ap (slice_index (words_of (sample t))) at ∙ (e ∙ sym (ap (slice_index (words_of (sample s))) at))
@@ -144,7 +162,8 @@ fixed_goes version (sample s) y i (t, is, goes) fixed =
     same : IsFixedIn (sample s) i → slice_index (words_of (sample t)) i ≡ slice_index (words_of (sample s)) i
     same (inl two) = word 2 two refl
     same (inr (inl four)) = word 4 four (ap (λ (z : Sample). z.of) goes.is)
-    same (inr (inr five)) = word 5 five (ap (λ (z : Sample). slice_index (words_of (sample z)) 5) goes.is)
+    same (inr (inr (inl five))) = word 5 five (ap (λ (z : Sample). slice_index (words_of (sample z)) 5) goes.is)
+    same (inr (inr (inr (from, below)))) = sample_behind t i from ∙ (ap (λ (z : Sample). slice_index z.rest (i - 8)) goes.is ∙ sym (sample_behind s i from))
 fixed_goes version (other size tag next payload) y i (n, is) fixed =
     subst (λ (body : Body). IsFixedIn body i × (slice_index (words_of body) i ≡ slice_index (words_of (other size tag next payload)) i)) (sym is)
     (fixed, same fixed)

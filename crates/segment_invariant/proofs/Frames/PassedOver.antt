@@ -8,30 +8,40 @@ use Rattle.std.proofs.lemmas.List.Sorted.{Contains-permutation}
 use Rattle.segment_image.specs.Shape.{Dimensions}
 use Rattle.segment_machine.specs.State.{State}
 use Rattle.segment_machine.specs.Actor.{all_published}
+use Rattle.segment_machine.specs.declared.seen.Sighting.{Sighting}
 use Rattle.segment_invariant.specs.Body.{Record, Counts, Body, histogram, counts, other, Piece, Listed, listed, Anatomy}
-use Rattle.segment_invariant.specs.Seen.{Stands, HasStill, HoldsAs}
+use Rattle.segment_invariant.specs.Seen.{Stands, HasStill, HoldsAs, WasFixed}
 use Rattle.segment_invariant.specs.Invariant.{IsPassedOver, IsOfOtherType, ArePassedOver, Invariant, HasPassedOver}
 use Rattle.segment_invariant.proofs.Lists.Maps.{contains_mapped}
 use Rattle.segment_invariant.proofs.Frames.Growth.{Stays}
-use Rattle.segment_invariant.proofs.Frames.Onward.{Onward}
+use Rattle.segment_invariant.proofs.Frames.Onward.{Onward, fixed_on}
 
 -- ---- they stay
 
 -- from one list of blocks to another they stay
 abbrev pub StillStay : List Piece → List Piece → Type 0
-StillStay old new = (at size tag : ℕ) (payload : List ℕ) → HasStill old at size tag payload → HasStill new at size tag payload
+StillStay old new =
+    ((at size tag : ℕ) (payload : List ℕ) → HasStill old at size tag payload → HasStill new at size tag payload)
+    × ((s : Sighting) → WasFixed old s → WasFixed new s)
 
 pub still_there : (old new : List Piece) → Stays old new → StillStay old new
-still_there old new stays at size tag payload (next, stands) = (next, stays.there at (other size tag next payload) stands)
+still_there old new stays = (
+  λ at size tag payload (next, stands). (next, stays.there at (other size tag next payload) stands),
+  λ s was. (was.0, was.1, was.2, stays.there was.0 was.2 was.3, was.4, was.5, was.6),
+)
 
 pub still_onward : (old new : Anatomy) (added : ℕ → Body → Type 0) → Onward old new added → StillStay old.pieces new.pieces
-still_onward old new added onward at size tag payload (next, stands) =
-    let (body, now, (n, is)) = onward.goes at (other size tag next payload) refl stands in
-    (n, subst (Stands new.pieces at none) is now)
+still_onward old new added onward = (
+  λ at size tag payload (next, stands).
+      let (body, now, (n, is)) = onward.goes at (other size tag next payload) refl stands in
+      (n, subst (Stands new.pieces at none) is now),
+  fixed_on old new added onward,
+)
 
 pub passed_on : (page : ℕ) (opened : Anatomy) (old new : List Piece) → StillStay old new → ArePassedOver page opened old → ArePassedOver page opened new
 passed_on page opened old new stay are = record {
-  stay = λ at size tag payload still. stay at size tag payload (are.stay at size tag payload still);
+  stay = λ at size tag payload still. stay.0 at size tag payload (are.stay at size tag payload still);
+  fixed = λ s was. stay.1 s (are.fixed s was);
   each = are.each;
   apart = are.apart;
   unlisted = are.unlisted;
@@ -69,13 +79,6 @@ module _ (shape : Dimensions) (opened : Anatomy) (state : State) (kept : Invaria
         | inl old ↦ old
         | inr new ↦ absurd (linked_given (record { reference = at; made = None }) new refl)
       ]
-
-  -- where all of the opening was given, so was all that is listed
-  pub all_given : All (λ l. l.made ≢ None) opened.records → (l : Listed) → Contains kept.anatomy.records l → l.made ≢ None
-  all_given given l among = elim (Contains-append_cases opened.records kept.list.once.0 l (subst (λ (list : List Listed). Contains list l) kept.list.once.1 among)) [
-    | inl old ↦ All-contains (λ l. l.made ≢ None) opened.records l given old
-    | inr new ↦ linked_given l new
-  ]
 
   -- a block that holds what a record or a counts block would holds it still, with another next
   record_holds_on : (at : ℕ) (r : Record) → HoldsAs opened.pieces at (histogram r) → (n : ℕ) × HoldsAs kept.anatomy.pieces at (histogram (record r { next = n }))

@@ -16,7 +16,7 @@ use Rattle.segment_machine.specs.Seats.{opener_of}
 use Rattle.segment_invariant.specs.Body.{Body, queue, histogram, counts, sample, Record, Counts, Sample, Piece, Anatomy, blank}
 use Rattle.segment_invariant.specs.Seen.{Stands, HasRecord, HasCounts, HasSample, Sees}
 use Rattle.segment_invariant.specs.Invariant.{ListIsKept, IsListed, RecordsAreKept, ArePassedOver, Fits, Invariant, ClaimedRight, StandsRight}
-use Rattle.segment_invariant.specs.Keeps.{OpeningIsKept}
+use Rattle.segment_invariant.specs.Keeps.{OpeningIsKept, NewIsOpening}
 use Rattle.segment_invariant.proofs.Openings.FirstActors.{first_roles, first_cursors, first_fits}
 use Rattle.segment_invariant.proofs.Lists.Elements.{none_in, not_empty, each_of_one}
 
@@ -80,6 +80,7 @@ module _ (shape : Dimensions) (version id cursors : ℕ) (lawful : IsShape shape
   passed_over : ArePassedOver shape.page opened opened.pieces
   passed_over = record {
     stay = λ at size tag payload still. still;
+    fixed = λ s was. was;
     each = λ front behind at e. absurd (not_empty front behind _ (sym e));
     apart = λ at place r q first. absurd (none_in _ first.0);
     unlisted = λ at r over among. none_in _ among;
@@ -139,3 +140,7 @@ module _ (shape : Dimensions) (version id cursors : ℕ) (lawful : IsShape shape
 
 pub opening_is_kept : OpeningIsKept
 opening_is_kept shape version id cursors lawful versions = kept shape version id cursors lawful versions
+
+pub new_is_opening : NewIsOpening
+unfolding kept
+new_is_opening shape version id lawful versions = ((new_state shape version id 0, kept shape version id 0 lawful versions, refl), refl)

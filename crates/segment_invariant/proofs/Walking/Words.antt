@@ -283,7 +283,7 @@ module _ (shape : Dimensions) (opened : Anatomy) (state : State) (kept : Invaria
           let three : 3 ≡ 1 = seen_is at 2 1 (sample s) stands (omega arith) tag in absurd (omega (arith, three))
       fixed_in (inr (inr (tag, least, most))) = dite (ℕ_discrete index 4)
           (λ four. (inr (inl four), most))
-          (λ ne. (inr (inr (omega (arith, ne, least, most))), most))
+          (λ ne. (inr (inr (inl (omega (arith, ne, least, most)))), most))
 
   -- of a record of another type
   other_read : (at index size tag behind : ℕ) (payload : List ℕ) → Stands anatomy.pieces at none (other size tag behind payload)

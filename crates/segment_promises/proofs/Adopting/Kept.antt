@@ -79,8 +79,8 @@ module _ (shape : Dimensions) (opened : Anatomy) (state : State) (kept : Invaria
     tail = subst (IsStop order) (sym (ap (λ (ws : List ℕ). word_at ws 8) kept.shown.shows)) kept.list.tail;
     later = later_sample shape opened state kept;
     padded = names_padded;
-    unused = λ at i there one bucketed counts on below. (listed_form at there one).unused bucketed on counts i below;
-    packed = λ at i there one bucketed counts packed.
+    unused = λ at there one i bucketed counts on below. (listed_form at there one).unused bucketed on counts i below;
+    packed = λ at there one i bucketed counts packed.
         let n : ℕ = record_buckets words at in
         let place : 4 + (n + i) ≡ 4 + n + i = omega arith in
         ap (field_at words (field_at words at 8)) place

@@ -1,10 +1,9 @@
 -- What is read of the header of a kept state's words: the version, the id and the flags.
-use Rattle.std.proofs.Common.{◌≡◌, Bool, true, false, ℕ, ◌+◌, ◌*◌, ◌<◌, List, refl, sym, ap, ◌∙◌, arith}
-use Rattle.std.specs.Prelude.{not, ◌==◌, if◌then◌else◌, bit_and}
+use Rattle.std.proofs.Common.{◌≡◌, ℕ, List, ap, ◌∙◌}
+use Rattle.std.specs.Prelude.{not, ◌==◌, bit_and}
 use Rattle.segment_image.specs.Shape.{Dimensions}
 use Rattle.segment_image.specs.Words.{word_at}
 use Rattle.segment_image.specs.Head.{head_of}
-use Rattle.alloc_core.specs.Layout.{flags_of}
 use Rattle.alloc_core.proofs.Flags.{corrupt_read, full_read}
 use Rattle.alloc_core.proofs.Layouts.{flags_word}
 use Rattle.bucket_ranges.specs.Reading.{Reading, IsReading}

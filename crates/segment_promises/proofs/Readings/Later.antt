@@ -1,11 +1,8 @@
 -- The histograms of a kept state's list are the first of their names or later ones. In a later one nothing is counted. So the totals and
 -- marks of each are bounded.
-use Rattle.std.proofs.Common.{◌≡◌, ◌≢◌, ◌⊎◌, Bool, true, false, ℕ, List, inl, inr, refl, sym, ap, subst, ◌∙◌, arith, Option, Some, None}
+use Rattle.std.proofs.Common.{◌≡◌, ◌≢◌, Bool, true, false, ℕ, inl, refl, sym, ap, subst, ◌∙◌, arith, Some}
 use Rattle.std.specs.Prelude.{◌==◌}
-use Rattle.std.specs.Str.{bytes_eq}
-use Rattle.std.specs.List.{Contains}
 use Rattle.std.proofs.lemmas.Bool.{eqb-true, eqb-false}
-use Rattle.std.proofs.lemmas.Slice.Eq.{bytes_eq-Decides}
 use mathlib.Core.Option.{none}
 use Rattle.segment_image.specs.Shape.{Dimensions}
 use Rattle.segment_image.specs.Blocks.{field_at}
@@ -15,43 +12,15 @@ use Rattle.bucket_ranges.specs.Single.{single_of}
 use Rattle.bucket_ranges.specs.Spec.{buckets_of}
 use Rattle.bucket_ranges.specs.Reading.{record_buckets, record_single, mark_at, total_of, mark_of}
 use Rattle.bucket_ranges.specs.Units.{total_at}
-use Rattle.segment_machine.specs.declared.actor.Made.{Made}
-use Rattle.segment_machine.specs.declared.actor.Made.TheVariants as made
 use Rattle.segment_machine.specs.State.{State}
-use Rattle.segment_invariant.specs.Body.{Record, histogram, Listed, Anatomy}
-use Rattle.segment_invariant.specs.Seen.{HasRecord, IsNamed, IsFirst}
+use Rattle.segment_invariant.specs.Body.{Record, histogram, Anatomy}
+use Rattle.segment_invariant.specs.Seen.{HasRecord, IsFirst}
 use Rattle.segment_invariant.specs.Invariant.{CountsNothing, Invariant}
-use Rattle.segment_invariant.proofs.Lists.Firsts as lists
 use Rattle.segment_invariant.proofs.Blocks.Pieces.{one_stands}
 use Rattle.segment_invariant.proofs.Consistency.Records.{record_word}
 use Rattle.segment_invariant.proofs.Consistency.Specs.{form_is}
-use Rattle.segment_invariant.proofs.Consistency.Firsts.{first_named, record_of_first}
+use Rattle.segment_invariant.proofs.Consistency.Firsts.{first_there, record_of_first}
 use Rattle.segment_promises.proofs.Readings.Bounds.{AreBounded, first_bounded}
-
--- ---- there is a first one
-
--- a record is of a name or not
-pub named_or_not : (name : List ℕ) (l : Listed) → IsNamed name l ⊎ (¬ (IsNamed name l))
-named_or_not name l = by_made l.made refl
-  where
-    by_made : (m : Option Made) → l.made ≡ m → IsNamed name l ⊎ (¬ (IsNamed name l))
-    by_made (Some (made.Histogram other spec)) is = by_test (bytes_eq other name) refl
-      where
-        by_test : (b : Bool) → bytes_eq other name ≡ b → IsNamed name l ⊎ (¬ (IsNamed name l))
-        by_test true same = inl (spec, is ∙ ap (λ (name : List ℕ). Some (made.Histogram name spec)) ((bytes_eq-Decides other name).0 same))
-        by_test false apart = inr (λ (kind, named).
-            let equal : other ≡ name = cc (is, named) in
-            cc (apart, (bytes_eq-Decides other name).1 equal))
-    by_made (Some (made.Sample of value)) is = inr (λ (kind, named). cc (is, named))
-    by_made None is = inr (λ (kind, named). cc (is, named))
-
--- so a name that is on a list has a first record there
-pub first_there : (records : List Listed) (name : List ℕ) (l : Listed) → Contains records l → IsNamed name l
-    → (kind : Spec) × (place : ℕ) × IsFirst records name kind place
-first_there records name l there named =
-    let (first, its) = lists.first_there (IsNamed name) (named_or_not name) records l there named in
-    let (kind, is) = first_named records name first first.reference its refl in
-    (kind, first.reference, is)
 
 -- ---- a kept state
 

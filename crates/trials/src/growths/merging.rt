@@ -7,7 +7,7 @@ use anyhow::Result;
 use image_reader::{Reading, read};
 use live_segment::{Opener, Segment};
 use persist_report_core::{report, report_of};
-use segment_image::{Watched, write_words};
+use segment_image::{Image, Watched, write_words};
 use segment_merge::{MergeReport, merge};
 use std::alloc::Global;
 use std::io;
@@ -70,22 +70,25 @@ fn merge_into(
     Ok(is_whole)
 }
 
-// Merges a reading into a new segment and shows the report of that; whether it was merged whole.
-fn show_merge(rt: &(impl Print + AllocGlobal), reading: &Reading) -> Result<bool> {
+// Merges a reading into a new segment and shows the report of that; its image, and whether it was merged whole.
+fn show_merge(rt: &(impl Print + AllocGlobal), reading: &Reading) -> Result<(Image, bool)> {
     let alloc = rt.alloc();
     let (segment, mut opener) = Segment::create(alloc, 1024, 256, 7, 0, 2)?;
     let is_whole = merge_into(rt, &segment, &mut opener, reading)?;
     let image = segment.close(opener);
     io::writer(rt).write_all(&report_of(alloc, image.words())?)?;
-    Ok(is_whole)
+    Ok((image, is_whole))
 }
 
-pub(super) fn show(rt: &(impl Print + AllocGlobal), words: &[u64]) -> Result<()> {
+/// The image of a segment into which the words of another one are merged.
+pub(super) fn show(rt: &(impl Print + AllocGlobal), words: &[u64]) -> Result<Image> {
     let reading = again!(rt, "read", read(rt.alloc(), words));
     println!(rt; "{reading:?}")?;
     show_reports(rt, rt.alloc(), words)?;
-    if !show_merge(rt, &reading)? {
-        show_merge(rt, &reading)?;
+    let (image, is_whole) = show_merge(rt, &reading)?;
+    if is_whole {
+        return Ok(image);
     }
-    Ok(())
+    let (image, _) = show_merge(rt, &reading)?;
+    Ok(image)
 }

@@ -119,7 +119,7 @@ module _ (words references : List ℕ) (reading : Reading) (narrow : All (λ wor
       subst (WasFixed its.pieces) is (elim one [
         | inl two ↦ (at, 2, sample (sample_at words at), stands, ap (λ (i : ℕ). at + i) two, inl refl, sym three ∙ ap (field_at words at) (sym two))
         | inr (inl four) ↦ (at, 4, sample (sample_at words at), stands, ap (λ (i : ℕ). at + i) four, inr (inl refl), ap (field_at words at) (sym four))
-        | inr (inr five) ↦ (at, 5, sample (sample_at words at), stands, ap (λ (i : ℕ). at + i) five, inr (inr refl), of_z-to_z w64 (field_at words at 5) (each_narrow words narrow (at + 5)) ∙ ap (field_at words at) (sym five))
+        | inr (inr five) ↦ (at, 5, sample (sample_at words at), stands, ap (λ (i : ℕ). at + i) five, inr (inr (inl refl)), of_z-to_z w64 (field_at words at 5) (each_narrow words narrow (at + 5)) ∙ ap (field_at words at) (sym five))
       ]))
 
   -- what the opener has seen lies behind the present

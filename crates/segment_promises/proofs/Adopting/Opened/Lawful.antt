@@ -259,12 +259,12 @@ module _ (words references : List ℕ) (reading : Reading) (narrow : All (λ wor
       units = long_units;
       marks = long_marks;
       sized = let size = counts_block.1 in omega (arith, size, long_units, long_marks, long_rest);
-      packed = λ i packs. mark_word i (packed_within 2 n (field_at words at 9) i packs) ∙ adoptable.undamaged.packed at i there one counts_block.0 some_there packs;
+      packed = λ i packs. mark_word i (packed_within 2 n (field_at words at 9) i packs) ∙ adoptable.undamaged.packed at there one i counts_block.0 some_there packs;
       unused = λ on. (
         all_zero c.units (λ i below. let inside : i < n = omega (arith, below, long_units) in
-            unit_word i inside ∙ adoptable.undamaged.unused at i there one counts_block.0 some_there on (omega (arith, inside))),
+            unit_word i inside ∙ adoptable.undamaged.unused at there one i counts_block.0 some_there on (omega (arith, inside))),
         all_zero c.marks (λ i below. let inside : i < n = omega (arith, below, long_marks) in
-            mark_word i inside ∙ adoptable.undamaged.unused at (n + i) there one counts_block.0 some_there on (omega (arith, inside))),
+            mark_word i inside ∙ adoptable.undamaged.unused at there one (n + i) counts_block.0 some_there on (omega (arith, inside))),
       );
       mark = λ first. absurd (omega (arith, first));
     }

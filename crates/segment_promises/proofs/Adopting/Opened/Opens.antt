@@ -8,6 +8,7 @@ use Rattle.bucket_ranges.specs.Reading.{IsListed, Reading, reading_along}
 use Rattle.segment_machine.specs.declared.place.Place.TheVariants.{Spent}
 use Rattle.segment_invariant.specs.Body.{Anatomy, claims_of, order_of}
 use Rattle.segment_invariant.specs.Invariant.{Invariant, StandsRight, Fits}
+use Rattle.segment_invariant.specs.Keeps.{IsOpening}
 use Rattle.segment_invariant.proofs.Lists.Elements.{each_of_one}
 use Rattle.segment_promises.specs.Adoption.{IsAdoptable, adopted, AdoptionOpens}
 use Rattle.segment_promises.proofs.Adopting.Openers.{opener, actors, all_units, opener_roles, cursors_stand, flags_stand}
@@ -55,10 +56,17 @@ module _ (words references : List ℕ) (reading : Reading) (narrow : All (λ wor
         (λ lives. fits words references reading narrow listed reads adoptable cursors);
   }
 
+  -- so the blocks of the image open segments
+  pub image_opens : IsOpening (head_of words).shape its
+  unfolding kept
+  image_opens = (adopted words references reading 0, kept 0, refl)
+
 pub adoption_opens : AdoptionOpens
 adoption_opens words references reading cursors narrow listed reads adoptable = (
   opened words references reading narrow listed reads adoptable,
   shown words references reading narrow listed reads adoptable,
   order_is words references reading narrow listed reads adoptable,
   kept words references reading narrow listed reads adoptable cursors,
+  image_opens words references reading narrow listed reads adoptable,
+  sym (shown words references reading narrow listed reads adoptable).shows,
 )

@@ -141,6 +141,7 @@ module _ (words references : List ℕ) (reading : Reading) (narrow : All (λ wor
   pub passed_over : ArePassedOver (head_of words).shape.page its its.pieces
   passed_over = record {
     stay = λ at size tag payload still. still;
+    fixed = λ s was. was;
     each = λ front behind at split.
         let (xs, ys, place, is, before, here) = split_map (listed_at words references) references front behind _ split in
         let same : place ≡ at = ap (λ (l : Listed). l.reference) here in

@@ -1,4 +1,4 @@
-use Rattle.std.proofs.Common.{◌≡◌, ◌∙◌, true, false, ℤ, w32, w64, to_z, of_z, List, ℕ, refl, sym, ap, subst, vec_len, arith, rules}
+use Rattle.std.proofs.Common.{◌≡◌, ◌∙◌, inl, true, false, ℤ, w32, w64, to_z, of_z, List, ℕ, refl, sym, ap, subst, vec_len, arith, rules}
 use Rattle.std.specs.Prelude.{Ok, IfErr}
 use Rattle.hist_core.specs.WorldState.{HistBegins, AddBegins, DeltaBegins, SnapshotBegins, BatchBegins}
 use mathlib.Core.Option.{some}
@@ -40,7 +40,7 @@ begin_add-requires-clause-rests c =
 
 pub invariant_of-self-in-Add : goal.invariant_of-self-in-Add
 invariant_of-self-in-Add c = record {
-  reached = ∥∥₁_elim c.args.self.now.reached (hlevel props) (λ (state, reach). let did = c.begin_add.ensures.begins state reach in ∣ (did.0, did.2) ∣₁);
+  reached = ∥∥₁_elim c.args.self.now.reached (hlevel props) (λ (start, state, reach). let did = c.begin_add.ensures.begins start state reach in ∣ (start, did.0, did.2) ∣₁);
 }
 
 pub returns-in_default-clause-faults : goal.returns-in_default-clause-faults
@@ -82,12 +82,12 @@ returns-in_ok-begin_add-in-Add-clause-says c =
 
 pub invariant_of-self-in-Hist : goal.invariant_of-self-in-Hist
 invariant_of-self-in-Hist c = record {
-  reached = ∥∥₁_elim c.args.self.now.reached (hlevel props) (λ (state, reach). ∣ (state, c.begin_hist.ensures.begins state reach) ∣₁);
+  reached = ∥∥₁_elim c.args.self.now.reached (hlevel props) (λ (start, state, reach). ∣ (start, state, c.begin_hist.ensures.begins start state reach) ∣₁);
 }
 
 pub invariant_of-self-in-SetCorrupt : goal.invariant_of-self-in-SetCorrupt
 invariant_of-self-in-SetCorrupt c = record {
-  reached = ∥∥₁_elim c.args.self.now.reached (hlevel props) (λ (state, reach). ∣ (state, c.begin_set_corrupt.ensures.begins state reach) ∣₁);
+  reached = ∥∥₁_elim c.args.self.now.reached (hlevel props) (λ (start, state, reach). ∣ (start, state, c.begin_set_corrupt.ensures.begins start state reach) ∣₁);
 }
 
 pub returns-in-SetCorrupt-clause-faults : goal.returns-in-SetCorrupt-clause-faults
@@ -129,7 +129,7 @@ begin_snapshot-requires-clause-rests c =
 
 pub invariant_of-self-in-Snapshot : goal.invariant_of-self-in-Snapshot
 invariant_of-self-in-Snapshot c = record {
-  reached = ∥∥₁_elim c.args.self.now.reached (hlevel props) (λ (state, reach). ∣ (state, c.begin_snapshot.ensures.begins state reach) ∣₁);
+  reached = ∥∥₁_elim c.args.self.now.reached (hlevel props) (λ (start, state, reach). ∣ (start, state, c.begin_snapshot.ensures.begins start state reach) ∣₁);
 }
 
 pub returns-in_default-place_of-clause-faults : goal.returns-in_default-place_of-clause-faults
@@ -175,7 +175,7 @@ begin_delta-requires-clause-rests c =
 
 pub invariant_of-self-in-Delta : goal.invariant_of-self-in-Delta
 invariant_of-self-in-Delta c = record {
-  reached = ∥∥₁_elim c.args.self.now.reached (hlevel props) (λ (state, reach). ∣ (state, c.begin_delta.ensures.begins state reach) ∣₁);
+  reached = ∥∥₁_elim c.args.self.now.reached (hlevel props) (λ (start, state, reach). ∣ (start, state, c.begin_delta.ensures.begins start state reach) ∣₁);
 }
 
 pub returns-in_default-place_of-2-clause-faults : goal.returns-in_default-place_of-2-clause-faults
@@ -221,7 +221,7 @@ begin_batch-requires-clause-rests c =
 
 pub invariant_of-self-in-Batch : goal.invariant_of-self-in-Batch
 invariant_of-self-in-Batch c = record {
-  reached = ∥∥₁_elim c.args.self.now.reached (hlevel props) (λ (state, reach). let did = c.begin_batch.ensures.begins state reach in ∣ (did.0, did.2) ∣₁);
+  reached = ∥∥₁_elim c.args.self.now.reached (hlevel props) (λ (start, state, reach). let did = c.begin_batch.ensures.begins start state reach in ∣ (start, did.0, did.2) ∣₁);
 }
 
 pub returns-in_default-place_of-3-clause-faults : goal.returns-in_default-place_of-3-clause-faults
@@ -319,3 +319,24 @@ returns-in-SetCorrupt-clause-loads c =
     let world_state = c.args.self.now.world_state in let r = c.index.result.now in
     let at = is_there world_state.actor_runs.items (vec_len world_state.actor_runs) c.args.actor r world_state.actor_runs.ok.0 (omega (arith, c.if-actor-len.false, c.len.ensures)) c.index.ensures in
     rests_without world_state c.args.actor r at (is_resting world_state c.args.actor r at (sym c.is_some.ensures ∙ c.if-is_some.false))
+
+pub returns-in_err-begin_hist-in-Hist-clause-begins : goal.returns-in_err-begin_hist-in-Hist-clause-begins
+returns-in_err-begin_hist-in-Hist-clause-begins c = λ start state reach. (state, inl refl, c.begin_hist.ensures.begins start state reach)
+
+pub returns-in_ok-begin_hist-in-Hist-clause-begins : goal.returns-in_ok-begin_hist-in-Hist-clause-begins
+returns-in_ok-begin_hist-in-Hist-clause-begins c = λ start state reach. (state, inl refl, c.begin_hist.ensures.begins start state reach)
+
+pub returns-in_err-begin_snapshot-in-Snapshot-clause-begins : goal.returns-in_err-begin_snapshot-in-Snapshot-clause-begins
+returns-in_err-begin_snapshot-in-Snapshot-clause-begins c = λ start state reach. (state, inl refl, c.begin_snapshot.ensures.begins start state reach)
+
+pub returns-in_ok-begin_snapshot-in-Snapshot-clause-begins : goal.returns-in_ok-begin_snapshot-in-Snapshot-clause-begins
+returns-in_ok-begin_snapshot-in-Snapshot-clause-begins c = λ start state reach. (state, inl refl, c.begin_snapshot.ensures.begins start state reach)
+
+pub returns-in_err-begin_delta-in-Delta-clause-begins : goal.returns-in_err-begin_delta-in-Delta-clause-begins
+returns-in_err-begin_delta-in-Delta-clause-begins c = λ start state reach. (state, inl refl, c.begin_delta.ensures.begins start state reach)
+
+pub returns-in_ok-begin_delta-in-Delta-clause-begins : goal.returns-in_ok-begin_delta-in-Delta-clause-begins
+returns-in_ok-begin_delta-in-Delta-clause-begins c = λ start state reach. (state, inl refl, c.begin_delta.ensures.begins start state reach)
+
+pub returns-in-SetCorrupt-clause-begins : goal.returns-in-SetCorrupt-clause-begins
+returns-in-SetCorrupt-clause-begins c = λ start state reach. (state, inl refl, c.begin_set_corrupt.ensures.begins start state reach)

@@ -26,7 +26,7 @@ step-requires-clause-busy c =
 
 pub invariant_of-self-2 : goal.invariant_of-self-2
 invariant_of-self-2 c = record {
-  reached = ∥∥₁_elim c.args.self.now.reached (hlevel props) (λ (state, reach). let did = c.step.ensures.steps state reach in ∣ (did.3.0, did.3.2.0) ∣₁);
+  reached = ∥∥₁_elim c.args.self.now.reached (hlevel props) (λ (start, state, reach). let did = c.step.ensures.steps start state reach in ∣ (start, did.3.0, did.3.2.0) ∣₁);
 }
 
 pub returns-clause-faults : goal.returns-clause-faults
@@ -38,4 +38,4 @@ returns-clause-faults c =
 
 pub returns-clause-word : goal.returns-clause-word
 returns-clause-word c = ∥∥₁_elim c.args.self.now.reached (hlevel props)
-    (λ (state, reach). ∣ one_word c.args.self.now.world_state c.args.actor state _ _ reach (c.step.ensures.steps state reach) ∣₁)
+    (λ (start, state, reach). ∣ one_word start c.args.self.now.world_state c.args.actor state _ _ reach (c.step.ensures.steps start state reach) ∣₁)

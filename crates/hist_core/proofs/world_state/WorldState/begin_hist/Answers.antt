@@ -2,15 +2,16 @@ use Rattle.std.proofs.Common.{refl, vec_len}
 use Rattle.atomic_table.proofs.Lists.{set_else}
 use Rattle.hist_core.proofs.HistCall.Asking.{begins_hist}
 use Rattle.hist_core.proofs.Worlds.Beginnings.{hist_begins}
+use Rattle.hist_core.proofs.Worlds.Starts.{shape_there}
 use Rattle.hist_core.proofs.Worlds.WorldStates.{is_there, same_state}
 use Rattle.hist_core.proofs.world_state.WorldState.begin_hist.Goals as goal
 
 pub returns-in-Ok-clause-begins : goal.returns-in-Ok-clause-begins
-returns-in-Ok-clause-begins c = λ state reach.
+returns-in-Ok-clause-begins c = λ start state reach.
     let old = c.args.self.now in let r = c.index_mut-actor_run.result.now in
     let at = is_there old.actor_runs.items (vec_len old.actor_runs) c.args.actor r old.actor_runs.ok.0 c.requires.near c.index_mut-actor_run.ensures.value in
-    same_state old state reach c.args.actor r c.begin_hist.new.self _ at
-    (λ a run. begins_hist old.shape old.version c.args.name.now c.args.spec.now c.in-Ok.asked r c.begin_hist.new.self c.begin_hist.result a c.in-Ok.ensures reach.reached.0
+    same_state start old state reach c.args.actor r c.begin_hist.new.self _ at
+    (λ a run. begins_hist old.shape old.version c.args.name.now c.args.spec.now c.in-Ok.asked r c.begin_hist.new.self c.begin_hist.result a c.in-Ok.ensures (shape_there start old state reach)
     (c.requires.rests r at) c.begin_hist.ensures run) refl refl refl refl refl
 
 pub returns-in-Ok-clause-others : goal.returns-in-Ok-clause-others

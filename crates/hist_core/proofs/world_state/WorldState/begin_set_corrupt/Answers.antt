@@ -8,10 +8,10 @@ use Rattle.hist_core.proofs.Worlds.ActorRuns.{begins_set_corrupt}
 use Rattle.hist_core.proofs.world_state.WorldState.begin_set_corrupt.Goals as goal
 
 pub returns-clause-begins : goal.returns-clause-begins
-returns-clause-begins c = λ state reach.
+returns-clause-begins c = λ start state reach.
     let old = c.args.self.now in let r = c.index_mut-actor_run.result.now in
     let at = is_there old.actor_runs.items (vec_len old.actor_runs) c.args.actor r old.actor_runs.ok.0 c.requires.near c.index_mut-actor_run.ensures.value in
-    same_state old state reach c.args.actor r (record r { running = Some SetCorrupt }) _ at
+    same_state start old state reach c.args.actor r (record r { running = Some SetCorrupt }) _ at
     (λ a run. begins_set_corrupt old.shape old.version r a (c.requires.rests r at) run) refl refl refl refl refl
 
 pub returns-clause-others : goal.returns-clause-others

@@ -34,10 +34,10 @@ begin_snapshot-requires-clause-ranges c = λ known there.
     c.args.place known there
 
 pub returns-in_err-begin_snapshot-clause-begins : goal.returns-in_err-begin_snapshot-clause-begins
-returns-in_err-begin_snapshot-clause-begins c = λ state reach.
+returns-in_err-begin_snapshot-clause-begins c = λ start state reach.
     let old = c.args.self.now in let r = c.index_mut-actor_run.result.now in
     let at = is_there old.actor_runs.items (vec_len old.actor_runs) c.args.actor r old.actor_runs.ok.0 c.requires.near c.index_mut-actor_run.ensures.value in
-    same_state old state reach c.args.actor r c.begin_snapshot.new.self _ at
+    same_state start old state reach c.args.actor r c.begin_snapshot.new.self _ at
     (λ a run. subst (λ (x : ActorRun). IsRun old.shape old.version x a) (sym c.in_err-begin_snapshot.ensures.fails) run) refl refl refl refl refl
 
 pub returns-clause-begins : goal.returns-clause-begins

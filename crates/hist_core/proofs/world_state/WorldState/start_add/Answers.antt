@@ -45,12 +45,12 @@ returns-in_err-begin_add-clause-fault c =
     on_err c.from_residual.result (as_before old _ c.args.actor r c.begin_add.new.self at refl refl refl refl refl refl c.in_err-begin_add.ensures.fails)
 
 pub returns-in_err-begin_add-clause-begins : goal.returns-in_err-begin_add-clause-begins
-returns-in_err-begin_add-clause-begins c = λ state reach.
+returns-in_err-begin_add-clause-begins c = λ start state reach.
     let old = c.args.self.now in let r = c.index_mut-actor_run.result.now in
     let at = is_there old.actor_runs.items (vec_len old.actor_runs) c.args.actor r old.actor_runs.ok.0 c.requires.near c.index_mut-actor_run.ensures.value in (
       state,
       inl refl,
-      same_state old state reach c.args.actor r c.begin_add.new.self _ at
+      same_state start old state reach c.args.actor r c.begin_add.new.self _ at
           (λ a run. as_it_stood old.shape old.version r c.begin_add.new.self a (c.requires.rests r at) c.in_err-begin_add.ensures.fails run) refl refl refl refl refl,
     )
 

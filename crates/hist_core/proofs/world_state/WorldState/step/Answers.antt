@@ -19,14 +19,14 @@ advance-said-requires-clause-stands c =
     _ (ap length c.deref_mut.ensures.value)
 
 pub returns-clause-steps : goal.returns-clause-steps
-returns-clause-steps c = λ state reach.
+returns-clause-steps c = λ start state reach.
     let old = c.args.self.now in let r = c.index_mut-actor_run.result.now in
     let at = is_there old.actor_runs.items (vec_len old.actor_runs) c.args.actor r old.actor_runs.ok.0 c.requires.near c.index_mut-actor_run.ensures.value in
     let stored = with_items_is old.words c.advance-said.new.words (c.advance-said.auto.words ∙ c.deref_mut.ensures.len) in
     let size = is_long old c.requires.reached in
     let pool : old.units + c.returned.result ≡ old.units + returned_by c.advance-said.result (held_by r.running) =
     ap (λ n. old.units + n) (c.returned.ensures.units ∙ ap (returned_by c.advance-said.result) c.held-held.ensures.units) in
-    steps old state reach size c.args.actor r c.advance-said.new.self _ at refl refl refl c.advance-said.result
+    steps start old state reach size c.args.actor r c.advance-said.new.self _ at refl refl refl c.advance-said.result
     (λ a order run. subst (λ (w : List ℕ × List ℕ). Advances old.shape old.version r w.0 c.advance-said.new.self w.1 c.advance-said.result a) (λ i. (c.deref_mut.ensures.value i, sym stored i))
     (c.advance-said.ensures.advances old.shape old.version a (sym (ap length c.deref_mut.ensures.value ∙ size)) order run))
     pool

@@ -6,6 +6,7 @@ use Rattle.live_segment.specs.Adding.{IsAdded, IsRefused, LacksBlock}
 use Rattle.live_segment.specs.Claims.{ClaimsFor}
 use Rattle.live_segment.specs.Known.{known_view}
 use Rattle.live_segment.proofs.AddCall.Adds.{passes, meant, is_of_still, names_still}
+use Rattle.live_segment.proofs.HistCall.IndexKept.{seen_on}
 use Rattle.live_segment.proofs.Walks.Walked.{all_right, come_still}
 use Rattle.live_segment.proofs.recorder.Recorder.add.Goals as goal
 
@@ -21,6 +22,8 @@ invariant_of-self c =
       right = all_right old.segment.now.setting _ _ old.known.items (names_still _ _ onward) onward.seen.chain old.right;
       free = c.add_sample.ensures.same.2 ∙ old.free;
       come = come_still _ _ _ _ onward.seen.chain old.come;
+      named = old.named;
+      indexed = seen_on _ _ _ _ onward.seen old.indexed;
     }
 
 pub invariant_of-self-2-clause-seated : goal.invariant_of-self-2-clause-seated
@@ -44,6 +47,9 @@ invariant_of-self-2-clause-right c =
 
 pub invariant_of-self-2-clause-come : goal.invariant_of-self-2-clause-come
 invariant_of-self-2-clause-come c = let onward = c.in_ok-add_sample.ensures.outcome.onward in come_still _ _ _ _ onward.seen.chain c.args.self.now.come
+
+pub invariant_of-self-2-clause-indexed : goal.invariant_of-self-2-clause-indexed
+invariant_of-self-2-clause-indexed c = seen_on _ _ _ _ c.in_ok-add_sample.ensures.outcome.onward.seen c.args.self.now.indexed
 
 pub returns-in_err-add_sample-clause-answer : goal.returns-in_err-add_sample-clause-answer
 returns-in_err-add_sample-clause-answer c =

@@ -9,6 +9,7 @@ use Rattle.live_segment.specs.Claims.{ClaimsForAll}
 use Rattle.live_segment.specs.Known.{known_view}
 use Rattle.live_segment.proofs.AddCall.Adds.{meant, is_of_still, names_still}
 use Rattle.live_segment.proofs.BatchCall.Batches.{passed, passes_all, fails_one}
+use Rattle.live_segment.proofs.HistCall.IndexKept.{seen_on}
 use Rattle.live_segment.proofs.Walks.Walked.{all_right, come_still}
 use Rattle.live_segment.proofs.recorder.Recorder.batch.Goals as goal
 
@@ -41,6 +42,8 @@ invariant_of-self c =
       right = all_right old.segment.now.setting _ _ old.known.items (names_still _ _ onward) onward.seen.chain old.right;
       free = c.in-Err-counted.ensures.same.2 ∙ old.free;
       come = come_still _ _ _ _ onward.seen.chain old.come;
+      named = old.named;
+      indexed = seen_on _ _ _ _ onward.seen old.indexed;
     }
 
 pub returns-in-Err-counted-clause-answer : goal.returns-in-Err-counted-clause-answer
@@ -75,6 +78,8 @@ invariant_of-self-2 c =
       right = all_right old.segment.now.setting _ _ old.known.items (names_still _ _ onward) onward.seen.chain old.right;
       free = c.in_default.ensures.same.2 ∙ old.free;
       come = come_still _ _ _ _ onward.seen.chain old.come;
+      named = old.named;
+      indexed = seen_on _ _ _ _ onward.seen old.indexed;
     }
 
 pub returns-clause-answer : goal.returns-clause-answer

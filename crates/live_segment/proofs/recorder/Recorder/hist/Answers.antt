@@ -1,8 +1,11 @@
-use Rattle.std.proofs.Common.{[], ◌∷◌, ◌++◌, length, map, ap, subst, sym, ◌∙◌, arith, refl, inl, inr, true≢false}
+use Rattle.std.proofs.Common.{List, [], ◌∷◌, ◌++◌, length, map, ap, subst, sym, ◌∙◌, arith, refl, inl, inr, true≢false}
 use Rattle.std.specs.List.{All}
 use Rattle.std.proofs.lemmas.Result.{err_from_is_err_and}
 use Rattle.segment_invariant.proofs.Lists.Elements.{below_length}
+use Rattle.segment_machine.specs.declared.actor.Known.{Known}
+use Rattle.live_segment.specs.declared.recorder.KnownHistogram.{KnownHistogram}
 use Rattle.live_segment.specs.Known.{known_view, KnowsRight}
+use Rattle.live_segment.specs.Naming.{HasNames}
 use Rattle.live_segment.proofs.Walks.Walked.{all_right, come_still}
 use Rattle.live_segment.proofs.HistCall.HistAnswered.{read_known, none_known, names_still, of_still, rests_still, share_still, chain_grew, of_then, rests_then, share_same, right_then, listed_then, named_then, count_of, asked_here, may_be_asked}
 use Rattle.live_segment.proofs.HistCall.Blocks.{makes_named}
@@ -50,6 +53,8 @@ invariant_of-self-in-Break-branch-3 c =
           (all_right me.segment.now.setting old new me.known.items (names_still old new looks) looks.seen.chain me.right);
       free = c.in_err-known.ensures.same.2 ∙ me.free;
       come = come_still me.segment.now.setting.shape.size old.seen.chain new.seen.chain me.fresh looks.seen.chain me.come;
+      named = subst (λ (l : List KnownHistogram). HasNames l me.names) (sym c.in_ok-reserve.ensures.items) me.named;
+      indexed = c.in_err-known.ensures.indexed;
     }
 
 pub invariant_of-self-2 : goal.invariant_of-self-2
@@ -70,6 +75,10 @@ invariant_of-self-2 c =
           c.push_reserved.new.self.items grew me.right;
       free = c.in_ok-known.ensures.same.2 ∙ me.free;
       come = come_still me.segment.now.setting.shape.size old.seen.chain new.seen.chain me.fresh (chain_grew _ known.reference old new comes) me.come;
+      named = subst (λ (l : List KnownHistogram). HasNames l c.enter.new.self)
+          (ap (λ (l : List KnownHistogram). l ++ known ∷ []) c.as_slice-before.ensures.value ∙ sym c.push_reserved.ensures.items)
+          (c.enter.ensures known (ap (λ (k : Known). k.name) is.view ∙ c.in_ok-asked.ensures.named));
+      indexed = c.in_ok-known.ensures.indexed;
     }
 
 pub returns-clause-named : goal.returns-clause-named
@@ -110,3 +119,7 @@ returns-in_err-known-clause-claims c =
     let p = err_from_is_err_and c.from_residual-in_err-known.result c.from_residual-in_err-known.ensures.1 in
     rw (p.1, p.2) (λ is.
     makes_named me.segment.now.setting.shape c.args.name.now c.args.spec.now c.in_ok-asked.asked me.seat.me.0 c.ask.new.seat.me.0 c.in_ok-asked.ensures (c.in_err-known.ensures.claims is))
+
+pub enter-requires : goal.enter-requires
+enter-requires c =
+    subst (λ (l : List KnownHistogram). HasNames l c.args.self.now.names) (sym (c.as_slice-before.ensures.value ∙ c.in_ok-reserve.ensures.items)) c.args.self.now.named

@@ -6,6 +6,7 @@ use Rattle.live_segment.proofs.Closing.Copies.{copied}
 use Rattle.live_segment.proofs.Seating.Seated.{closes}
 use Rattle.live_segment.proofs.Closing.Joined.{image_of, joined, deltas, snapshots}
 use Rattle.live_segment.proofs.Closing.Stopped.{stopped}
+use Rattle.live_segment.proofs.Closing.Onward.{goes_on}
 use Rattle.live_segment.proofs.segment.Segment.close.Goals as goal
 
 pub loop-i-preserved : goal.loop-i-preserved
@@ -31,4 +32,5 @@ returns c =
       deltas = deltas c.args.self.setting (view_of_opener c.args.opener) _ is;
       snapshots = snapshots c.args.self.setting (view_of_opener c.args.opener) _ is;
       stopped = stopped c.args.self.setting (view_of_opener c.args.opener) _ is;
+      goes_on = goes_on c.args.self.setting (view_of_opener c.args.opener) _ is;
     }

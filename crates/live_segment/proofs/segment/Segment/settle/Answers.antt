@@ -4,6 +4,7 @@ use Rattle.segment_machine.specs.Actor.{is_opener}
 use Rattle.live_segment.specs.Searching.{asked_at}
 use Rattle.live_segment.proofs.Walks.Showing.{same_on}
 use Rattle.live_segment.proofs.HistCall.Blocks.{declined_none, knows_none, makes_kept}
+use Rattle.live_segment.proofs.HistCall.IndexKept.{kept_on}
 use Rattle.live_segment.proofs.HistCall.Settled.{may_decline, refused_so, known_so}
 use Rattle.live_segment.proofs.segment.Segment.settle.Goals as goal
 
@@ -45,3 +46,14 @@ pub returns-in-Err-clause-claims : goal.returns-in-Err-clause-claims
 returns-in-Err-clause-claims c = λ is.
     makes_kept c.args.asked.now c.args.seat.now.me.0 c.first_named.new.seat.me.0 c.decline.new.seat.me.0 c.in-Err.ensures.outcome.0.seen.ends (c.in-Err.ensures.claims is)
     (declined_none c.first_named.new.seat.me.0 c.decline.new.seat.me.0 c.decline.ensures.view)
+
+pub returns-in-Ok-clause-indexed : goal.returns-in-Ok-clause-indexed
+returns-in-Ok-clause-indexed c =
+    let told = c.know.ensures (asked_at c.args.asked.now c.in-Ok.reference) (c.requires.says, refl) in
+    kept_on _ _ c.first_named.new.seat.me.0 c.know.new.seat.me.0
+    (knows_none c.first_named.new.seat.me.0 c.know.new.seat.me.0 (asked_at c.args.asked.now c.in-Ok.reference) told.1) c.in-Ok.ensures.indexed
+
+pub returns-in-Err-clause-indexed : goal.returns-in-Err-clause-indexed
+returns-in-Err-clause-indexed c =
+    kept_on _ _ c.first_named.new.seat.me.0 c.decline.new.seat.me.0 (declined_none c.first_named.new.seat.me.0 c.decline.new.seat.me.0 c.decline.ensures.view)
+    c.in-Err.ensures.indexed

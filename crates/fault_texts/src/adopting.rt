@@ -1,0 +1,102 @@
+//! What is told of an image that is recorded into again, and of the script that is to be recorded there.
+
+use crate::lines::{Source, image_lines, word_at};
+use crate::place::place_of;
+use crate::specs_of::{reading_of, spec_lines, words_of};
+use image_adoption::{AdoptFault, Adoptable, check};
+use persist_report_core::CliFault;
+use segment_calls::Refusal;
+use segment_image::layout::{
+    FLAGS_WORD, ID_WORD, PAGE_WORD, SIZE_WORD, VERSION_FROZEN, VERSION_WORD,
+};
+use std::alloc::{AllocError, Global};
+
+/// What is wrong with an image that may not be recorded into again: its word, its size or its record, as far as one of
+/// these tells it.
+pub fn adopt_lines(
+    alloc: Global,
+    base: Source<'_, '_>,
+    fault: AdoptFault,
+) -> Result<String, AllocError> {
+    let origin = base.origin;
+    match fault {
+        AdoptFault::Image(fault) => image_lines(alloc, base, fault),
+        AdoptFault::OldVersion => {
+            let word = word_at(base.bytes, VERSION_WORD);
+            format!(in alloc;
+                "  {origin}, word {VERSION_WORD} is {word}; it has to be {VERSION_FROZEN}\n"
+            )
+        }
+        AdoptFault::Corrupt => {
+            let word = word_at(base.bytes, FLAGS_WORD);
+            format!(in alloc; "  {origin}, word {FLAGS_WORD} is {word}; it has to be even\n")
+        }
+        AdoptFault::Damaged => damage_lines(alloc, base),
+        AdoptFault::NoUnits | AdoptFault::BadCursors | AdoptFault::NoMemory => {
+            format!(in alloc; "  {origin}\n")
+        }
+    }
+}
+
+// The first bad record of an image, or why its list stops before its end.
+fn damage_lines(alloc: Global, base: Source<'_, '_>) -> Result<String, AllocError> {
+    let origin = base.origin;
+    let Some(reading) = reading_of(alloc, base.bytes) else {
+        return format!(in alloc; "  {origin}\n");
+    };
+    match (reading.bad.first(), reading.stopped) {
+        (Some(bad), _) => {
+            let (at, fault) = (bad.reference, bad.fault);
+            format!(in alloc; "  {origin}, the record at word {at} is {fault}\n")
+        }
+        (None, Some(fault)) => format!(in alloc;
+            "  {origin}, the list of records stops: {fault}\n"
+        ),
+        (None, None) => {
+            format!(in alloc;
+                "  {origin}, all records are read; other words are none that a segment can have\n"
+            )
+        }
+    }
+}
+
+/// What the image has that is recorded into again, where the record of the script with this number does not fit it: its
+/// segment, the spec that it gives a name, or the units that it has used.
+pub fn base_lines(
+    alloc: Global,
+    base: Source<'_, '_>,
+    script: Source<'_, '_>,
+    fault: &CliFault,
+) -> Result<String, AllocError> {
+    match fault {
+        CliFault::BadLine(1) => segment_lines(alloc, base),
+        CliFault::Refused {
+            number,
+            why: Refusal::OtherSpec,
+        } => match place_of(alloc, script.bytes, *number)? {
+            Some(place) => spec_lines(alloc, "BASE", base, place.fields.get(1).unwrap_or_default()),
+            None => Ok(String::new(alloc)),
+        },
+        CliFault::Refused {
+            why: Refusal::NoUnits,
+            ..
+        } => used_lines(alloc, base),
+        _ => Ok(String::new(alloc)),
+    }
+}
+
+// The record with which a script of an image begins.
+fn segment_lines(alloc: Global, base: Source<'_, '_>) -> Result<String, AllocError> {
+    let [size, page, id] = [SIZE_WORD, PAGE_WORD, ID_WORD].map(|at| word_at(base.bytes, at));
+    format!(in alloc; "  BASE {} is of segment,{size},{page},{id}\n", base.origin)
+}
+
+// How many units an image has used.
+fn used_lines(alloc: Global, base: Source<'_, '_>) -> Result<String, AllocError> {
+    match words_of(alloc, base.bytes).map(|words| check(alloc, &words, 0)) {
+        Some(Ok(Adoptable { used, .. })) => {
+            format!(in alloc; "  BASE {} has used {used} units\n", base.origin)
+        }
+        _ => Ok(String::new(alloc)),
+    }
+}

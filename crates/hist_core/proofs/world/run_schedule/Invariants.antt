@@ -1,6 +1,0 @@
-use Rattle.std.proofs.Common.{take}
-use Rattle.hist_core.specs.Moves.{MakesAll}
-use Rattle.hist_core.proofs.world.run_schedule.Given as goal
-
-abbrev pub invariant-loop-step : goal.invariant-loop-step
-invariant-loop-step l = record { makes : MakesAll (take l.step-index l.moves) l.initial.world.world_state l.world.world_state }

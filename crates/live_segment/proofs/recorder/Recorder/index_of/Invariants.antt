@@ -1,8 +1,0 @@
-use Rattle.std.proofs.Common.{◌≡◌, ◌≢◌, ◌<◌, ℕ}
-use mathlib.Core.Option.{some}
-use lib.ListN.{get_elem?}
-use Rattle.live_segment.specs.declared.recorder.KnownHistogram.{KnownHistogram}
-use Rattle.live_segment.proofs.recorder.Recorder.index_of.Given as goal
-
-abbrev pub invariant-loop-index : goal.invariant-loop-index
-invariant-loop-index l = (j : ℕ) (known : KnownHistogram) → j < l.index → get_elem? l.self.known.items j ≡ some known → known.name.items ≢ l.name

@@ -1,0 +1,7 @@
+use Rattle.live_segment.proofs.recorder.Recorder.new.Goals as goal
+
+pub invariant_of-result-clause-named : goal.invariant_of-result-clause-named
+invariant_of-result-clause-named c = c.new-names.ensures _
+
+pub invariant_of-result-clause-indexed : goal.invariant_of-result-clause-indexed
+invariant_of-result-clause-indexed c = c.new-index.ensures _ _

@@ -1,0 +1,34 @@
+//! What a command writes of the reading of an image.
+
+ghost use Rattle.std.specs.Prelude.{◌≡◌, false};
+ghost use Rattle.segment_image.specs.Watched.{has_failed};
+
+use persist_report_core::{CliFault, export, report};
+use segment_image::Watched;
+use std::alloc::Global;
+use std::io::{Read, Write};
+
+/// What is written of the reading of an image.
+#[derive(Clone, Copy, Debug, PartialEq, Eq)]
+pub enum Form<'a> {
+    /// Its report, as CSV.
+    Report,
+    /// Its metrics, the names of which begin so.
+    Export { prefix: &'a str },
+}
+
+/// Writes it, of the image that the reader has left.
+pub fn write_form<R: Read, W: Write>(
+    alloc: Global,
+    form: Form<'_>,
+    reader: &mut Watched<R>,
+    writer: &mut Watched<W>,
+) -> Result<(), CliFault>
+    requires reader_sound { has_failed reader.old ≡ false }
+    requires writer_sound { has_failed writer.old ≡ false }
+{
+    match form {
+        Form::Report => report(alloc, reader, writer),
+        Form::Export { prefix } => export(alloc, reader, writer, prefix.as_bytes()),
+    }
+}

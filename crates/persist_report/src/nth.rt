@@ -1,0 +1,31 @@
+//! Which of the segments in a file is meant.
+
+ghost use Rattle.std.specs.Prelude.{◌≡◌, ◌≤◌, IfSome, IsSome, ◌↔◌};
+
+/// The number of a segment in a file, from 1.
+#[derive(Clone, Copy, Debug, PartialEq, Eq)]
+pub struct Nth {
+    number: u64,
+    ghost any: { 1 ≤ number },
+}
+
+impl Nth {
+    /// The segment with this number, where there may be one.
+    pub fn of(number: u64) -> Option<Nth>
+        ensures all { IsSome result ↔ (1 ≤ number) }
+        ensures same { IfSome result (λ nth. nth.number ≡ number) }
+    {
+        if number < 1 {
+            return None;
+        }
+        Some(Nth { number })
+    }
+
+    /// Its number.
+    pub fn number(&self) -> u64
+        ensures same { result ≡ self.now.number }
+        ensures any { 1 ≤ result }
+    {
+        self.number
+    }
+}

@@ -1,6 +1,0 @@
-use Rattle.std.proofs.Common.{◌≡◌, ◌∷◌, ◌++◌, take}
-use Rattle.std.specs.List.{flat_map}
-use Rattle.persist_report_core.proofs.lines.put_line.Given as goal
-
-abbrev pub invariant-loop-field : goal.invariant-loop-field
-invariant-loop-field l = l.text.items ≡ l.initial.text.items ++ flat_map (λ field. 44 ∷ field.now) (take l.field-index l.others)

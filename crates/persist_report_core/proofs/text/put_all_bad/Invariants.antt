@@ -1,8 +1,0 @@
-use Rattle.std.proofs.Common.{◌≡◌, ◌++◌, take}
-use Rattle.std.specs.List.{flat_map}
-use Rattle.image_reader.specs.Views.{bad_view}
-use Rattle.persist_report_core.specs.Text.{bad_text}
-use Rattle.persist_report_core.proofs.text.put_all_bad.Given as goal
-
-abbrev pub invariant-loop-bad : goal.invariant-loop-bad
-invariant-loop-bad l = l.text.items ≡ l.initial.text.items ++ flat_map (λ bad. bad_text (bad_view bad)) (take l.bad-index l.all)

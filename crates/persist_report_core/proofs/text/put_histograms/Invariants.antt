@@ -1,8 +1,0 @@
-use Rattle.std.proofs.Common.{◌≡◌, ◌++◌, take}
-use Rattle.std.specs.List.{flat_map}
-use Rattle.image_reader.specs.Views.{histogram_view}
-use Rattle.persist_report_core.specs.Text.{histogram_text}
-use Rattle.persist_report_core.proofs.text.put_histograms.Given as goal
-
-abbrev pub invariant-loop-hist : goal.invariant-loop-hist
-invariant-loop-hist l = l.text.items ≡ l.initial.text.items ++ flat_map (λ hist. histogram_text (histogram_view hist.now)) (take l.hist-index l.hists)

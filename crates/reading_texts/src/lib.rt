@@ -1,0 +1,18 @@
+//! The texts of a reading, each composed in memory: its report as CSV, and lines for what scrapes metrics.
+//!
+//! Each is defined in `specs/` as lines in their order, most of them from a row of a histogram. The rows, and the order of
+//! the histograms, are the same for all texts: `specs/Rows.antt`.
+#![tactic(auto)]
+
+mod exporting;
+mod labels;
+mod lines;
+mod order;
+mod parts;
+mod rows;
+mod text;
+mod words;
+
+pub use exporting::{export_text, is_prefix};
+pub use rows::{HistRow, rows_of, units};
+pub use text::text_of;

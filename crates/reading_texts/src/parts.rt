@@ -1,0 +1,16 @@
+//! Parts of a text, one behind the other.
+
+ghost use Rattle.std.specs.Prelude.{◌≡◌, ◌++◌, map, OnOk};
+ghost use Rattle.reading_texts.specs.Exporting.{joined};
+
+use std::alloc::AllocError;
+
+// Puts parts behind a text.
+pub(crate) fn put_parts(text: &mut Vec<u8>, parts: &[&[u8]]) -> Result<(), AllocError>
+    ensures { OnOk result (text.new.items ≡ text.old.items ++ joined (map (λ part. part.now) parts.now)) }
+{
+    for part in parts {
+        text.extend_from_slice(part)?;
+    }
+    Ok(())
+}

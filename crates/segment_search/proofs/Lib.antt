@@ -1,0 +1,3 @@
+pub mod Words
+pub mod Headers
+pub mod Here

@@ -1,0 +1,16 @@
+use Rattle.std.proofs.Common.{rules, ◌∙◌, ap, ◌++◌, ◌∷◌, []}
+use Rattle.std.specs.Slice.Iter.{chunks_exact_rest}
+use Rattle.segment_search.specs.Places.{words_in}
+use Rattle.segment_search.proofs.Words.{words_in-chunk}
+use Rattle.segment_search.proofs.reading.push_words.Goals as goal
+
+pub loop-chunk-preserved : goal.loop-chunk-preserved
+loop-chunk-preserved c = record {
+  size = search rules;
+  words = let rest = c.next.new.self in
+      ap (λ l. l ++ words_in (chunks_exact_rest rest)) (c.in_ok-push.ensures.items ∙ ap (λ w. c.loop-chunk.words.items ++ w ∷ []) c.read_u64.ensures)
+      ∙ words_in-chunk c.loop-chunk.words.items c.in-Some.chunk.now (chunks_exact_rest rest) (search rules)
+      ∙ ap (λ l. c.loop-chunk.words.items ++ words_in l) (search rules)
+      ∙ c.loop-chunk.invariant.words;
+  longer = search rules;
+}

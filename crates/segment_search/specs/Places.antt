@@ -1,0 +1,59 @@
+-- The words of any bytes, and where among them segments stand.
+use Rattle.std.specs.Prelude.{◌≡◌, Bool, true, is_ok, ℕ, zero, suc, ◌+◌, ◌*◌, ◌/◌, ◌^◌, ◌<◌, ◌≤◌, List, [], ◌∷◌, ◌++◌, length, take, drop, filter, Option, None, Some, ⊤}
+use Rattle.std.specs.List.{range_with_len}
+use Rattle.byteorder.specs.Endian.{little_number}
+use Rattle.std.specs.Io.KnownBytes.{Appends}
+use Rattle.segment_image.specs.Words.{word_at, bytes_of_words}
+use Rattle.segment_image.specs.Head.{header_of}
+use Rattle.segment_image.specs.declared.layout.TheConstants.{SIZE_WORD}
+use Rattle.segment_search.specs.declared.fault.SearchFault.{SearchFault}
+use Rattle.segment_search.specs.declared.fault.SearchFault.TheVariants.{NoMemory, Device, NoSegment, TooLong, Write}
+
+-- the first words of bytes
+abbrev pub words_from : ℕ → List ℕ → List ℕ
+words_from zero bytes = []
+words_from (suc n) bytes = little_number 8 bytes ∷ words_from n (drop 8 bytes)
+
+-- the whole words of bytes: eight bytes for each, the least first; up to seven bytes at the end are none
+abbrev pub words_in : List ℕ → List ℕ
+words_in bytes = words_from (length bytes / 8) bytes
+
+-- the words that a segment has which begins here: as many as its word of the size says, if there are so many
+abbrev pub said_words : List ℕ → List ℕ
+said_words words = take (word_at words SIZE_WORD) words
+
+-- whether a segment stands at a word: a lawful header, with all the words that it says
+abbrev pub is_segment_at : List ℕ → ℕ → Bool
+is_segment_at words at = is_ok (header_of (said_words (drop at words)))
+
+-- the words before an end at which segments stand: each such word counts, also one inside another segment
+abbrev pub segments_before : List ℕ → ℕ → List ℕ
+segments_before words end = filter (is_segment_at words) (range_with_len 0 end)
+
+-- the segment with this number stands at a word: so many stand there or before it
+pub record IsNth (words : List ℕ) (nth at : ℕ) (segment : List ℕ) : Type 0 where
+  pub stands : is_segment_at words at ≡ true
+  pub segment_is : segment ≡ said_words (drop at words)
+  pub earlier : length (segments_before words at) + 1 ≡ nth
+
+-- A fault has its cause in the bytes: there are fewer segments, or more bytes than are searched. Devices that fail and want of
+-- memory have none there.
+abbrev pub HasCause : List ℕ → ℕ → SearchFault → Type 0
+HasCause bytes nth NoMemory = ⊤
+HasCause bytes nth Device = ⊤
+HasCause bytes nth Write = ⊤
+HasCause bytes nth NoSegment = length (segments_before (words_in bytes) (length (words_in bytes))) < nth
+HasCause bytes nth TooLong = 2 ^ 64 ≤ length bytes
+
+-- the segment with this number stands in the bytes at a place, and a writer's bytes, where they are known, grew by those of its words
+pub record IsExtracted (bytes : List ℕ) (nth place : ℕ) (old new : Option (List ℕ)) : Type 0 where
+  pub word : ℕ
+  pub segment : List ℕ
+  pub place_is : place ≡ 8 * word
+  pub is_nth : IsNth (words_in bytes) nth word segment
+  pub written : Appends old new (bytes_of_words segment)
+
+-- the words ahead of a window that has some of them, and whose reader has these bytes left, where they are known
+abbrev pub ahead : List ℕ → Option (List ℕ) → Option (List ℕ)
+ahead words None = None
+ahead words (Some bytes) = Some (words ++ words_in bytes)

@@ -1,0 +1,60 @@
+//! The search for a segment among bytes.
+
+ghost use Rattle.std.specs.Prelude.{◌≡◌, ◌≢◌, ◌≤◌, ◌<◌, ◌↔◌, false, true, IfSome, IfOk, IfErr, MatchResult, IsErrOf};
+ghost use Rattle.segment_image.specs.Watched.{has_failed, watched_inner};
+ghost use Rattle.segment_search.specs.Places.{words_in, IsNth, HasCause};
+
+use crate::fault::SearchFault;
+use crate::window::Window;
+use segment_image::layout::HEADER_WORDS;
+use segment_image::{Image, Watched};
+use std::alloc::Global;
+use std::io::Read;
+
+// So many words are 2^64 bytes.
+const MOST_WORDS: u64 = 2_305_843_009_213_693_952;
+
+/// A segment that was found.
+#[derive(Debug, Drop)]
+pub struct Found {
+    /// How many words stand before it.
+    pub word: u64,
+    /// Its words.
+    pub image: Image,
+}
+
+/// The segment with the number `nth`, from 1, of those that stand among the bytes that a reader has left.
+///
+/// The reader is one that has not failed before. `NoSegment` where fewer stand there; `Device` where a read failed, of whatever
+/// sort the failure is; `NoMemory` where there is none for the words of a segment, or of what seems one, and a block;
+/// `TooLong` where there are 2^64 bytes or more, and it is not among the first of them.
+pub fn find_segment<R: Read>(
+    alloc: Global,
+    reader: &mut Watched<R>,
+    nth: u64,
+) -> Result<Found, SearchFault>
+    requires first { 1 ≤ nth }
+    requires went { has_failed reader.old ≡ false }
+    ensures answer { IfSome (R.remaining (watched_inner reader.old)) (λ bytes. MatchResult result
+        (λ found. IsNth (words_in bytes) nth found.word found.image) (HasCause bytes nth)) }
+    ensures device { IsErrOf result SearchFault.Device ↔ (has_failed reader.new ≡ true) }
+    ensures within { IfOk result (λ found. found.word < MOST_WORDS) }
+    ensures no_write { IfErr result (λ fault. fault ≢ SearchFault.Write) }
+{
+    let mut window = Window::new(alloc);
+    let mut left = nth;
+    for word in 0..MOST_WORDS {
+        if !window.has_words(reader, HEADER_WORDS)? {
+            return Err(SearchFault::NoSegment);
+        }
+        if let Some(size) = window.segment_size(reader)? {
+            if left == 1 {
+                let image = window.into_image(size);
+                return Ok(Found { word, image });
+            }
+            left -= 1;
+        }
+        window.pass();
+    }
+    Err(SearchFault::TooLong)
+}

@@ -1,0 +1,277 @@
+"""Images are adopted, recorded into and read again, by `trials adopt`.
+
+Of each image a plain reckoning (plain_adoption.py) says whether it may be adopted, or by which fault it may not. A segment that goes on
+with one reads as the plain reader reads the image, and in addition what was recorded: in each of its histograms and in new ones of all
+kinds. So no record is bad then. The first delta of a histogram takes what no delta had taken yet, and the units that are left are those
+that the image had not used, but for what was recorded.
+
+The images are those of schedules of version 2 where they stop: known ones, worked examples at every event, and others that come of a
+seed. Each of them is adopted, but for those that were found corrupt. Then come forged images: those of forge.py in version 2, and those of
+forge_adoption.py, which may be adopted but for a reason or two. Each fault and each reason has to come into play.
+"""
+
+import collections
+import concurrent.futures
+import os
+import pathlib
+import random
+import tempfile
+
+from parts.schedules import FOLDER, replayed
+from support import forge, forge_adoption, plain_adoption, plain_tally, seeded_schedules, worked_schedules
+from support.plain_reader import KINDS, MOST_BYTES, MOST_UNITS, ImageFault, words_of
+from support.program import answer, built
+
+PROGRAM = "trials"
+STEPPED = "stepped"
+VERSION = 2
+# So many images are adopted by one process.
+TOGETHER = 100
+# There are so many images of each of the two kinds of forged ones for each 6 of --images.
+ENOUGH_IMAGES = 1000
+NEW = {"boolean": ("boolean",), "custom": ("custom", 10, 100, 1000), "linear": ("linear", 1, 100, 20), "sparse": ("sparse",)}
+FAULTS = ("OldVersion", "Corrupt", "Damaged", "NoUnits", "Image Deleted", None)
+FULL = 2
+
+
+class Histogram(plain_tally.Histogram):
+    """What a histogram's samples add up to, what was counted a second time, and what deltas have taken."""
+
+    def __init__(self, kind, boundaries):
+        super().__init__(kind, boundaries)
+        self.redundant = 0
+        self.taken = collections.Counter()
+        self.taken_sum = 0
+
+    @classmethod
+    def read(cls, found):
+        """What the plain reader found."""
+        one = cls(KINDS[found["kind"]], found["boundaries"])
+        one.counts.update({low: count for low, (_, count) in found["buckets"].items()})
+        one.sum, one.redundant = found["sum"], found["redundant"]
+        one.taken.update(found["marks"])
+        one.taken_sum = found["sum mark"]
+        return one
+
+    def count(self, items):
+        for value, count in items:
+            self.counts[self.key(value)] += count
+            self.redundant += count
+
+    def delta(self):
+        """What a delta takes: an amount, and units by their keys in order."""
+        units = [(key, self.counts[key] - self.taken[key]) for key in sorted(self.counts) if self.counts[key] > self.taken[key]]
+        amount = self.sum - self.taken_sum
+        self.taken.update(dict(units))
+        self.taken_sum = self.sum
+        return amount, units
+
+
+def pairs(numbers):
+    return list(zip(numbers[::2], numbers[1::2]))
+
+
+class Going:
+    """A segment that goes on with the words of an image, as the lines of `trials adopt` say it does."""
+
+    def __init__(self, words):
+        read = plain_adoption.Read(words)
+        self.histograms = {name.decode(): Histogram.read(found) for name, found in read.histograms.items()}
+        self.order = [*self.histograms, *NEW]
+        self.met = []
+        self.left = MOST_UNITS - plain_adoption.used_of(read)
+        self.is_full = bool(words[6] & FULL)
+        self.wrong = None
+
+    def require(self, holds, what):
+        if not holds and self.wrong is None:
+            self.wrong = what
+
+    def meet(self, line):
+        what, *fields = line.split(",")
+        {"units": self.units, "left": self.units, "hist": self.hist, "delta": self.delta, "sample": self.sample, "batch": self.batch, "refused": self.refused}[what](*fields)
+
+    def units(self, number):
+        self.require(int(number) == self.left, f"{number} units are left, wanted {self.left}")
+
+    def hist(self, name):
+        self.met.append(name)
+        if name not in self.histograms:
+            self.histograms[name] = Histogram.of(NEW[name])
+
+    def delta(self, name, amount, *units):
+        wanted = self.histograms[name].delta()
+        came = int(amount), pairs(list(map(int, units)))
+        self.require(came == wanted, f"a delta of {name} took {came}, wanted {wanted}")
+
+    def sample(self, name, value, count):
+        self.histograms[name].count([(int(value), int(count))])
+        self.histograms[name].sum += self.histograms[name].clamped(int(value)) * int(count)
+        self.left -= int(count)
+
+    def batch(self, name, amount, *items):
+        counted = pairs(list(map(int, items)))
+        self.histograms[name].count(counted)
+        self.histograms[name].sum += int(amount)
+        self.left -= sum(count for _, count in counted)
+
+    def refused(self, name, call, why, *more):
+        """A call was refused; of a batch the first items may be counted. What it asks for is more than there is."""
+        self.require(why in ("Full", "NoUnits"), f"{call} of {name} is refused by {why}")
+        if call == "hist":
+            self.require(name in NEW and why == "Full", f"hist of {name} is refused by {why}")
+            self.met.append(name)
+        if call == "batch":
+            items, counted = pairs(list(map(int, more[1:]))), int(more[0])
+            self.histograms[name].count(items[:counted])
+            self.left -= sum(count for _, count in items[:counted])
+        asked = sum(count for _, count in pairs(list(map(int, more[1:])))) if call == "batch" else int(more[0]) if more else 0
+        self.require((why == "NoUnits") <= (asked > self.left), f"{call} of {name} has no units, and there are {self.left}")
+        self.is_full = self.is_full or why == "Full"
+
+    def report(self):
+        flags = b"!flag,full\n" * self.is_full
+        differing = [(name, one.redundant) for name, one in sorted(self.histograms.items()) if one.redundant != sum(one.counts.values())]
+        return plain_tally.report(self.histograms) + flags + "".join(f"!redundant,{name},{number}\n" for name, number in differing).encode()
+
+
+def wrong_going(words, lines):
+    """What is wrong with the lines of an image that was adopted, or None."""
+    if "report" not in lines or lines[-1] != "end":
+        return f"came {lines}"
+    place = lines.index("report")
+    going = Going(words)
+    for line in lines[:place]:
+        going.meet(line)
+    if going.wrong is None and going.met != going.order:
+        return f"recorded into {going.met}, wanted {going.order}"
+    came, wanted = lines[place + 1 : -1], going.report().decode().splitlines()
+    return going.wrong or (None if came == wanted else f"the report is {came}, wanted {wanted}")
+
+
+def wrong_image(data, lines, seen):
+    """What is wrong with what came of an image, or None."""
+    words = words_of(data, collections.Counter())
+    fault = plain_adoption.fault_of(words, 0, seen)
+    if fault is not None:
+        return None if lines == [f"fault,{fault}"] else f"wanted {fault}, came {lines}"
+    return wrong_going(words, lines)
+
+
+def adopted(program, folder, images):
+    """The lines of each image, by its place; `images` has their bytes."""
+    paths = [folder / f"{place}.img" for place in range(len(images))]
+    for path, data in zip(paths, images):
+        path.write_bytes(data)
+    came = answer(program, ["adopt", *paths])
+    every, lines = [], came.output.decode().splitlines()
+    for line in lines:
+        if line.startswith("image,"):
+            every.append([])
+        else:
+            every[-1].append(line)
+    if came.status != 0 or came.error or len(every) != len(images):
+        raise ValueError(f"status {came.status}, {came.error[:200]!r}, {len(every)} images of {len(images)}, the last lines {lines[-3:]}")
+    return every
+
+
+def wrongs_of(program, images, seen):
+    """What is wrong with each image, or None. `images` has the name and the bytes of each."""
+    for first in range(0, len(images), TOGETHER):
+        some = images[first : first + TOGETHER]
+        with tempfile.TemporaryDirectory() as scratch:
+            every = adopted(program, pathlib.Path(scratch), [data for _, data in some])
+        for (name, data), lines in zip(some, every):
+            wrong = wrong_image(data, lines, seen)
+            if wrong is not None:
+                kept = pathlib.Path("adopted.img").resolve()
+                kept.write_bytes(data)
+                wrong += f"; the image is kept as {kept}"
+            yield name, wrong
+
+
+def stops(stepped, path, name, events):
+    """The images of the schedule in a file where it stops."""
+    return [(f"{name} after {event} events", answer(stepped, [path, "--stop", str(event), "--image"]).output) for event in events]
+
+
+def worked_stops(stepped, folder, number, name, schedule):
+    """The images of a worked example at every event."""
+    path = folder / f"worked-{number}.csv"
+    came = replayed(stepped, path, schedule.text())
+    return stops(stepped, path, name, range(came.output.count(b",step,") + 1))
+
+
+def seeded_stops(stepped, folder, seed, number_of_stops):
+    """The images of the schedule of a seed at its end and at some events, or at each where their number is 0."""
+    chance = random.Random(f"{seed} adopted")
+    path = folder / f"{seed}.csv"
+    _, came = seeded_schedules.schedule_of(chance, lambda text: replayed(stepped, path, text), [VERSION])
+    last = came.output.count(b",step,")
+    events = range(last + 1) if number_of_stops == 0 else [last, *chance.choices(range(last + 1), k=number_of_stops - 1)]
+    return stops(stepped, path, f"schedule {seed}", events)
+
+
+def is_frozen(data):
+    return data[8:16] == VERSION.to_bytes(8, "little")
+
+
+def known_stops():
+    """The images of the known schedules of version 2 where they stop."""
+    images = [(f"known {path.stem}", path.read_bytes()) for path in sorted(FOLDER.glob("*.words"))]
+    return [(name, data) for name, data in images if is_frozen(data)]
+
+
+def stopped_images(stepped, options):
+    """The images of schedules of version 2 where they stop, each with a name."""
+    with tempfile.TemporaryDirectory() as scratch, concurrent.futures.ThreadPoolExecutor(os.cpu_count()) as pool:
+        folder = pathlib.Path(scratch)
+        worked = [(name, schedule) for name, schedule, _ in worked_schedules.examples() if schedule.version == VERSION]
+        every = [pool.submit(worked_stops, stepped, folder, number, *one) for number, one in enumerate(worked)]
+        seeds = [f"{options.seed}-{number}" for number in range(options.schedules)]
+        every += [pool.submit(seeded_stops, stepped, folder, seed, options.stops) for seed in seeds]
+        return known_stops() + [image for images in every for image in images.result()]
+
+
+def wrong_stopped(data, wrong):
+    """What is wrong with an image of a stop, or None: it is adopted, but where the segment was found corrupt."""
+    words = words_of(data, collections.Counter())
+    fault = plain_adoption.fault_of(words, 0, collections.Counter())
+    wanted = "Corrupt" if words[6] & 1 else None
+    return wrong if fault == wanted else f"wanted {wanted}, and {fault} is reckoned"
+
+
+def forged_images(seed, count):
+    """Forged images of version 2 that are words, each with a name."""
+    found, number = [], 0
+    while len(found) < count:
+        data = forge.image_of(random.Random(f"{seed} {number}"))
+        if len(data) % 8 == 0 and len(data) <= MOST_BYTES and is_frozen(data):
+            found.append((f"forged image {number} of seed {seed}", data))
+        number += 1
+    return found
+
+
+def adoptable_images(seed, count):
+    """Forged images that may be adopted but for a reason or two, each with a name."""
+    return [(f"adoptable image {number} of seed {seed}", forge_adoption.image_of(random.Random(f"{seed} {number}"))) for number in range(count)]
+
+
+def never_seen(seen):
+    never = [str(fault) for fault in FAULTS if not seen[fault]] + [damage for damage in plain_adoption.DAMAGES if not seen[damage]]
+    return f"wanted each fault and each reason, came none of: {'; '.join(never)}" if never else None
+
+
+def cases(program, options):
+    if not built(STEPPED).is_file():
+        yield STEPPED, f"{built(STEPPED)}: no such program; 'rt run' in crates/{STEPPED} builds it"
+        return
+    images = stopped_images(built(STEPPED), options)
+    for (_, data), (name, wrong) in zip(images, wrongs_of(program, images, collections.Counter())):
+        yield name, wrong_stopped(data, wrong)
+    seen, count = collections.Counter(), -(-options.images // 6)
+    yield from wrongs_of(program, forged_images(options.seed, count), seen)
+    yield from wrongs_of(program, adoptable_images(options.seed, count), seen)
+    print(f"adopted: {len(images)} images of stops; of forged ones {seen[None]} were adopted")
+    if count >= ENOUGH_IMAGES:
+        yield "faults and reasons in play", never_seen(seen)

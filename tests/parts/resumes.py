@@ -1,0 +1,108 @@
+"""Chains of scripts that come of a seed: the first is run, and each other one goes on with the image before, with 1 and with 3
+workers. Each gives the report that a plain tally of all samples so far has, and an image that reads as that report too.
+
+Where one worker has recorded all, the marks are known by the scripts: a delta takes all before it, also what earlier ones recorded.
+A script that gives a name another spec, or that takes more units than are left, is refused. The next one goes on without it.
+"""
+
+import random
+
+from parts import merges, scripts
+from support import plain_tally, seeded
+from support.program import Answer, answer, difference, fault
+
+PROGRAM = "persist_report"
+WORKERS = (1, 3)
+LENGTH = 3
+
+
+def units_of(calls):
+    return sum(sample[1] for _, *sample in calls if sample)
+
+
+def with_too_much(chance, script, before):
+    """Has a script take one more unit than its segment has left by then, in its last record."""
+    left = seeded.MOST_UNITS - units_of(before.calls) - units_of(script.calls)
+    name = chance.choice(script.hists)[0]
+    if left == seeded.MOST_UNITS:
+        # (one record cannot say more units than a segment has)
+        script.calls.append((name, 1, 1))
+        left -= 1
+    script.calls.append((name, 1, left + 1))
+
+
+def chain_of(chance):
+    """Scripts of one segment with room to spare. A name that more than one of them has is mostly of one spec."""
+    chain, specs, histograms, calls = [], {}, {}, []
+    for number in range(LENGTH):
+        script = seeded.script_of(chance, seeded.MOST_UNITS // LENGTH)
+        if chance.random() < 0.9:
+            script.hists = [(name, specs.get(name, spec)) for name, spec in script.hists]
+        for name, spec in script.hists:
+            specs.setdefault(name, spec)
+        histograms |= {f"{number} {name}": one for name, one in script.histograms().items()}
+        calls += [(f"{number} {call[0]}", *call[1:]) for call in script.calls]
+        chain.append(script)
+    size, page = seeded.shape_of(chance, histograms, calls)
+    for script in chain:
+        script.size, script.page, script.id = min(size, 2**20 // page * page), page, chain[0].id
+    return chain
+
+
+def refusal_of(script, before):
+    """Why a script is refused that goes on behind others, as the text of the fault; or None."""
+    taken = units_of(before.calls)
+    for number, (_, *sample) in enumerate(script.calls, 2 + len(script.hists)):
+        taken += sample[1] if sample else 0
+        if taken > seeded.MOST_UNITS:
+            return f"Refused {number} NoUnits"
+    specs = {name: (spec[0], plain_tally.boundaries_of(spec)) for name, spec in reversed(before.hists)}
+    for number, (name, spec) in enumerate(script.hists, 2):
+        own = spec[0], plain_tally.boundaries_of(spec)
+        if specs.setdefault(name, own) != own:
+            return f"Refused {number} OtherSpec"
+    return None
+
+
+def both_of(before, script):
+    """What both scripts record, one behind the other."""
+    return seeded.Script(script.size, script.page, script.id, before.hists + script.hists, before.calls + script.calls)
+
+
+def wrong_step(program, words, wanted, out):
+    """What is wrong with an answer, or None; a fault makes no OUT."""
+    wrong = difference(wanted, answer(program, [*words[:-2], out, *words[-2:]]))
+    return wrong or ("OUT was made" if wanted.status and out.exists() else None)
+
+
+def wrong_of(program, seed, folder):
+    """What is wrong with the answers to the chain of a seed, or None."""
+    chance = random.Random(seed)
+    chain = chain_of(chance)
+    before, base, alone = seeded.Script(0, 0, 0, [], []), None, True
+    for number, script in enumerate(chain):
+        if number and chance.random() < 0.1:
+            with_too_much(chance, script, before)
+        text = folder / f"{seed}-{number}.csv"
+        text.write_bytes(seeded.text_of(chance, script))
+        both, why = both_of(before, script), refusal_of(script, before)
+        report = plain_tally.report(both.histograms())
+        outs = {workers: folder / f"{seed}-{number}-{workers}.img" for workers in WORKERS}
+        for workers, out in outs.items():
+            words = ["run", text] if base is None else ["resume", base, text]
+            wrong = wrong_step(program, [*words, "--workers", str(workers)], Answer(report) if why is None else fault(why, 3), out)
+            if wrong is not None:
+                return f"script {number} with {workers} workers: {wrong}\n{text.read_bytes().decode()}"
+        if why is None:
+            workers = chance.choice(WORKERS)
+            before, base, alone = both, outs[workers], alone and workers == 1
+            wrong = scripts.wrong_image(both, base.read_bytes(), report)
+            wrong = wrong or (merges.wrong_remainder(both, base.read_bytes()) if alone else None)
+            if wrong is not None:
+                return f"script {number} with {workers} workers: {wrong}\n{text.read_bytes().decode()}"
+    return None
+
+
+def cases(program, options):
+    seeds = [f"resume-{options.seed}-{number}" for number in range(options.resumes)]
+    yield from seeded.tried(seeds, lambda seed, folder: wrong_of(program, seed, folder))

@@ -1,5 +1,5 @@
 -- Shares, percents and means, in whole numbers.
-use Rattle.std.specs.Prelude.{ℕ, ◌+◌, ◌*◌, ◌/◌, ◌%◌, ℤ, Bool, if◌then◌else◌, ◌==◌, List, ◌++◌, codes, unsigned_abs, int_lt, pos}
+use Rattle.std.specs.Prelude.{ℕ, ◌+◌, ◌*◌, ◌/◌, ◌%◌, ℤ, if◌then◌else◌, ◌==◌, List, ◌++◌, codes, unsigned_abs, int_lt, pos}
 use Rattle.std.specs.Fmt.{decimal}
 
 -- how many of `shares` equal shares of a whole a part is; what is added before the division says how it is rounded;

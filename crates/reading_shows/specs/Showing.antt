@@ -1,5 +1,5 @@
 -- The text of a reading for people.
-use Rattle.std.specs.Prelude.{◌≡◌, Bool, ◌==◌, ◌&&◌, ◌||◌, not, nat_le, if◌then◌else◌, ℕ, ◌-◌, ◌*◌, max, ℤ, pos, ◌-ℤ◌, List, [], ◌∷◌, ◌++◌, length, get_or, sum_by, codes, Option, Some, None, IsPermutation, IsSortedByKey}
+use Rattle.std.specs.Prelude.{◌≡◌, Bool, ◌==◌, ◌||◌, not, nat_le, if◌then◌else◌, ℕ, ◌-◌, ◌*◌, max, ℤ, pos, ◌-ℤ◌, List, [], ◌∷◌, ◌++◌, length, get_or, sum_by, codes, Option, Some, None, IsPermutation, IsSortedByKey}
 use Rattle.std.specs.Ordering.{nat_cmp}
 use Rattle.std.specs.Cmp.Lexicographic.{slice_cmp}
 use Rattle.std.specs.Fmt.{decimal, signed_decimal}

@@ -1,4 +1,4 @@
-use Rattle.std.proofs.Common.{◌≡◌, ◌∙◌, Bool, ℕ, drop, length, nat_eq, sym, ap, arith}
+use Rattle.std.proofs.Common.{◌∙◌, Bool, ℕ, drop, length, nat_eq, sym, ap, arith}
 use Rattle.std.specs.List.{starts_with}
 use Rattle.reading_shows.proofs.Steps.{any_in_range, none-more}
 use Rattle.reading_shows.proofs.choice.has_part.Goals as goal

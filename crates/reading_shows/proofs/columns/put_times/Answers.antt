@@ -1,4 +1,4 @@
-use Rattle.std.proofs.Common.{◌≡◌, ◌∙◌, ◌++◌, ap, sym, arith}
+use Rattle.std.proofs.Common.{◌∙◌, ◌++◌, ap, sym}
 use Rattle.reading_texts.proofs.Adding.{written-both}
 use Rattle.reading_shows.specs.Columns.{times}
 use Rattle.reading_shows.proofs.Steps.{times-more}

@@ -55,6 +55,9 @@ MERGED = {"boolean": 3, "custom": 4, "sparse": 5, "A": 3, "B": 3, "C": 3, "D": 3
 # `hist` so many bytes at most in all, but for the list of what it knows, which has 88 bytes for each.
 MOST_OF_HIST = 512
 KNOWN = (4 * 88, 8 * 88)
+# The histograms that are asked for first: boolean, custom, sparse and five more. Where one is asked for again, with the same spec, its
+# `hist` asks for nothing.
+FIRST_HISTS = 8
 
 
 def name_of(call):
@@ -88,6 +91,8 @@ def wrong_sizes(asked):
         came = sizes[name][:len(right)] if name == "merge" else sizes[name]
         if came != right:
             return f"{name} asks for {came} bytes, wanted {right}"
+    if len(of_hists) != FIRST_HISTS:
+        return f"{len(of_hists)} hists ask for memory, wanted {FIRST_HISTS}"
     if max(of_hists.values()) > MOST_OF_HIST:
         return f"a hist asks for {max(of_hists.values())} bytes, wanted {MOST_OF_HIST} at most"
     return None

@@ -13,6 +13,9 @@ fn room(heap: Global, size: usize) -> Result<Room, AllocError> {
     Ok(Block::reserve(&heap, size).ok_or(AllocError)?.into_room())
 }
 
+// What threads may share and move compiles here.
+fn crosses<T: Send + Sync>(_: &T) {}
+
 #[test]
 fn the_heap_gives_and_takes(rt: HostRuntime) -> Result<(), AllocError> {
     let heap = rt.alloc();
@@ -30,6 +33,8 @@ fn a_room_is_handed_out_once_and_comes_back(rt: HostRuntime) -> Result<(), Alloc
         return Err(AllocError);
     };
     let numbers = Vec::from_slice(&memory, &[1u64, 2, 3, 4, 5, 6, 7, 8])?;
+    crosses(&memory);
+    crosses(&lender);
     assert!(rt; lender.take_back().is_none());
     assert!(rt; Vec::from_slice(&memory, &[1u64]).is_err());
     assert_eq!(rt; numbers[7], 8);

@@ -4,7 +4,7 @@ use mir.Syntax.{Ty, ty_array, ty_int, w128}
 use base.Fml.{Fml, ftrue, fsep, fex, fwand}
 use prog.Memory.{size}
 use denote.RawPtr.{Ptr, room_for}
-use Rattle.libc.specs.Heap.{chunk}
+use Rattle.std_heap.specs.contracts.GlobalAllocator.TheImpl.{ghosts}
 
 -- a size that a block may have
 abbrev pub IsBlockSize : ℕ → Type 0
@@ -18,9 +18,13 @@ units_of n = ty_array (ty_int w128) (n / 16)
 abbrev pub bytes_at : Ptr → ℕ → Fml
 bytes_at p n = room_for (units_of n) p
 
+-- the right to free what the heap gave for a τ
+abbrev pub freeing : Ty → Ptr → Fml
+freeing = ghosts.dealloc_token (record { memory = record { seal = tt } })
+
 -- where the block at p is the heap's, the right to free it
 abbrev pub owed : Bool → ℕ → Ptr → Fml
-owed true n p = chunk (units_of n) p
+owed true n p = freeing (units_of n) p
 owed false n p = ftrue
 
 -- what a block of n bytes at p owns

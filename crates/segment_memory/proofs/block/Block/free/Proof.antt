@@ -28,12 +28,11 @@ use Rattle.core.proofs.alloc.Calls.{Goes-blank}
 use Rattle.core.proofs.alloc.Shapes.{after}
 use Rattle.core.proofs.atomic.Steps.{fm}
 use Rattle.std.proofs.raw_atomic.Walks.{proved_at, leaves}
-use Rattle.libc.specs.Heap.{chunk}
 use Rattle.std_heap.specs.contracts.GlobalAllocator.deallocate as callee
 use Rattle.std_heap.proofs.GlobalAllocator.deallocate.Met.{met as deallocates}
 use Rattle.linked_list_allocator.proofs.Walks.{slot_at, then_runs, out_of_block}
 use Rattle.linked_list_allocator.proofs.Values.{sized_val, sized_told}
-use Rattle.segment_memory.specs.Blocks.{units_of, bytes_at, owed}
+use Rattle.segment_memory.specs.Blocks.{freeing, units_of, bytes_at, owed}
 use Rattle.segment_memory.specs.contracts.block.Block.free.{ended, clauses}
 use Rattle.segment_memory.specs.contracts.block.Block.free.Key.{name as #self}
 use Rattle.segment_memory.proofs.block.Block.free.Statement.{statement}
@@ -66,7 +65,7 @@ free_spec 𝓤 𝓛 𝓜 𝓡 wired =
     qed 𝓛 ((raw (alive 𝓛 En₀.signature z.0.0 z.0.1) ⊛ ‵ (owns (types_at En₀.signature.params z.0.0) a vss)) ∷ raw (fact 𝓤 Asked) ∷ []) ∵
     move ! (1 ∷ []) $ heard ! Asked (λ asked. split ! $ move ! (1 ∷ []) $
     fsplit ! $ fsplit ! $ drop ! $ rewrite ! 0 (λ (h : Bool). ‵ (fsep (bytes_at x.ptr n) (owed h n x.ptr))) asked refl $
-    in_a_block ! x.ptr (λ p. fsep (room_for τ p) (chunk τ p)) (fst∗ 𝓤 (never 𝓤) (sem 𝓛 (chunk τ null_ptr))) (λ b o at.
+    in_a_block ! x.ptr (λ p. fsep (room_for τ p) (freeing τ p)) (fst∗ 𝓤 (never 𝓤) (sem 𝓛 (freeing τ null_ptr))) (λ b o at.
     move ! (1 ∷ []) $ fsplit ! $ fsplit ! $ keep ! (4 ∷ 1 ∷ 3 ∷ []) $
     let k = triple_of 𝓛 callee.signature (callee.spec 𝓛 𝓜.mem 𝓡.returns) in
     let y : k.Ghost = ((z.0.0, z.0.1, z.0.2, (r, (block_ptr b o, (n, (16, tt)))), (me ∷ [], (vptr b o ∷ [], (vint w64 n ∷ [], (vint w64 16 ∷ [], tt))))), τ) in

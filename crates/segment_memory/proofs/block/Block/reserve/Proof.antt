@@ -29,12 +29,11 @@ use Rattle.core.proofs.alloc.Shapes.{after, head, arm_body}
 use Rattle.core.proofs.atomic.Steps.{fm}
 use Rattle.core.proofs.option.Made.{Some-of, none_of}
 use Rattle.std.proofs.raw_atomic.Walks.{proved_at, leaves}
-use Rattle.libc.specs.Heap.{chunk}
 use Rattle.std_heap.specs.contracts.GlobalAllocator.allocate as callee
 use Rattle.std_heap.proofs.GlobalAllocator.allocate.Met.{met as allocates}
 use Rattle.linked_list_allocator.proofs.Walks.{slot_at, then_runs}
 use Rattle.linked_list_allocator.proofs.Values.{sized_val, sized_own, sized_made}
-use Rattle.segment_memory.specs.Blocks.{IsBlockSize, units_of}
+use Rattle.segment_memory.specs.Blocks.{freeing, IsBlockSize, units_of}
 use Rattle.segment_memory.proofs.Heap.{answered}
 use Rattle.segment_memory.specs.contracts.block.Block as block
 use Rattle.segment_memory.specs.contracts.block.Block.reserve.{ended, clauses}
@@ -73,7 +72,7 @@ reserve_spec 𝓤 𝓛 𝓜 𝓡 wired =
     move ! (2 ∷ []) $ feq_i ! (List Val) (me ∷ []) (me ∷ []) refl $ fjoin ! $ fjoin ! $ move ! (1 ∷ 0 ∷ []) $ join ! $
     use0 𝓛 (raw (fact 𝓤 Layout)) (fact_i 𝓤 Layout (emp 𝓤) (capped_is (n / 16 * 16) (omega arith) ∙ omega arith, refl)) $ move ! (1 ∷ 0 ∷ []) $ join ! $ use1 𝓛 (raw (k.pre y)) (id⊢ 𝓤 _) $
     calls_at ! (fm 𝓛 𝓜 𝓡) k (allocates 𝓤 𝓛 𝓜 𝓡 (compiled.calls-std_heap::GlobalAllocator::allocate 𝓡.env wired)) y (and_then ! (get ! refl) (and_then ! (get ! refl) (and_then ! (lit ! tt) (no_more !)))) (λ v.
-    use1 𝓛 (later (some (λ (x : Answer.Denot). (raw (alive 𝓛 En₀.signature z.0.0 z.0.1) ⊛ ‵ (Answer.own_val x (v ∷ []))) ⊛ some (λ (ls : Lasts callee.ended z.0.0 y.0.3). ‵ (lasts callee.ended z.0.0 y.0.3 ls) ⊛ ‵ (block_if_ok chunk τ x))))) (id⊢ 𝓤 (k.post y v)) $
+    use1 𝓛 (later (some (λ (x : Answer.Denot). (raw (alive 𝓛 En₀.signature z.0.0 z.0.1) ⊛ ‵ (Answer.own_val x (v ∷ []))) ⊛ some (λ (ls : Lasts callee.ended z.0.0 y.0.3). ‵ (lasts callee.ended z.0.0 y.0.3 ls) ⊛ ‵ (block_if_ok freeing τ x))))) (id⊢ 𝓤 (k.post y v)) $
     await ! tt $ pick ! (λ x. split ! $ move ! (1 ∷ []) $ pick ! (λ _. split ! $ drop ! $ move ! (1 ∷ []) $ split ! $ move ! (1 ∷ 2 ∷ []) $
     answered ! τ x v
     (λ b o e. lands_as ! (e) refl (tt, (record { fits = lit< tt }, (tt, tt))) $

@@ -3,7 +3,7 @@ use mir.Syntax.{Ty}
 use base.Shift.{Keyless}
 use denote.Param.Send.{Frees}
 use denote.RawPtr.{Ptr, block_ptr, null_ptr, room_for}
-use Rattle.libc.specs.Heap.{chunk-Keyless}
+use Rattle.std.proofs.Crossing as heap
 use Rattle.segment_memory.specs.Blocks.{owed, units_of}
 use Rattle.segment_memory.specs.contracts.memory.MemoryAllocator.TheImpl.{ghosts}
 
@@ -12,7 +12,7 @@ room τ (block_ptr b o) = tt
 room τ null_ptr = tt
 
 right : (heap : Bool) (n : ℕ) (p : Ptr) → Keyless (owed heap n p)
-right true n p = chunk-Keyless (units_of n) p
+right true n p = heap.frees.frees (record { memory = record { seal = tt } }) (units_of n) p
 right false n p = tt
 
 pub frees : Frees ghosts ghosts.dealloc_token

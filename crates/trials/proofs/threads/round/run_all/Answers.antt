@@ -1,7 +1,9 @@
-use Rattle.std.proofs.Common.{rules, ◌≡◌, ◌<◌, ℕ, length, slice_index_or, IfOk, All, ◌+◌, ◌-◌, ◌*◌, ◌≤◌, ◌/◌, ◌%◌, Bool, true, false, nat_eq, nat_lt, List, [], ◌∷◌, ◌++◌, slice_set, bit_and, bit_or, Fits, w8, w32, w64, Bor, MutBor}
-use Rattle.live_segment.specs.Holders.{IsMadeWith, RecordsInto, SharesSegment}
+use Rattle.std.proofs.Common.{rules, IfOk}
+use Rattle.live_segment.specs.Holders.{SharesSegment}
+use Rattle.trials.proofs.Jobs.{each_gives}
 use Rattle.trials.proofs.threads.round.run_all.Goals as goal
 
--- src/threads/round.rt:49:1
 pub returns-clause-each : goal.returns-clause-each
-returns-clause-each g c = ?
+returns-clause-each g c =
+  each_gives _ _ c.args.jobs.items (λ job done. IfOk done (λ done. SharesSegment job.recorder done.recorder)) c.map_vec.result c.map_vec.ensures.each
+    (λ job done call. search rules)

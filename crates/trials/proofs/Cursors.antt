@@ -20,4 +20,4 @@ pub first_cursor : (segment : Segment) (opener : Opener) (units : ℕ) (recorder
     → IsMadeWith segment opener → 0 < segment.setting.cursors
     → view_of_recorder recorder ≡ newcomer (offering (view_of_opener opener) units) → HasCursor recorder 0
 first_cursor segment opener units recorder made some is =
-  subst (λ (n : ℕ). 0 < n) (sym (ap (λ (a : Actor). a.segment.cursors) is ∙ made.of.cursors)) some
+    subst (λ (n : ℕ). 0 < n) (sym (ap (λ (a : Actor). a.segment.cursors) is ∙ made.of.cursors)) some

@@ -1,7 +1,8 @@
-"""`show`: known and forged images beside a plain renderer; names, parts of names, widths and signs."""
+"""`show`: known and forged images beside a plain renderer; names, parts of names, widths and signs; many sparse values."""
 
 import pathlib
 import random
+import struct
 import tempfile
 
 from parts import known
@@ -10,6 +11,8 @@ from support.program import EXAMPLE, Answer, answer, difference, fault
 
 PROGRAM = "persist_report"
 MOST_IMAGES = 1000
+MOST_SPARSE_IMAGES = 12
+SAMPLE_TAG = 3
 
 # The text of the example, by hand: of the three units two are in the bucket from 1 to below 2.
 EXAMPLE_TEXT = (
@@ -40,6 +43,19 @@ add,~s,-5,7
 delta,page.load
 add,page.load,20,2
 """
+# A sparse histogram with 23 values: 1 and 2 have two units, and those from 3 to 23 have three, so that 1, 2 and 23 are left out.
+MANY_SCRIPT = "segment,1024,64,7\nhist,many,sparse\n" + "".join(f"add,many,{value},{2 if value < 3 else 3}\n" for value in range(1, 24))
+# Its text, by hand.
+MANY_PERCENTS = [10.4, 14.9, 19.4, 23.9, 28.4, 32.8, 37.3, 41.8, 46.3, 50.7, 55.2, 59.7, 64.2, 68.7, 73.1, 77.6, 82.1, 86.6, 91.0, 95.5]
+MANY_TEXT = (
+    "many\n"
+    "  sparse, units 67, sum 825, mean 12.3\n"
+    "  50%: 12, 90%: 21, 99%: 23\n"
+    "  not yet taken by deltas: units 67, sum 825\n"
+    + "".join(f"{value:>24} {'#' * 20}          3    4.5%{percent:>7}%\n" for value, percent in enumerate(MANY_PERCENTS, 3))
+    + "  The values that are left out number 3, and have 7 units together.\n"
+    "\n"
+).encode()
 CHOICES = [
     (["page.load"], {"names": ["page.load"]}),
     (["~s", "page.load", "no.such.name"], {"names": ["page.load", "~s"]}),
@@ -51,8 +67,9 @@ CHOICES = [
     (["--width", "20"], {"width": 20}),
     (["--width=200", "--ascii"], {"width": 200, "is_ascii": True}),
     (["--ascii", "page.size"], {"names": ["page.size"], "is_ascii": True}),
+    (["--all"], {"shows_all": True}),
 ]
-USAGES = [["--width", "19"], ["--width", "201"], ["--width", "x"], ["--match", "a", "A"], ["--no-such-option"]]
+USAGES = [["--width", "19"], ["--width", "201"], ["--width", "x"], ["--match", "a", "A"], ["--all=x"], ["--no-such-option"]]
 
 
 def beside(program, data, words=(), **options):
@@ -79,6 +96,36 @@ def worked(program, folder):
     yield "--help", None if came.status == 0 and b"Example:\n  persist_report show" in came.output else f"came {came}"
 
 
+def many_values(program, folder, chance):
+    """The bytes of an image with a sparse histogram of up to 60 values, of which many have as many units, and some have none."""
+    values = chance.sample(range(-99, 100), chance.randint(15, 60))
+    adds = "".join(f"add,many,{value},{chance.choice([1, 2, 2, 3, 70_000])}\n" for value in values)
+    script, image = folder / "script", folder / "image"
+    script.write_text(f"segment,1024,64,7\nhist,many,sparse\n{adds}")
+    answer(program, ["run", script, image])
+    data = image.read_bytes()
+    words = list(struct.unpack(f"<{len(data) // 8}Q", data))
+    for at in range(len(words) - 7):
+        if words[at + 1 : at + 3] == [forge.BLOCK_COOKIE, SAMPLE_TAG] and chance.random() < 0.2:
+            words[at + 6 : at + 8] = [0, 0]
+    return struct.pack(f"<{len(words)}Q", *words)
+
+
+def sparse(program, folder, options):
+    """The worked example of many values, and others with more and with fewer than have lines; each also with all values."""
+    script, image = folder / "script", folder / "image"
+    script.write_text(MANY_SCRIPT)
+    ran = answer(program, ["run", script, image])
+    yield "many values, run", None if ran.status == 0 else f"came {ran}"
+    data = image.read_bytes()
+    yield "many values", difference(Answer(MANY_TEXT), answer(program, ["show", image, "--ascii", "--width", "20"]))
+    yield "many values, all", beside(program, data, ["--all"], shows_all=True)
+    for number in range(min(options.images, MOST_SPARSE_IMAGES)):
+        data = many_values(program, folder, random.Random(f"{options.seed} sparse {number}"))
+        for words, settings in [([], {}), (["--all"], {"shows_all": True})]:
+            yield f"sparse image {number} of seed {options.seed}, {words}", beside(program, data, words, **settings)
+
+
 def faults(program):
     """The faults of `report`, of this command."""
     yield "a missing file", difference(fault("Read", 4), answer(program, ["show", "missing.img"]))
@@ -92,6 +139,7 @@ def cases(program, options):
     """Worked examples; the known images; and forged ones, a thousand at most, each drawn in one way or the other."""
     with tempfile.TemporaryDirectory() as folder:
         yield from worked(program, pathlib.Path(folder))
+        yield from sparse(program, pathlib.Path(folder), options)
     yield from faults(program)
     for image in sorted(known.FOLDER.glob("*.img")):
         yield image.name, beside(program, image.read_bytes())

@@ -7,6 +7,7 @@ import math
 from support import plain_reader
 
 WIDTH = 72
+MOST_VALUES = 20
 
 
 def tenths(value):
@@ -48,10 +49,19 @@ def quantile_of(rows, total, hundredths, is_sparse):
     return "none"
 
 
-def rows_text(rows, total, is_sparse, width, is_ascii):
+def left_out_of(rows, is_sparse, shows_all):
+    """The values of a sparse histogram that have no line: those behind the 20 with the most units, the lower first among equals."""
+    if shows_all or not is_sparse:
+        return set()
+    return {low for low, _, _ in sorted(rows, key=lambda row: (-row[2], row[0]))[MOST_VALUES:]}
+
+
+def rows_text(rows, left_out, total, is_sparse, width, is_ascii):
     most, up_to, was_empty = max((units for _, _, units in rows), default=0), 0, False
     for low, high, units in rows:
         up_to += units
+        if low in left_out:
+            continue
         if units == 0:
             if not was_empty:
                 yield "...".rjust(24)
@@ -62,7 +72,7 @@ def rows_text(rows, total, is_sparse, width, is_ascii):
         was_empty = units == 0
 
 
-def histogram_text(name, histogram, width, is_ascii):
+def histogram_text(name, histogram, width, is_ascii, shows_all):
     kind = plain_reader.KINDS[histogram["kind"]]
     rows = [(low, *histogram["buckets"][low]) for low in sorted(histogram["buckets"])]
     total = sum(units for _, _, units in rows)
@@ -73,17 +83,21 @@ def histogram_text(name, histogram, width, is_ascii):
     yield f"  {kind}, units {total}, sum {histogram['sum']}, mean {mean_of(histogram['sum'], total)}"
     yield "  " + ", ".join(ends)
     yield f"  not yet taken by deltas: units {left}, sum {histogram['sum'] - histogram['sum mark']}"
-    yield from rows_text(rows, total, is_sparse, width, is_ascii)
+    left_out = left_out_of(rows, is_sparse, shows_all)
+    yield from rows_text(rows, left_out, total, is_sparse, width, is_ascii)
+    if left_out:
+        together = sum(units for low, _, units in rows if low in left_out)
+        yield f"  The values that are left out number {len(left_out)}, and have {together} units together."
     yield ""
 
 
-def text_of(data, names=(), part=None, width=WIDTH, is_ascii=False):
+def text_of(data, names=(), part=None, width=WIDTH, is_ascii=False, shows_all=False):
     """The whole text; raises the image's fault."""
     by_name, bad_records, stopped, flags = plain_reader.reading_of(data, collections.Counter())
     lines = []
     shown = [name for name in sorted(by_name) if (not names or name.decode() in names) and (part is None or part in name.decode())]
     for name in shown:
-        lines += histogram_text(name.decode(), by_name[name], width, is_ascii)
+        lines += histogram_text(name.decode(), by_name[name], width, is_ascii, shows_all)
     if not shown:
         lines.append("No histogram is shown.")
     if flags & 1:

@@ -108,7 +108,7 @@ fn export_command<'a>(alloc: Global) -> Result<Command<'a>, AllocError> {
         .arg(explain_flag(alloc))
 }
 
-// How bars are drawn.
+// How histograms are drawn.
 fn style_options<'a>(alloc: Global, command: Command<'a>) -> Result<Command<'a>, AllocError> {
     let width = Arg::new(alloc, "width")
         .long("width")
@@ -120,7 +120,11 @@ fn style_options<'a>(alloc: Global, command: Command<'a>) -> Result<Command<'a>,
         .long("ascii")
         .action(ArgAction::SetTrue)
         .help("Draws bars with #, and not with blocks");
-    command.arg(width)?.arg(ascii)
+    let all = Arg::new(alloc, "all")
+        .long("all")
+        .action(ArgAction::SetTrue)
+        .help("Shows all values of a sparse histogram, and not only the 20 with the most units");
+    command.arg(width)?.arg(ascii)?.arg(all)
 }
 
 fn show_command<'a>(alloc: Global) -> Result<Command<'a>, AllocError> {
@@ -316,6 +320,7 @@ fn show_request<'a>(
         style: Style {
             width,
             is_ascii: show.get_flag("ascii"),
+            shows_all: show.get_flag("all"),
         },
         explains: show.get_flag("explain"),
     }))

@@ -5,5 +5,6 @@ pub mod Columns
 pub mod Shares
 pub mod Bars
 pub mod Choice
+pub mod Most
 pub mod Showing
 pub mod Writing

@@ -15,6 +15,7 @@ use Rattle.reading_shows.specs.declared.style.Style.{Style}
 use Rattle.reading_shows.specs.declared.style.Frame.{Frame}
 use Rattle.reading_shows.specs.declared.choice.Choice.{Choice}
 use Rattle.reading_shows.specs.Choice.{is_chosen}
+use Rattle.reading_shows.specs.Most.{shown_rows, left_out_rows}
 use Rattle.reading_shows.specs.Columns.{at_right}
 use Rattle.reading_shows.specs.Shares.{mean, percent}
 use Rattle.reading_shows.specs.Bars.{bar}
@@ -96,9 +97,17 @@ line_at frame rows i =
     if units_at rows i == 0 then (if begins_run rows i then at_right 24 (codes "...") ++ codes "\n" else [])
     else unit_line frame (get_or rows i (record { low = pos 0; high = pos 0; units = 0; up_to = 0 }))
 
--- the lines of all rows
+-- the lines of rows
 abbrev pub row_lines : Frame → List HistRow → List ℕ
 row_lines frame rows = flat_map (line_at frame rows) (range_with_len 0 (length rows))
+
+-- the line of the rows that are left out: how many they are, and their units together
+abbrev pub left_out_line : List HistRow → List ℕ
+left_out_line rows =
+    if length rows == 0 then []
+    else joined (
+    codes "  The values that are left out number " ∷ decimal (length rows) ∷ codes ", and have "
+    ∷ decimal (sum_by (λ row. row.units) rows) ∷ codes " units together.\n" ∷ [])
 
 -- what the lines of a histogram have in common
 abbrev pub frame_of : Style → Histogram → Frame
@@ -109,13 +118,18 @@ frame_of style hist = record {
   most = most_of (rows_of hist);
 }
 
+-- whether all rows of a histogram may have lines: those of a sparse one only where the style says so
+abbrev pub shows_all_of : Style → Histogram → Bool
+shows_all_of style hist = style.shows_all || not (is_sparse hist.spec)
+
 -- a histogram
 abbrev pub histogram_text : Style → Histogram → List ℕ
 histogram_text style hist =
     name_lines hist
     ++ quantile_line (is_sparse hist.spec) (units_of hist) (rows_of hist)
     ++ left_line hist
-    ++ row_lines (frame_of style hist) (rows_of hist)
+    ++ row_lines (frame_of style hist) (shown_rows (shows_all_of style hist) (rows_of hist))
+    ++ left_out_line (left_out_rows (shows_all_of style hist) (rows_of hist))
     ++ codes "\n"
 
 -- ---- the end

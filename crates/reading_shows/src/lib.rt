@@ -11,6 +11,7 @@ mod columns;
 mod ending;
 mod heading;
 mod lines;
+mod most;
 mod shares;
 mod showing;
 mod style;

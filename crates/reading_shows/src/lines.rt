@@ -1,7 +1,7 @@
 //! The lines of the rows of a histogram.
 
-ghost use Rattle.std.specs.Prelude.{◌≡◌, ◌<◌, ◌++◌, length, OnOk};
-ghost use Rattle.reading_shows.specs.Showing.{most_of, begins_run as begins_run_of, unit_line, line_at, row_lines};
+ghost use Rattle.std.specs.Prelude.{◌≡◌, ◌<◌, ◌^◌, ◌++◌, length, sum_by, OnOk};
+ghost use Rattle.reading_shows.specs.Showing.{most_of, begins_run as begins_run_of, unit_line, line_at, row_lines, left_out_line};
 
 use crate::bars::bar;
 use crate::columns::{at_right, put_parts};
@@ -83,7 +83,7 @@ fn put_row(
     Ok(())
 }
 
-// Puts the lines of all rows.
+// Puts the lines of rows.
 pub(crate) fn put_rows(
     alloc: Global,
     text: &mut Vec<u8>,
@@ -96,4 +96,38 @@ pub(crate) fn put_rows(
         put_row(alloc, text, frame, rows, i)?;
     }
     Ok(())
+}
+
+// The units of rows together.
+fn units_together(rows: &[HistRow]) -> u64
+    requires { sum_by (λ row. row.units) rows.now < 2 ^ 64 }
+    ensures { result ≡ sum_by (λ row. row.units) rows.now }
+{
+    rows.iter().map(|row| row.units).sum()
+}
+
+// Puts the line of the rows that are left out.
+pub(crate) fn put_left_out(
+    alloc: Global,
+    text: &mut Vec<u8>,
+    rows: &[HistRow],
+) -> Result<(), AllocError>
+    requires { sum_by (λ row. row.units) rows.now < 2 ^ 64 }
+    ensures { OnOk result (text.new.items ≡ text.old.items ++ left_out_line rows.now) }
+{
+    if rows.is_empty() {
+        return Ok(());
+    }
+    let count = rows.len().to_string(alloc)?;
+    let units = units_together(rows).to_string(alloc)?;
+    put_parts(
+        text,
+        &[
+            b"  The values that are left out number ",
+            count.as_bytes(),
+            b", and have ",
+            units.as_bytes(),
+            b" units together.\n",
+        ],
+    )
 }

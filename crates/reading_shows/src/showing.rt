@@ -4,17 +4,25 @@ ghost use Rattle.std.specs.Prelude.{◌≡◌, ◌++◌, All, IfOk, OnOk, map};
 ghost use Rattle.std.specs.List.{flat_map};
 ghost use Rattle.image_reader.specs.Views.{histogram_view, reading_view};
 ghost use Rattle.image_reader.specs.Readable.{IsReadable};
-ghost use Rattle.reading_shows.specs.Showing.{histogram_text, none_sentence, IsShowOf};
+ghost use Rattle.reading_shows.specs.Showing.{shows_all_of, histogram_text, none_sentence, IsShowOf};
 
 use crate::choice::{Choice, chosen};
 use crate::ending::{put_all_bad, put_flag, put_stopped};
 use crate::heading::{put_left, put_name, put_quantiles};
-use crate::lines::{most, put_rows};
+use crate::lines::{most, put_left_out, put_rows};
+use crate::most::pick;
 use crate::style::{Frame, Style};
 use crate::words::is_sparse;
 use image_reader::{HistReading, Reading};
 use reading_texts::{rows_of, units};
 use std::alloc::{AllocError, Global};
+
+// Whether all rows of a histogram may have lines.
+fn shows_all(style: Style, hist: &HistReading) -> bool
+    ensures { result ≡ shows_all_of style (histogram_view hist.now) }
+{
+    style.shows_all || !is_sparse(&hist.spec)
+}
 
 // Puts the text of a histogram.
 fn put_histogram(
@@ -37,7 +45,9 @@ fn put_histogram(
     put_name(alloc, text, hist)?;
     put_quantiles(alloc, text, frame.is_sparse, frame.total, rows)?;
     put_left(alloc, text, hist)?;
-    put_rows(alloc, text, frame, rows)?;
+    let picked = pick(alloc, shows_all(style, hist), rows)?;
+    put_rows(alloc, text, frame, picked.shown.as_slice())?;
+    put_left_out(alloc, text, picked.left_out.as_slice())?;
     text.extend_from_slice(b"\n")?;
     Ok(())
 }
@@ -69,7 +79,8 @@ fn put_none(text: &mut Vec<u8>, hists: &[&HistReading]) -> Result<(), AllocError
 }
 
 /// The text of a reading for people: of each chosen histogram, by name, its numbers, its quantiles and a bar for each bucket
-/// that has units; then the flags that are set and the bad records. It fails for want of memory alone.
+/// that has units, or for each of the 20 values of a sparse one with the most units, unless the style shows all; then the flags
+/// that are set and the bad records. It fails for want of memory alone.
 pub fn show_text(
     alloc: Global,
     reading: &Reading,

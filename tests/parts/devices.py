@@ -43,6 +43,7 @@ Usage: persist_report <COMMAND>
 Commands:
   report   Writes the histograms of an image to standard output
   export   Writes the histograms of an image in the Prometheus text format to standard output
+  show     Writes the histograms of an image for people: numbers, quantiles and bars
   run      Records what a script says: writes the image to OUT and its report to standard output
   resume   Goes on with an image and records what a script says: writes the new image to OUT and its report to standard output
   merge    Merges two images into a new one, which has what no delta took of either
@@ -84,6 +85,25 @@ Options:
 
 Example:
   persist_report export examples/three_samples.img
+"""
+SHOW_HELP = b"""\
+Writes the histograms of an image for people: numbers, quantiles and bars
+
+Usage: persist_report show [OPTIONS] [FILE] [NAME]...
+
+Arguments:
+  [FILE]     The image of a segment; standard input where it is left out or -
+  [NAME]...  The names of the histograms that are shown; all where none is given
+
+Options:
+      --match <PART>   Shows the histograms whose name has this part
+      --width <CELLS>  How many cells the longest bar has: 20 to 200 [default: 72]
+      --ascii          Draws bars with #, and not with blocks
+      --explain        Tells more of a fault, as on a terminal: its file, line and reason
+  -h, --help           Print help
+
+Example:
+  persist_report show examples/three_samples.img A --width 40
 """
 RUN_HELP = b"""\
 Records what a script says: writes the image to OUT and its report to standard output
@@ -530,7 +550,7 @@ def wrong_short_out(program, words, most, stood, wanted, left):
 def words(program):
     """Help, the version, and command lines that ask for nothing that the program does."""
     shown = {("--version",): b"persist_report 0.1.0\n", ("--help",): HELP, ("help",): HELP, ("report", "--help"): REPORT_HELP}
-    shown |= {("export", "--help"): EXPORT_HELP}
+    shown |= {("export", "--help"): EXPORT_HELP, ("show", "--help"): SHOW_HELP, ("help", "show"): SHOW_HELP}
     shown |= {("extract", "--help"): EXTRACT_HELP}
     shown |= {("run", "--help"): RUN_HELP, ("merge", "--help"): MERGE_HELP, ("help", "merge"): MERGE_HELP}
     shown |= {("resume", "--help"): RESUME_HELP, ("help", "resume"): RESUME_HELP}

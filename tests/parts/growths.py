@@ -52,9 +52,15 @@ ASKED = {
 # `merge` for all histograms 88 bytes each, then for each of them twice its name and 8 bytes for each of its keys, and then again for all
 # 32 bytes each, before the `hist` of each.
 MERGED = {"boolean": 3, "custom": 4, "sparse": 5, "A": 3, "B": 3, "C": 3, "D": 3, "a_name_that_is_longer": 3}
-# `hist` so many bytes at most in all, but for the list of what it knows, which has 88 bytes for each.
+# `hist` so many bytes at most in all, but for the list of what it knows, which has 88 bytes for each, and for its indexes: the one of
+# what it knows, and the one of names on the list. Both grow once, and ask for this.
 MOST_OF_HIST = 512
 KNOWN = (4 * 88, 8 * 88)
+INDEX = [256, 72, 72, 72]
+INDEXES = 2
+# The histograms that are asked for first: boolean, custom, sparse and five more. Where one is asked for again, with the same spec, its
+# `hist` asks for nothing.
+FIRST_HISTS = 8
 
 
 def name_of(call):
@@ -77,19 +83,25 @@ def wrong_list(asked, lines):
 def wrong_sizes(asked):
     """What is wrong with what calls ask for, or None."""
     sizes = collections.defaultdict(list)
-    of_hists = collections.Counter()
+    hists = collections.defaultdict(list)
     for one in asked:
         sizes[name_of(one.call)].append(one.size)
         if one.call == "hist" and one.size not in KNOWN:
-            of_hists[one.place] += one.size
+            hists[one.place].append(one.size)
     of_merge = [88 * len(MERGED), *(size for name, keys in MERGED.items() for size in (len(name), len(name), 8 * keys)), 32 * len(MERGED)]
     wanted = {**ASKED, "merge": of_merge}
     for name, right in wanted.items():
         came = sizes[name][:len(right)] if name == "merge" else sizes[name]
         if came != right:
             return f"{name} asks for {came} bytes, wanted {right}"
-    if max(of_hists.values()) > MOST_OF_HIST:
-        return f"a hist asks for {max(of_hists.values())} bytes, wanted {MOST_OF_HIST} at most"
+    if len(hists) != FIRST_HISTS:
+        return f"{len(hists)} hists ask for memory, wanted {FIRST_HISTS}"
+    growing = [place for place, asked_for in hists.items() if asked_for[-len(INDEX):] == INDEX]
+    if len(growing) != INDEXES:
+        return f"an index grows in {len(growing)} hists, wanted {INDEXES}"
+    most = max(sum(asked_for) - (sum(INDEX) if place in growing else 0) for place, asked_for in hists.items())
+    if most > MOST_OF_HIST:
+        return f"a hist asks for {most} bytes, wanted {MOST_OF_HIST} at most"
     return None
 
 

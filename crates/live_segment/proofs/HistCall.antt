@@ -10,5 +10,6 @@ pub mod KnownNames
 pub mod NamesHeld
 pub mod Naming
 pub mod OwnNames
+pub mod SameLawful
 pub mod Searching
 pub mod Settled

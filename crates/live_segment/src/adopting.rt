@@ -10,6 +10,7 @@ use crate::segment::Segment;
 use image_adoption::{AdoptFault, Adoptable, check};
 use segment_image::layout::QUEUE;
 use segment_image::{SegmentHead, header};
+use segment_memory::Memory;
 use std::alloc::{AllocError, Global};
 
 // The words of its table.
@@ -59,12 +60,24 @@ impl Segment {
     ) -> Result<(Segment, Opener), AdoptFault>
         ensures answer { MatchResult result (λ made. IsAdopted words.now cursors made.0 made.1) (λ fault. IsFaultOf words.now cursors fault) }
     {
+        Segment::adopt_in(alloc, Memory::of_heap(alloc), words, cursors)
+    }
+
+    /// The same, and its words lie in this memory, as those of [`Segment::create_in`] do. The image is not in it.
+    pub fn adopt_in(
+        alloc: Global,
+        memory: Memory,
+        words: &[u64],
+        cursors: usize,
+    ) -> Result<(Segment, Opener), AdoptFault>
+        ensures answer { MatchResult result (λ made. IsAdopted words.now cursors made.0 made.1) (λ fault. IsFaultOf words.now cursors fault) }
+    {
         let Adoptable {
             references,
             used,
             ..
         } = check(alloc, words, cursors)?;
-        let made = Segment::adopted(alloc, words, references, used, cursors)?;
+        let made = Segment::adopted(alloc, memory, words, references, used, cursors)?;
         Ok(made)
     }
 
@@ -72,6 +85,7 @@ impl Segment {
     // has used.
     fn adopted(
         alloc: Global,
+        memory: Memory,
         words: &[u64],
         references: Vec<u64>,
         used: u64,
@@ -93,6 +107,6 @@ impl Segment {
             words,
             references,
         };
-        Segment::open(alloc, opening, u32::MAX - used as u32)
+        Segment::open(alloc, memory, opening, u32::MAX - used as u32)
     }
 }

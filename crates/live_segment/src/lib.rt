@@ -50,3 +50,4 @@ pub use segment::Segment;
 pub use segment_calls::{BatchRefusal, Delta, Refusal, Snapshot};
 pub use segment_image::Image;
 pub use segment_image::layout::{VERSION_FROZEN, VERSION_MOVING};
+pub use segment_memory::{Lender, Memory, Room};

@@ -20,7 +20,8 @@ use crate::naming::KnownNames;
 use crate::records::WalkPlace;
 use crate::rule::Pass;
 use crate::segment::Segment;
-use bucket_ranges::{Ranges, Spec};
+use bucket_ranges::limits::MAX_CUSTOM_VALUES;
+use bucket_ranges::{Ranges, Spec, SpecFault};
 use segment_calls::{Asked, BatchRefusal, Delta, Refusal, Snapshot};
 use segment_image::layout::{BLOCK_LEAST, HEADER_WORDS};
 use std::alloc::{AllocError, Global};
@@ -87,6 +88,22 @@ pub struct Recorder<'a> {
     ghost come: { HasCome segment.now.setting.shape.size seat.me.0.seen.chain fresh } by { Prim.hlevel props },
     ghost named: { HasNames known.items names } by { Prim.hlevel props },
     ghost indexed: { IsIndexed segment.now.setting.shape.size seat.me.0.seen index } by { Prim.hlevel props },
+}
+
+ghost use Rattle.std.specs.Prelude.{true, false, Some, None};
+ghost use Rattle.bucket_ranges.specs.Spec.{spec_fault, SameSpec};
+ghost use Rattle.bucket_ranges.specs.declared.spec.Spec.{Spec as SomeSpec};
+ghost use Rattle.bucket_ranges.specs.declared.spec.SpecFault.TheVariants.{TooMany};
+
+// Whether a spec, which is the same as a lawful one, has a fault: it may have too many values, of which some repeat.
+fn has_too_many_values(spec: &Spec) -> bool
+    ensures fault { result ≡ true → spec_fault spec.now ≡ Some TooMany }
+    ensures lawful { result ≡ false → (other : SomeSpec) → spec_fault other ≡ None → SameSpec other spec.now → spec_fault spec.now ≡ None }
+{
+    match spec {
+        Spec::Custom(values) => values.as_slice().len() > MAX_CUSTOM_VALUES,
+        _ => false,
+    }
 }
 
 impl<'a> Recorder<'a> {
@@ -171,35 +188,48 @@ impl<'a> Recorder<'a> {
         self.names.find(known, name)
     }
 
+    // What a `hist` of a name that it knows is answered, by the histogram at a place. It takes memory only where the spec is
+    // another: then name and spec are looked at whole, since `BadSpec` and `TooLarge` come first.
+    fn known_at(&self, index: usize, name: &[u8], spec: &Spec) -> Result<Hist, Refusal>
+        requires { IsKnownAt self.now.known.items name.now index }
+        ensures named { IfOk result (IsNamed name.now spec.now self.now) }
+        ensures answer { MatchResult result (λ histogram. IsAnsweredWith name.now spec.now histogram (view_of_recorder self.now) (view_of_recorder self.now)) (λ why. IsRefusedWith name.now spec.now why (view_of_recorder self.now) (view_of_recorder self.now)) }
+    {
+        if !self.known[index].spec.is_same(spec) {
+            Asked::of(self.alloc, self.segment.setting.shape, name, spec)?;
+            return Err(Refusal::OtherSpec);
+        }
+        if has_too_many_values(spec) {
+            return Err(Refusal::BadSpec(SpecFault::TooMany));
+        }
+        Ok(Hist { index })
+    }
+
     /// The histogram of a name: that of the first record of the name on the list, which is made where there is none. One of a
-    /// name that it knows needs no event, and is the same each time.
+    /// name that it knows needs no event, and is the same each time. Where it has the same spec, it takes no memory.
     ///
     /// `BadName`, then `BadSpec`, then `TooLarge` where its record or its counts do not fit in a page, and `NoMemory` where there
-    /// is none, before anything has happened, also where it knows the name. Then `OtherSpec` where the histogram of the name has
-    /// another spec, and a record that was made for this one stays on the list unused; or `Corrupt` or `Full` where the list has
-    /// no record of the name and no block could be claimed for one. After a refusal it knows the same histograms as before. On
-    /// `Ok` it has not set the full flag.
+    /// is none, before anything has happened, also where it knows the name with another spec. Then `OtherSpec` where the
+    /// histogram of the name has another spec, and a record that was made for this one stays on the list unused; or `Corrupt` or
+    /// `Full` where the list has no record of the name and no block could be claimed for one. After a refusal it knows the same
+    /// histograms as before. On `Ok` it has not set the full flag.
     ///
     /// On `Ok` and on `OtherSpec` it has claimed no block, or the one of the record that it made, and it made one only behind all records
     /// of the list, of which none has the name.
     ///
-    /// It asks for memory for the name, the values of a custom spec, the boundaries of the buckets and the words of a record, and where
-    /// the list of the histograms that it knows is full, for one twice as long. It also lets its indexes of names grow: where there is no
-    /// memory for that, later calls walk and search further.
+    /// In all other cases it asks for memory for the name, the values of a custom spec, the boundaries of the buckets and the words of a
+    /// record, and where the list of the histograms that it knows is full, for one twice as long. It also lets its indexes of names
+    /// grow: where there is no memory for that, later calls walk and search further.
     pub fn hist(&mut self, name: &[u8], spec: &Spec) -> Result<Hist, Refusal>
         ensures same { KnowsOn self.old self.new }
         ensures named { IfOk result (IsNamed name.now spec.now self.new) }
         ensures answer { MatchResult result (λ histogram. IsAnsweredWith name.now spec.now histogram (view_of_recorder self.old) (view_of_recorder self.new)) (λ why. IsRefusedWith name.now spec.now why (view_of_recorder self.old) (view_of_recorder self.new)) }
         ensures claims { MatchResult result (λ _. NamesAtMostOne name.now spec.now (record_words name.now spec.now) (view_of_recorder self.old) (view_of_recorder self.new)) (λ why. why ≡ OtherSpec → NamesAtMostOne name.now spec.now (record_words name.now spec.now) (view_of_recorder self.old) (view_of_recorder self.new)) }
     {
-        let asked = Asked::of(self.alloc, self.segment.setting.shape, name, spec)?;
         if let Some(index) = self.index_of(name) {
-            return if self.known[index].spec.is_same(spec) {
-                Ok(Hist { index })
-            } else {
-                Err(Refusal::OtherSpec)
-            };
+            return self.known_at(index, name, spec);
         }
+        let asked = Asked::of(self.alloc, self.segment.setting.shape, name, spec)?;
         self.known.reserve(1)?;
         let known = self.segment.ask(&mut self.seat, &mut self.index, asked)?;
         let index = self.known.len();

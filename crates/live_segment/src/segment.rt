@@ -17,13 +17,14 @@ use segment_image::layout::{
 };
 use segment_image::{Image, Shape};
 use segment_machine::Actor;
+use segment_memory::Memory;
 use std::alloc::{AllocError, Global};
 
 /// A segment whose words threads share. Word 0 of its table never changes, and the segment's words and those of the
 /// shared cursors stand behind it.
 #[derive(Drop)]
 pub struct Segment {
-    pub(crate) table: Table<Announcement, Actor, Opening, SegmentRule, Global>,
+    pub(crate) table: Table<Announcement, Actor, Opening, SegmentRule, Memory>,
     pub(crate) setting: Setting,
     // Where the words go when it is closed.
     image: Vec<u64>,
@@ -100,6 +101,32 @@ impl Segment {
     ) -> Result<(Segment, Opener), OpenFault>
         ensures { MatchOption (first_fault (open_checks size page cursors version)) (MatchResult result (λ made. IsNew (record { shape = record { size = size; page = page }; version = version; id = id; cursors = cursors; full = false }) made.0 made.1) (λ fault. fault ≡ OpenFault.NoMemory)) (λ fault. result ≡ Err fault) }
     {
+        Segment::create_in(
+            alloc,
+            Memory::of_heap(alloc),
+            size,
+            page,
+            id,
+            cursors,
+            version,
+        )
+    }
+
+    /// The same, and its words lie in this memory, behind one more: in a room that is lent they begin at its byte 8, and it has to have
+    /// 8 bytes for each word and each cursor, and 8 more. `NoMemory` also where it has fewer.
+    ///
+    /// When the segment is closed or dropped, the room is with its [`Lender`](crate::Lender) again.
+    pub fn create_in(
+        alloc: Global,
+        memory: Memory,
+        size: u64,
+        page: u64,
+        id: u64,
+        cursors: usize,
+        version: u64,
+    ) -> Result<(Segment, Opener), OpenFault>
+        ensures { MatchOption (first_fault (open_checks size page cursors version)) (MatchResult result (λ made. IsNew (record { shape = record { size = size; page = page }; version = version; id = id; cursors = cursors; full = false }) made.0 made.1) (λ fault. fault ≡ OpenFault.NoMemory)) (λ fault. result ≡ Err fault) }
+    {
         let Ok(shape) = Shape::of(size, page) else {
             return Err(OpenFault::BadShape);
         };
@@ -116,11 +143,11 @@ impl Segment {
             cursors,
             full: false,
         };
-        Segment::new(alloc, setting).map_err(|_| OpenFault::NoMemory)
+        Segment::new(alloc, memory, setting).map_err(|_| OpenFault::NoMemory)
     }
 
     // The segment that is made so.
-    fn new(alloc: Global, setting: Setting) -> Result<(Segment, Opener), AllocError>
+    fn new(alloc: Global, memory: Memory, setting: Setting) -> Result<(Segment, Opener), AllocError>
         requires shaped { IsShape setting.shape }
         requires few { setting.cursors ≤ 8 }
         requires versioned { (setting.version ≡ 1) ⊎ (setting.version ≡ 2) }
@@ -134,12 +161,13 @@ impl Segment {
             words,
             references,
         };
-        Segment::open(alloc, opening, u32::MAX)
+        Segment::open(alloc, memory, opening, u32::MAX)
     }
 
     // The segment that is opened so, a new one or an image's, and its opener, which has these units.
     pub(crate) fn open(
         alloc: Global,
+        memory: Memory,
         opening: Opening,
         units: u32,
     ) -> Result<(Segment, Opener), AllocError>
@@ -147,7 +175,7 @@ impl Segment {
         requires units { units ≡ (opener_for opening).units.share }
         ensures { IfOk result (λ made. IsOpened opening.setting (opener_for opening) made.0 made.1) }
     {
-        let (table, seat) = Table::of_words(alloc, opening.words.as_slice(), &opening)?;
+        let (table, seat) = Table::of_words(memory, opening.words.as_slice(), &opening)?;
         let segment = Segment {
             table,
             setting: opening.setting,

@@ -4,17 +4,20 @@ ghost use Rattle.std.specs.Prelude.{◌≡◌, false};
 ghost use Rattle.segment_image.specs.Watched.{has_failed};
 
 use persist_report_core::{CliFault, export, report};
+use reading_shows::{Choice, Style, show};
 use segment_image::Watched;
 use std::alloc::Global;
 use std::io::{Read, Write};
 
 /// What is written of the reading of an image.
-#[derive(Clone, Copy, Debug, PartialEq, Eq)]
+#[derive(Clone, Copy, Debug)]
 pub enum Form<'a> {
     /// Its report, as CSV.
     Report,
     /// Its metrics, the names of which begin so.
     Export { prefix: &'a str },
+    /// The chosen histograms as a text for people, drawn so.
+    Show { style: Style, choice: Choice<'a> },
 }
 
 /// Writes it, of the image that the reader has left.
@@ -30,5 +33,6 @@ pub fn write_form<R: Read, W: Write>(
     match form {
         Form::Report => report(alloc, reader, writer),
         Form::Export { prefix } => export(alloc, reader, writer, prefix.as_bytes()),
+        Form::Show { style, choice } => show(alloc, reader, writer, style, choice),
     }
 }

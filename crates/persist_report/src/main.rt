@@ -1,4 +1,4 @@
-//! The program `persist_report`: writes the histograms of an image as a report or as metrics, runs scripts, in new segments and on in
+//! The program `persist_report`: writes the histograms of an image as a report, as metrics or for people, runs scripts, in new segments and on in
 //! those of images, merges images, and explains faults.
 #![tactic(auto)]
 

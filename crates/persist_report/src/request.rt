@@ -7,11 +7,12 @@ use crate::nth::Nth;
 use crate::workers::Workers;
 use clap::error::ErrorKind;
 use clap::{Arg, ArgAction, ArgMatches, Command, Error, value_parser};
+use reading_shows::Style;
 use std::alloc::{AllocError, Global};
 use std::convert::AsStr;
 
 /// What the program is asked to do.
-#[derive(Clone, Copy, Debug, PartialEq, Eq)]
+#[derive(Debug, Drop)]
 pub enum Request<'a> {
     /// Write the report of the image in the file, or on standard input where none is named.
     Report {
@@ -22,6 +23,14 @@ pub enum Request<'a> {
     Export {
         file: Option<&'a str>,
         prefix: &'a str,
+        explains: bool,
+    },
+    /// Write the histograms of the image for people: those of the names, those whose name has the part, or all.
+    Show {
+        file: Option<&'a str>,
+        names: Vec<&'a str>,
+        part: Option<&'a str>,
+        style: Style,
         explains: bool,
     },
     /// Run a script by workers, and write the image to a file and its report to standard output.
@@ -97,6 +106,43 @@ fn export_command<'a>(alloc: Global) -> Result<Command<'a>, AllocError> {
         .arg(image(alloc))?
         .arg(prefix)?
         .arg(explain_flag(alloc))
+}
+
+// How histograms are drawn.
+fn style_options<'a>(alloc: Global, command: Command<'a>) -> Result<Command<'a>, AllocError> {
+    let width = Arg::new(alloc, "width")
+        .long("width")
+        .value_name("CELLS")
+        .value_parser(value_parser!(u16).range(20..=200))
+        .default_value("72")
+        .help("How many cells the longest bar has: 20 to 200");
+    let ascii = Arg::new(alloc, "ascii")
+        .long("ascii")
+        .action(ArgAction::SetTrue)
+        .help("Draws bars with #, and not with blocks");
+    let all = Arg::new(alloc, "all")
+        .long("all")
+        .action(ArgAction::SetTrue)
+        .help("Shows all values of a sparse histogram, and not only the 20 with the most units");
+    command.arg(width)?.arg(ascii)?.arg(all)
+}
+
+fn show_command<'a>(alloc: Global) -> Result<Command<'a>, AllocError> {
+    let names = Arg::new(alloc, "NAME").num_args(0..).help(
+        "The names of the histograms that are shown; all where none is given",
+    );
+    let part = Arg::new(alloc, "match")
+        .long("match")
+        .value_name("PART")
+        .conflicts_with("NAME")?
+        .help("Shows the histograms whose name has this part");
+    let command = Command::new(alloc, "show")
+        .about("Writes the histograms of an image for people: numbers, quantiles and bars")
+        .after_help("Example:\n  persist_report show examples/three_samples.img A --width 40")
+        .arg(image(alloc))?
+        .arg(names)?
+        .arg(part)?;
+    style_options(alloc, command)?.arg(explain_flag(alloc))
 }
 
 // How many workers record.
@@ -197,6 +243,7 @@ fn command<'a>(alloc: Global) -> Result<Command<'a>, AllocError> {
         .subcommand_required(true)
         .subcommand(report_command(alloc)?)?
         .subcommand(export_command(alloc)?)?
+        .subcommand(show_command(alloc)?)?
         .subcommand(run_command(alloc)?)?
         .subcommand(resume_command(alloc)?)?
         .subcommand(merge_command(alloc)?)?
@@ -255,6 +302,30 @@ fn export_request<'a>(export: &ArgMatches<'a>) -> Option<Request<'a>> {
     })
 }
 
+fn show_request<'a>(
+    alloc: Global,
+    show: &ArgMatches<'a>,
+) -> Result<Option<Request<'a>>, AllocError> {
+    let Some(width) = show.get_one::<u16>("width") else {
+        return Ok(None);
+    };
+    let names = match show.get_strs("NAME") {
+        Some(names) => Vec::from_slice(alloc, names)?,
+        None => Vec::new(alloc),
+    };
+    Ok(Some(Request::Show {
+        file: show.get_str("FILE"),
+        names,
+        part: show.get_str("match"),
+        style: Style {
+            width,
+            is_ascii: show.get_flag("ascii"),
+            shows_all: show.get_flag("all"),
+        },
+        explains: show.get_flag("explain"),
+    }))
+}
+
 fn extract_request<'a>(extract: &ArgMatches<'a>) -> Option<Request<'a>> {
     let file = extract.get_str("FILE")?;
     let out = extract.get_str("OUT")?;
@@ -268,8 +339,22 @@ fn extract_request<'a>(extract: &ArgMatches<'a>) -> Option<Request<'a>> {
 }
 
 // What a parsed command line asks for; none where something is missing, which the parse refuses.
-fn request_of<'a>(matches: &ArgMatches<'a>) -> Option<Request<'a>> {
-    match matches.subcommand()? {
+fn request_of<'a>(
+    alloc: Global,
+    matches: &ArgMatches<'a>,
+) -> Result<Option<Request<'a>>, AllocError> {
+    let Some((word, found)) = matches.subcommand() else {
+        return Ok(None);
+    };
+    if word == "show" {
+        return show_request(alloc, found);
+    }
+    Ok(plain_request(word, found))
+}
+
+// What a command asks for that takes single words.
+fn plain_request<'a>(word: &str, found: &ArgMatches<'a>) -> Option<Request<'a>> {
+    match (word, found) {
         ("report", report) => Some(Request::Report {
             file: report.get_str("FILE"),
             explains: report.get_flag("explain"),
@@ -293,7 +378,7 @@ impl<'a> Request<'a> {
     pub fn of<S: AsStr>(alloc: Global, words: &'a [S]) -> Result<Request<'a>, Error> {
         let mut command = command(alloc)?;
         let matches = command.try_get_matches_from_mut(words)?;
-        match request_of(&matches) {
+        match request_of(alloc, &matches)? {
             Some(request) => Ok(request),
             None => Err(command.error(ErrorKind::MissingSubcommand, "a subcommand is required")?),
         }

@@ -11,6 +11,7 @@ use crate::request::{Request, no_fault, no_prefix, not_text};
 use crate::terminal::is_terminal;
 use fault_texts::{AllTexts, text_of};
 use persist_report_core::CliFault;
+use reading_shows::{Choice, Style};
 use reading_texts::is_prefix;
 use std::random::RandomSource;
 use std::rt::{Env, Files};
@@ -77,6 +78,15 @@ fn export<R: Files + Input + Print + AllocGlobal>(
     write_file(rt, Form::Export { prefix }, file, explains)
 }
 
+// Which histograms are meant: those of the names, those whose name has the part, or all.
+fn choice_of<'a>(names: &'a [&'a str], part: Option<&'a str>) -> Choice<'a> {
+    match part {
+        Some(part) => Choice::Part(part),
+        None if names.is_empty() => Choice::All,
+        None => Choice::Named(names),
+    }
+}
+
 fn meet<R: Files + Input + Print + RandomSource + AllocGlobal + Threads + Wait>(
     rt: &R,
     request: Request<'_>,
@@ -92,6 +102,21 @@ fn meet<R: Files + Input + Print + RandomSource + AllocGlobal + Threads + Wait>(
             prefix,
             explains,
         } => export(rt, file, prefix, explains || is_terminal(rt)),
+        Request::Show {
+            file,
+            names,
+            part,
+            style,
+            explains,
+        } => {
+            let choice = choice_of(names.as_slice(), part);
+            write_file(
+                rt,
+                Form::Show { style, choice },
+                file,
+                explains || is_terminal(rt),
+            )
+        }
         Request::Run {
             script,
             out,

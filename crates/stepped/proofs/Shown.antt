@@ -1,6 +1,6 @@
 -- What a replay writes, and what its events change.
 use Rattle.std.proofs.Common.{◌≡◌, ℕ, zero, suc, ℤ, ◌+◌, ◌<◌, List, [], ◌∷◌, ◌++◌, length, take, drop, get_or, slice_index, refl, sym, ap, subst, ◌∙◌, append_assoc, add-one, arith, length-set}
-use Rattle.std.proofs.lemmas.List.{append-nil, get_or-set_same, get_or-set_other, length-take-le, take-append-drop, take_more}
+use Rattle.std.proofs.lemmas.List.{append-nil, get_or-set_same, get_or-set_other, length-take-le, map-append, take-append-drop, take_more}
 use Rattle.std.proofs.lemmas.List.Concat.{flat_map-append}
 use Rattle.std.proofs.Math.Logic.{∥∥₁_elim}
 use Rattle.std.proofs.Props.{props}
@@ -26,9 +26,11 @@ use Rattle.hist_core.proofs.Worlds.Scheduling.{no_fault, split_there}
 use Rattle.schedule.specs.declared.order.Order.{Order}
 use Rattle.stepped.specs.declared.lines.Change.{Change}
 use Rattle.stepped.specs.declared.lines.Place.{Place}
-use Rattle.stepped.specs.Lines.{Deed, behind, deed_line, units_fields}
+use Rattle.stepped.specs.declared.form.Form.{Form}
+use Rattle.stepped.specs.Form.{Writes, form_after, form_behind, text_of, texts}
+use Rattle.stepped.specs.Lines.{Deed, behind, units_fields}
 use Rattle.stepped.specs.Lines.Deed.{Ends}
-use Rattle.stepped.specs.Replay.{Does, EndsCall, FailsAt, GoesBy, IsDifference, Replays, Shows, StopsAt, lines_of}
+use Rattle.stepped.specs.Replay.{Does, EndsCall, FailsAt, GoesBy, IsDifference, Replays, Shows, StopsAt, placed}
 
 -- ---- bytes
 
@@ -54,16 +56,42 @@ pub fields_both : (a b c : Option (List ℕ)) (xs ys : List (List ℕ)) → Appe
 fields_both a b c xs ys first second =
     subst (Appends a c) (sym (flat_map-append (λ (field : List ℕ). 44 ∷ field) xs ys)) (appends_both a b c (behind xs) (behind ys) first second)
 
--- lines that are written one after the other
-pub lines_both : (number actor : ℕ) (a b c : Option (List ℕ)) (xs ys : List Deed) → Appends a b (lines_of number actor xs)
-    → Appends b c (lines_of number actor ys) → Appends a c (lines_of number actor (xs ++ ys))
-lines_both number actor a b c xs ys first second =
-    subst (Appends a c) (sym (flat_map-append (deed_line (record { number = number; actor = actor })) xs ys))
-    (appends_both a b c (lines_of number actor xs) (lines_of number actor ys) first second)
+-- what stands behind all that was done
+pub form_both : (form : Form) (xs ys : List (Place × Deed)) → form_behind form (xs ++ ys) ≡ form_behind (form_behind form xs) ys
+form_both form [] ys = refl
+form_both form (x ∷ xs) ys = form_both (form_after x.1 form) xs ys
 
--- one line is
-pub one_line : (place : Place) (a b : Option (List ℕ)) (deed : Deed) → Appends a b (deed_line place deed) → Appends a b (lines_of place.number place.actor (deed ∷ []))
-one_line place a b deed shown = subst (Appends a b) (sym (append-nil (deed_line place deed))) shown
+pub texts_both : (form : Form) (xs ys : List (Place × Deed)) → texts form (xs ++ ys) ≡ texts form xs ++ texts (form_behind form xs) ys
+texts_both form [] ys = refl
+texts_both form (x ∷ xs) ys =
+    ap (λ (s : List ℕ). text_of form x.0 x.1 ++ s) (texts_both (form_after x.1 form) xs ys)
+    ∙ sym (append_assoc (text_of form x.0 x.1) (texts (form_after x.1 form) xs) (texts (form_behind (form_after x.1 form) xs) ys))
+
+-- what is written behind what was done is the text of both
+pub texts_behind : (f g : Form) (a b c : Option (List ℕ)) (xs ys : List (Place × Deed)) → Writes f g a b xs → Appends b c (texts g ys)
+    → Appends a c (texts f (xs ++ ys))
+texts_behind f g a b c xs ys (is, first) second =
+    subst (Appends a c) (sym (texts_both f xs ys))
+    (appends_both a b c (texts f xs) (texts (form_behind f xs) ys) first (subst (λ (form : Form). Appends b c (texts form ys)) is second))
+
+-- what is done one after the other
+pub writes_both : (f g h : Form) (a b c : Option (List ℕ)) (xs ys : List (Place × Deed)) → Writes f g a b xs → Writes g h b c ys → Writes f h a c (xs ++ ys)
+writes_both f g h a b c xs ys first second = (
+  second.0 ∙ (ap (λ (form : Form). form_behind form ys) first.0 ∙ sym (form_both f xs ys)),
+  texts_behind f g a b c xs ys first second.1,
+)
+
+-- the same at one place
+pub writes_placed : (number actor : ℕ) (f g h : Form) (a b c : Option (List ℕ)) (xs ys : List Deed) → Writes f g a b (placed number actor xs)
+    → Writes g h b c (placed number actor ys) → Writes f h a c (placed number actor (xs ++ ys))
+writes_placed number actor f g h a b c xs ys first second =
+    subst (Writes f h a c) (sym (map-append (λ (deed : Deed). (record { number = number; actor = actor }, deed)) xs ys))
+    (writes_both f g h a b c (placed number actor xs) (placed number actor ys) first second)
+
+-- one thing is done
+pub writes_one : (place : Place) (f g : Form) (a b : Option (List ℕ)) (deed : Deed) → g ≡ form_after deed f → Appends a b (text_of f place deed)
+    → Writes f g a b (placed place.number place.actor (deed ∷ []))
+writes_one place f g a b deed is shown = (is, subst (Appends a b) (sym (append-nil (text_of f place deed))) shown)
 
 -- the fields of one key more
 pub units_more : (counts : List (ℤ × ℕ)) (i : ℕ) (one : ℤ × ℕ) → i < length counts → one ≡ get_or counts i one
@@ -166,70 +194,70 @@ ends_behind before last (its, answer, is) =
 -- ---- records
 
 -- one record more
-pub replays_more : (number at : ℕ) (done : List Order) (order : Order) (left : ℕ) (old mid new : WorldState) (left_then then_left : ℕ) (text : List ℕ)
-    (deeds : List Deed) → at ≡ number + length done → Replays number done left old mid left_then text → 0 < left_then
+pub replays_more : (number at : ℕ) (done : List Order) (order : Order) (left : ℕ) (old mid new : WorldState) (left_then then_left : ℕ) (shown : List (Place × Deed))
+    (deeds : List Deed) → at ≡ number + length done → Replays number done left old mid left_then shown → 0 < left_then
     → Does order.actor order.kind left_then mid new then_left deeds
-    → Replays number (done ++ order ∷ []) left old new then_left (text ++ lines_of at order.actor deeds)
-replays_more number at [] order left old mid new zero then_left text deeds here (same, all, none) some does = absurd (omega (arith, some))
-replays_more number at [] order left old mid new (suc n) then_left text deeds here (same, all, none) some does =
+    → Replays number (done ++ order ∷ []) left old new then_left (shown ++ placed at order.actor deeds)
+replays_more number at [] order left old mid new zero then_left shown deeds here (same, all, none) some does = absurd (omega (arith, some))
+replays_more number at [] order left old mid new (suc n) then_left shown deeds here (same, all, none) some does =
     let number_is : at ≡ number = omega (arith, here) in
-    subst (λ (l : ℕ). Replays number (order ∷ []) l old new then_left (text ++ lines_of at order.actor deeds)) all (
+    subst (λ (l : ℕ). Replays number (order ∷ []) l old new then_left (shown ++ placed at order.actor deeds)) all (
       new,
       then_left,
       deeds,
       [],
       subst (λ (b : WorldState). Does order.actor order.kind (suc n) b new then_left deeds) same does,
       (refl, refl, refl),
-      ap (λ (s : List ℕ). s ++ lines_of at order.actor deeds) none
-          ∙ (ap (λ (k : ℕ). lines_of k order.actor deeds) number_is ∙ sym (append-nil (lines_of number order.actor deeds))),
+      ap (λ (s : List (Place × Deed)). s ++ placed at order.actor deeds) none
+          ∙ (ap (λ (k : ℕ). placed k order.actor deeds) number_is ∙ sym (append-nil (placed number order.actor deeds))),
     )
-replays_more number at (first ∷ done) order zero old mid new left_then then_left text deeds here (same, none_left, none) some does =
+replays_more number at (first ∷ done) order zero old mid new left_then then_left shown deeds here (same, none_left, none) some does =
     absurd (omega (arith, some, none_left))
-replays_more number at (first ∷ done) order (suc left) old mid new left_then then_left text deeds here (b, n, its, later, did, rest, is) some does = (
+replays_more number at (first ∷ done) order (suc left) old mid new left_then then_left shown deeds here (b, n, its, later, did, rest, is) some does = (
   b,
   n,
   its,
-  later ++ lines_of at order.actor deeds,
+  later ++ placed at order.actor deeds,
   did,
   replays_more (number + 1) at done order n b mid new left_then then_left later deeds (omega (arith, here)) rest some does,
-  ap (λ (s : List ℕ). s ++ lines_of at order.actor deeds) is ∙ append_assoc (lines_of number first.actor its) later (lines_of at order.actor deeds),
+  ap (λ (s : List (Place × Deed)). s ++ placed at order.actor deeds) is ∙ append_assoc (placed number first.actor its) later (placed at order.actor deeds),
 )
 
 -- where no event is left, other records behind do nothing
-pub replays_no_more : (number : ℕ) (done rest : List Order) (left : ℕ) (old mid : WorldState) (text : List ℕ) → Replays number done left old mid 0 text
-    → Replays number (done ++ rest) left old mid 0 text
-replays_no_more number [] [] left old mid text replays = replays
-replays_no_more number [] (next ∷ rest) left old mid text (same, all, none) =
-    subst (λ (l : ℕ). Replays number (next ∷ rest) l old mid 0 text) all (same, refl, none)
-replays_no_more number (first ∷ done) rest zero old mid text replays = replays
-replays_no_more number (first ∷ done) rest (suc left) old mid text (b, n, its, later, did, replays, is) =
+pub replays_no_more : (number : ℕ) (done rest : List Order) (left : ℕ) (old mid : WorldState) (shown : List (Place × Deed)) → Replays number done left old mid 0 shown
+    → Replays number (done ++ rest) left old mid 0 shown
+replays_no_more number [] [] left old mid shown replays = replays
+replays_no_more number [] (next ∷ rest) left old mid shown (same, all, none) =
+    subst (λ (l : ℕ). Replays number (next ∷ rest) l old mid 0 shown) all (same, refl, none)
+replays_no_more number (first ∷ done) rest zero old mid shown replays = replays
+replays_no_more number (first ∷ done) rest (suc left) old mid shown (b, n, its, later, did, replays, is) =
     (b, n, its, later, did, replays_no_more (number + 1) done rest n b mid later replays, is)
 
 -- the next record is done too
-pub replays_next : (orders : List Order) (i : ℕ) (order : Order) (left : ℕ) (old mid new : WorldState) (left_then then_left : ℕ) (text : List ℕ) (deeds : List Deed)
-    → i < length orders → order ≡ get_or orders i order → Replays 2 (take i orders) left old mid left_then text → 0 < left_then
+pub replays_next : (orders : List Order) (i : ℕ) (order : Order) (left : ℕ) (old mid new : WorldState) (left_then then_left : ℕ) (shown : List (Place × Deed)) (deeds : List Deed)
+    → i < length orders → order ≡ get_or orders i order → Replays 2 (take i orders) left old mid left_then shown → 0 < left_then
     → Does order.actor order.kind left_then mid new then_left deeds
-    → Replays 2 (take (i + 1) orders) left old new then_left (text ++ lines_of (i + 2) order.actor deeds)
-replays_next orders i order left old mid new left_then then_left text deeds near is replays some does =
-    subst (λ (l : List Order). Replays 2 l left old new then_left (text ++ lines_of (i + 2) order.actor deeds))
+    → Replays 2 (take (i + 1) orders) left old new then_left (shown ++ placed (i + 2) order.actor deeds)
+replays_next orders i order left old mid new left_then then_left shown deeds near is replays some does =
+    subst (λ (l : List Order). Replays 2 l left old new then_left (shown ++ placed (i + 2) order.actor deeds))
     (sym (take_more orders i order near ∙ ap (λ (o : Order). take i orders ++ o ∷ []) (sym is)))
-    (replays_more 2 (i + 2) (take i orders) order left old mid new left_then then_left text deeds
+    (replays_more 2 (i + 2) (take i orders) order left old mid new left_then then_left shown deeds
     (omega (arith, length-take-le i orders (omega (arith, near)))) replays some does)
 
 -- no event is left, so all is done
-pub replays_all : (orders : List Order) (i left : ℕ) (old mid : WorldState) (then_left : ℕ) (text : List ℕ) → then_left ≡ 0
-    → Replays 2 (take i orders) left old mid then_left text → Replays 2 orders left old mid then_left text
-replays_all orders i left old mid then_left text none replays =
-    subst (λ (n : ℕ). Replays 2 orders left old mid n text) (sym none)
-    (subst (λ (l : List Order). Replays 2 l left old mid 0 text) (take-append-drop i orders)
-    (replays_no_more 2 (take i orders) (drop i orders) left old mid text
-    (subst (λ (n : ℕ). Replays 2 (take i orders) left old mid n text) none replays)))
+pub replays_all : (orders : List Order) (i left : ℕ) (old mid : WorldState) (then_left : ℕ) (shown : List (Place × Deed)) → then_left ≡ 0
+    → Replays 2 (take i orders) left old mid then_left shown → Replays 2 orders left old mid then_left shown
+replays_all orders i left old mid then_left shown none replays =
+    subst (λ (n : ℕ). Replays 2 orders left old mid n shown) (sym none)
+    (subst (λ (l : List Order). Replays 2 l left old mid 0 shown) (take-append-drop i orders)
+    (replays_no_more 2 (take i orders) (drop i orders) left old mid shown
+    (subst (λ (n : ℕ). Replays 2 (take i orders) left old mid n shown) none replays)))
 
 -- the next record has a fault
-pub stops_next : (orders : List Order) (i : ℕ) (order : Order) (left : ℕ) (old mid : WorldState) (left_then : ℕ) (text : List ℕ) (why : WorldFault)
-    (deeds : List Deed) → i < length orders → order ≡ get_or orders i order → Replays 2 (take i orders) left old mid left_then text → 0 < left_then
-    → FailsAt order.actor order.kind mid why deeds → StopsAt orders left old (i + 2) why (text ++ lines_of (i + 2) order.actor deeds)
-stops_next orders i order left old mid left_then text why deeds near is replays some fails = record {
+pub stops_next : (orders : List Order) (i : ℕ) (order : Order) (left : ℕ) (old mid : WorldState) (left_then : ℕ) (shown : List (Place × Deed)) (why : WorldFault)
+    (deeds : List Deed) → i < length orders → order ≡ get_or orders i order → Replays 2 (take i orders) left old mid left_then shown → 0 < left_then
+    → FailsAt order.actor order.kind mid why deeds → StopsAt orders left old (i + 2) why (shown ++ placed (i + 2) order.actor deeds)
+stops_next orders i order left old mid left_then shown why deeds near is replays some fails = record {
   before = take i orders;
   order = order;
   rest = drop (i + 1) orders;
@@ -238,9 +266,9 @@ stops_next orders i order left old mid left_then text why deeds near is replays 
   mid = mid;
   left_then = left_then;
   some = some;
-  done = text;
+  done = shown;
   replays = replays;
   deeds = deeds;
   fails = fails;
-  text_is = refl;
+  shown_is = refl;
 }

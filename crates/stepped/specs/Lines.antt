@@ -6,6 +6,7 @@ use Rattle.bucket_ranges.specs.declared.spec.SpecFault.{SpecFault}
 use Rattle.bucket_ranges.specs.declared.spec.SpecFault.TheVariants as spec
 use Rattle.segment_calls.specs.declared.refusal.Refusal.{Refusal}
 use Rattle.segment_calls.specs.declared.refusal.Refusal.TheVariants as refusal
+use Rattle.hist_core.specs.declared.call.Call.{Call}
 use Rattle.hist_core.specs.declared.call.Answer.{Answer}
 use Rattle.hist_core.specs.declared.call.Answer.TheVariants.{Hist, Added, Flagged, Delta, Snapshot, Refused, BatchRefused}
 use Rattle.stepped.specs.declared.lines.Change.{Change}
@@ -43,10 +44,12 @@ refusal_fields why = refusal_word why ∷ []
 
 -- ---- what is shown of a call
 
--- it begins; an event of it happens, which changes a word or none; or it ends, with an answer
+-- It begins; it begins and has ended with an answer, without an event; an event of it happens, which changes a word or none and leads to
+-- these words; or it ends with its last event, and an answer.
 pub data Deed : Type 0 where
-  Begins : Deed
-  Steps : (change : Option Change) → Deed
+  Begins : (call : Call) → Deed
+  AtOnce : (call : Call) → (answer : Answer) → Deed
+  Steps : (words : List ℕ) → (change : Option Change) → Deed
   Ends : (answer : Answer) → Deed
 
 -- each key with its units
@@ -64,11 +67,16 @@ answer_fields (Snapshot snapshot) =
 answer_fields (Refused why) = codes "refused" ∷ refusal_fields why
 answer_fields (BatchRefused refused) = codes "batch_refused" ∷ decimal refused.added ∷ refusal_fields refused.why
 
+-- the fields of an event
+abbrev pub step_fields : Option Change → List (List ℕ)
+step_fields None = codes "step" ∷ []
+step_fields (Some change) = codes "step" ∷ decimal change.at ∷ decimal change.old ∷ decimal change.new ∷ []
+
 -- the fields behind those of the place
 abbrev pub deed_fields : Deed → List (List ℕ)
-deed_fields Begins = codes "begin" ∷ []
-deed_fields (Steps None) = codes "step" ∷ []
-deed_fields (Steps (Some change)) = codes "step" ∷ decimal change.at ∷ decimal change.old ∷ decimal change.new ∷ []
+deed_fields (Begins call) = codes "begin" ∷ []
+deed_fields (AtOnce call answer) = codes "answer" ∷ answer_fields answer
+deed_fields (Steps words change) = step_fields change
 deed_fields (Ends answer) = codes "answer" ∷ answer_fields answer
 
 -- ---- texts
@@ -81,6 +89,10 @@ behind fields = flat_map (λ field. 44 ∷ field) fields
 abbrev pub place_text : Place → List ℕ
 place_text place = decimal place.number ++ behind (decimal place.actor ∷ [])
 
+-- the line with these fields
+abbrev pub line : Place → List (List ℕ) → List ℕ
+line place fields = place_text place ++ behind fields ++ 10 ∷ []
+
 -- the line of what is shown
 abbrev pub deed_line : Place → Deed → List ℕ
-deed_line place deed = place_text place ++ behind (deed_fields deed) ++ 10 ∷ []
+deed_line place deed = line place (deed_fields deed)

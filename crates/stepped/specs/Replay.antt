@@ -1,8 +1,8 @@
--- A schedule as it is replayed: the moves that its records make, and the lines that show them.
-use Rattle.std.specs.Prelude.{◌≡◌, ◌≢◌, ◌⊎◌, ◌<◌, ◌≤◌, ◌+◌, ℕ, zero, suc, List, [], ◌∷◌, ◌++◌, length, slice_index, slice_set, Option, Some, None}
-use Rattle.std.specs.List.{flat_map}
+-- A schedule as it is replayed: the moves that its records make, and what is shown of them.
+use Rattle.std.specs.Prelude.{◌≡◌, ◌≢◌, ◌⊎◌, ◌<◌, ◌≤◌, ◌+◌, ℕ, zero, suc, List, [], ◌∷◌, ◌++◌, map, length, slice_index, slice_set, Option, Some, None}
 use Rattle.hist_core.specs.declared.world_state.WorldState.{WorldState}
 use Rattle.hist_core.specs.declared.call.Answer.{Answer}
+use Rattle.hist_core.specs.declared.call.Call.{Call}
 use Rattle.hist_core.specs.declared.call.Begun.{Begun}
 use Rattle.hist_core.specs.declared.call.Begun.TheVariants.{Going, Ended}
 use Rattle.hist_core.specs.declared.call.Move.{Move}
@@ -17,9 +17,10 @@ use Rattle.schedule.specs.declared.order.OrderKind.TheVariants as kind
 use Rattle.stepped.specs.declared.fault.ReplayFault.{ReplayFault}
 use Rattle.stepped.specs.declared.fault.ReplayFault.TheVariants.{Write}
 use Rattle.stepped.specs.declared.lines.Change.{Change}
+use Rattle.stepped.specs.declared.lines.Place.{Place}
 use Rattle.stepped.specs.Fault.{fault_of_world}
-use Rattle.stepped.specs.Lines.{Deed, deed_line}
-use Rattle.stepped.specs.Lines.Deed.{Begins, Steps, Ends}
+use Rattle.stepped.specs.Lines.{Deed}
+use Rattle.stepped.specs.Lines.Deed.{Begins, AtOnce, Steps, Ends}
 
 -- ---- moves
 
@@ -42,22 +43,22 @@ pub record IsDifference (old new : List ℕ) (change : Change) : Type 0 where
   pub is : slice_index new change.at ≡ change.new
   pub other : change.old ≢ change.new
 
--- what is shown of a begin: that the call begins; or its answer alone, where it needs no event
-abbrev pub begin_deeds : Begun → List Deed
-begin_deeds Going = Begins ∷ []
-begin_deeds (Ended answer) = Ends answer ∷ []
+-- what is done at a begin: the call begins, or it has ended with its answer, where it needs no event
+abbrev pub begin_deeds : Call → Begun → List Deed
+begin_deeds call Going = Begins call ∷ []
+begin_deeds call (Ended answer) = AtOnce call answer ∷ []
 
--- what is shown of an event: that it happens, and behind it the answer of a call that it ended
-abbrev pub step_deeds : Option Change → Stepped → List Deed
-step_deeds change More = Steps change ∷ []
-step_deeds change (Done answer) = Steps change ∷ Ends answer ∷ []
+-- what is done at an event: it happens, and behind it comes the answer of a call that it ended
+abbrev pub step_deeds : List ℕ → Option Change → Stepped → List Deed
+step_deeds words change More = Steps words change ∷ []
+step_deeds words change (Done answer) = Steps words change ∷ Ends answer ∷ []
 
 -- a move leads from a world to another, and is shown so
 abbrev pub Shows : Move → WorldState → WorldState → List Deed → Type 0
-Shows (Begin actor call) old new deeds = (said : Begun) × IsBegun actor call old new said × (deeds ≡ begin_deeds said)
+Shows (Begin actor call) old new deeds = (said : Begun) × IsBegun actor call old new said × (deeds ≡ begin_deeds call said)
 Shows (Step actor) old new deeds =
     (said : Stepped) × IsStepped actor old new said
-    × ((change : Option Change) × HasChanged old.words.items new.words.items change × (deeds ≡ step_deeds change said))
+    × ((change : Option Change) × HasChanged old.words.items new.words.items change × (deeds ≡ step_deeds new.words.items change said))
 
 -- so do the events of an actor's call, one after the other
 abbrev pub GoesBy : ℕ → ℕ → WorldState → WorldState → List Deed → Type 0
@@ -84,18 +85,18 @@ abbrev pub Does : ℕ → OrderKind → ℕ → WorldState → WorldState → �
 Does actor (kind.Begin call) left old new then_left deeds = Shows (Begin actor call) old new deeds × (then_left ≡ left)
 Does actor (kind.Step times) left old new then_left deeds = GoesOn actor times left old new then_left deeds
 
--- the lines of what a record does
-abbrev pub lines_of : ℕ → ℕ → List Deed → List ℕ
-lines_of number actor deeds = flat_map (deed_line (record { number = number; actor = actor })) deeds
+-- what a record does, at its place
+abbrev pub placed : ℕ → ℕ → List Deed → List (Place × Deed)
+placed number actor deeds = map (λ deed. (record { number = number; actor = actor }, deed)) deeds
 
--- What records from a number on lead to, one after the other, how many events they leave, and the lines that show them. Where no event is
--- left nothing more is done.
-abbrev pub Replays : ℕ → List Order → ℕ → WorldState → WorldState → ℕ → List ℕ → Type 0
-Replays number [] left old new then_left text = (new ≡ old) × (then_left ≡ left) × (text ≡ [])
-Replays number (order ∷ rest) zero old new then_left text = (new ≡ old) × (then_left ≡ 0) × (text ≡ [])
-Replays number (order ∷ rest) (suc left) old new then_left text =
-    (mid : WorldState) × (left_then : ℕ) × (deeds : List Deed) × (later : List ℕ) × Does order.actor order.kind (suc left) old mid left_then deeds
-    × Replays (number + 1) rest left_then mid new then_left later × (text ≡ lines_of number order.actor deeds ++ later)
+-- What records from a number on lead to, one after the other, how many events they leave, and what is shown, each at its place. Where no
+-- event is left nothing more is done.
+abbrev pub Replays : ℕ → List Order → ℕ → WorldState → WorldState → ℕ → List (Place × Deed) → Type 0
+Replays number [] left old new then_left done = (new ≡ old) × (then_left ≡ left) × (done ≡ [])
+Replays number (order ∷ rest) zero old new then_left done = (new ≡ old) × (then_left ≡ 0) × (done ≡ [])
+Replays number (order ∷ rest) (suc left) old new then_left done =
+    (mid : WorldState) × (left_then : ℕ) × (deeds : List Deed) × (later : List (Place × Deed)) × Does order.actor order.kind (suc left) old mid left_then deeds
+    × Replays (number + 1) rest left_then mid new then_left later × (done ≡ placed number order.actor deeds ++ later)
 
 -- ---- faults
 
@@ -105,8 +106,8 @@ FailsAt actor (kind.Begin call) old fault deeds = FaultsAt (Begin actor call) ol
 FailsAt actor (kind.Step times) old fault deeds =
     (events : ℕ) × (at : WorldState) × (events < times) × GoesBy actor events old at deeds × FaultsAt (Step actor) at fault
 
--- the first fault of the world, at a record from number 2 on, and the lines of what was done before it
-pub record StopsAt (orders : List Order) (left : ℕ) (old : WorldState) (number : ℕ) (fault : WorldFault) (text : List ℕ) : Type 0 where
+-- the first fault of the world, at a record from number 2 on, and what was done before it
+pub record StopsAt (orders : List Order) (left : ℕ) (old : WorldState) (number : ℕ) (fault : WorldFault) (shown : List (Place × Deed)) : Type 0 where
   pub before : List Order
   pub order : Order
   pub rest : List Order
@@ -115,14 +116,14 @@ pub record StopsAt (orders : List Order) (left : ℕ) (old : WorldState) (number
   pub mid : WorldState
   pub left_then : ℕ
   pub some : 0 < left_then
-  pub done : List ℕ
+  pub done : List (Place × Deed)
   pub replays : Replays 2 before left old mid left_then done
   pub deeds : List Deed
   pub fails : FailsAt order.actor order.kind mid fault deeds
-  pub text_is : text ≡ done ++ lines_of number order.actor deeds
+  pub shown_is : shown ≡ done ++ placed number order.actor deeds
 
--- why a replay ends with a fault: a write failed, or the world has a fault; then the lines before it are shown
-abbrev pub StopsWith : List Order → ℕ → WorldState → ReplayFault → (List ℕ → Type 0) → Type 0
+-- why a replay ends with a fault: a write failed, or the world has a fault; then what was done before it is shown
+abbrev pub StopsWith : List Order → ℕ → WorldState → ReplayFault → (List (Place × Deed) → Type 0) → Type 0
 StopsWith orders left old fault IsShown =
     (fault ≡ Write)
-    ⊎ ((number : ℕ) × (why : WorldFault) × (text : List ℕ) × StopsAt orders left old number why text × (fault ≡ fault_of_world number why) × IsShown text)
+    ⊎ ((number : ℕ) × (why : WorldFault) × (shown : List (Place × Deed)) × StopsAt orders left old number why shown × (fault ≡ fault_of_world number why) × IsShown shown)

@@ -1,10 +1,9 @@
 //! The lines that show what was done: the number of a record, its actor, and what it did, with commas between them.
 
-ghost use Rattle.std.specs.Prelude.{◌≡◌, ◌∷◌, ◌++◌, [], Some, OnOk};
+ghost use Rattle.std.specs.Prelude.{◌≡◌, ◌∷◌, ◌++◌, [], codes, Some, OnOk};
 ghost use Rattle.std.specs.Fmt.{decimal, signed_decimal};
 ghost use Rattle.std.specs.Io.KnownBytes.{Appends};
-ghost use Rattle.stepped.specs.Lines.{answer_fields, behind, deed_line, place_text, refusal_fields, refusal_word as refusal_word_of, spec_fault_word as spec_fault_word_of, units_fields};
-ghost use Rattle.stepped.specs.Lines.Deed.{Begins, Steps, Ends};
+ghost use Rattle.stepped.specs.Lines.{answer_fields, behind, line, place_text, refusal_fields, refusal_word as refusal_word_of, spec_fault_word as spec_fault_word_of, step_fields, units_fields};
 
 use bucket_ranges::SpecFault;
 use hist_core::{Answer, Refusal};
@@ -70,7 +69,7 @@ fn end_line<W: Write>(writer: &mut W) -> io::Result<()>
 
 /// Writes the line of a call that begins. The error is the writer's.
 pub fn show_begin<W: Write>(writer: &mut W, place: Place) -> io::Result<()>
-    ensures { OnOk result (Appends (W.contents writer.old) (W.contents writer.new) (deed_line place Begins)) }
+    ensures { OnOk result (Appends (W.contents writer.old) (W.contents writer.new) (line place (codes "begin" ∷ []))) }
 {
     put_place(writer, place)?;
     put_word(writer, b"begin")?;
@@ -88,7 +87,7 @@ fn put_change<W: Write>(writer: &mut W, change: Change) -> io::Result<()>
 
 /// Writes the line of an event, with the word that it changed. The error is the writer's.
 pub fn show_step<W: Write>(writer: &mut W, place: Place, change: Option<Change>) -> io::Result<()>
-    ensures { OnOk result (Appends (W.contents writer.old) (W.contents writer.new) (deed_line place (Steps change))) }
+    ensures { OnOk result (Appends (W.contents writer.old) (W.contents writer.new) (line place (step_fields change))) }
 {
     put_place(writer, place)?;
     put_word(writer, b"step")?;
@@ -100,7 +99,7 @@ pub fn show_step<W: Write>(writer: &mut W, place: Place, change: Option<Change>)
 
 /// Writes the line of a call's answer. The error is the writer's.
 pub fn show_answer<W: Write>(writer: &mut W, place: Place, answer: &Answer) -> io::Result<()>
-    ensures { OnOk result (Appends (W.contents writer.old) (W.contents writer.new) (deed_line place (Ends answer.now))) }
+    ensures { OnOk result (Appends (W.contents writer.old) (W.contents writer.new) (line place (codes "answer" ∷ answer_fields answer.now))) }
 {
     put_place(writer, place)?;
     put_word(writer, b"answer")?;
@@ -108,8 +107,8 @@ pub fn show_answer<W: Write>(writer: &mut W, place: Place, answer: &Answer) -> i
     end_line(writer)
 }
 
-// The fields of an answer.
-fn put_answer<W: Write>(writer: &mut W, answer: &Answer) -> io::Result<()>
+/// Writes the fields of an answer, each behind a comma. The error is the writer's.
+pub fn put_answer<W: Write>(writer: &mut W, answer: &Answer) -> io::Result<()>
     ensures { OnOk result (Appends (W.contents writer.old) (W.contents writer.new) (behind (answer_fields answer.now))) }
 {
     match answer {

@@ -4,7 +4,10 @@
 
 mod failure;
 mod fault;
+mod form;
 mod lines;
+mod meaning;
+mod picture;
 mod replay;
 mod request;
 mod run;

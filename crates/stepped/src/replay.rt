@@ -3,8 +3,9 @@
 ghost use Rattle.std.specs.Prelude.{◌≡◌};
 
 use crate::fault::ReplayFault;
-use crate::lines::{Change, Place, show_answer, show_begin, show_step};
-use hist_core::{Answer, Begun, Call, Stepped, World};
+use crate::form::Form;
+use crate::lines::{Change, Place};
+use hist_core::{Begun, Call, Stepped, World};
 use schedule::{NewWorld, Order, OrderKind};
 use std::alloc::{AllocError, Global};
 use std::io::Write;
@@ -18,6 +19,8 @@ pub struct Replay {
     before: Vec<u64>,
     // How many events are left.
     left: u64,
+    // How the next is shown.
+    form: Form,
     ghost in_step: { before.items ≡ world.world_state.words.items },
 }
 
@@ -31,9 +34,9 @@ ghost use Rattle.hist_core.specs.World.{actor_checks, world_checks, IsAdoptFault
 ghost use Rattle.segment_image.specs.Checks.{first_fault};
 ghost use Rattle.segment_image.specs.Head.{head_of, header_of};
 ghost use Rattle.stepped.specs.Fault.{fault_of_world};
-ghost use Rattle.stepped.specs.Lines.{Deed, deed_line};
-ghost use Rattle.stepped.specs.Lines.Deed.{Ends};
-ghost use Rattle.stepped.specs.Replay.{Does, EndsCall, FailsAt, GoesOn, HasChanged, IsDifference, Replays, Shows, StopsWith, lines_of};
+ghost use Rattle.stepped.specs.Form.{Writes, texts};
+ghost use Rattle.stepped.specs.Lines.{Deed};
+ghost use Rattle.stepped.specs.Replay.{Does, EndsCall, FailsAt, GoesOn, HasChanged, IsDifference, Replays, Shows, StopsWith, placed};
 
 // Where two lists of words differ first.
 fn change_of(old: &[u64], new: &[u64]) -> Option<Change>
@@ -48,19 +51,17 @@ fn change_of(old: &[u64], new: &[u64]) -> Option<Change>
     })
 }
 
-// Writes the line of an answer.
-fn show<W: Write>(writer: &mut W, place: Place, answer: &Answer) -> Result<(), ReplayFault>
-    ensures ok { OnOk result (Appends (W.contents writer.old) (W.contents writer.new) (deed_line place (Ends answer.now))) }
-    ensures err { IfErr result (λ fault. fault ≡ ReplayFault.Write) }
-{
-    show_answer(writer, place, answer).map_err(|_| ReplayFault::Write)
-}
-
 impl Replay {
-    /// A new world, in which so many events may happen. `World` of record 1 where it cannot be, `NoMemory` where there is none.
-    pub fn new(alloc: Global, opening: NewWorld, events: u64) -> Result<Replay, ReplayFault>
+    /// A new world, in which so many events may happen, which are shown so. `World` of record 1 where it cannot be, `NoMemory` where there is none.
+    pub fn new(
+        alloc: Global,
+        opening: NewWorld,
+        events: u64,
+        form: Form,
+    ) -> Result<Replay, ReplayFault>
         ensures world { IfOk result (λ replay. IsNewWorldState (record { size = opening.size; page = opening.page }) opening.version opening.id opening.actors replay.world.world_state) }
         ensures left { IfOk result (λ replay. replay.left ≡ events) }
+        ensures form { IfOk result (λ replay. replay.form ≡ form) }
         ensures faults { MatchOption (first_fault (world_checks opening.size opening.page opening.actors opening.version)) (IfErr result (λ fault. fault ≡ ReplayFault.NoMemory)) (λ why. result ≡ Err (fault_of_world 1 why)) }
     {
         let NewWorld {
@@ -73,36 +74,39 @@ impl Replay {
         let world = World::new(alloc, size, page, id, actors, version).map_err(
             |fault| ReplayFault::of_world(1, fault),
         )?;
-        Ok(Replay::of(alloc, world, events)?)
+        Ok(Replay::of(alloc, world, events, form)?)
     }
 
-    /// A world that goes on with the words of an image, in which so many events may happen. `World` of record 1 where it cannot be: with
+    /// A world that goes on with the words of an image, in which so many events may happen, which are shown so. `World` of record 1 where it cannot be: with
     /// `BadShape` of the actors, or with `Adopt` and the first fault of the image; `NoMemory` where there is none.
     pub fn adopt(
         alloc: Global,
         words: &[u64],
         actors: usize,
         events: u64,
+        form: Form,
     ) -> Result<Replay, ReplayFault>
         ensures world { IfOk result (λ replay. IsAdoptedWorldState words.now actors replay.world.world_state) }
         ensures left { IfOk result (λ replay. replay.left ≡ events) }
+        ensures form { IfOk result (λ replay. replay.form ≡ form) }
         ensures faults { MatchOption (first_fault (actor_checks actors)) (IfErr result (λ fault. (why : WorldFault) × IsAdoptFault words.now why × (fault ≡ fault_of_world 1 why))) (λ why. result ≡ Err (fault_of_world 1 why)) }
     {
         let world = World::adopt(alloc, words, actors).map_err(|fault| ReplayFault::of_world(
             1, fault,
         ))?;
-        Ok(Replay::of(alloc, world, events)?)
+        Ok(Replay::of(alloc, world, events, form)?)
     }
 
-    // In a world so many events may happen.
-    fn of(alloc: Global, world: World, events: u64) -> Result<Replay, AllocError>
-        ensures { IfOk result (λ replay. (replay.world ≡ world) × (replay.left ≡ events)) }
+    // In a world so many events may happen, which are shown so.
+    fn of(alloc: Global, world: World, events: u64, form: Form) -> Result<Replay, AllocError>
+        ensures { IfOk result (λ replay. (replay.world ≡ world) × (replay.left ≡ events) × (replay.form ≡ form)) }
     {
         let before = Vec::from_slice(alloc, world.words())?;
         Ok(Replay {
             world,
             before,
             left: events,
+            form,
         })
     }
 
@@ -114,7 +118,7 @@ impl Replay {
         self.world.words()
     }
 
-    // Begins a call. One that needs no event has ended, and is shown by its answer alone.
+    // Begins a call. One that needs no event has ended, and has its answer at once.
     fn begin<W: Write>(
         &mut self,
         writer: &mut W,
@@ -122,7 +126,7 @@ impl Replay {
         call: &Call,
     ) -> Result<(), ReplayFault>
         ensures left { self.new.left ≡ self.old.left }
-        ensures ok { OnOk result ((deeds : List Deed) × Shows (Begin place.actor call.now) self.old.world.world_state self.new.world.world_state deeds × Appends (W.contents writer.old) (W.contents writer.new) (lines_of place.number place.actor deeds)) }
+        ensures ok { OnOk result ((deeds : List Deed) × Shows (Begin place.actor call.now) self.old.world.world_state self.new.world.world_state deeds × Writes self.old.form self.new.form (W.contents writer.old) (W.contents writer.new) (placed place.number place.actor deeds)) }
         ensures err { IfErr result (λ fault. (fault ≡ ReplayFault.Write) ⊎ ((why : WorldFault) × FaultsAt (Begin place.actor call.now) self.old.world.world_state why × (fault ≡ fault_of_world place.number why) × (writer.new ≡ writer.old))) }
     {
         let begun = self
@@ -130,14 +134,21 @@ impl Replay {
             .begin(place.actor, call)
             .map_err(|fault| ReplayFault::of_world(place.number, fault))?;
         match begun {
-            Begun::Going => show_begin(writer, place).map_err(|_| ReplayFault::Write),
-            Begun::Ended(answer) => show(writer, place, &answer),
+            Begun::Going => self
+                .form
+                .show_begin(writer, place, call)
+                .map_err(|_| ReplayFault::Write),
+            Begun::Ended(answer) => self
+                .form
+                .show_at_once(writer, place, call, &answer)
+                .map_err(|_| ReplayFault::Write),
         }
     }
 
     // An event of an actor's call, and the word that it changed.
     fn advance(&mut self, place: Place) -> Result<(Stepped, Option<Change>), ReplayFault>
         ensures left { self.new.left ≡ self.old.left }
+        ensures form { self.new.form ≡ self.old.form }
         ensures ok { IfOk result (λ done. IsStepped place.actor self.old.world.world_state self.new.world.world_state done.0 × HasChanged self.old.world.world_state.words.items self.new.world.world_state.words.items done.1) }
         ensures err { IfErr result (λ fault. (why : WorldFault) × FaultsAt (Step place.actor) self.old.world.world_state why × (fault ≡ fault_of_world place.number why)) }
     {
@@ -157,15 +168,19 @@ impl Replay {
     // Goes on by one event. Whether the call goes on.
     fn step<W: Write>(&mut self, writer: &mut W, place: Place) -> Result<bool, ReplayFault>
         ensures left { self.new.left ≡ self.old.left }
-        ensures ok { IfOk result (λ more. (deeds : List Deed) × Shows (Step place.actor) self.old.world.world_state self.new.world.world_state deeds × Appends (W.contents writer.old) (W.contents writer.new) (lines_of place.number place.actor deeds) × (more ≡ false → EndsCall deeds)) }
+        ensures ok { IfOk result (λ more. (deeds : List Deed) × Shows (Step place.actor) self.old.world.world_state self.new.world.world_state deeds × Writes self.old.form self.new.form (W.contents writer.old) (W.contents writer.new) (placed place.number place.actor deeds) × (more ≡ false → EndsCall deeds)) }
         ensures err { IfErr result (λ fault. (fault ≡ ReplayFault.Write) ⊎ ((why : WorldFault) × FaultsAt (Step place.actor) self.old.world.world_state why × (fault ≡ fault_of_world place.number why) × (writer.new ≡ writer.old))) }
     {
         let (said, change) = self.advance(place)?;
-        show_step(writer, place, change).map_err(|_| ReplayFault::Write)?;
+        self.form
+            .show_event(writer, place, change, self.world.words())
+            .map_err(|_| ReplayFault::Write)?;
         match said {
             Stepped::More => Ok(true),
             Stepped::Done(answer) => {
-                show(writer, place, &answer)?;
+                self.form
+                    .show_end(writer, place, &answer)
+                    .map_err(|_| ReplayFault::Write)?;
                 Ok(false)
             }
         }
@@ -178,8 +193,8 @@ impl Replay {
         place: Place,
         times: u64,
     ) -> Result<(), ReplayFault>
-        ensures ok { OnOk result ((deeds : List Deed) × GoesOn place.actor times self.old.left self.old.world.world_state self.new.world.world_state self.new.left deeds × Appends (W.contents writer.old) (W.contents writer.new) (lines_of place.number place.actor deeds)) }
-        ensures err { IfErr result (λ fault. (fault ≡ ReplayFault.Write) ⊎ ((why : WorldFault) × (deeds : List Deed) × FailsAt place.actor (OrderKind.Step times) self.old.world.world_state why deeds × (fault ≡ fault_of_world place.number why) × Appends (W.contents writer.old) (W.contents writer.new) (lines_of place.number place.actor deeds))) }
+        ensures ok { OnOk result ((deeds : List Deed) × GoesOn place.actor times self.old.left self.old.world.world_state self.new.world.world_state self.new.left deeds × Writes self.old.form self.new.form (W.contents writer.old) (W.contents writer.new) (placed place.number place.actor deeds)) }
+        ensures err { IfErr result (λ fault. (fault ≡ ReplayFault.Write) ⊎ ((why : WorldFault) × (deeds : List Deed) × FailsAt place.actor (OrderKind.Step times) self.old.world.world_state why deeds × (fault ≡ fault_of_world place.number why) × Appends (W.contents writer.old) (W.contents writer.new) (texts self.old.form (placed place.number place.actor deeds)))) }
     {
         for _ in 0..times {
             if self.left == 0 {
@@ -200,8 +215,8 @@ impl Replay {
         number: u64,
         order: &Order,
     ) -> Result<(), ReplayFault>
-        ensures ok { OnOk result ((deeds : List Deed) × Does order.now.actor order.now.kind self.old.left self.old.world.world_state self.new.world.world_state self.new.left deeds × Appends (W.contents writer.old) (W.contents writer.new) (lines_of number order.now.actor deeds)) }
-        ensures err { IfErr result (λ fault. (fault ≡ ReplayFault.Write) ⊎ ((why : WorldFault) × (deeds : List Deed) × FailsAt order.now.actor order.now.kind self.old.world.world_state why deeds × (fault ≡ fault_of_world number why) × Appends (W.contents writer.old) (W.contents writer.new) (lines_of number order.now.actor deeds))) }
+        ensures ok { OnOk result ((deeds : List Deed) × Does order.now.actor order.now.kind self.old.left self.old.world.world_state self.new.world.world_state self.new.left deeds × Writes self.old.form self.new.form (W.contents writer.old) (W.contents writer.new) (placed number order.now.actor deeds)) }
+        ensures err { IfErr result (λ fault. (fault ≡ ReplayFault.Write) ⊎ ((why : WorldFault) × (deeds : List Deed) × FailsAt order.now.actor order.now.kind self.old.world.world_state why deeds × (fault ≡ fault_of_world number why) × Appends (W.contents writer.old) (W.contents writer.new) (texts self.old.form (placed number order.now.actor deeds)))) }
     {
         let place = Place {
             number,
@@ -213,14 +228,14 @@ impl Replay {
         }
     }
 
-    /// Does what the records from 2 on say, in order, as long as events are left, and writes the lines of what it does. The world is as `new`
+    /// Does what the records from 2 on say, in order, as long as events are left, and shows what it does. The world is as `new`
     /// or `adopt` made it, or as an earlier `run` left it.
     ///
     /// `Write` where a write failed; then `World` of the first record at which the world has a fault, or `NoMemory` where there was none
-    /// for a call. The lines of what was done before such a fault are written.
+    /// for a call. What was done before such a fault is shown.
     pub fn run<W: Write>(&mut self, writer: &mut W, orders: &[Order]) -> Result<(), ReplayFault>
-        ensures replays { OnOk result ((text : List ℕ) × Replays 2 orders.now self.old.left self.old.world.world_state self.new.world.world_state self.new.left text × Appends (W.contents writer.old) (W.contents writer.new) text) }
-        ensures stops { IfErr result (λ fault. StopsWith orders.now self.old.left self.old.world.world_state fault (λ text. Appends (W.contents writer.old) (W.contents writer.new) text)) }
+        ensures replays { OnOk result ((done : List (Place × Deed)) × Replays 2 orders.now self.old.left self.old.world.world_state self.new.world.world_state self.new.left done × Writes self.old.form self.new.form (W.contents writer.old) (W.contents writer.new) done) }
+        ensures stops { IfErr result (λ fault. StopsWith orders.now self.old.left self.old.world.world_state fault (λ done. Appends (W.contents writer.old) (W.contents writer.new) (texts self.old.form done))) }
     {
         for (i, order) in orders.iter().enumerate() {
             if self.left == 0 {

@@ -13,6 +13,8 @@ use std::convert::AsStr;
 pub enum Show {
     /// A line for each begin, each event and each answer.
     Lines,
+    /// The same as a picture, with a column for each actor and what the words mean.
+    Picture,
     /// The report of the segment as it is at the end.
     Report,
     /// The words of the segment as they are at the end, eight bytes for each.
@@ -49,6 +51,7 @@ fn command<'a>(alloc: Global) -> Result<Command<'a>, AllocError> {
     let schedule = Arg::new(alloc, "SCHEDULE")
         .required(true)
         .help("What the actors are to do, as CSV");
+    let picture = flag(alloc, "show", "Writes a picture that people can read");
     let report = flag(
         alloc,
         "report",
@@ -64,15 +67,20 @@ fn command<'a>(alloc: Global) -> Result<Command<'a>, AllocError> {
         .about(
             "Replays a schedule of calls on a segment, event by event; the segment is new, or goes on with an image",
         )
-        .after_help("Example:\n  stepped examples/race_for_a_name.csv --stop 20 --report")
+        .after_help(
+            "Example:\n  stepped examples/race_for_a_name.csv --stop 20 --report\n  stepped examples/race_for_a_name.csv --show",
+        )
         .arg(schedule)?
         .arg(stop_argument(alloc))?
+        .arg(picture.conflicts_with("report")?.conflicts_with("image")?)?
         .arg(report.conflicts_with("image")?)?
         .arg(image)
 }
 
 fn show_of(matches: &ArgMatches<'_>) -> Show {
-    if matches.get_flag("report") {
+    if matches.get_flag("show") {
+        Show::Picture
+    } else if matches.get_flag("report") {
         Show::Report
     } else if matches.get_flag("image") {
         Show::Image

@@ -6,11 +6,15 @@ ghost use Rattle.segment_image.specs.Head.{head_of, header_of};
 ghost use Rattle.segment_image.specs.Watched.{is_flushed, watched_inner};
 ghost use Rattle.segment_image.specs.Words.{bytes_of_words};
 ghost use Rattle.stepped.specs.Failure.{UsageIsMistake};
+ghost use Rattle.stepped.specs.declared.lines.Place.{Place};
+ghost use Rattle.stepped.specs.Form.{texts};
+ghost use Rattle.stepped.specs.Lines.{Deed};
 ghost use Rattle.stepped.specs.Output.{IsReportOf};
 ghost use Rattle.stepped.specs.Replay.{Replays};
 
 use crate::failure::Failure;
 use crate::fault::ReplayFault;
+use crate::form::Form;
 use crate::replay::Replay;
 use crate::request::{Request, Show, not_text};
 use persist_report_core::text_of;
@@ -67,13 +71,18 @@ fn words_in<R: Files + AllocGlobal>(rt: &R, name: &[u8]) -> Result<Vec<u64>, Rep
 fn start<R: Files + AllocGlobal>(
     rt: &R,
     opening: Opening,
-    events: u64,
+    request: Request<'_>,
 ) -> Result<Replay, ReplayFault> {
+    let Request { events, show, .. } = request;
+    let form = match show {
+        Show::Picture => Form::Picture(0),
+        Show::Lines | Show::Report | Show::Image => Form::Lines,
+    };
     match opening {
-        Opening::New(world) => Replay::new(rt.alloc(), world, events),
+        Opening::New(world) => Replay::new(rt.alloc(), world, events, form),
         Opening::Adopt(file, actors) => {
             let words = words_in(rt, &file)?;
-            Replay::adopt(rt.alloc(), &words, actors, events)
+            Replay::adopt(rt.alloc(), &words, actors, events, form)
         }
     }
 }
@@ -82,10 +91,10 @@ fn start<R: Files + AllocGlobal>(
 fn meet<R: Files + Print + AllocGlobal>(rt: &R, request: Request<'_>) -> Result<(), ReplayFault> {
     let alloc = rt.alloc();
     let Schedule { opening, orders } = schedule_in(rt, request.schedule)?;
-    let mut replay = start(rt, opening, request.events)?;
+    let mut replay = start(rt, opening, request)?;
     let mut writer = Watched::new(io::writer(rt));
     match request.show {
-        Show::Lines => write_lines(alloc, writer, &mut replay, &orders).map(|_| ()),
+        Show::Lines | Show::Picture => write_texts(alloc, writer, &mut replay, &orders).map(|_| ()),
         Show::Report => show_report(alloc, &mut writer, &mut replay, &orders),
         Show::Image => show_image(&mut writer, &mut replay, &orders),
     }
@@ -98,7 +107,7 @@ fn show_report<W: Write>(
     replay: &mut Replay,
     orders: &[Order],
 ) -> Result<(), ReplayFault>
-    ensures shown { OnOk result ((lines : List ℕ) × (text : List ℕ) × Replays 2 orders.now replay.old.left replay.old.world.world_state replay.new.world.world_state replay.new.left lines × IsReportOf replay.new.world.world_state.words.items text × Appends (W.contents (watched_inner writer.old)) (W.contents (watched_inner writer.new)) text) }
+    ensures shown { OnOk result ((done : List (Place × Deed)) × (text : List ℕ) × Replays 2 orders.now replay.old.left replay.old.world.world_state replay.new.world.world_state replay.new.left done × IsReportOf replay.new.world.world_state.words.items text × Appends (W.contents (watched_inner writer.old)) (W.contents (watched_inner writer.new)) text) }
 {
     replay.run(&mut io::sink(), orders)?;
     write_report(alloc, writer, replay.words())
@@ -110,25 +119,25 @@ fn show_image<W: Write>(
     replay: &mut Replay,
     orders: &[Order],
 ) -> Result<(), ReplayFault>
-    ensures shown { OnOk result ((lines : List ℕ) × Replays 2 orders.now replay.old.left replay.old.world.world_state replay.new.world.world_state replay.new.left lines × Appends (W.contents (watched_inner writer.old)) (W.contents (watched_inner writer.new)) (bytes_of_words replay.new.world.world_state.words.items)) }
+    ensures shown { OnOk result ((done : List (Place × Deed)) × Replays 2 orders.now replay.old.left replay.old.world.world_state replay.new.world.world_state replay.new.left done × Appends (W.contents (watched_inner writer.old)) (W.contents (watched_inner writer.new)) (bytes_of_words replay.new.world.world_state.words.items)) }
 {
     replay.run(&mut io::sink(), orders)?;
     write_image(writer, replay.words())
 }
 
-// Writes the lines of a schedule as it is replayed, through a buffer, and gives the writer back. Those before a fault are written too.
-fn write_lines<W: Write + Drop>(
+// Shows a schedule as it is replayed, through a buffer, and gives the writer back. What was done before a fault is shown too.
+fn write_texts<W: Write + Drop>(
     alloc: Global,
     writer: Watched<W>,
     replay: &mut Replay,
     orders: &[Order],
 ) -> Result<Watched<W>, ReplayFault>
-    ensures shown { IfOk result (λ after. (lines : List ℕ) × Replays 2 orders.now replay.old.left replay.old.world.world_state replay.new.world.world_state replay.new.left lines × Appends (W.contents (watched_inner writer)) (W.contents (watched_inner after)) lines) }
+    ensures shown { IfOk result (λ after. (done : List (Place × Deed)) × Replays 2 orders.now replay.old.left replay.old.world.world_state replay.new.world.world_state replay.new.left done × Appends (W.contents (watched_inner writer)) (W.contents (watched_inner after)) (texts replay.old.form done)) }
     ensures flushed { IfOk result (λ after. is_flushed after ≡ true) }
 {
-    let mut lines = io::BufWriter::new(alloc, writer).map_err(|_| ReplayFault::NoMemory)?;
-    let done = replay.run(&mut lines, orders);
-    let mut after = lines.into_inner().map_err(|_| ReplayFault::Write)?;
+    let mut texts = io::BufWriter::new(alloc, writer).map_err(|_| ReplayFault::NoMemory)?;
+    let done = replay.run(&mut texts, orders);
+    let mut after = texts.into_inner().map_err(|_| ReplayFault::Write)?;
     after.flush().map_err(|_| ReplayFault::Write)?;
     done?;
     Ok(after)

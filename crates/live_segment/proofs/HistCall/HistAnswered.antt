@@ -10,6 +10,7 @@ use lib.ListN.{get_elem?}
 use Rattle.bucket_ranges.specs.declared.spec.Spec.{Spec}
 use Rattle.bucket_ranges.specs.declared.spec.Spec.TheVariants as spec
 use Rattle.bucket_ranges.specs.Ranges.{boundaries_of}
+use Rattle.bucket_ranges.specs.Reading.{is_name}
 use Rattle.bucket_ranges.specs.Spec.{SameSpec, spec_fault, spec_fields, spec_ranges}
 use Rattle.segment_image.specs.Shape.{Dimensions}
 use Rattle.segment_machine.specs.declared.actor.Actor.{Actor}
@@ -20,7 +21,7 @@ use Rattle.segment_invariant.proofs.Lists.Elements.{below_length, index_at, from
 use Rattle.segment_invariant.proofs.Walking.Words.{letters_long}
 use Rattle.segment_promises.proofs.Adopting.Opened.Blocks.{test_there}
 use Rattle.segment_calls.specs.declared.asked.Asked.{Asked}
-use Rattle.segment_calls.specs.Asked.{IsAskedFor}
+use Rattle.segment_calls.specs.Asked.{IsAskedFor, IsTooLarge}
 use Rattle.live_segment.specs.declared.recorder.KnownHistogram.{KnownHistogram}
 use Rattle.live_segment.specs.declared.rule.Setting.{Setting}
 use Rattle.live_segment.specs.Adding.{block_words}
@@ -32,6 +33,7 @@ use Rattle.live_segment.specs.Searching.{asked_at}
 use Rattle.live_segment.specs.Settling.{ComesToKnow, IsKnownAs, LooksAround}
 use Rattle.live_segment.specs.Steps.{IsAtRest}
 use Rattle.live_segment.proofs.HistCall.KnownNames.{is_there}
+use Rattle.live_segment.proofs.HistCall.SameLawful.{same_small}
 
 -- ---- which it knows
 
@@ -89,6 +91,19 @@ may_be_asked shape name kind asked is =
       is.lawful_spec,
       λ large. ⊎_elim (λ more. omega (arith, more, all, both, named, page)) (λ more. omega (arith, more, fits)) large,
     )
+
+-- what is right of the one that is read
+pub right_read : (setting : Setting) (a : Actor) (list : List KnownHistogram) (name : List ℕ) (i : ℕ) (read : KnownHistogram) → All (KnowsRight setting a) list
+    → IsKnownAt list name i → read ≡ slice_index_or list i read → KnowsRight setting a read
+right_read setting a list name i read all (known, at, named) is = subst (KnowsRight setting a) (sym is) (all i read (below_length list i known at))
+
+-- one that is known may be asked for by a lawful spec that is the same
+pub may_be_known : (setting : Setting) (a : Actor) (known : KnownHistogram) (name : List ℕ) (kind : Spec) → IsOf setting a → KnowsRight setting a known
+    → known.name.items ≡ name → SameSpec known.spec kind → spec_fault kind ≡ None → MayBeAsked a.segment.shape name kind
+may_be_known setting a known name kind of right named same lawful =
+    subst (λ (d : Dimensions). MayBeAsked d name kind) (sym of.shape)
+    (subst (λ (n : List ℕ). MayBeAsked setting.shape n kind) named
+    (right.named, lawful, same_small setting.shape.page known.name.items known.spec kind same right.small))
 
 -- ---- after a look around
 
@@ -195,7 +210,9 @@ module _ (asked : Asked) (reference : ℕ) (a b : Actor) (comes : ComesToKnow as
       let right = all k d low in
       let known = slice_index_or list k d in
       let (more, is) = chain_grew in record {
+        named = right.named;
         lawful = right.lawful;
+        small = right.small;
         ranges = right.ranges;
         alone =
             ap (λ (l : List Known). known_at l known.reference) names_grew
@@ -213,6 +230,9 @@ module _ (setting : Setting) (name : List ℕ) (kind : Spec) (asked : Asked) (kn
   specified : known.spec ≡ kind
   specified = ap (λ (k : Known). k.spec) is.view ∙ asks.specified
 
+  called : known.name.items ≡ name
+  called = ap (λ (k : Known). k.name) is.view ∙ asks.named
+
   -- no other has its reference
   other_place : (i : ℕ) (x : Known) → get_elem? a.answers.names i ≡ some x → x.reference ≢ known.reference
   other_place i x at same =
@@ -226,7 +246,10 @@ module _ (setting : Setting) (name : List ℕ) (kind : Spec) (asked : Asked) (kn
   -- the one that it has come to know
   right_last : KnowsRight setting b known
   right_last = record {
+    named = ap is_name called ∙ asks.lawful_name;
     lawful = ap spec_fault specified ∙ asks.lawful_spec;
+    small = λ large. (may_be_asked setting.shape name kind asked asks).2
+        (subst (λ (s : Spec). IsTooLarge setting.shape.page name s) specified (subst (λ (n : List ℕ). IsTooLarge setting.shape.page n known.spec) called large));
     ranges = is.ranges ∙ (asks.ranges ∙ ap boundaries_of (sym specified));
     alone =
         ap (λ (l : List Known). known_at l known.reference) (names_grew asked known.reference a b comes)

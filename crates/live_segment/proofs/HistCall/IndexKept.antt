@@ -1,9 +1,8 @@
 -- What a call of a recorder leaves of its index: what it has is right still.
-use Rattle.std.proofs.Common.{◌≡◌, ℕ, ◌+◌, List, [], ◌∷◌, length, Option, Some, None, sym, ap, subst, ◌∙◌}
+use Rattle.std.proofs.Common.{◌≡◌, ℕ, ◌+◌, List, [], length, Option, Some, None, ap, ◌∙◌}
 use Rattle.std.specs.Prelude.{Err}
 use Rattle.segment_machine.specs.declared.actor.Actor.{Actor}
 use Rattle.segment_machine.specs.declared.seen.Seen.{Seen}
-use Rattle.segment_machine.specs.declared.seen.Sighting.{Sighting}
 use Rattle.segment_promises.specs.Onward.{Grows, SeesOn}
 use Rattle.segment_promises.proofs.Growing.{grows_same}
 use Rattle.segment_calls.specs.declared.asked.Asked.{Asked}

@@ -14,7 +14,9 @@ module _ (setting : Setting) (a b : Actor) (names : b.answers.names ≡ a.answer
   pub right_on : (known : KnownHistogram) → KnowsRight setting a known → KnowsRight setting b known
   right_on known right =
       let (more, is) = chain in record {
+        named = right.named;
         lawful = right.lawful;
+        small = right.small;
         ranges = right.ranges;
         alone = ap (λ (l : List Known). known_at l known.reference) names ∙ right.alone;
         met = ap (list_any (λ at. at == known.reference)) is

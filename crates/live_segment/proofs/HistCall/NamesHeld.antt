@@ -1,5 +1,5 @@
 -- The names of the histograms that a recorder knows: which are entered, and what is known where a name is not there.
-use Rattle.std.proofs.Common.{◌≡◌, ◌≢◌, ◌∙◌, ◌==◌, ℕ, ◌+◌, ◌<◌, Bool, true, false, List, [], ◌∷◌, ◌++◌, length, Option, Some, None, if◌then◌else◌, refl, sym, ap, subst, arith, eq-eqb, length-append}
+use Rattle.std.proofs.Common.{◌≡◌, ◌≢◌, ◌∙◌, ◌==◌, ℕ, ◌+◌, ◌<◌, Bool, true, List, [], ◌∷◌, ◌++◌, length, Option, Some, None, if◌then◌else◌, refl, sym, ap, subst, arith, eq-eqb}
 use Rattle.std.specs.Prelude.{is_some, take, get_or}
 use Rattle.std.specs.List.{All}
 use Rattle.std.specs.Option.{option_or}

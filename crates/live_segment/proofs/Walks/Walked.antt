@@ -260,7 +260,9 @@ walk_grows old list new walked = subst (Grows old.seen.chain) (sym (ap (λ (a : 
 pub right_still : (setting : Setting) (old new : Actor) (known : KnownHistogram) → new.answers.names ≡ old.answers.names
     → Grows old.seen.chain new.seen.chain → KnowsRight setting old known → KnowsRight setting new known
 right_still setting old new known names (more, is) right = record {
+  named = right.named;
   lawful = right.lawful;
+  small = right.small;
   ranges = right.ranges;
   room = right.room;
   fits = right.fits;

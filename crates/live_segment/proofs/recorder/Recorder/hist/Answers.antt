@@ -1,43 +1,14 @@
-use Rattle.std.proofs.Common.{List, [], ◌∷◌, ◌++◌, length, map, ap, subst, sym, ◌∙◌, arith, refl, inl, inr, true≢false}
+use Rattle.std.proofs.Common.{List, [], ◌∷◌, ◌++◌, length, map, ap, subst, sym, ◌∙◌, inr}
 use Rattle.std.specs.List.{All}
 use Rattle.std.proofs.lemmas.Result.{err_from_is_err_and}
-use Rattle.segment_invariant.proofs.Lists.Elements.{below_length}
 use Rattle.segment_machine.specs.declared.actor.Known.{Known}
 use Rattle.live_segment.specs.declared.recorder.KnownHistogram.{KnownHistogram}
 use Rattle.live_segment.specs.Known.{known_view, KnowsRight}
 use Rattle.live_segment.specs.Naming.{HasNames}
 use Rattle.live_segment.proofs.Walks.Walked.{all_right, come_still}
-use Rattle.live_segment.proofs.HistCall.HistAnswered.{read_known, none_known, names_still, of_still, rests_still, share_still, chain_grew, of_then, rests_then, share_same, right_then, listed_then, named_then, count_of, asked_here, may_be_asked}
+use Rattle.live_segment.proofs.HistCall.HistAnswered.{none_known, names_still, of_still, rests_still, share_still, chain_grew, of_then, rests_then, share_same, right_then, listed_then, named_then, count_of, asked_here}
 use Rattle.live_segment.proofs.HistCall.Blocks.{makes_named}
 use Rattle.live_segment.proofs.recorder.Recorder.hist.Goals as goal
-use Rattle.live_segment.proofs.recorder.Recorder.hist.Goals.{then-is_same, else-is_same}
-
-pub index-requires : goal.index-requires
-index-requires c =
-    let known = c.args.self.now.known in let below = below_length known.items c.in-Some.index _ c.in-Some.ensures.1 in let count = known.ok.0 in omega (arith, below, count)
-
-pub returns-in-Some-clause-named : goal.returns-in-Some-clause-named
-returns-in-Some-clause-named c =
-    let me = c.args.self.now in
-    let (at, named) =
-    read_known me.known.items me.seat.me.0.answers.names c.args.name.now me.known.len c.in-Some.index c.index.result.now me.listed me.known.ok.0 c.in-Some.ensures c.index.ensures in
-    elim c.if-is_same.branch [
-      | then-is_same w ↦ rw w.result-is (below_length me.seat.me.0.answers.names c.in-Some.index _ at, (known_view c.index.result.now, at, named, c.is_same.ensures.0 w.if-is_same.true))
-      | else-is_same w ↦ rw w.result-is tt
-    ]
-
-pub returns-in-Some-clause-answer : goal.returns-in-Some-clause-answer
-returns-in-Some-clause-answer c =
-    let me = c.args.self.now in
-    let (at, named) =
-    read_known me.known.items me.seat.me.0.answers.names c.args.name.now me.known.len c.in-Some.index c.index.result.now me.listed me.known.ok.0 c.in-Some.ensures c.index.ensures in
-    let may = may_be_asked me.seat.me.0.segment.shape c.args.name.now c.args.spec.now c.in_ok-asked.asked
-    (asked_here me.segment.now.setting me.seat.me.0 me.seated.of c.in_ok-asked.ensures) in
-    elim c.if-is_same.branch [
-      | then-is_same w ↦ rw w.result-is (inl (known_view c.index.result.now, (at, named), c.is_same.ensures.0 w.if-is_same.true, may, refl))
-      | else-is_same w ↦ rw w.result-is
-          (inr (inl (refl, (c.in-Some.index, known_view c.index.result.now, (at, named), λ same. true≢false (sym (c.is_same.ensures.1 same) ∙ w.if-is_same.false)), may, refl)))
-    ]
 
 pub invariant_of-self-in-Break-branch-3 : goal.invariant_of-self-in-Break-branch-3
 invariant_of-self-in-Break-branch-3 c =

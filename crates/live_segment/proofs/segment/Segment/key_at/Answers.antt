@@ -1,4 +1,4 @@
-use Rattle.std.proofs.Common.{◌+◌, ap, arith, refl, inl, inr, ◌∙◌}
+use Rattle.std.proofs.Common.{◌+◌, ap, refl, inl, inr, ◌∙◌}
 use Rattle.std.specs.Prelude.{Some}
 use Rattle.segment_promises.proofs.Growing.{still}
 use Rattle.live_segment.proofs.Walks.Showing.{may_load_fixed, sees_one, seen_one}

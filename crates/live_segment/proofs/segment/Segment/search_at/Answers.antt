@@ -1,10 +1,8 @@
-use Rattle.std.proofs.Common.{Bool, refl, subst, ap}
+use Rattle.std.proofs.Common.{Bool, subst}
 use Rattle.live_segment.specs.Finding.{ShowsName, ShowsSpec}
-use Rattle.segment_promises.proofs.Growing.{grows_not, grows_same}
-use Rattle.live_segment.proofs.Walks.Ends.{all_on}
-use Rattle.live_segment.proofs.Walks.Showing.{same_on, sees_on, meets_still}
+use Rattle.live_segment.proofs.Walks.Showing.{sees_on, meets_still}
 use Rattle.live_segment.proofs.HistCall.ByIndex.{meets_it, room_it, walk_anew, met_here, other_here}
-use Rattle.live_segment.proofs.HistCall.Searching.{searched_on, sees_searched, seat_on}
+use Rattle.live_segment.proofs.HistCall.Searching.{sees_searched, seat_on}
 use Rattle.live_segment.proofs.segment.Segment.search_at.Goals as goal
 
 pub shows_name-requires-clause-met : goal.shows_name-requires-clause-met

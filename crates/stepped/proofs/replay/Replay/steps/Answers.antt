@@ -1,8 +1,9 @@
 use Rattle.std.proofs.Common.{rules, ◌≡◌, false, ◌+◌, ◌++◌, inl, inr, ⊎_elim, sym, subst, arith}
 use Rattle.std.proofs.lemmas.Result.{err_from_is_err_and}
 use Rattle.std.specs.Io.KnownBytes.{Appends}
-use Rattle.stepped.specs.Replay.{lines_of}
-use Rattle.stepped.proofs.Shown.{ends_behind, goes_next, lines_both}
+use Rattle.stepped.specs.Form.{texts}
+use Rattle.stepped.specs.Replay.{placed}
+use Rattle.stepped.proofs.Shown.{ends_behind, goes_next, writes_placed}
 use Rattle.stepped.proofs.replay.Replay.steps.Goals as goal
 
 pub returns-in_err-step-clause-err : goal.returns-in_err-step-clause-err
@@ -15,7 +16,7 @@ returns-in_err-step-clause-err g c =
       so_far.0,
       (c.loop.counter, c.loop.self.world.world_state, c.loop-test.true, so_far.1, faults),
       is,
-      subst (λ (writer : _). Appends (contents c.args.writer.now) (contents writer) (lines_of place.number place.actor so_far.0)) (sym same) so_far.3,
+      subst (λ (writer : _). Appends (contents c.args.writer.now) (contents writer) (texts c.args.self.now.form (placed place.number place.actor so_far.0))) (sym same) so_far.3.1,
     ))
     c.in_err-step.ensures.err)
 
@@ -31,7 +32,7 @@ returns-then-not-branch-clause-ok g c =
         few = omega (arith, c.loop-test.true);
         whole = inr (inr (ends_behind so_far.0 its.0 (its.3 over)));
       },
-      lines_both place.number place.actor (contents c.args.writer.now) (contents c.loop.writer) (contents c.step.new.writer) so_far.0 its.0 so_far.3 its.2,
+      writes_placed place.number place.actor c.args.self.now.form c.loop.self.form c.step.new.self.form (contents c.args.writer.now) (contents c.loop.writer) (contents c.step.new.writer) so_far.0 its.0 so_far.3 its.2,
     )
 
 pub loop-preserved : goal.loop-preserved
@@ -40,5 +41,5 @@ loop-preserved g c =
       so_far.0 ++ its.0,
       goes_next place.actor c.loop.counter c.args.self.now.world.world_state c.loop.self.world.world_state c.step.new.self.world.world_state so_far.0 its.0 so_far.1 its.1,
       omega (arith, so_far.2, c.step.ensures.left, c.if-self-eq0.false),
-      lines_both place.number place.actor (contents c.args.writer.now) (contents c.loop.writer) (contents c.step.new.writer) so_far.0 its.0 so_far.3 its.2,
+      writes_placed place.number place.actor c.args.self.now.form c.loop.self.form c.step.new.self.form (contents c.args.writer.now) (contents c.loop.writer) (contents c.step.new.writer) so_far.0 its.0 so_far.3 its.2,
     )

@@ -1,0 +1,4 @@
+pub mod Answering
+pub mod Order
+pub mod Steps
+pub mod Totals

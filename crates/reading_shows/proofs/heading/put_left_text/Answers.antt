@@ -1,0 +1,16 @@
+use Rattle.std.proofs.Common.{rules}
+use mir.Syntax.{w128}
+use mir.Val.{SFits}
+use Rattle.std.proofs.lemmas.Int.{to_z-of_z}
+use Rattle.reading_shows.proofs.heading.put_left_text.Goals as goal
+
+pub returns : goal.returns
+returns c =
+    let fits : SFits w128 c.args.sum = search rules in
+    rw (
+      c.as_bytes.ensures.value,
+      c.in_ok-units.ensures.ok,
+      c.as_bytes-2.ensures.value,
+      c.in_ok-sum.ensures.ok,
+      to_z-of_z w128 c.args.sum fits,
+    ) at c.in_ok-put_parts.ensures

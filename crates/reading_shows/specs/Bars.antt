@@ -1,0 +1,33 @@
+-- The bar of a bucket, whose length is in proportion to that of the bucket that has the most units.
+use Rattle.std.specs.Prelude.{ℕ, ◌+◌, ◌-◌, ◌*◌, ◌/◌, ◌%◌, if◌then◌else◌, ◌==◌, min, List, [], ◌∷◌, ◌++◌, codes}
+use Rattle.reading_shows.specs.declared.style.Style.{Style}
+use Rattle.reading_shows.specs.Columns.{times}
+use Rattle.reading_shows.specs.Shares.{share_of}
+
+-- how many of `marks` marks the bar of so many units has, rounded up: one at least where there are units, and all of
+-- them where no bucket has more
+abbrev pub marks_of : ℕ → ℕ → ℕ → ℕ
+marks_of units most marks = min (share_of units most marks (most - 1)) marks
+
+-- a cell of which so many eighths are filled, from 1 to 8, in UTF-8
+abbrev pub block : ℕ → List ℕ
+block eighths = 226 ∷ (150 ∷ ((144 - eighths) ∷ []))
+
+-- what is left of a cell behind whole ones
+abbrev pub part_of_cell : ℕ → List ℕ
+part_of_cell eighths = if eighths == 0 then [] else block eighths
+
+-- a bar of blocks, and blanks up to its width
+abbrev pub block_bar : ℕ → ℕ → List ℕ
+block_bar width eighths =
+    times (eighths / 8) (block 8) ++ part_of_cell (eighths % 8) ++ times (width - (eighths + 7) / 8) (codes " ")
+
+-- a bar of plain signs, and blanks up to its width
+abbrev pub sign_bar : ℕ → ℕ → List ℕ
+sign_bar width signs = times signs (codes "#") ++ times (width - signs) (codes " ")
+
+-- the bar of so many units where the most are these
+abbrev pub bar : Style → ℕ → ℕ → List ℕ
+bar style units most =
+    if style.is_ascii then sign_bar style.width (marks_of units most style.width)
+    else block_bar style.width (marks_of units most (style.width * 8))

@@ -1,0 +1,11 @@
+-- Texts that stand in columns.
+use Rattle.std.specs.Prelude.{ℕ, ◌-◌, List, ◌++◌, length, codes, replicate}
+use Rattle.std.specs.List.{flat_map}
+
+-- a text so many times
+abbrev pub times : ℕ → List ℕ → List ℕ
+times n piece = flat_map (λ one. one) (replicate n piece)
+
+-- a text at the right end of a column, behind blanks; one that is longer is not cut
+abbrev pub at_right : ℕ → List ℕ → List ℕ
+at_right width text = times (width - length text) (codes " ") ++ text

@@ -1,0 +1,10 @@
+pub use Rattle.image_reader.specs.Views
+pub use Rattle.image_reader.specs.Readable
+pub use Rattle.bucket_ranges.specs.Reading
+pub mod Columns
+pub mod Shares
+pub mod Bars
+pub mod Choice
+pub mod Most
+pub mod Showing
+pub mod Writing

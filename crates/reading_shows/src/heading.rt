@@ -1,0 +1,199 @@
+//! What stands above the lines of a histogram: its name, its numbers and its quantiles.
+
+ghost use Rattle.std.specs.Prelude.{◌≡◌, ◌<◌, ◌++◌, ◌-◌, ◌-ℤ◌, get_or, IfOk, OnOk};
+ghost use Rattle.std.specs.List.{find};
+ghost use Rattle.image_reader.specs.Views.{histogram_view};
+ghost use Rattle.image_reader.specs.Readable.{IsReadable};
+ghost use Rattle.reading_shows.specs.Showing.{range_text as range_text_of, reaches as reaches_of, quantile as quantile_of, range_of_found as range_of_found_of, quantile_line, name_lines, left_of, left_text, left_line};
+
+use crate::columns::put_parts;
+use crate::shares::mean;
+use crate::words::kind_word;
+use image_reader::HistReading;
+use reading_texts::{HistRow, units};
+use std::alloc::{AllocError, Global};
+
+// The values of a row.
+pub(crate) fn range_text(
+    alloc: Global,
+    is_sparse: bool,
+    row: &HistRow,
+) -> Result<Vec<u8>, AllocError>
+    ensures { IfOk result (λ text. text.items ≡ range_text_of is_sparse row.now) }
+{
+    let low = row.low.to_string(alloc)?;
+    let mut text = Vec::new(alloc);
+    if is_sparse {
+        text.extend_from_slice(low.as_bytes())?;
+        return Ok(text);
+    }
+    let high = row.high.to_string(alloc)?;
+    put_parts(
+        &mut text,
+        &[b"[", low.as_bytes(), b", ", high.as_bytes(), b")"],
+    )?;
+    Ok(text)
+}
+
+// Whether the units up to a row are so many percent of all, or more.
+fn reaches(total: u64, hundredths: u32, row: &HistRow) -> bool
+    ensures { result ≡ reaches_of total hundredths row.now }
+{
+    let up_to = row.up_to;
+    u128::from(hundredths) * u128::from(total) <= 100 * u128::from(up_to)
+}
+
+// The first row up to which there are so many percent of all units.
+fn first_reaching(total: u64, rows: &[HistRow], hundredths: u32) -> Option<HistRow>
+    ensures { result ≡ find (reaches_of total hundredths) rows.now }
+{
+    for row in rows {
+        if reaches(total, hundredths, row) {
+            return Some(*row);
+        }
+    }
+    None
+}
+
+// The row that holds a quantile; none of no units.
+fn quantile(total: u64, rows: &[HistRow], hundredths: u32) -> Option<HistRow>
+    ensures { result ≡ quantile_of total rows.now hundredths }
+{
+    if total == 0 {
+        return None;
+    }
+    first_reaching(total, rows, hundredths)
+}
+
+// The values of the row that holds a quantile.
+fn quantile_range(
+    alloc: Global,
+    is_sparse: bool,
+    total: u64,
+    rows: &[HistRow],
+    hundredths: u32,
+) -> Result<Vec<u8>, AllocError>
+    ensures { IfOk result (λ text. text.items ≡ range_of_found_of is_sparse (quantile_of total rows.now hundredths)) }
+{
+    match quantile(total, rows, hundredths) {
+        Some(row) => range_text(alloc, is_sparse, &row),
+        None => Vec::from_slice(alloc, b"none"),
+    }
+}
+
+// Puts the line of the quantiles.
+pub(crate) fn put_quantiles(
+    alloc: Global,
+    text: &mut Vec<u8>,
+    is_sparse: bool,
+    total: u64,
+    rows: &[HistRow],
+) -> Result<(), AllocError>
+    ensures { OnOk result (text.new.items ≡ text.old.items ++ quantile_line is_sparse total rows.now) }
+{
+    let half = quantile_range(alloc, is_sparse, total, rows, 50)?;
+    let most = quantile_range(alloc, is_sparse, total, rows, 90)?;
+    let nearly_all = quantile_range(alloc, is_sparse, total, rows, 99)?;
+    put_parts(
+        text,
+        &[
+            b"  50%: ",
+            half.as_slice(),
+            b", 90%: ",
+            most.as_slice(),
+            b", 99%: ",
+            nearly_all.as_slice(),
+            b"\n",
+        ],
+    )
+}
+
+// Puts the lines of the name, and of the kind, the units, the sum and the mean.
+pub(crate) fn put_name(
+    alloc: Global,
+    text: &mut Vec<u8>,
+    hist: &HistReading,
+) -> Result<(), AllocError>
+    requires { IsReadable (histogram_view hist.now) }
+    ensures { OnOk result (text.new.items ≡ text.old.items ++ name_lines (histogram_view hist.now)) }
+{
+    let units = units(hist);
+    let mean = mean(alloc, hist.sum, units)?;
+    let units = units.to_string(alloc)?;
+    let sum = hist.sum.to_string(alloc)?;
+    put_parts(
+        text,
+        &[
+            hist.name.as_slice(),
+            b"\n  ",
+            kind_word(&hist.spec),
+            b", units ",
+            units.as_bytes(),
+            b", sum ",
+            sum.as_bytes(),
+            b", mean ",
+            mean.as_slice(),
+            b"\n",
+        ],
+    )
+}
+
+// The units that no delta has taken of a bucket with this mark, where it has one.
+fn left_at(count: u64, marks: &[u64], i: usize) -> u64
+    ensures { result ≡ count - get_or marks.now i 0 }
+{
+    match marks.get(i) {
+        Some(mark) => count.saturating_sub(*mark),
+        None => count,
+    }
+}
+
+// The units of a histogram that no delta has taken.
+fn left(hist: &HistReading) -> u64
+    requires { IsReadable (histogram_view hist.now) }
+    ensures { result ≡ left_of (histogram_view hist.now) }
+{
+    let mut left = 0;
+    for (i, bucket) in hist.counts.iter().enumerate() {
+        left += left_at(bucket.1, hist.marks.as_slice(), i);
+    }
+    left
+}
+
+// The part of the sum that no delta has taken.
+fn sum_left(sum: i64, mark: i64) -> i128
+    ensures { result ≡ sum -ℤ mark }
+{
+    i128::from(sum) - i128::from(mark)
+}
+
+// Puts the line of these units and this sum, which no delta has taken.
+fn put_left_text(alloc: Global, text: &mut Vec<u8>, units: u64, sum: i128) -> Result<(), AllocError>
+    ensures { OnOk result (text.new.items ≡ text.old.items ++ left_text units sum) }
+{
+    let units = units.to_string(alloc)?;
+    let sum = sum.to_string(alloc)?;
+    put_parts(
+        text,
+        &[
+            b"  not yet taken by deltas: units ",
+            units.as_bytes(),
+            b", sum ",
+            sum.as_bytes(),
+            b"\n",
+        ],
+    )?;
+    Ok(())
+}
+
+// Puts the line of what no delta has taken.
+pub(crate) fn put_left(
+    alloc: Global,
+    text: &mut Vec<u8>,
+    hist: &HistReading,
+) -> Result<(), AllocError>
+    requires { IsReadable (histogram_view hist.now) }
+    ensures { OnOk result (text.new.items ≡ text.old.items ++ left_line (histogram_view hist.now)) }
+{
+    put_left_text(alloc, text, left(hist), sum_left(hist.sum, hist.sum_mark))
+}

@@ -1,0 +1,133 @@
+//! The lines of the rows of a histogram.
+
+ghost use Rattle.std.specs.Prelude.{◌≡◌, ◌<◌, ◌^◌, ◌++◌, length, sum_by, OnOk};
+ghost use Rattle.reading_shows.specs.Showing.{most_of, begins_run as begins_run_of, unit_line, line_at, row_lines, left_out_line};
+
+use crate::bars::bar;
+use crate::columns::{at_right, put_parts};
+use crate::heading::range_text;
+use crate::shares::percent;
+use crate::style::Frame;
+use reading_texts::HistRow;
+use std::alloc::{AllocError, Global};
+
+// The most units that a row has.
+pub(crate) fn most(rows: &[HistRow]) -> u64
+    ensures { result ≡ most_of rows.now }
+{
+    let mut most = 0;
+    for row in rows {
+        most = most.max(row.units);
+    }
+    most
+}
+
+// Whether row `i` is the first of its run, where it has no units.
+fn begins_run(rows: &[HistRow], i: usize) -> bool
+    requires { i < length rows.now }
+    ensures { result ≡ begins_run_of rows.now i }
+{
+    i == 0 || rows[i - 1].units != 0
+}
+
+// Puts the line of a row that has units.
+fn put_units(
+    alloc: Global,
+    text: &mut Vec<u8>,
+    frame: Frame,
+    row: &HistRow,
+) -> Result<(), AllocError>
+    ensures { OnOk result (text.new.items ≡ text.old.items ++ unit_line frame row.now) }
+{
+    let range = range_text(alloc, frame.is_sparse, row)?;
+    let range = at_right(alloc, 24, range.as_slice())?;
+    let bar = bar(alloc, frame.style, row.units, frame.most)?;
+    let units = row.units.to_string(alloc)?;
+    let units = at_right(alloc, 11, units.as_bytes())?;
+    let share = percent(alloc, row.units, frame.total)?;
+    let share = at_right(alloc, 8, share.as_slice())?;
+    let up_to = percent(alloc, row.up_to, frame.total)?;
+    let up_to = at_right(alloc, 8, up_to.as_slice())?;
+    put_parts(
+        text,
+        &[
+            range.as_slice(),
+            b" ",
+            bar.as_slice(),
+            units.as_slice(),
+            share.as_slice(),
+            up_to.as_slice(),
+            b"\n",
+        ],
+    )
+}
+
+// Puts the line of row `i`; only the first row of a run without units has one.
+fn put_row(
+    alloc: Global,
+    text: &mut Vec<u8>,
+    frame: Frame,
+    rows: &[HistRow],
+    i: usize,
+) -> Result<(), AllocError>
+    requires { i < length rows.now }
+    ensures { OnOk result (text.new.items ≡ text.old.items ++ line_at frame rows.now i) }
+{
+    if rows[i].units != 0 {
+        return put_units(alloc, text, frame, &rows[i]);
+    }
+    if begins_run(rows, i) {
+        let dots = at_right(alloc, 24, b"...")?;
+        put_parts(text, &[dots.as_slice(), b"\n"])?;
+    }
+    Ok(())
+}
+
+// Puts the lines of rows.
+pub(crate) fn put_rows(
+    alloc: Global,
+    text: &mut Vec<u8>,
+    frame: Frame,
+    rows: &[HistRow],
+) -> Result<(), AllocError>
+    ensures { OnOk result (text.new.items ≡ text.old.items ++ row_lines frame rows.now) }
+{
+    for i in 0..rows.len() {
+        put_row(alloc, text, frame, rows, i)?;
+    }
+    Ok(())
+}
+
+// The units of rows together.
+fn units_together(rows: &[HistRow]) -> u64
+    requires { sum_by (λ row. row.units) rows.now < 2 ^ 64 }
+    ensures { result ≡ sum_by (λ row. row.units) rows.now }
+{
+    rows.iter().map(|row| row.units).sum()
+}
+
+// Puts the line of the rows that are left out.
+pub(crate) fn put_left_out(
+    alloc: Global,
+    text: &mut Vec<u8>,
+    rows: &[HistRow],
+) -> Result<(), AllocError>
+    requires { sum_by (λ row. row.units) rows.now < 2 ^ 64 }
+    ensures { OnOk result (text.new.items ≡ text.old.items ++ left_out_line rows.now) }
+{
+    if rows.is_empty() {
+        return Ok(());
+    }
+    let count = rows.len().to_string(alloc)?;
+    let units = units_together(rows).to_string(alloc)?;
+    put_parts(
+        text,
+        &[
+            b"  The values that are left out number ",
+            count.as_bytes(),
+            b", and have ",
+            units.as_bytes(),
+            b" units together.\n",
+        ],
+    )
+}

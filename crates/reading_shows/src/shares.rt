@@ -1,0 +1,61 @@
+//! Shares, percents and means, in whole numbers.
+
+ghost use Rattle.std.specs.Prelude.{◌≡◌, ◌<◌, IfOk};
+ghost use Rattle.reading_shows.specs.Shares.{share_of, size_of_mean as size_of_mean_of, mean as mean_of, percent as percent_of};
+
+use crate::columns::put_parts;
+use std::alloc::{AllocError, Global};
+
+// How many of `shares` equal shares of a whole a part is, where `added` says how it is rounded; 0 of nothing.
+pub(crate) fn share(part: u64, whole: u64, shares: u32, added: u64) -> u128
+    ensures { result ≡ share_of part whole shares added }
+{
+    if whole == 0 {
+        return 0;
+    }
+    (u128::from(part) * u128::from(shares) + u128::from(added)) / u128::from(whole)
+}
+
+// A part in percent, to the nearest tenth.
+pub(crate) fn percent(alloc: Global, part: u64, whole: u64) -> Result<Vec<u8>, AllocError>
+    ensures { IfOk result (λ text. text.items ≡ percent_of part whole) }
+{
+    let tenths = share(part, whole, 1000, whole / 2);
+    let before = (tenths / 10).to_string(alloc)?;
+    let behind = (tenths % 10).to_string(alloc)?;
+    let mut text = Vec::new(alloc);
+    put_parts(
+        &mut text,
+        &[before.as_bytes(), b".", behind.as_bytes(), b"%"],
+    )?;
+    Ok(text)
+}
+
+// The size of a sum over so many units, to the tenth below.
+fn size_of_mean(alloc: Global, size: u64, units: u64) -> Result<Vec<u8>, AllocError>
+    requires { 0 < units }
+    ensures { IfOk result (λ text. text.items ≡ size_of_mean_of size units) }
+{
+    let before = (size / units).to_string(alloc)?;
+    let behind = share(size % units, units, 10, 0).to_string(alloc)?;
+    let mut text = Vec::new(alloc);
+    put_parts(&mut text, &[before.as_bytes(), b".", behind.as_bytes()])?;
+    Ok(text)
+}
+
+// A sum over so many units, cut to a tenth toward 0; none of no units.
+pub(crate) fn mean(alloc: Global, sum: i64, units: u64) -> Result<Vec<u8>, AllocError>
+    ensures { IfOk result (λ text. text.items ≡ mean_of sum units) }
+{
+    let mut text = Vec::new(alloc);
+    if units == 0 {
+        text.extend_from_slice(b"none")?;
+        return Ok(text);
+    }
+    if sum < 0 {
+        text.push(b'-')?;
+    }
+    let size = size_of_mean(alloc, sum.unsigned_abs(), units)?;
+    text.extend_from_slice(size.as_slice())?;
+    Ok(text)
+}

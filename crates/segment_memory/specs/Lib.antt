@@ -1,0 +1,4 @@
+pub mod Blocks
+pub mod Memory
+pub mod Rooms
+pub mod Shelf

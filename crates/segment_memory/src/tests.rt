@@ -1,0 +1,57 @@
+//! What no clause says: that blocks are given where there is memory, and that a room comes back.
+
+use crate::block::Block;
+use crate::memory::{Lender, Memory};
+use crate::room::Room;
+use std::alloc::{AllocError, Global};
+
+// A room of so many bytes. The heap does not get it back.
+fn room(heap: Global, size: usize) -> Result<Room, AllocError> {
+    if size < 16 || size % 16 != 0 || size > 4096 {
+        return Err(AllocError);
+    }
+    Ok(Block::reserve(&heap, size).ok_or(AllocError)?.into_room())
+}
+
+// What threads may share and move compiles here.
+fn crosses<T: Send + Sync>(_: &T) {}
+
+#[test]
+fn the_heap_gives_and_takes(rt: HostRuntime) -> Result<(), AllocError> {
+    let heap = rt.alloc();
+    let numbers = Vec::from_slice(Memory::of_heap(heap), &[7u64; 100])?;
+    assert_eq!(rt; numbers[99], 7);
+    let none: Vec<u64, Memory> = Vec::from_slice(Memory::of_heap(heap), &[])?;
+    assert!(rt; none.is_empty());
+    Ok(())
+}
+
+#[test]
+fn a_room_is_handed_out_once_and_comes_back(rt: HostRuntime) -> Result<(), AllocError> {
+    let heap = rt.alloc();
+    let Ok((memory, lender)) = Lender::lend(heap, room(heap, 64)?) else {
+        return Err(AllocError);
+    };
+    let numbers = Vec::from_slice(&memory, &[1u64, 2, 3, 4, 5, 6, 7, 8])?;
+    crosses(&memory);
+    crosses(&lender);
+    assert!(rt; lender.take_back().is_none());
+    assert!(rt; Vec::from_slice(&memory, &[1u64]).is_err());
+    assert_eq!(rt; numbers[7], 8);
+    drop(numbers);
+    assert!(rt; lender.take_back().is_some());
+    assert!(rt; lender.take_back().is_none());
+    assert!(rt; Vec::from_slice(&memory, &[1u64]).is_err());
+    Ok(())
+}
+
+#[test]
+fn what_is_larger_than_the_room_is_refused(rt: HostRuntime) -> Result<(), AllocError> {
+    let heap = rt.alloc();
+    let Ok((memory, lender)) = Lender::lend(heap, room(heap, 32)?) else {
+        return Err(AllocError);
+    };
+    assert!(rt; Vec::from_slice(&memory, &[1u64, 2, 3, 4, 5]).is_err());
+    assert!(rt; lender.take_back().is_some());
+    Ok(())
+}

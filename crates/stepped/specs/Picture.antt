@@ -1,0 +1,44 @@
+-- The rows of a picture of what is done: a column for each actor, a row for each begin, each event and each answer.
+use Rattle.std.specs.Prelude.{ℕ, zero, suc, List, [], ◌++◌, codes, Option, Some, None}
+use Rattle.std.specs.Fmt.{decimal, signed_decimal}
+use Rattle.hist_core.specs.declared.call.Answer.{Answer}
+use Rattle.hist_core.specs.declared.call.Call.{Call}
+use Rattle.hist_core.specs.declared.call.Call.TheVariants.{Hist, Add, Delta, Snapshot, Batch, SetCorrupt}
+use Rattle.stepped.specs.declared.lines.Change.{Change}
+use Rattle.stepped.specs.Lines.{answer_fields, behind}
+use Rattle.stepped.specs.Meaning.{meaning}
+
+-- what a call asks for
+abbrev pub call_text : Call → List ℕ
+call_text (Hist name spec) = codes "hist " ++ name.items
+call_text (Add name value count) = codes "add " ++ name.items ++ codes " " ++ signed_decimal value ++ codes " " ++ decimal count
+call_text (Delta name) = codes "delta " ++ name.items
+call_text (Snapshot name) = codes "snapshot " ++ name.items
+call_text (Batch name items sum) = codes "batch " ++ name.items
+call_text SetCorrupt = codes "set_corrupt"
+
+-- a call that begins
+abbrev pub begin_cell : ℕ → Call → List ℕ
+begin_cell actor call = codes "actor " ++ decimal actor ++ codes ": " ++ call_text call
+
+-- An event: what the word that it changed means as the words then stand, what it was and what it is; or that it changed none.
+abbrev pub event_cell : List ℕ → Option Change → List ℕ
+event_cell words None = codes "-"
+event_cell words (Some change) = meaning words change.at ++ codes " " ++ decimal change.old ++ codes " -> " ++ decimal change.new
+
+-- a call's answer
+abbrev pub answer_cell : Answer → List ℕ
+answer_cell answer = codes "answer" ++ behind (answer_fields answer)
+
+-- the way to the column of an actor: 32 spaces for each before
+abbrev pub column : ℕ → List ℕ
+column zero = []
+column (suc actor) = column actor ++ codes "                                "
+
+-- how a row begins: a number, or none, and the way to the column
+abbrev pub row_start : List ℕ → ℕ → List ℕ
+row_start number actor = number ++ codes "\t" ++ column actor
+
+-- a row, with what stands in the column
+abbrev pub row : List ℕ → ℕ → List ℕ → List ℕ
+row number actor cell = row_start number actor ++ cell ++ codes "\n"

@@ -1,0 +1,87 @@
+//! How what is done is shown: by lines for programs, or by the rows of a picture for people.
+
+ghost use Rattle.std.specs.Prelude.{◌≡◌, OnOk};
+ghost use Rattle.std.specs.Io.KnownBytes.{Appends};
+ghost use Rattle.stepped.specs.Form.{form_after, text_of};
+ghost use Rattle.stepped.specs.Lines.Deed.{Begins, AtOnce, Steps, Ends};
+
+use crate::lines::{Change, Place, show_answer, show_begin, show_step};
+use crate::picture::{draw_answer, draw_begin, draw_event};
+use hist_core::{Answer, Call};
+use std::io;
+use std::io::Write;
+
+/// How what is done is shown.
+#[derive(Clone, Copy, Debug, PartialEq, Eq)]
+pub enum Form {
+    /// By a line each.
+    Lines,
+    /// By the rows of a picture, behind those of so many events.
+    Picture(u64),
+}
+
+impl Form {
+    /// Shows a call that begins. The error is the writer's.
+    pub fn show_begin<W: Write>(&self, writer: &mut W, place: Place, call: &Call) -> io::Result<()>
+        ensures { OnOk result (Appends (W.contents writer.old) (W.contents writer.new) (text_of self.now place (Begins call.now))) }
+    {
+        match self {
+            Form::Lines => show_begin(writer, place),
+            Form::Picture(_) => draw_begin(writer, place.actor, call),
+        }
+    }
+
+    /// Shows a call that needs no event, and has ended with an answer. The error is the writer's.
+    pub fn show_at_once<W: Write>(
+        &self,
+        writer: &mut W,
+        place: Place,
+        call: &Call,
+        answer: &Answer,
+    ) -> io::Result<()>
+        ensures { OnOk result (Appends (W.contents writer.old) (W.contents writer.new) (text_of self.now place (AtOnce call.now answer.now))) }
+    {
+        match self {
+            Form::Lines => show_answer(writer, place, answer),
+            Form::Picture(_) => {
+                draw_begin(writer, place.actor, call)?;
+                draw_answer(writer, place.actor, answer)
+            }
+        }
+    }
+
+    /// Shows an event, with the word that it changed, as the words then stand. The error is the writer's.
+    pub fn show_event<W: Write>(
+        &mut self,
+        writer: &mut W,
+        place: Place,
+        change: Option<Change>,
+        words: &[u64],
+    ) -> io::Result<()>
+        ensures form { self.new ≡ form_after (Steps words.now change) self.old }
+        ensures text { OnOk result (Appends (W.contents writer.old) (W.contents writer.new) (text_of self.old place (Steps words.now change))) }
+    {
+        match self {
+            Form::Lines => show_step(writer, place, change),
+            Form::Picture(events) => {
+                *events = events.saturating_add(1);
+                draw_event(writer, *events, place.actor, change, words)
+            }
+        }
+    }
+
+    /// Shows the answer of a call that has ended by its last event. The error is the writer's.
+    pub fn show_end<W: Write>(
+        &self,
+        writer: &mut W,
+        place: Place,
+        answer: &Answer,
+    ) -> io::Result<()>
+        ensures { OnOk result (Appends (W.contents writer.old) (W.contents writer.new) (text_of self.now place (Ends answer.now))) }
+    {
+        match self {
+            Form::Lines => show_answer(writer, place, answer),
+            Form::Picture(_) => draw_answer(writer, place.actor, answer),
+        }
+    }
+}

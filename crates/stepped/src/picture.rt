@@ -1,0 +1,111 @@
+//! The rows of a picture of what is done: a column for each actor, a row for each begin, each event and each answer.
+
+ghost use Rattle.std.specs.Prelude.{◌≡◌, [], Some, None, OnOk};
+ghost use Rattle.std.specs.Fmt.{decimal};
+ghost use Rattle.std.specs.Io.KnownBytes.{Appends};
+ghost use Rattle.stepped.specs.Picture.{answer_cell, begin_cell, call_text, column, event_cell, row, row_start};
+
+use crate::lines::{Change, put_answer};
+use crate::meaning::put_meaning;
+use hist_core::{Answer, Call};
+use std::io;
+use std::io::Write;
+
+// What stands to the left of a column for each actor before.
+const GAP: &[u8] = b"                                ";
+
+// Goes to the column of an actor.
+fn put_column<W: Write>(writer: &mut W, actor: usize) -> io::Result<()>
+    ensures { OnOk result (Appends (W.contents writer.old) (W.contents writer.new) (column actor)) }
+{
+    for _ in 0..actor {
+        writer.write_all(GAP)?;
+    }
+    Ok(())
+}
+
+// Begins a row that has no number.
+fn start_row<W: Write>(writer: &mut W, actor: usize) -> io::Result<()>
+    ensures { OnOk result (Appends (W.contents writer.old) (W.contents writer.new) (row_start [] actor)) }
+{
+    writer.write_all(b"\t")?;
+    put_column(writer, actor)
+}
+
+// Begins the row of an event, with its number.
+fn start_event<W: Write>(writer: &mut W, event: u64, actor: usize) -> io::Result<()>
+    ensures { OnOk result (Appends (W.contents writer.old) (W.contents writer.new) (row_start (decimal event) actor)) }
+{
+    write!(writer, "{event}\t")?;
+    put_column(writer, actor)
+}
+
+// What a call asks for.
+fn put_call<W: Write>(writer: &mut W, call: &Call) -> io::Result<()>
+    ensures { OnOk result (Appends (W.contents writer.old) (W.contents writer.new) (call_text call.now)) }
+{
+    match call {
+        Call::Hist(name, _) => {
+            writer.write_all(b"hist ")?;
+            writer.write_all(name)
+        }
+        Call::Add(name, value, count) => {
+            writer.write_all(b"add ")?;
+            writer.write_all(name)?;
+            write!(writer, " {value} {count}")
+        }
+        Call::Delta(name) => {
+            writer.write_all(b"delta ")?;
+            writer.write_all(name)
+        }
+        Call::Snapshot(name) => {
+            writer.write_all(b"snapshot ")?;
+            writer.write_all(name)
+        }
+        Call::Batch(name, ..) => {
+            writer.write_all(b"batch ")?;
+            writer.write_all(name)
+        }
+        Call::SetCorrupt => writer.write_all(b"set_corrupt"),
+    }
+}
+
+/// Writes the row of a call that begins. The error is the writer's.
+pub fn draw_begin<W: Write>(writer: &mut W, actor: usize, call: &Call) -> io::Result<()>
+    ensures { OnOk result (Appends (W.contents writer.old) (W.contents writer.new) (row [] actor (begin_cell actor call.now))) }
+{
+    start_row(writer, actor)?;
+    write!(writer, "actor {actor}: ")?;
+    put_call(writer, call)?;
+    writer.write_all(b"\n")
+}
+
+/// Writes the row of an event, with the word that it changed, as the words then stand. The error is the writer's.
+pub fn draw_event<W: Write>(
+    writer: &mut W,
+    event: u64,
+    actor: usize,
+    change: Option<Change>,
+    words: &[u64],
+) -> io::Result<()>
+    ensures { OnOk result (Appends (W.contents writer.old) (W.contents writer.new) (row (decimal event) actor (event_cell words.now change))) }
+{
+    start_event(writer, event, actor)?;
+    match change {
+        Some(change) => {
+            put_meaning(writer, words, change.at)?;
+            writeln!(writer, " {} -> {}", change.old, change.new)
+        }
+        None => writer.write_all(b"-\n"),
+    }
+}
+
+/// Writes the row of an answer. The error is the writer's.
+pub fn draw_answer<W: Write>(writer: &mut W, actor: usize, answer: &Answer) -> io::Result<()>
+    ensures { OnOk result (Appends (W.contents writer.old) (W.contents writer.new) (row [] actor (answer_cell answer.now))) }
+{
+    start_row(writer, actor)?;
+    writer.write_all(b"answer")?;
+    put_answer(writer, answer)?;
+    writer.write_all(b"\n")
+}

@@ -1,0 +1,93 @@
+"""The tasks of docs/COOKBOOK.md: each command there is run, and prints what stands below it.
+
+A block of the page is code, and the text before it names the file that has it, or commands, each behind a `$`. They run one behind the
+other in a new folder, which has the examples. What they print, on both streams, is compared line by line; `[..]` stands for any lines. Where
+there is no `sqlite3`, the commands that ask for it are left out, and a line says so.
+"""
+
+import os
+import pathlib
+import re
+import shutil
+import subprocess
+import tempfile
+
+from support.program import ROOT, built
+
+PROGRAM = "persist_report"
+STEPPED = "stepped"
+PAGE = ROOT / "docs" / "COOKBOOK.md"
+INDENT = "    "
+PROMPT = "$ "
+ANY_LINES = "[..]"
+ENGINE = "sqlite3"
+SECONDS = 120
+# Fewer would not be the page.
+LEAST_TASKS = 12
+
+
+def blocks():
+    """Each task's title, and the text before a block of it with the lines of the block."""
+    for task in re.split(r"^## ", PAGE.read_text(), flags=re.MULTILINE)[1:]:
+        title, _, rest = task.partition("\n")
+        parts = re.split(rf"((?:^{INDENT}.*\n(?:\n(?={INDENT}))*)+)", rest, flags=re.MULTILINE)
+        for before, block in zip(parts[::2], parts[1::2]):
+            yield title, before, [line[len(INDENT):] for line in block.splitlines()]
+
+
+def commands(block):
+    """Each command of a block, with the lines that it has to print."""
+    found = []
+    for line in block:
+        if line.startswith(PROMPT):
+            found.append((line[len(PROMPT):], []))
+        elif found[-1][0].endswith("\\"):
+            found[-1] = (f"{found[-1][0]}\n{line}", [])
+        else:
+            found[-1][1].append(line)
+    return found
+
+
+def pattern(lines):
+    """What matches lines, where some stand for any lines."""
+    return "".join(r"(?:.*\n)*" if line == ANY_LINES else f"{re.escape(line)}\n" for line in lines)
+
+
+def wrong_command(command, wanted, folder, setting):
+    """What is wrong with what a command prints, or None."""
+    came = subprocess.run(["bash", "-c", command], cwd=folder, env=setting, stdout=subprocess.PIPE, stderr=subprocess.STDOUT, timeout=SECONDS)
+    text = came.stdout.decode()
+    return None if re.fullmatch(pattern(wanted), text) else f"wanted {wanted}, came {text[:1000]!r}"
+
+
+def wrong_code(before, block):
+    """What is wrong with a block of code that stands in a file, or None."""
+    named = re.search(r"From\s`([^`]+)`", before)
+    if named is None:
+        return "no file is named that has this code"
+    lines = [line.strip() for line in (ROOT / named[1]).read_text().splitlines()]
+    wanted = [line.strip() for line in block]
+    if not any(lines[at:at + len(wanted)] == wanted for at in range(len(lines))):
+        return f"{named[1]} does not have these lines"
+    return None
+
+
+def cases(program, _options):
+    folders = [str(path.parent) for path in (program, built(STEPPED))]
+    setting = {**os.environ, "PATH": os.pathsep.join([*folders, os.environ["PATH"]]), "LC_ALL": "C.UTF-8"}
+    has_engine = shutil.which(ENGINE) is not None
+    if not has_engine:
+        print(f"cookbook: no {ENGINE} here, so what asks for it was left out")
+    titles = set()
+    with tempfile.TemporaryDirectory() as scratch:
+        folder = pathlib.Path(scratch)
+        shutil.copytree(ROOT / "examples", folder / "examples")
+        for title, before, block in blocks():
+            titles.add(title)
+            if not block[0].startswith(PROMPT):
+                yield title, wrong_code(before, block)
+                continue
+            for command, wanted in commands(block):
+                if has_engine or not command.startswith(ENGINE):
+                    yield f"{title}: {command}", wrong_command(command, wanted, folder, setting)
+    yield "the tasks", None if len(titles) >= LEAST_TASKS else f"only {len(titles)}"

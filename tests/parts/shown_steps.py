@@ -1,0 +1,89 @@
+"""The pictures that `stepped --show` makes of schedules, beside a plain picture maker.
+
+Each known schedule of cases/schedules is shown whole: its lines are known, and the plain picture is made of them. The two stored schedules are
+shown whole and stopped at every event. README.md shows a part of the race for a name as the program draws it.
+"""
+
+import concurrent.futures
+import os
+import pathlib
+import tempfile
+
+from support import plain_steps
+from support.program import ROOT, Answer, answer, difference
+
+PROGRAM = "stepped"
+FOLDER = ROOT / "tests" / "cases" / "schedules"
+EXAMPLES = ROOT / "examples"
+RACE = EXAMPLES / "race_for_a_name.csv"
+STORED = [RACE, EXAMPLES / "pack_before_disabling.csv"]
+README = ROOT / "README.md"
+FULL = "/dev/full"
+SPARSE = "world,128,64,7,1,2\nhist,0,S,sparse\nstep,0,100\nadd,0,S,-5,2\nstep,0,100\ndelta,0,S\nstep,0,100\n"
+# What the picture of that has to say, by the layout of a sample's record.
+SAID = ["S.sample(-5).mark 0 -> 2", "S.sample(-5).count 0 -> 2", "S.redundant 0 -> 2", "free 16 -> 32", "tail 12 -> 16"]
+MOUNTED = "world,128,64,7,1,2\nhist,0,A,boolean\nstep,0,100\nadd,0,A,0,1\nstep,0,100\nadd,0,A,1,3\nstep,0,100\ndelta,0,A\nstep,0,100\n"
+COUNTED = ["A.single 0 -> 1", "A.counts 0 -> 32", "A.count[1] 0 -> 3", "A.mark[1] 0 -> 3", "A.single_mark 0 -> 1"]
+
+
+def wrong_known(program, case):
+    """What is wrong with the picture of a known schedule, or None."""
+    lines, fault = case.with_suffix(".out").read_text(), case.with_suffix(".err").read_bytes()
+    status = int(case.with_suffix(".status").read_text())
+    picture = plain_steps.picture(case.read_text(encoding="latin-1"), lines) if lines else ""
+    return difference(Answer(picture.encode("latin-1"), fault, status), answer(program, [case, "--show"]))
+
+
+def wrong_stop(program, schedule, lines, events):
+    """What is wrong with the picture of a schedule that stops after so many events, or None."""
+    wanted = Answer(plain_steps.picture(schedule.read_text(), lines, events).encode())
+    wrong = difference(wanted, answer(program, [schedule, "--show", "--stop", str(events)]))
+    return wrong and f"after {events} events: {wrong}"
+
+
+def wrong_stored(program, pool, schedule):
+    lines = answer(program, [schedule]).output.decode()
+    events = range(lines.count(",step") + 1)
+    return next(filter(None, pool.map(lambda event: wrong_stop(program, schedule, lines, event), events)), None)
+
+
+def wrong_words(program, path, text, said):
+    """What is missing in a picture of which words are known, or None."""
+    path.write_text(text)
+    came = answer(program, [path, "--show"])
+    rows = {line.split("\t")[1].strip() for line in came.output.decode().splitlines()}
+    missing = [row for row in said if row not in rows]
+    return f"{missing} is missing in {came}" if missing else None
+
+
+def wrong_readme(program):
+    """What of the picture in README.md does not stand in the picture of the race, or None."""
+    shown = README.read_text().split("stepped examples/race_for_a_name.csv --show ")[1].split("\n\n")[0]
+    rows = answer(program, [RACE, "--show"]).output.decode().expandtabs(8).splitlines()
+    at = 0
+    for line in (line[6:] for line in shown.splitlines()[1:]):
+        if line not in rows[at:]:
+            return f"no row, or not behind the one before: {line}"
+        at = rows.index(line, at) + 1
+    return None
+
+
+def wrong_device(program):
+    with open(FULL, "wb") as stream:
+        return difference(Answer(error=b"stepped: Write\n", status=4), answer(program, [RACE, "--show"], stdout=stream))
+
+
+def cases(program, options):
+    with tempfile.TemporaryDirectory() as scratch, concurrent.futures.ThreadPoolExecutor(os.cpu_count()) as pool:
+        known = sorted(FOLDER.glob("*.csv"))
+        yield from zip((f"known {case.stem}" for case in known), pool.map(lambda case: wrong_known(program, case), known))
+        for schedule in STORED:
+            yield f"stops of {schedule.stem}", wrong_stored(program, pool, schedule)
+        folder = pathlib.Path(scratch)
+        yield "words of a sample", wrong_words(program, folder / "sparse.csv", SPARSE, SAID)
+        yield "words of counts", wrong_words(program, folder / "counts.csv", MOUNTED, COUNTED)
+    yield "README.md", wrong_readme(program)
+    yield "a full device", wrong_device(program)
+    for other in ("--report", "--image"):
+        came = answer(program, [RACE, "--show", other])
+        yield f"with {other}", None if came.status == 2 and came.error and not came.output else f"came {came}"

@@ -1,0 +1,104 @@
+"""A plain picture of a schedule, made of its records and of the lines that its replay has to write, to compare `stepped --show` with.
+
+It is written after docs/FORMAT.md, "The picture of a replayed schedule", and shares nothing with the program.
+"""
+
+import csv
+
+from support.plain_reader import signed
+from support.seeded_schedules import Schedule
+
+COLUMN = 32
+HEADER = {6: "flags", 7: "free", 8: "tail", 15: "queue.next"}
+COMMON = ["size", "cookie", "type", "next"]
+HISTOGRAM, COUNTS, SAMPLE = 1, 2, 3
+FIELDS = {
+    HISTOGRAM: [*COMMON, "kind", "min", "max", "buckets", "counts", "single", "single_mark", "sum", "sum_mark", "redundant", "name_length"],
+    SAMPLE: [*COMMON, "histogram", "value", "count", "mark"],
+}
+
+
+def blocks_of(words):
+    """Where the blocks begin: words without a size are passed one by one."""
+    at, blocks = 16, []
+    while at < len(words):
+        if words[at]:
+            blocks.append(at)
+        at += words[at] or 1
+    return blocks
+
+
+def name_at(words, block):
+    length = min(words[block + 14], 128)
+    data = b"".join(word.to_bytes(8, "little") for word in words[block + 15 : block + 31])
+    return data[:length].decode("latin-1")
+
+
+def in_counts(words, histogram, block, place):
+    """The name of a word behind the header of a block of counts."""
+    buckets, index = words[histogram + 7], place - len(COMMON)
+    part = f"count[{index}]" if index < buckets else f"mark[{index - buckets}]"
+    return f"{name_at(words, histogram)}.{part}"
+
+
+def meaning(words, at):
+    """What a word means, as the words stand."""
+    blocks = blocks_of(words)
+    block = next((block for block in blocks if block <= at < block + words[block]), None)
+    if block is None:
+        return HEADER.get(at, f"word[{at}]")
+    tag, place, made = words[block + 2], at - block, words[block + 3] != 0
+    owner = f"@{block}"
+    if tag == COUNTS:
+        users = [one for one in blocks if words[one + 2] == HISTOGRAM and words[one + 8] == block]
+        if users and place >= len(COMMON):
+            return in_counts(words, users[0], block, place)
+        owner = name_at(words, users[0]) if users else owner
+    elif made and tag == HISTOGRAM:
+        owner = name_at(words, block)
+    elif made and tag == SAMPLE:
+        owner = f"{name_at(words, words[block + 4])}.sample({signed(words[block + 5])})"
+    fields = FIELDS.get(tag, COMMON)
+    other = "name" if tag == HISTOGRAM else f"word[{place}]"
+    return f"{owner}.{fields[place] if place < len(fields) else other}"
+
+
+def asked(record):
+    """What the record of a call asks for."""
+    kind, _, *rest = record
+    shown = {"add": 3, "set_corrupt": 0}.get(kind, 1)
+    return " ".join([kind, *rest[:shown]])
+
+
+def row(number, actor, cell):
+    return f"{number}\t{' ' * (COLUMN * actor)}{cell}\n"
+
+
+def picture(schedule, lines, most=None):
+    """The picture of a schedule, whose replay writes these lines, up to so many events."""
+    records = list(csv.reader(schedule.splitlines()))
+    size, page, segment_id, actors, version = map(int, records[0][1:])
+    words = Schedule(size, page, segment_id, actors, version).words()
+    rows, events, running = [], 0, set()
+    for line in lines.splitlines():
+        number, actor, what, *rest = line.split(",")
+        actor, record = int(actor), records[int(number) - 1]
+        if what != "answer" or actor not in running:
+            if most is not None and events == most:
+                break
+        if what == "step":
+            events += 1
+            cell = "-"
+            if rest:
+                at, old, new = map(int, rest)
+                words[at] = new
+                cell = f"{meaning(words, at)} {old} -> {new}"
+            rows.append(row(events, actor, cell))
+            continue
+        if actor not in running:
+            rows.append(row("", actor, f"actor {actor}: {asked(record)}"))
+            running.add(actor)
+        if what == "answer":
+            rows.append(row("", actor, ",".join(["answer", *rest])))
+            running.discard(actor)
+    return "".join(rows)

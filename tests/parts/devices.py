@@ -99,6 +99,7 @@ Options:
       --match <PART>   Shows the histograms whose name has this part
       --width <CELLS>  How many cells the longest bar has: 20 to 200 [default: 72]
       --ascii          Draws bars with #, and not with blocks
+      --all            Shows all values of a sparse histogram, and not only the 20 with the most units
       --explain        Tells more of a fault, as on a terminal: its file, line and reason
   -h, --help           Print help
 

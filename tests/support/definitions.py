@@ -35,7 +35,7 @@ What is proved of the definitions: `PROVED.md`.
 # The head of a definition that others may name.
 PUBLIC = re.compile(r"^(?:(?:abbrev|unfoldable|plain|opaque) )*pub (?:(?:abbrev|unfoldable|plain|opaque|record|data) )*([^\W\d][\w']*)")
 # What names definitions: in antt and in contracts.
-IMPORT = re.compile(r"^(pub |ghost |pub ghost )?use (?:Rattle\.)?(?:(\w+)\.)?specs\.(\w+)\.\{([^}]*)\}", re.MULTILINE)
+IMPORT = re.compile(r"^(pub |ghost |pub ghost )?use (?:Rattle\.)?(?:(\w+)\.)?specs\.([\w.]+)\.\{([^}]*)\}", re.MULTILINE)
 
 
 def crates():
@@ -57,7 +57,7 @@ def named():
     """The definitions that a contract names, or a definition of another crate: crate, module and name."""
     found = set()
     for folder in (ROOT / "crates").iterdir():
-        for file in [*folder.glob("src/**/*.rt"), *folder.glob("specs/*.antt")]:
+        for file in [*folder.glob("src/**/*.rt"), *folder.glob("specs/**/*.antt")]:
             for crate, module, name in names_in(file.read_text()):
                 if file.suffix == ".rt" or crate not in (None, folder.name):
                     found.add((crate or folder.name, module, name))
@@ -116,14 +116,15 @@ def wrapped(entry):
 
 
 def module_lines(crate, file, used):
-    """The lines of a module, or none where nothing of it is listed."""
+    """The lines of a module, or none where nothing of it is listed. One in a room has the room's name before its own."""
     text = file.read_text()
+    module = ".".join(file.relative_to(ROOT / "crates" / crate / "specs").with_suffix("").parts)
     about = re.match(r"(?:--.*\n)*", text)[0]
     about = in_short(" ".join(line[2:].strip() for line in about.splitlines()))
-    listed = [one for one in definitions(text) if (crate, file.stem, one[0]) in used]
+    listed = [one for one in definitions(text) if (crate, module, one[0]) in used]
     if not listed:
         return []
-    lines = ["", f"**`{file.stem}`**: {about}" if about else f"**`{file.stem}`**"]
+    lines = ["", f"**`{module}`**: {about}" if about else f"**`{module}`**"]
     for names, comment in grouped(listed):
         entry = ", ".join(f"`{name}`" for name in names)
         lines += wrapped(f"{entry}: {in_short(comment)}" if comment else entry)
@@ -134,7 +135,7 @@ def pages():
     """The page of each crate of which anything is listed, by the name of the crate."""
     used = named()
     for crate in crates():
-        modules = [module_lines(crate, file, used) for file in sorted((ROOT / "crates" / crate / "specs").glob("*.antt"))]
+        modules = [module_lines(crate, file, used) for file in sorted((ROOT / "crates" / crate / "specs").glob("**/*.antt"))]
         if any(modules):
             lines = [f"# The definitions of `{crate}`", *(line for module in modules for line in module)]
             yield crate, "\n".join(lines) + "\n"

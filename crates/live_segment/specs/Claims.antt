@@ -17,7 +17,7 @@ use Rattle.segment_machine.specs.Actor.{has_buckets, word_seen}
 use Rattle.segment_machine.specs.Calls.{sight}
 use Rattle.segment_machine.specs.Made.{SawOther, SawOtherName}
 use Rattle.segment_promises.specs.Onward.{Grows}
-use Rattle.live_segment.specs.Adding.{block_words}
+use Rattle.live_segment.specs.Counts.Adding.{block_words}
 use Rattle.live_segment.specs.Ends.{FoundEndAt, FoundNoCounts}
 
 -- ---- none

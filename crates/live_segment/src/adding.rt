@@ -9,14 +9,14 @@ use segment_calls::Refusal;
 
 impl Segment {
     ghost use Rattle.bucket_ranges.specs.declared.spec.Spec.TheVariants.{Sparse};
-    ghost use Rattle.live_segment.specs.Adding.{AnswersSample};
+    ghost use Rattle.live_segment.specs.Counts.Adding.{AnswersSample};
     ghost use Rattle.live_segment.specs.Claims.{ClaimsFor};
-    ghost use Rattle.live_segment.specs.Finishing.{item_of};
+    ghost use Rattle.live_segment.specs.Counts.Finishing.{item_of};
     ghost use Rattle.live_segment.specs.Seated.{IsSeated};
     ghost use Rattle.live_segment.specs.Known.{known_view, KnowsRight};
-    ghost use Rattle.live_segment.specs.Refusing.{IsNotCounted};
+    ghost use Rattle.live_segment.specs.Counts.Refusing.{IsNotCounted};
     ghost use Rattle.live_segment.specs.Steps.{IsAtRest, IsSame};
-    ghost use Rattle.live_segment.specs.Working.{CountsAlone, HasCounted};
+    ghost use Rattle.live_segment.specs.Counts.Working.{CountsAlone, HasCounted};
 
     // Adds a sample.
     //

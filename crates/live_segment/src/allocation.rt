@@ -5,7 +5,7 @@ ghost use Rattle.segment_image.specs.declared.layout.TheConstants.{BLOCK_HEADER}
 ghost use Rattle.segment_machine.specs.Event.{allocating_event};
 ghost use Rattle.segment_machine.specs.Actor.{is_bound};
 ghost use Rattle.segment_machine.specs.Allocating.{exchange_free};
-ghost use Rattle.live_segment.specs.Allocation.{Allocates, claimed, IsLost};
+ghost use Rattle.live_segment.specs.Lists.Allocation.{Allocates, claimed, IsLost};
 
 use crate::rule::Pass;
 use crate::segment::Segment;
@@ -17,7 +17,7 @@ impl Segment {
     ghost use Rattle.live_segment.specs.Holders.{MayStep};
     ghost use Rattle.live_segment.specs.Seated.{IsSeated};
     ghost use Rattle.live_segment.specs.Steps.{IsSame};
-    ghost use Rattle.live_segment.specs.Refusing.{MayGiveUp};
+    ghost use Rattle.live_segment.specs.Counts.Refusing.{MayGiveUp};
 
     /// Claims a block of a type with so many words, its header among them, or up to four more.
     ///

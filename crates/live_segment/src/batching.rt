@@ -11,14 +11,14 @@ use crate::segment::Segment;
 use segment_calls::{BatchRefusal, Refusal};
 
 impl Segment {
-    ghost use Rattle.live_segment.specs.Batching.{HasItems, HasNoted, IsBatched, IsCutShort, StopsAt};
+    ghost use Rattle.live_segment.specs.Counts.Batching.{HasItems, HasNoted, IsBatched, IsCutShort, StopsAt};
     ghost use Rattle.live_segment.specs.Claims.{ClaimsFor, ClaimsForAll, ClaimsForEach};
-    ghost use Rattle.live_segment.specs.Finishing.{item_of};
+    ghost use Rattle.live_segment.specs.Counts.Finishing.{item_of};
     ghost use Rattle.live_segment.specs.Seated.{IsSeated};
     ghost use Rattle.live_segment.specs.Known.{known_view, KnowsRight};
-    ghost use Rattle.live_segment.specs.Refusing.{IsNotCounted};
+    ghost use Rattle.live_segment.specs.Counts.Refusing.{IsNotCounted};
     ghost use Rattle.live_segment.specs.Steps.{IsAtRest, IsSame};
-    ghost use Rattle.live_segment.specs.Working.{CountsAlone};
+    ghost use Rattle.live_segment.specs.Counts.Working.{CountsAlone};
 
     // Counts a batch: its items, and then its sum, where that is not 0.
     //

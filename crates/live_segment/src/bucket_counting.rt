@@ -21,14 +21,14 @@ impl Segment {
     ghost use Rattle.std.specs.Prelude.{◌≡◌, ◌+◌, ◌<◌, ◌≤◌, Some, None, IfOk, MatchResult};
     ghost use Rattle.bucket_ranges.specs.Spec.{buckets_of};
     ghost use Rattle.live_segment.specs.Known.{known_view, KnowsRight};
-    ghost use Rattle.live_segment.specs.Mounting.{MountsAtMostOne};
-    ghost use Rattle.live_segment.specs.Refusing.{IsTurnedAway};
+    ghost use Rattle.live_segment.specs.Counts.Mounting.{MountsAtMostOne};
+    ghost use Rattle.live_segment.specs.Counts.Refusing.{IsTurnedAway};
     ghost use Rattle.live_segment.specs.Holders.{table_of};
     ghost use Rattle.live_segment.specs.Seated.{IsSeated};
     ghost use Rattle.live_segment.specs.Steps.{IsSame};
     ghost use Rattle.segment_image.specs.declared.layout.TheConstants.{BLOCK_HEADER};
     ghost use Rattle.live_segment.specs.GhostNotes.{HasAddedTo, MayAddTo, bucket_entry};
-    ghost use Rattle.live_segment.specs.Working.{HasCounted, MayCount, Tries};
+    ghost use Rattle.live_segment.specs.Counts.Working.{HasCounted, MayCount, Tries};
 
     // Packs units of a bucket of a histogram, where its single word can take them.
     fn pack_units(

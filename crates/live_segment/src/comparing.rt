@@ -3,7 +3,7 @@
 ghost use Rattle.std.specs.Prelude.{◌≡◌, ◌+◌, ◌<◌, ◌≤◌, ℕ, length, true, false};
 ghost use Rattle.segment_machine.specs.Actor.{is_opener};
 ghost use Rattle.segment_machine.specs.Walking.{IsFixed};
-ghost use Rattle.live_segment.specs.Finding.{IsAsked, Meets, SeesWords, ShowsWords, ShowsName, ShowsSpec};
+ghost use Rattle.live_segment.specs.Names.Finding.{IsAsked, Meets, SeesWords, ShowsWords, ShowsName, ShowsSpec};
 
 use crate::rule::Pass;
 use crate::segment::Segment;

@@ -6,7 +6,7 @@ ghost use Rattle.segment_image.specs.Checks.{first_fault};
 ghost use Rattle.bucket_ranges.specs.Tally.{units_of};
 ghost use Rattle.segment_machine.specs.declared.actor.Actor.{Actor};
 ghost use Rattle.segment_machine.specs.Entry.{batch_cost};
-ghost use Rattle.live_segment.specs.Batching.{batch_checks};
+ghost use Rattle.live_segment.specs.Counts.Batching.{batch_checks};
 
 use segment_calls::Refusal;
 

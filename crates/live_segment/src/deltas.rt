@@ -8,10 +8,10 @@ ghost use Rattle.segment_machine.specs.declared.actor.Known.{Known};
 ghost use Rattle.segment_machine.specs.Actor.{bucket_key, has_buckets};
 ghost use Rattle.segment_machine.specs.Form.{is_off, SaysPacked};
 ghost use Rattle.segment_machine.specs.Note.{TookBucket};
-ghost use Rattle.live_segment.specs.Deltas.{AreUnits, HasTaken, HasTakenBuckets, HasTakenSample, HasTakenSum, MayTakeSample, MayTakeSum, TakesAt, TakesOn, TakesValues, TakesWord, units_of_key};
+ghost use Rattle.live_segment.specs.Readings.Deltas.{AreUnits, HasTaken, HasTakenBuckets, HasTakenSample, HasTakenSum, MayTakeSample, MayTakeSum, TakesAt, TakesOn, TakesValues, TakesWord, units_of_key};
 ghost use Rattle.live_segment.specs.Known.{known_view, KnowsRight};
 ghost use Rattle.segment_promises.specs.Values.{ComesTo};
-ghost use Rattle.live_segment.specs.Values.{HasTakenValues, HoldsKeys, TakesAlong, TakesValue};
+ghost use Rattle.live_segment.specs.Readings.Values.{HasTakenValues, HoldsKeys, TakesAlong, TakesValue};
 ghost use Rattle.segment_image.specs.declared.layout.TheConstants.{QUEUE};
 
 use crate::recorder::KnownHistogram;
@@ -36,7 +36,7 @@ impl Segment {
     ghost use Rattle.live_segment.specs.declared.rule.Setting.{Setting};
     ghost use Rattle.live_segment.specs.Seated.{IsSeated};
     ghost use Rattle.live_segment.specs.Steps.{IsAtRest, IsSame};
-    ghost use Rattle.live_segment.specs.Owed.{Standing};
+    ghost use Rattle.live_segment.specs.Readings.Owed.{Standing};
 
     // The units of a bucket that the delta takes: its count is loaded, and where that is not 0, the mark is raised to it. The packed bucket
     // has the single mark, and its total is the count with what the single word keeps.

@@ -1,7 +1,7 @@
 //! How a recorder looks for the first record of a name along the list.
 
-ghost use Rattle.live_segment.specs.Finding.{IsAsked};
-ghost use Rattle.live_segment.specs.Searching.{WalksAt, HasSearched, FoundEnd, Searches};
+ghost use Rattle.live_segment.specs.Names.Finding.{IsAsked};
+ghost use Rattle.live_segment.specs.Names.Searching.{WalksAt, HasSearched, FoundEnd, Searches};
 
 use crate::rule::Pass;
 use crate::segment::Segment;

@@ -11,7 +11,7 @@ impl Segment {
     ghost use Rattle.live_segment.specs.Known.{known_view};
     ghost use Rattle.live_segment.specs.Holders.{table_of};
     ghost use Rattle.live_segment.specs.Steps.{IsSame};
-    ghost use Rattle.live_segment.specs.Finishing.{HasSample, HasEnded, IsSummed, sample_of};
+    ghost use Rattle.live_segment.specs.Counts.Finishing.{HasSample, HasEnded, IsSummed, sample_of};
 
     // Adds the amount of a sample that is counted to the sum, and its units to the redundant count. Its call ends.
     pub(crate) fn finish_sample(

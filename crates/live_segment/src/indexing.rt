@@ -6,8 +6,8 @@ ghost use Rattle.list_index.specs.Keys.{key_of};
 ghost use Rattle.segment_image.specs.declared.layout.TheConstants.{BLOCK_TYPE, HISTOGRAM_NAME, HISTOGRAM_NAME_LENGTH, TYPE_HISTOGRAM};
 ghost use Rattle.segment_machine.specs.Actor.{word_seen};
 ghost use Rattle.segment_machine.specs.Calls.{MayTurn};
-ghost use Rattle.live_segment.specs.Finding.{Meets, SeesWords};
-ghost use Rattle.live_segment.specs.Searching.{HasSearched};
+ghost use Rattle.live_segment.specs.Names.Finding.{Meets, SeesWords};
+ghost use Rattle.live_segment.specs.Names.Searching.{HasSearched};
 
 use crate::records::WalkPlace;
 use crate::rule::Pass;
@@ -28,7 +28,7 @@ pub(crate) struct RecordIndex {
 }
 
 impl RecordIndex {
-    ghost use Rattle.live_segment.specs.Indexed.{Enters, IsIndexed};
+    ghost use Rattle.live_segment.specs.Names.Indexed.{Enters, IsIndexed};
     ghost use Rattle.segment_machine.specs.declared.seen.Seen.{Seen};
 
     // It has passed nothing.
@@ -60,7 +60,7 @@ impl RecordIndex {
 }
 
 impl Segment {
-    ghost use Rattle.live_segment.specs.Indexed.{HasLooked, IsIndexed, seen_key};
+    ghost use Rattle.live_segment.specs.Names.Indexed.{HasLooked, IsIndexed, seen_key};
     ghost use Rattle.live_segment.specs.Seated.{IsSeated};
     ghost use Rattle.live_segment.specs.Steps.{IsSame};
 

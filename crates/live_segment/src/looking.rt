@@ -2,7 +2,7 @@
 
 ghost use Rattle.std.specs.Prelude.{◌≡◌, ◌+◌, ◌≤◌, length, map};
 ghost use Rattle.segment_image.specs.declared.layout.TheConstants.{BLOCK_HEADER};
-ghost use Rattle.live_segment.specs.Looking.{MayLookAt, HasLookedAt};
+ghost use Rattle.live_segment.specs.Readings.Looking.{MayLookAt, HasLookedAt};
 
 use crate::rule::Pass;
 use crate::segment::Segment;

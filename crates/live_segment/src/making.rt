@@ -3,8 +3,8 @@
 ghost use Rattle.std.specs.Prelude.{◌≡◌, ◌≢◌, ◌+◌, ◌-◌, ◌≤◌, [], false, length, slice_index};
 ghost use Rattle.segment_machine.specs.Actor.{is_opener};
 ghost use Rattle.segment_machine.specs.Calls.{MayTurn};
-ghost use Rattle.live_segment.specs.Finding.{IsAsked};
-ghost use Rattle.live_segment.specs.Making.{HasBlock, HasFilled, Makes, SaysAsked};
+ghost use Rattle.live_segment.specs.Names.Finding.{IsAsked};
+ghost use Rattle.live_segment.specs.Names.Making.{HasBlock, HasFilled, Makes, SaysAsked};
 
 use crate::rule::{Announcement, Pass};
 use crate::segment::Segment;

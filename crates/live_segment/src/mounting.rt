@@ -24,13 +24,13 @@ impl Segment {
     ghost use Rattle.std.specs.Prelude.{◌≡◌, ◌+◌, ◌*◌, ◌≤◌, IfOk, MatchResult, None};
     ghost use Rattle.bucket_ranges.specs.Spec.{buckets_of, spec_fault};
     ghost use Rattle.live_segment.specs.Known.{known_view};
-    ghost use Rattle.live_segment.specs.Adding.{block_words};
+    ghost use Rattle.live_segment.specs.Counts.Adding.{block_words};
     ghost use Rattle.bucket_ranges.specs.Ranges.{boundaries_of};
     ghost use Rattle.live_segment.specs.Seated.{IsSeated};
-    ghost use Rattle.live_segment.specs.Mounting.{MayMount, HasBlank, LooksAtCounts, HasMounted, HasNotMounted, HasDisabled, MountsAt, MountsAtMostOne};
-    ghost use Rattle.live_segment.specs.Refusing.{MayGiveUp};
+    ghost use Rattle.live_segment.specs.Counts.Mounting.{MayMount, HasBlank, LooksAtCounts, HasMounted, HasNotMounted, HasDisabled, MountsAt, MountsAtMostOne};
+    ghost use Rattle.live_segment.specs.Counts.Refusing.{MayGiveUp};
     ghost use Rattle.live_segment.specs.Steps.{IsSame};
-    ghost use Rattle.live_segment.specs.Working.{CountsWithin};
+    ghost use Rattle.live_segment.specs.Counts.Working.{CountsWithin};
 
     // Where the counts of a histogram stand: those that are there, or those of a block that it claims for them.
     pub(crate) fn counts_of(

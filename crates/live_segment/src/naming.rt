@@ -30,8 +30,8 @@ fn key_of_bytes(name: &[u8]) -> u64
 
 impl KnownNames {
     ghost use Rattle.live_segment.specs.declared.recorder.KnownHistogram.{KnownHistogram};
-    ghost use Rattle.live_segment.specs.Hist.{IsKnownAt, NoneHasName};
-    ghost use Rattle.live_segment.specs.Naming.{HasNames};
+    ghost use Rattle.live_segment.specs.Names.Hist.{IsKnownAt, NoneHasName};
+    ghost use Rattle.live_segment.specs.Names.Naming.{HasNames};
 
     // None is entered.
     pub(crate) fn new(alloc: Global) -> KnownNames
@@ -79,7 +79,7 @@ impl KnownNames {
 }
 
 ghost use Rattle.live_segment.specs.declared.recorder.KnownHistogram.{KnownHistogram};
-ghost use Rattle.live_segment.specs.Hist.{IsKnownAt, NoneHasName};
+ghost use Rattle.live_segment.specs.Names.Hist.{IsKnownAt, NoneHasName};
 
 // The place of the histogram of a name, which may be this one.
 fn find_at(known: &[KnownHistogram], place: u64, name: &[u8]) -> Option<usize>

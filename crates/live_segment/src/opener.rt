@@ -32,7 +32,7 @@ impl Opener {
     ghost use Rattle.segment_image.specs.Checks.{first_fault};
     ghost use Rattle.segment_machine.specs.Seats.{offering, parent, newcomer, joined};
     ghost use Rattle.live_segment.specs.Steps.{recorder_checks, IsSame};
-    ghost use Rattle.live_segment.specs.Fresh.{given_fresh};
+    ghost use Rattle.live_segment.specs.Lists.Fresh.{given_fresh};
     ghost use Rattle.live_segment.specs.declared.segment.Segment.{Segment};
     ghost use Rattle.live_segment.specs.Holders.{IsMadeWith, IsRecorderOf, IsSameOpener, RecordsInto, view_of_opener, view_of_recorder};
 

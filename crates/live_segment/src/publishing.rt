@@ -2,7 +2,7 @@
 
 ghost use Rattle.std.specs.Prelude.{◌≡◌, ◌+◌, ◌≤◌, false};
 ghost use Rattle.segment_machine.specs.Actor.{is_bound};
-ghost use Rattle.live_segment.specs.Publishing.{IsFilledFor, HasPublishedFor};
+ghost use Rattle.live_segment.specs.Lists.Publishing.{IsFilledFor, HasPublishedFor};
 
 use crate::rule::{Announcement, Pass};
 use crate::segment::Segment;

@@ -7,10 +7,10 @@ ghost use Rattle.live_segment.specs.Claims.{ClaimsFor, ClaimsForAll, NamesAtMost
 ghost use Rattle.live_segment.specs.Rule.{IsOf};
 ghost use Rattle.live_segment.specs.Seated.{IsSeated};
 ghost use Rattle.live_segment.specs.Steps.{IsAtRest};
-ghost use Rattle.live_segment.specs.Indexed.{IsIndexed};
+ghost use Rattle.live_segment.specs.Names.Indexed.{IsIndexed};
 ghost use Rattle.live_segment.specs.Known.{known_view, KnowsRight};
-ghost use Rattle.live_segment.specs.Naming.{HasNames};
-ghost use Rattle.live_segment.specs.Walks.{HasCome};
+ghost use Rattle.live_segment.specs.Names.Naming.{HasNames};
+ghost use Rattle.live_segment.specs.Lists.Walks.{HasCome};
 ghost use Rattle.std.specs.List.{All};
 ghost use Rattle.std.proofs.Props.{props};
 
@@ -42,7 +42,7 @@ pub(crate) struct KnownHistogram {
 }
 
 impl KnownHistogram {
-    ghost use Rattle.live_segment.specs.Searching.{asked_at};
+    ghost use Rattle.live_segment.specs.Names.Searching.{asked_at};
 
     // What was asked for, with its record.
     pub(crate) fn of(asked: Asked, reference: u64) -> KnownHistogram
@@ -110,21 +110,21 @@ impl<'a> Recorder<'a> {
     ghost use Rattle.std.specs.Prelude.{slice_index_or};
     ghost use Rattle.live_segment.specs.declared.recorder.KnownHistogram.{KnownHistogram};
     ghost use Rattle.bucket_ranges.specs.declared.spec.Spec.TheVariants.{Sparse};
-    ghost use Rattle.live_segment.specs.Deltas.{AreUnits, HasTaken};
-    ghost use Rattle.live_segment.specs.Snapshots.{HasSnapshot};
-    ghost use Rattle.live_segment.specs.Owed.{HasEnough, TookEnough};
-    ghost use Rattle.live_segment.specs.Values.{HoldsKeys, OpensWith};
+    ghost use Rattle.live_segment.specs.Readings.Deltas.{AreUnits, HasTaken};
+    ghost use Rattle.live_segment.specs.Readings.Snapshots.{HasSnapshot};
+    ghost use Rattle.live_segment.specs.Readings.Owed.{HasEnough, TookEnough};
+    ghost use Rattle.live_segment.specs.Readings.Values.{HoldsKeys, OpensWith};
     ghost use Rattle.std.specs.Prelude.{◌↔◌, IsTrue, Err, ◌<◌, ◌++◌, length, IfOk, MatchOption, MatchResult};
     ghost use Rattle.segment_image.specs.Checks.{first_fault};
     ghost use Rattle.segment_machine.specs.declared.actor.Known.{Known};
-    ghost use Rattle.live_segment.specs.Adding.{add_checks, AnswersSample};
-    ghost use Rattle.live_segment.specs.Allocation.{spoiled};
-    ghost use Rattle.live_segment.specs.Batching.{batch_checks, IsBatched, IsCutShort};
-    ghost use Rattle.live_segment.specs.Cursors.{AnswersNext, gift};
+    ghost use Rattle.live_segment.specs.Counts.Adding.{add_checks, AnswersSample};
+    ghost use Rattle.live_segment.specs.Lists.Allocation.{spoiled};
+    ghost use Rattle.live_segment.specs.Counts.Batching.{batch_checks, IsBatched, IsCutShort};
+    ghost use Rattle.live_segment.specs.Lists.Cursors.{AnswersNext, gift};
     ghost use Rattle.live_segment.specs.Holders.{view_of_recorder, IsSameRecorder, Knows, Means};
-    ghost use Rattle.live_segment.specs.Records.{HasWalked};
-    ghost use Rattle.live_segment.specs.Fresh.{GivesFresh, given_fresh};
-    ghost use Rattle.live_segment.specs.Hist.{IsAnsweredWith, IsKnownAt, IsNamed, IsRefusedWith, KnowsOn, NoneHasName};
+    ghost use Rattle.live_segment.specs.Lists.Records.{HasWalked};
+    ghost use Rattle.live_segment.specs.Lists.Fresh.{GivesFresh, given_fresh};
+    ghost use Rattle.live_segment.specs.Names.Hist.{IsAnsweredWith, IsKnownAt, IsNamed, IsRefusedWith, KnowsOn, NoneHasName};
     ghost use Rattle.segment_calls.specs.declared.refusal.Refusal.TheVariants.{NoMemory, OtherSpec};
 
     // A recorder that has done nothing.

@@ -2,7 +2,7 @@
 
 ghost use Rattle.std.specs.Prelude.{◌≡◌, ◌-◌, ◌/◌, ◌≤◌, [], false, drop, length, vec_capacity};
 ghost use Rattle.segment_machine.specs.Actor.{is_bound};
-ghost use Rattle.live_segment.specs.Walks.{HasCome, WalksOn};
+ghost use Rattle.live_segment.specs.Lists.Walks.{HasCome, WalksOn};
 
 use crate::rule::Pass;
 use crate::segment::Segment;

@@ -3,9 +3,9 @@
 ghost use Rattle.std.specs.Prelude.{◌≡◌, ◌+◌, ◌≤◌, false, length, IfSome};
 ghost use Rattle.bucket_ranges.specs.declared.spec.Spec.TheVariants.{Sparse};
 ghost use Rattle.segment_machine.specs.Taking.{is_looking};
-ghost use Rattle.live_segment.specs.Finding.{Meets, SeesWords};
+ghost use Rattle.live_segment.specs.Names.Finding.{Meets, SeesWords};
 ghost use Rattle.live_segment.specs.Known.{known_view};
-ghost use Rattle.live_segment.specs.Samples.{CountsSample, SamplesAreFew, SeesSample, ShowsSample};
+ghost use Rattle.live_segment.specs.Readings.Samples.{CountsSample, SamplesAreFew, SeesSample, ShowsSample};
 ghost use Rattle.live_segment.specs.GhostNotes.{KnowsAlone};
 
 use crate::recorder::KnownHistogram;

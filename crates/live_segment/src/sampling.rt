@@ -4,9 +4,9 @@ ghost use Rattle.std.specs.Prelude.{◌≡◌, ◌+◌, ◌≤◌, false, MatchR
 ghost use Rattle.segment_machine.specs.declared.actor.Known.{Known};
 ghost use Rattle.segment_machine.specs.Actor.{is_bound};
 ghost use Rattle.segment_machine.specs.Actor.{Sparse as KnowsSparse};
-ghost use Rattle.live_segment.specs.Finding.{Meets, SeesWords};
-ghost use Rattle.live_segment.specs.Searching.{HasSearched};
-ghost use Rattle.live_segment.specs.Sampling.{ShowsValue, WalksBehind, FindsSample, FoundEnd, HasMadeSample, HasNotMadeSample, HasSampleOf, LacksSampleOf};
+ghost use Rattle.live_segment.specs.Names.Finding.{Meets, SeesWords};
+ghost use Rattle.live_segment.specs.Names.Searching.{HasSearched};
+ghost use Rattle.live_segment.specs.Counts.Sampling.{ShowsValue, WalksBehind, FindsSample, FoundEnd, HasMadeSample, HasNotMadeSample, HasSampleOf, LacksSampleOf};
 
 use crate::recorder::KnownHistogram;
 use crate::rule::{Announcement, Pass};
@@ -28,7 +28,7 @@ impl Segment {
     ghost use Rattle.bucket_ranges.specs.declared.spec.Spec.TheVariants.{Sparse};
     ghost use Rattle.live_segment.specs.Seated.{IsSeated};
     ghost use Rattle.live_segment.specs.Known.{known_view, KnowsRight};
-    ghost use Rattle.live_segment.specs.Refusing.{MayGiveUp};
+    ghost use Rattle.live_segment.specs.Counts.Refusing.{MayGiveUp};
     ghost use Rattle.live_segment.specs.Steps.{IsSame};
 
     /// The first sample of a value of a sparse histogram. Where the list has none, one is made and put on it.

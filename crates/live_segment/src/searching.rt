@@ -6,9 +6,9 @@ ghost use Rattle.list_index.specs.Firsts.{first_of};
 ghost use Rattle.list_index.specs.Keys.{key_of};
 ghost use Rattle.segment_image.specs.Shape.{Dimensions};
 ghost use Rattle.segment_machine.specs.Calls.{MayTurn};
-ghost use Rattle.live_segment.specs.Finding.{IsAsked};
-ghost use Rattle.live_segment.specs.Indexed.{IsNameKey};
-ghost use Rattle.live_segment.specs.Searching.{FoundEnd, HasSearched, Searches};
+ghost use Rattle.live_segment.specs.Names.Finding.{IsAsked};
+ghost use Rattle.live_segment.specs.Names.Indexed.{IsNameKey};
+ghost use Rattle.live_segment.specs.Names.Searching.{FoundEnd, HasSearched, Searches};
 
 use crate::finding::Search;
 use crate::indexing::RecordIndex;
@@ -40,7 +40,7 @@ fn key_of_name(asked: &Asked) -> u64
 }
 
 impl Segment {
-    ghost use Rattle.live_segment.specs.Indexed.{IsIndexed};
+    ghost use Rattle.live_segment.specs.Names.Indexed.{IsIndexed};
     ghost use Rattle.live_segment.specs.Seated.{IsSeated};
     ghost use Rattle.live_segment.specs.Steps.{IsSame};
 

@@ -3,9 +3,9 @@
 ghost use Rattle.std.specs.Prelude.{◌≡◌, [], MatchResult};
 ghost use Rattle.segment_calls.specs.declared.refusal.Refusal.TheVariants.{OtherSpec};
 ghost use Rattle.segment_machine.specs.Calls.{MayTurn};
-ghost use Rattle.live_segment.specs.Finding.{IsAsked};
-ghost use Rattle.live_segment.specs.Making.{SaysAsked};
-ghost use Rattle.live_segment.specs.Settling.{IsAnnouncedOf, LooksUp, MakesFor, Settles};
+ghost use Rattle.live_segment.specs.Names.Finding.{IsAsked};
+ghost use Rattle.live_segment.specs.Names.Making.{SaysAsked};
+ghost use Rattle.live_segment.specs.Names.Settling.{IsAnnouncedOf, LooksUp, MakesFor, Settles};
 
 use crate::finding::Search;
 use crate::indexing::RecordIndex;
@@ -15,7 +15,7 @@ use crate::segment::Segment;
 use segment_calls::{Asked, Refusal};
 
 impl Segment {
-    ghost use Rattle.live_segment.specs.Indexed.{IsIndexed};
+    ghost use Rattle.live_segment.specs.Names.Indexed.{IsIndexed};
     ghost use Rattle.live_segment.specs.Seated.{IsSeated};
     ghost use Rattle.live_segment.specs.Steps.{IsSame};
 

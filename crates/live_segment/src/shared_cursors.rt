@@ -2,7 +2,7 @@
 
 ghost use Rattle.std.specs.Prelude.{◌≡◌, ◌<◌, ◌++◌, false};
 ghost use Rattle.segment_machine.specs.Actor.{is_bound};
-ghost use Rattle.live_segment.specs.Cursors.{AnswersNext, gift};
+ghost use Rattle.live_segment.specs.Lists.Cursors.{AnswersNext, gift};
 
 use crate::rule::Pass;
 use crate::segment::Segment;

@@ -6,7 +6,7 @@ ghost use Rattle.live_segment.specs.declared.rule.Announcement.TheVariants.{Answ
 ghost use Rattle.std.specs.List.{All};
 ghost use Rattle.segment_machine.specs.Calls.{IsUnits};
 ghost use Rattle.segment_promises.specs.Totals.{blank_totals};
-ghost use Rattle.live_segment.specs.Snapshots.{HavePacked};
+ghost use Rattle.live_segment.specs.Readings.Snapshots.{HavePacked};
 
 use crate::recorder::KnownHistogram;
 use crate::rule::{Announcement, Pass};
@@ -49,11 +49,11 @@ impl Segment {
     ghost use Rattle.segment_image.specs.declared.layout.TheConstants.{QUEUE};
     ghost use Rattle.bucket_ranges.specs.declared.spec.Spec.TheVariants.{Sparse};
     ghost use Rattle.segment_promises.specs.Values.{NoRepeats, ComesTo};
-    ghost use Rattle.live_segment.specs.Samples.{SamplesStandBehind};
+    ghost use Rattle.live_segment.specs.Readings.Samples.{SamplesStandBehind};
     ghost use Rattle.segment_machine.specs.declared.actor.Actor.{Actor};
     ghost use Rattle.live_segment.specs.declared.rule.Setting.{Setting};
-    ghost use Rattle.live_segment.specs.Deltas.{AreUnits};
-    ghost use Rattle.live_segment.specs.Values.{LooksAlong, LooksAtValues, OpensWith};
+    ghost use Rattle.live_segment.specs.Readings.Deltas.{AreUnits};
+    ghost use Rattle.live_segment.specs.Readings.Values.{LooksAlong, LooksAtValues, OpensWith};
     ghost use Rattle.bucket_ranges.specs.Spec.{buckets_of};
     ghost use Rattle.segment_machine.specs.Actor.{has_buckets, is_opener};
     ghost use Rattle.segment_machine.specs.Event.{taking_event};
@@ -63,10 +63,10 @@ impl Segment {
     ghost use Rattle.live_segment.specs.Seated.{IsSeated};
     ghost use Rattle.live_segment.specs.Known.{known_view, KnowsRight};
     ghost use Rattle.live_segment.specs.Steps.{IsAtRest, IsSame};
-    ghost use Rattle.live_segment.specs.Snapshots.{HasSeenBuckets, HasSnapshot, saw_sum};
-    ghost use Rattle.live_segment.specs.Taking.{answered_as};
+    ghost use Rattle.live_segment.specs.Readings.Snapshots.{HasSeenBuckets, HasSnapshot, saw_sum};
+    ghost use Rattle.live_segment.specs.Readings.Taking.{answered_as};
     ghost use Rattle.live_segment.specs.GhostNotes.{KnowsAlone};
-    ghost use Rattle.live_segment.specs.Owed.{Standing};
+    ghost use Rattle.live_segment.specs.Readings.Owed.{Standing};
 
     // The units of all buckets of a histogram stand beside their keys.
     fn look_at_buckets(

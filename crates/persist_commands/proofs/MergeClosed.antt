@@ -12,9 +12,9 @@ use Rattle.segment_promises.proofs.Names.{others_differ}
 use Rattle.segment_calls.specs.declared.asked.Asked.{Asked}
 use Rattle.live_segment.specs.declared.rule.Setting.{Setting}
 use Rattle.live_segment.specs.Closing.{IsImageOf, ReadsJoined, ReadsStopped}
-use Rattle.live_segment.specs.Hist.{KnowsNone}
+use Rattle.live_segment.specs.Names.Hist.{KnowsNone}
 use Rattle.live_segment.specs.Rule.{first_view}
-use Rattle.live_segment.specs.Searching.{SawOther}
+use Rattle.live_segment.specs.Names.Searching.{SawOther}
 
 -- the opener that gave all units to a recorder and has joined it
 abbrev pub closing : Setting → Actor → Actor

@@ -15,12 +15,12 @@ use Rattle.segment_machine.specs.Entry.{fresh}
 use Rattle.segment_machine.specs.Taking.{is_looking}
 use Rattle.segment_machine.specs.Note.{Note, begins}
 use Rattle.segment_promises.specs.Follows.{noted_by}
-use Rattle.live_segment.specs.Adding.{IsAdded}
-use Rattle.live_segment.specs.Finishing.{counted_entry, item_of, sample_of, HasSample, HasEnded}
+use Rattle.live_segment.specs.Counts.Adding.{IsAdded}
+use Rattle.live_segment.specs.Counts.Finishing.{counted_entry, item_of, sample_of, HasSample, HasEnded}
 use Rattle.segment_promises.specs.Onward.{DoesOn, GoesOn, SeesOn}
 use Rattle.live_segment.specs.Steps.{IsAtRest}
 use Rattle.live_segment.specs.GhostNotes.{bucket_entry, entry_notes, KnowsAlone}
-use Rattle.live_segment.specs.Working.{counted_next, CountsAlone, HasCounted, MayCount}
+use Rattle.live_segment.specs.Counts.Working.{counted_next, CountsAlone, HasCounted, MayCount}
 use Rattle.live_segment.proofs.AddCall.Beginning.{notes_new}
 use Rattle.live_segment.proofs.AddCall.Ended.{still_open, changed_behind}
 use Rattle.segment_promises.proofs.Growing.{grows_on}

@@ -15,7 +15,7 @@ use Rattle.segment_machine.specs.declared.actor.Actor.{Actor}
 use Rattle.segment_machine.specs.declared.actor.Known.{Known}
 use Rattle.live_segment.specs.declared.recorder.KnownHistogram.{KnownHistogram}
 use Rattle.live_segment.specs.declared.rule.Setting.{Setting}
-use Rattle.live_segment.specs.Adding.{add_checks}
+use Rattle.live_segment.specs.Counts.Adding.{add_checks}
 use Rattle.live_segment.specs.Known.{known_view}
 use Rattle.segment_promises.specs.Onward.{GoesOn}
 use Rattle.live_segment.specs.Rule.{IsOf}

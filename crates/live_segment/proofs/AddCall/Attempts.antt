@@ -29,7 +29,7 @@ use Rattle.live_segment.specs.Steps.{Pass, IsSame, Stepped}
 use Rattle.segment_promises.specs.Onward.{SeesOn}
 use Rattle.segment_promises.proofs.Growing.{grows_not}
 use Rattle.live_segment.specs.GhostNotes.{MayPack, HasPacked, Noted, bucket_entry, bucket_notes}
-use Rattle.live_segment.specs.Working.{LooksOn, LooksFor, MayCount, Tries}
+use Rattle.live_segment.specs.Counts.Working.{LooksOn, LooksFor, MayCount, Tries}
 use Rattle.live_segment.proofs.Seating.Proceeding.{does_not, sees_not}
 use Rattle.live_segment.specs.Claims.{KeepsBlocks}
 use Rattle.live_segment.proofs.AddCall.Blocks.{keeps_begun, keeps_on}

@@ -26,7 +26,7 @@ use Rattle.segment_invariant.proofs.Lists.Elements.{all_from, each_of_one}
 use Rattle.segment_invariant.proofs.Lists.Maps.{contains_map}
 use Rattle.segment_promises.specs.Onward.{SeesOn}
 use Rattle.live_segment.specs.GhostNotes.{bucket_entry, entry_notes, opening_notes}
-use Rattle.live_segment.specs.Working.{CountsAlone, HaveEnded, IsOpenTo, LooksOn, MayCount, MayGoOn, HasNotBegun, Waits, HasBegun, LooksFor, HasCounted, counted_next}
+use Rattle.live_segment.specs.Counts.Working.{CountsAlone, HaveEnded, IsOpenTo, LooksOn, MayCount, MayGoOn, HasNotBegun, Waits, HasBegun, LooksFor, HasCounted, counted_next}
 use Rattle.live_segment.proofs.AddCall.Ended.{goes_on_with, next_behind, notes_nothing}
 use Rattle.live_segment.proofs.Seating.Proceeding.{does_not, proceeds_on}
 use Rattle.segment_promises.proofs.Growing.{grows_by, grows_not}

@@ -16,11 +16,11 @@ use Rattle.segment_promises.specs.Follows.{noted_by}
 use Rattle.segment_promises.specs.Onward.{Grows}
 use Rattle.segment_promises.proofs.Growing.{ended_grows, grows_by, grows_not, grows_on, grows_same, others_still}
 use Rattle.live_segment.specs.Claims.{ClaimsFor, IsPurged, KeepsBlocks, MakesOne, MakesSample, MountsOne}
-use Rattle.live_segment.specs.Finishing.{HasEnded}
+use Rattle.live_segment.specs.Counts.Finishing.{HasEnded}
 use Rattle.live_segment.specs.GhostNotes.{Noted, entry_notes}
-use Rattle.live_segment.specs.Mounting.{MountsAtMostOne}
+use Rattle.live_segment.specs.Counts.Mounting.{MountsAtMostOne}
 use Rattle.live_segment.specs.Steps.{Pass, Stepped}
-use Rattle.live_segment.specs.Working.{CountsAlone}
+use Rattle.live_segment.specs.Counts.Working.{CountsAlone}
 use Rattle.live_segment.proofs.AddCall.Beginning.{only_begun}
 use Rattle.live_segment.proofs.Walks.Ends.{found_on}
 

@@ -23,14 +23,14 @@ use Rattle.segment_promises.proofs.Calls.Places.{looks_again}
 use Rattle.segment_calls.specs.declared.refusal.Refusal.{Refusal}
 use Rattle.live_segment.specs.declared.bucket_counting.PackAttempt.TheVariants.{Off, Passed}
 use Rattle.live_segment.specs.Claims.{KeepsBlocks}
-use Rattle.live_segment.specs.Mounting.{HasDisabled, HasMounted, HasNotMounted, MayMount, StandsOff}
-use Rattle.live_segment.specs.Refusing.{IsTurnedAway, MayGiveUp}
+use Rattle.live_segment.specs.Counts.Mounting.{HasDisabled, HasMounted, HasNotMounted, MayMount, StandsOff}
+use Rattle.live_segment.specs.Counts.Refusing.{IsTurnedAway, MayGiveUp}
 use Rattle.live_segment.specs.Steps.{IsSame, Pass, Stepped}
 use Rattle.live_segment.specs.Rule.{IsOf}
 use Rattle.live_segment.specs.declared.segment.Segment.{Segment}
 use Rattle.segment_image.specs.Shape.{Dimensions}
 use Rattle.live_segment.specs.GhostNotes.{HasAddedTo, MayAddTo, Noted, bucket_entry, bucket_notes}
-use Rattle.live_segment.specs.Working.{HasCounted, IsOpenTo, LooksFor, LooksOn, MayCount, Tries}
+use Rattle.live_segment.specs.Counts.Working.{HasCounted, IsOpenTo, LooksFor, LooksOn, MayCount, Tries}
 use Rattle.live_segment.proofs.AddCall.Beginning.{counted_behind, knows, looks_for, looks_for_on, may_yet, may_tell, only_begun}
 use Rattle.live_segment.proofs.AddCall.Blocks.{keeps_counted}
 use Rattle.live_segment.proofs.AddCall.Ended.{next_behind, none_open}
@@ -41,7 +41,7 @@ use Rattle.segment_promises.proofs.Growing.{ended_grows, grows_not}
 use Rattle.segment_promises.specs.Onward.{Grows}
 use Rattle.live_segment.proofs.AddCall.Refusing.{only_given_up}
 use Rattle.live_segment.proofs.NewRecords.Rooms.{lacked_since}
-use Rattle.live_segment.specs.Adding.{block_words}
+use Rattle.live_segment.specs.Counts.Adding.{block_words}
 
 -- ---- what a call may do that may count units of a bucket
 

@@ -17,10 +17,10 @@ use Rattle.segment_machine.specs.Event.{counting_event}
 use Rattle.segment_machine.specs.Note.{is_untouched}
 use Rattle.segment_promises.specs.Follows.{noted_by}
 use Rattle.segment_promises.specs.Onward.{SeesOn}
-use Rattle.live_segment.specs.Refusing.{MayEnd, MayGiveUp, how_many_ended}
+use Rattle.live_segment.specs.Counts.Refusing.{MayEnd, MayGiveUp, how_many_ended}
 use Rattle.live_segment.specs.Steps.{Pass}
 use Rattle.live_segment.specs.GhostNotes.{Noted, entry_notes}
-use Rattle.live_segment.specs.Working.{CountsAlone, HasCounted, HaveEnded, IsOpenTo}
+use Rattle.live_segment.specs.Counts.Working.{CountsAlone, HasCounted, HaveEnded, IsOpenTo}
 use Rattle.live_segment.proofs.AddCall.Beginning.{counted, is_next, only_begun}
 use Rattle.live_segment.proofs.AddCall.Ended.{how_many, how_many_before, still_open}
 use Rattle.segment_promises.proofs.Growing.{grows_by, grows_not}

@@ -24,9 +24,9 @@ use Rattle.segment_invariant.proofs.Packing.OffForms.{on_form}
 use Rattle.live_segment.specs.declared.segment.Segment.{Segment}
 use Rattle.live_segment.specs.Holders.{MayStep}
 use Rattle.live_segment.specs.Seated.{IsSeated}
-use Rattle.live_segment.specs.Mounting.{MayMount, HasDisabled, LooksAtCounts}
+use Rattle.live_segment.specs.Counts.Mounting.{MayMount, HasDisabled, LooksAtCounts}
 use Rattle.live_segment.specs.Steps.{Pass, IsSame, Stepped}
-use Rattle.live_segment.specs.Working.{CountsWithin, LooksAt, LooksOn}
+use Rattle.live_segment.specs.Counts.Working.{CountsWithin, LooksAt, LooksOn}
 use Rattle.live_segment.proofs.Seating.Proceeding.{does_not, looks_on, sees_not}
 use Rattle.segment_promises.proofs.Growing.{grows_by, grows_not}
 use Rattle.live_segment.proofs.AddCall.Beginning.{singled}

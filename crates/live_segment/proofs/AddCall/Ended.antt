@@ -8,7 +8,7 @@ use Rattle.segment_machine.specs.declared.entry.Entry.{Entry}
 use Rattle.segment_machine.specs.Calls.{change_next}
 use Rattle.segment_machine.specs.Entry.{has_ended, is_counted, is_noted, is_summed}
 use Rattle.segment_machine.specs.Note.{goes_on}
-use Rattle.live_segment.specs.Refusing.{how_many_ended}
+use Rattle.live_segment.specs.Counts.Refusing.{how_many_ended}
 use Rattle.live_segment.specs.GhostNotes.{opening_notes}
 
 -- none of them is open

@@ -18,7 +18,7 @@ use Rattle.segment_machine.specs.Entry.{has_ended}
 use Rattle.segment_machine.specs.Event.{counting_event, next, Ready}
 use Rattle.segment_machine.specs.Note.{amounts, ends}
 use Rattle.segment_promises.specs.Follows.{noted_by}
-use Rattle.live_segment.specs.Finishing.{counted_entry, item_of, IsCounted, HasSample, IsSummed, HasEnded}
+use Rattle.live_segment.specs.Counts.Finishing.{counted_entry, item_of, IsCounted, HasSample, IsSummed, HasEnded}
 use Rattle.live_segment.specs.Steps.{IsSame, Pass}
 use Rattle.live_segment.specs.GhostNotes.{MayAmount, HasAmount, MayDo, Noted}
 use Rattle.live_segment.proofs.AddCall.Beginning.{known_there}

@@ -34,15 +34,15 @@ use Rattle.segment_machine.specs.Packing.{mount_counts, purge_block, after_mount
 use Rattle.segment_invariant.proofs.Counting.Looks.{knows_of, counts_seen}
 use Rattle.live_segment.specs.declared.rule.Setting.{Setting}
 use Rattle.live_segment.specs.declared.segment.Segment.{Segment}
-use Rattle.live_segment.specs.Adding.{HasNoRoom, block_words}
-use Rattle.live_segment.specs.Allocation.{Allocates, filled, noticed, saw_free}
-use Rattle.live_segment.specs.Refusing.{given_up}
+use Rattle.live_segment.specs.Counts.Adding.{HasNoRoom, block_words}
+use Rattle.live_segment.specs.Lists.Allocation.{Allocates, filled, noticed, saw_free}
+use Rattle.live_segment.specs.Counts.Refusing.{given_up}
 use Rattle.live_segment.specs.Holders.{table_of, MayStep}
-use Rattle.live_segment.specs.Mounting.{SawNoNone, LoadsCounts, MayMount, HasBlank, HasMounted, HasNotMounted, MountsAt, MountsAtMostOne}
+use Rattle.live_segment.specs.Counts.Mounting.{SawNoNone, LoadsCounts, MayMount, HasBlank, HasMounted, HasNotMounted, MountsAt, MountsAtMostOne}
 use Rattle.segment_promises.specs.Onward.{Grows, SeesOn}
 use Rattle.live_segment.specs.Rule.{Runs}
 use Rattle.live_segment.specs.Steps.{Pass, Sat, Stepped}
-use Rattle.live_segment.specs.Working.{CountsWithin, LooksOn}
+use Rattle.live_segment.specs.Counts.Working.{CountsWithin, LooksOn}
 use Rattle.live_segment.proofs.Seating.Allowed.{does_at}
 use Rattle.live_segment.proofs.NewRecords.Claimed.{looks_claimed, looks_refused}
 use Rattle.live_segment.proofs.Seating.Proceeding.{does_not, looks_on}

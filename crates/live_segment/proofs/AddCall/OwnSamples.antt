@@ -21,7 +21,7 @@ use Rattle.segment_invariant.proofs.Lists.Elements.{row_in}
 use Rattle.segment_invariant.proofs.Lists.Maps.{contains_map}
 use Rattle.segment_invariant.proofs.Walking.Words.{sighted}
 use Rattle.segment_promises.proofs.Calls.Orders.{listed_behind}
-use Rattle.live_segment.specs.Records.{KnowsOwnSamples}
+use Rattle.live_segment.specs.Lists.Records.{KnowsOwnSamples}
 
 -- ---- what a recorder published
 

@@ -16,7 +16,7 @@ use Rattle.live_segment.specs.declared.rule.Setting.{Setting}
 use Rattle.live_segment.specs.Rule.{Runs}
 use Rattle.live_segment.specs.Steps.{Pass, Sat, Stepped}
 use Rattle.live_segment.specs.GhostNotes.{Noted}
-use Rattle.live_segment.specs.Refusing.{how_many_ended, MayEnd, MayGiveUp, refusing_notes, given_up, flags_notes, LoadsFlags, SetsFull}
+use Rattle.live_segment.specs.Counts.Refusing.{how_many_ended, MayEnd, MayGiveUp, refusing_notes, given_up, flags_notes, LoadsFlags, SetsFull}
 use Rattle.live_segment.proofs.Seating.Openings.{follows}
 
 -- ---- where no entry runs

@@ -21,15 +21,15 @@ use Rattle.segment_machine.specs.Event.{allocating_event}
 use Rattle.segment_machine.specs.Made.{IsPayload}
 use Rattle.segment_machine.specs.Publishing.{own_at}
 use Rattle.live_segment.specs.declared.segment.Segment.{Segment}
-use Rattle.live_segment.specs.Adding.{HasNoRoom}
-use Rattle.live_segment.specs.Allocation.{Allocates, claimed, filled, noticed, saw_free}
+use Rattle.live_segment.specs.Counts.Adding.{HasNoRoom}
+use Rattle.live_segment.specs.Lists.Allocation.{Allocates, claimed, filled, noticed, saw_free}
 use Rattle.live_segment.specs.Holders.{table_of, MayStep}
 use Rattle.segment_promises.specs.Onward.{DoesOn, Grows, SeesOn}
-use Rattle.live_segment.specs.Publishing.{HasPublished, IsFilledAs}
-use Rattle.live_segment.specs.Refusing.{given_up}
-use Rattle.live_segment.specs.Sampling.{HasMadeSample, HasNotMadeSample}
+use Rattle.live_segment.specs.Lists.Publishing.{HasPublished, IsFilledAs}
+use Rattle.live_segment.specs.Counts.Refusing.{given_up}
+use Rattle.live_segment.specs.Counts.Sampling.{HasMadeSample, HasNotMadeSample}
 use Rattle.live_segment.specs.Steps.{Pass, Stepped}
-use Rattle.live_segment.specs.Working.{LooksOn}
+use Rattle.live_segment.specs.Counts.Working.{LooksOn}
 use Rattle.live_segment.proofs.NewRecords.Claimed.{looks_claimed, looks_refused}
 use Rattle.live_segment.proofs.NewRecords.Filled.{Apart, changed_there, found_there}
 use Rattle.live_segment.proofs.Seating.Proceeding.{does_not, looks_on, sees_not}

@@ -21,12 +21,12 @@ use Rattle.live_segment.specs.declared.rule.Setting.{Setting}
 use Rattle.live_segment.specs.declared.sampling.SampleSearch.TheVariants as search
 use Rattle.live_segment.specs.Known.{known_view, KnowsRight}
 use Rattle.segment_promises.specs.Onward.{DoesOn, Grows}
-use Rattle.live_segment.specs.Refusing.{MayGiveUp}
+use Rattle.live_segment.specs.Counts.Refusing.{MayGiveUp}
 use Rattle.live_segment.specs.Rule.{IsOf}
-use Rattle.live_segment.specs.Sampling.{FindsSample, HasMadeNoSample, HasMadeSample, HasNotMadeSample, HasSampleOf, LacksSampleOf, SawNone, WalksBehind}
+use Rattle.live_segment.specs.Counts.Sampling.{FindsSample, HasMadeNoSample, HasMadeSample, HasNotMadeSample, HasSampleOf, LacksSampleOf, SawNone, WalksBehind}
 use Rattle.live_segment.specs.Ends.{FoundEndAt, SawAllOfList}
-use Rattle.live_segment.specs.Searching.{HasSearched}
-use Rattle.live_segment.specs.Working.{LooksOn}
+use Rattle.live_segment.specs.Names.Searching.{HasSearched}
+use Rattle.live_segment.specs.Counts.Working.{LooksOn}
 use Rattle.live_segment.proofs.AddCall.Beginning.{known_there}
 use Rattle.live_segment.proofs.Walks.Ends.{all_on, found_on}
 use Rattle.live_segment.proofs.Seating.Proceeding.{does_not, looks_on}

@@ -19,12 +19,12 @@ use Rattle.live_segment.specs.Steps.{Pass, Stepped}
 use Rattle.live_segment.specs.Holders.{MayStep}
 use Rattle.live_segment.specs.Seated.{IsSeated}
 use Rattle.segment_promises.specs.Values.{NoRepeats}
-use Rattle.live_segment.specs.Records.{KnowsOwnSamples}
-use Rattle.live_segment.specs.Finding.{Meets, SeesWords}
+use Rattle.live_segment.specs.Lists.Records.{KnowsOwnSamples}
+use Rattle.live_segment.specs.Names.Finding.{Meets, SeesWords}
 use Rattle.live_segment.specs.Ends.{SawAllOfList}
-use Rattle.live_segment.specs.Searching.{HasSearched}
-use Rattle.live_segment.specs.Sampling.{FindsSample, ShowsValue, WalksBehind}
-use Rattle.live_segment.specs.Walks.{IsWalkProgress}
+use Rattle.live_segment.specs.Names.Searching.{HasSearched}
+use Rattle.live_segment.specs.Counts.Sampling.{FindsSample, ShowsValue, WalksBehind}
+use Rattle.live_segment.specs.Lists.Walks.{IsWalkProgress}
 use Rattle.live_segment.proofs.Walks.WalkProgress as way
 use Rattle.segment_promises.proofs.Growing.{others_still}
 

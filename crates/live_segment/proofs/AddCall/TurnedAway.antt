@@ -20,13 +20,13 @@ use Rattle.bucket_ranges.specs.Ranges.{boundaries_of}
 use Rattle.segment_machine.specs.Note.{Note, refused}
 use Rattle.segment_machine.specs.Taking.{is_looking}
 use Rattle.segment_promises.specs.Follows.{noted_by}
-use Rattle.live_segment.specs.Adding.{IsRefused}
-use Rattle.live_segment.specs.Finishing.{item_of}
+use Rattle.live_segment.specs.Counts.Adding.{IsRefused}
+use Rattle.live_segment.specs.Counts.Finishing.{item_of}
 use Rattle.live_segment.specs.GhostNotes.{bucket_entry}
 use Rattle.segment_promises.specs.Onward.{DoesOn, GoesOn, SeesOn}
-use Rattle.live_segment.specs.Refusing.{given_up, how_many_ended, refusing_notes, IsNotCounted, IsTurnedAway}
+use Rattle.live_segment.specs.Counts.Refusing.{given_up, how_many_ended, refusing_notes, IsNotCounted, IsTurnedAway}
 use Rattle.live_segment.specs.Steps.{IsAtRest}
-use Rattle.live_segment.specs.Working.{HasBegun, LooksFor}
+use Rattle.live_segment.specs.Counts.Working.{HasBegun, LooksFor}
 use Rattle.live_segment.proofs.AddCall.Beginning.{notes_new}
 use Rattle.live_segment.proofs.AddCall.Ended.{still_open}
 

@@ -20,15 +20,15 @@ use Rattle.segment_promises.specs.Follows.{noted_by}
 use Rattle.segment_promises.specs.Onward.{Grows}
 use Rattle.segment_promises.proofs.Growing.{grows_on}
 use Rattle.live_segment.specs.declared.segment.Segment.{Segment}
-use Rattle.live_segment.specs.Adding.{HasNoRoom}
+use Rattle.live_segment.specs.Counts.Adding.{HasNoRoom}
 use Rattle.live_segment.specs.Claims.{ClaimsFor}
-use Rattle.live_segment.specs.Finishing.{item_of}
-use Rattle.live_segment.specs.Refusing.{IsNotCounted}
+use Rattle.live_segment.specs.Counts.Finishing.{item_of}
+use Rattle.live_segment.specs.Counts.Refusing.{IsNotCounted}
 use Rattle.live_segment.specs.Rule.{IsOf}
-use Rattle.live_segment.specs.Sampling.{HasSampleOf, LacksSampleOf}
+use Rattle.live_segment.specs.Counts.Sampling.{HasSampleOf, LacksSampleOf}
 use Rattle.live_segment.specs.Steps.{IsSame, Pass}
 use Rattle.live_segment.specs.GhostNotes.{HasSampled, MaySample, Noted, entry_notes, value_entry}
-use Rattle.live_segment.specs.Working.{CountsAlone, HasCounted, LooksFor}
+use Rattle.live_segment.specs.Counts.Working.{CountsAlone, HasCounted, LooksFor}
 use Rattle.live_segment.proofs.AddCall.Beginning.{counted_behind, known_there, looks_for, may_still, may_tell, only_begun}
 use Rattle.live_segment.proofs.AddCall.Blocks.{keeps_counted, makes_kept}
 use Rattle.live_segment.proofs.AddCall.CountsAlone.{counted_at, counts_next}

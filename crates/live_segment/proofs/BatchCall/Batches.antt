@@ -9,7 +9,7 @@ use Rattle.segment_calls.specs.declared.refusal.Refusal.{Refusal}
 use Rattle.segment_calls.specs.declared.refusal.Refusal.TheVariants.{ZeroCount, NoUnits}
 use Rattle.segment_machine.specs.declared.actor.Actor.{Actor}
 use Rattle.segment_machine.specs.Entry.{batch_cost}
-use Rattle.live_segment.specs.Batching.{batch_checks}
+use Rattle.live_segment.specs.Counts.Batching.{batch_checks}
 
 -- where no item is without units, each has some
 all_some : (items : List (ℤ × ℕ)) → list_any (λ item. item.1 == 0) items ≡ false → All (λ item. 1 ≤ item.1) items

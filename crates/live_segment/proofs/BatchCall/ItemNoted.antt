@@ -11,12 +11,12 @@ use Rattle.segment_machine.specs.Entry.{fresh, has_ended}
 use Rattle.segment_machine.specs.Event.{counting_event}
 use Rattle.segment_promises.specs.Follows.{noted_by}
 use Rattle.live_segment.specs.declared.segment.Segment.{Segment}
-use Rattle.live_segment.specs.Batching.{HasNoted, noted_next}
-use Rattle.live_segment.specs.Finishing.{counted_entry, item_of}
+use Rattle.live_segment.specs.Counts.Batching.{HasNoted, noted_next}
+use Rattle.live_segment.specs.Counts.Finishing.{counted_entry, item_of}
 use Rattle.live_segment.specs.Holders.{MayStep, table_of}
 use Rattle.live_segment.specs.Steps.{IsSame, Pass, Stepped}
 use Rattle.live_segment.specs.GhostNotes.{entry_notes}
-use Rattle.live_segment.specs.Working.{CountsAlone, HasCounted, FrameOfCall, Waits, counted_next}
+use Rattle.live_segment.specs.Counts.Working.{CountsAlone, HasCounted, FrameOfCall, Waits, counted_next}
 use Rattle.live_segment.proofs.AddCall.Beginning.{known_there, then_waits}
 use Rattle.live_segment.proofs.AddCall.CountsAlone.{sees_count}
 use Rattle.live_segment.proofs.AddCall.Ended.{changed_behind, next_behind, still_open}

@@ -15,11 +15,11 @@ use Rattle.segment_machine.specs.Actor.{is_opener, known_at}
 use Rattle.segment_machine.specs.Entry.{AreWithin, fresh, has_ended, item_entry}
 use Rattle.segment_machine.specs.Note.{Note}
 use Rattle.segment_promises.specs.Follows.{noted_by}
-use Rattle.live_segment.specs.Batching.{HasItems, HasNoted, ended_item, holding, noted_next}
-use Rattle.live_segment.specs.Finishing.{counted_entry, item_of}
+use Rattle.live_segment.specs.Counts.Batching.{HasItems, HasNoted, ended_item, holding, noted_next}
+use Rattle.live_segment.specs.Counts.Finishing.{counted_entry, item_of}
 use Rattle.live_segment.specs.Steps.{IsAtRest}
 use Rattle.live_segment.specs.GhostNotes.{KnowsAlone, entry_notes}
-use Rattle.live_segment.specs.Working.{CountsAlone, HasNotBegun, HaveEnded, IsOpenTo, counted_next}
+use Rattle.live_segment.specs.Counts.Working.{CountsAlone, HasNotBegun, HaveEnded, IsOpenTo, counted_next}
 use Rattle.live_segment.proofs.AddCall.Beginning.{notes_new}
 use Rattle.live_segment.proofs.AddCall.Ended.{changed_behind, goes_on_with, still_open}
 use Rattle.live_segment.proofs.BatchCall.Items.{entries, one_more, within_with}

@@ -21,12 +21,12 @@ use Rattle.segment_machine.specs.Note.{refused, units_running}
 use Rattle.segment_machine.specs.Taking.{is_looking}
 use Rattle.segment_promises.specs.Follows.{noted_by}
 use Rattle.live_segment.specs.Claims.{ClaimsForEach}
-use Rattle.live_segment.specs.Batching.{HasItems, StopsAt, ended_item, holding}
-use Rattle.live_segment.specs.Finishing.{item_of}
+use Rattle.live_segment.specs.Counts.Batching.{HasItems, StopsAt, ended_item, holding}
+use Rattle.live_segment.specs.Counts.Finishing.{item_of}
 use Rattle.segment_promises.specs.Onward.{DoesOn, GoesOn, SeesOn}
-use Rattle.live_segment.specs.Refusing.{IsNotCounted, given_up, how_many_ended, refusing_notes}
+use Rattle.live_segment.specs.Counts.Refusing.{IsNotCounted, given_up, how_many_ended, refusing_notes}
 use Rattle.live_segment.specs.Steps.{IsAtRest}
-use Rattle.live_segment.specs.Working.{HasBegun, LooksFor, FrameOfCall}
+use Rattle.live_segment.specs.Counts.Working.{HasBegun, LooksFor, FrameOfCall}
 use Rattle.live_segment.proofs.AddCall.Blocks.{keeps_none}
 use Rattle.live_segment.proofs.BatchCall.Blocks.{claims_all}
 use Rattle.live_segment.proofs.AddCall.Ended.{how_many_before, how_many, still_open}

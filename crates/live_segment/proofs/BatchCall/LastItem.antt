@@ -18,12 +18,12 @@ use Rattle.segment_machine.specs.Entry.{batch_cost, fresh, item_entry}
 use Rattle.segment_machine.specs.Event.{counting_event}
 use Rattle.segment_machine.specs.Note.{ends}
 use Rattle.segment_machine.specs.Taking.{is_looking}
-use Rattle.live_segment.specs.Batching.{HasItems, IsBatched, ended_item}
-use Rattle.live_segment.specs.Finishing.{HasEnded, IsSummed, counted_entry, item_of}
+use Rattle.live_segment.specs.Counts.Batching.{HasItems, IsBatched, ended_item}
+use Rattle.live_segment.specs.Counts.Finishing.{HasEnded, IsSummed, counted_entry, item_of}
 use Rattle.segment_promises.specs.Onward.{DoesOn, GoesOn, SeesOn}
 use Rattle.live_segment.specs.Steps.{IsAtRest, IsSame, Pass}
 use Rattle.live_segment.specs.GhostNotes.{KnowsAlone, MayDo, Noted}
-use Rattle.live_segment.specs.Working.{HasCounted, FrameOfCall, counted_next}
+use Rattle.live_segment.specs.Counts.Working.{HasCounted, FrameOfCall, counted_next}
 use Rattle.live_segment.proofs.AddCall.Ended.{changed_behind, still_open}
 use Rattle.live_segment.proofs.AddCall.Finished.{ends_so, may_last}
 use Rattle.live_segment.proofs.BatchCall.Items.{entries, one_more}

@@ -25,7 +25,7 @@ use Rattle.segment_machine.specs.Note.{Note, begins, ends, goes_on}
 use Rattle.segment_machine.specs.Taking.{is_looking}
 use Rattle.segment_promises.specs.Follows.{MayNoteAll, noted_by}
 use Rattle.live_segment.specs.Claims.{KeepsBlocks}
-use Rattle.live_segment.specs.Batching.{HasItems, IsBatched, ended_item}
+use Rattle.live_segment.specs.Counts.Batching.{HasItems, IsBatched, ended_item}
 use Rattle.segment_promises.specs.Onward.{DoesOn, GoesOn, SeesOn}
 use Rattle.segment_promises.proofs.Growing.{grows_not}
 use Rattle.live_segment.specs.Steps.{IsAtRest, IsSame, Pass}

@@ -13,9 +13,9 @@ use Rattle.segment_machine.specs.declared.actor.Actor.{Actor}
 use Rattle.segment_machine.specs.declared.actor.Known.{Known}
 use Rattle.segment_machine.specs.Actor.{log_of}
 use Rattle.segment_machine.specs.Entry.{item_entry}
-use Rattle.live_segment.specs.Adding.{Pays}
+use Rattle.live_segment.specs.Counts.Adding.{Pays}
 use Rattle.live_segment.specs.Claims.{ClaimsForAll}
-use Rattle.live_segment.specs.Batching.{IsBatched, IsCutShort}
+use Rattle.live_segment.specs.Counts.Batching.{IsBatched, IsCutShort}
 use Rattle.live_segment.proofs.BatchCall.Items.{within_all}
 use Rattle.live_segment.proofs.Seating.Proceeding.{does_not, sees_not}
 

@@ -19,7 +19,7 @@ use Rattle.live_segment.specs.declared.segment.Segment.{Segment}
 use Rattle.live_segment.specs.declared.recorder.KnownHistogram.{KnownHistogram}
 use Rattle.live_segment.specs.declared.rule.Setting.{Setting}
 use Rattle.live_segment.specs.Known.{KnowsRight}
-use Rattle.live_segment.specs.Deltas.{AreUnits, TakesAt, TakesOn, units_of_key}
+use Rattle.live_segment.specs.Readings.Deltas.{AreUnits, TakesAt, TakesOn, units_of_key}
 use Rattle.live_segment.specs.Steps.{IsSame, Pass}
 use Rattle.live_segment.proofs.DeltaCall.OneBucket.{takes_not, takes_then}
 use Rattle.live_segment.proofs.SnapshotCall.Seeing.{began, takes_sees}

@@ -6,7 +6,7 @@ use Rattle.bucket_ranges.specs.Spec.{buckets_of, spec_fault}
 use Rattle.segment_machine.specs.declared.actor.Known.{Known}
 use Rattle.segment_machine.specs.Actor.{has_buckets}
 use Rattle.segment_promises.proofs.Calls.SpecBuckets.{apart, below, key_is, found_is as found_at_run_time}
-use Rattle.live_segment.specs.Finishing.{item_of}
+use Rattle.live_segment.specs.Counts.Finishing.{item_of}
 use Rattle.live_segment.specs.GhostNotes.{bucket_entry}
 use Rattle.segment_machine.specs.Entry.{key_of}
 use Rattle.segment_invariant.specs.Ledger.{key_of_bucket}

@@ -18,7 +18,7 @@ use Rattle.segment_machine.specs.Packing.{load_single}
 use Rattle.segment_machine.specs.Taking.{Takes, load_sum, swap_sum, swap_sum_mark}
 use Rattle.segment_invariant.proofs.Notes.Amounts.{last_changed}
 use Rattle.live_segment.specs.declared.segment.Segment.{Segment}
-use Rattle.live_segment.specs.Deltas.{HasTaken, HasTakenBuckets, HasTakenSum, MayTakeSum, TakesOn, TakesWord, taken_as, with_sum, with_units}
+use Rattle.live_segment.specs.Readings.Deltas.{HasTaken, HasTakenBuckets, HasTakenSum, MayTakeSum, TakesOn, TakesWord, taken_as, with_sum, with_units}
 use Rattle.live_segment.specs.Holders.{MayStep}
 use Rattle.segment_promises.specs.Onward.{SeesOn}
 use Rattle.live_segment.specs.Steps.{IsSame, Pass, Stepped}

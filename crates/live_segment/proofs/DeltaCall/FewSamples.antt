@@ -28,7 +28,7 @@ use Rattle.segment_invariant.proofs.Counting.Samples.{sample_met}
 use Rattle.live_segment.specs.declared.rule.Setting.{Setting}
 use Rattle.segment_promises.specs.Onward.{Grows}
 use Rattle.live_segment.specs.Rule.{Runs}
-use Rattle.live_segment.specs.Samples.{LoadsCountOfSample, MeetsSample, SamplesAreFew}
+use Rattle.live_segment.specs.Readings.Samples.{LoadsCountOfSample, MeetsSample, SamplesAreFew}
 use Rattle.live_segment.specs.Steps.{Sat}
 use Rattle.live_segment.proofs.Seating.Allowed.{does_at}
 use Rattle.segment_promises.proofs.Growing.{still}

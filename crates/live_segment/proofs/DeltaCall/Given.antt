@@ -6,9 +6,9 @@ use Rattle.segment_machine.specs.declared.actor.Known.{Known}
 use Rattle.segment_machine.specs.Actor.{is_bound, is_opener}
 use Rattle.segment_machine.specs.Taking.{is_looking}
 use Rattle.live_segment.specs.declared.rule.Setting.{Setting}
-use Rattle.live_segment.specs.Deltas.{HasTaken}
+use Rattle.live_segment.specs.Readings.Deltas.{HasTaken}
 use Rattle.live_segment.specs.Rule.{IsOf}
-use Rattle.live_segment.specs.Snapshots.{HasSnapshot}
+use Rattle.live_segment.specs.Readings.Snapshots.{HasSnapshot}
 use Rattle.live_segment.specs.Steps.{IsAtRest}
 use Rattle.std.specs.Prelude.{ℕ, ℤ}
 use Rattle.segment_calls.specs.declared.answer.Snapshot.{Snapshot}

@@ -28,9 +28,9 @@ use Rattle.segment_invariant.proofs.Consistency.Marks.{packed_all}
 use Rattle.segment_invariant.proofs.Notes.Amounts.{last_changed}
 use Rattle.live_segment.specs.declared.deltas.Mounted.{Mounted}
 use Rattle.live_segment.specs.declared.segment.Segment.{Segment}
-use Rattle.live_segment.specs.Deltas.{TakesAt, TakesOn, units_of_key, with_units}
+use Rattle.live_segment.specs.Readings.Deltas.{TakesAt, TakesOn, units_of_key, with_units}
 use Rattle.live_segment.specs.Holders.{MayStep}
-use Rattle.live_segment.specs.Looking.{StandsAt}
+use Rattle.live_segment.specs.Readings.Looking.{StandsAt}
 use Rattle.segment_promises.specs.Onward.{SeesOn}
 use Rattle.live_segment.specs.Steps.{IsSame, Pass, Stepped}
 use Rattle.segment_promises.proofs.Growing.{grows_by, grows_not}

@@ -33,13 +33,13 @@ use Rattle.segment_invariant.proofs.Consistency.Keys.{packed_within}
 use Rattle.segment_invariant.proofs.Consistency.Marks.{packed_all}
 use Rattle.segment_invariant.proofs.Lists.Maps.{contains_map}
 use Rattle.live_segment.specs.declared.segment.Segment.{Segment}
-use Rattle.live_segment.specs.Deltas.{HasTakenBuckets, TakesAt, TakesOn, TakesWord, units_of_key}
+use Rattle.live_segment.specs.Readings.Deltas.{HasTakenBuckets, TakesAt, TakesOn, TakesWord, units_of_key}
 use Rattle.live_segment.specs.Holders.{MayStep}
 use Rattle.live_segment.specs.Seated.{IsSeated}
 use Rattle.segment_promises.specs.Onward.{SeesOn}
 use Rattle.live_segment.specs.Rule.{IsOf}
 use Rattle.live_segment.specs.Steps.{IsAtRest, IsSame, Pass, Stepped}
-use Rattle.live_segment.specs.Taking.{MayBeginDelta, HasBegunDelta}
+use Rattle.live_segment.specs.Readings.Taking.{MayBeginDelta, HasBegunDelta}
 use Rattle.live_segment.specs.GhostNotes.{KnowsAlone, Noted}
 use Rattle.live_segment.proofs.AddCall.Beginning.{known_there}
 use Rattle.live_segment.proofs.SnapshotCall.BucketsSeen.{counts_there}

@@ -13,7 +13,7 @@ use Rattle.segment_machine.specs.Event.{taking_event}
 use Rattle.segment_machine.specs.Taking.{is_looking, raise_mark, taken_key}
 use Rattle.segment_machine.proofs.Values.{value_word}
 use Rattle.live_segment.specs.declared.segment.Segment.{Segment}
-use Rattle.live_segment.specs.Deltas.{HasTakenSample, MayTakeSample, TakesOn, TakesValues, units_of_key}
+use Rattle.live_segment.specs.Readings.Deltas.{HasTakenSample, MayTakeSample, TakesOn, TakesValues, units_of_key}
 use Rattle.live_segment.specs.Holders.{MayStep}
 use Rattle.live_segment.specs.Steps.{IsSame, Pass, Stepped}
 use Rattle.live_segment.proofs.DeltaCall.OneBucket.{marked, saw_here, sees_count, takes_by, takes_of}

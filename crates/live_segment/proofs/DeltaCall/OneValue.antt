@@ -9,12 +9,12 @@ use Rattle.segment_machine.specs.Made.{SawSample}
 use Rattle.segment_machine.specs.Note.{TookSample}
 use Rattle.segment_machine.specs.Taking.{IsLaterSample}
 use Rattle.live_segment.specs.declared.segment.Segment.{Segment}
-use Rattle.live_segment.specs.Deltas.{HasTakenSample, MayTakeSample, TakesOn, TakesValues, units_of_key}
+use Rattle.live_segment.specs.Readings.Deltas.{HasTakenSample, MayTakeSample, TakesOn, TakesValues, units_of_key}
 use Rattle.segment_promises.specs.Onward.{SeesOn}
-use Rattle.live_segment.specs.Samples.{CountsSample, HasUnits, SeesSample}
+use Rattle.live_segment.specs.Readings.Samples.{CountsSample, HasUnits, SeesSample}
 use Rattle.live_segment.specs.Steps.{IsSame, Pass}
 use Rattle.segment_promises.specs.Values.{Passes}
-use Rattle.live_segment.specs.Values.{TakesValue}
+use Rattle.live_segment.specs.Readings.Values.{TakesValue}
 use Rattle.live_segment.proofs.DeltaCall.OneBucket.{nothing_more, takes_by, takes_then}
 use Rattle.live_segment.proofs.DeltaCall.OneSample.{values_on}
 use Rattle.segment_promises.proofs.Growing.{grows_not}

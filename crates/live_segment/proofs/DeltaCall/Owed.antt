@@ -53,10 +53,10 @@ use Rattle.segment_promises.proofs.Growing.{others_still, still}
 use Rattle.segment_promises.proofs.ListedValues.{sample_still}
 use Rattle.segment_promises.proofs.Enough.{knower_lives}
 use Rattle.segment_promises.proofs.Snapshots.{snapshots_see_accepted}
-use Rattle.live_segment.specs.Deltas.{HasTaken}
-use Rattle.live_segment.specs.Owed.{HadCount, HadPacked, HadSample, HasEnough, IsEnough, IsWhole, Standing, TookEnough}
-use Rattle.live_segment.specs.Snapshots.{HasSnapshot}
-use Rattle.live_segment.specs.Taking.{answered_as}
+use Rattle.live_segment.specs.Readings.Deltas.{HasTaken}
+use Rattle.live_segment.specs.Readings.Owed.{HadCount, HadPacked, HadSample, HasEnough, IsEnough, IsWhole, Standing, TookEnough}
+use Rattle.live_segment.specs.Readings.Snapshots.{HasSnapshot}
+use Rattle.live_segment.specs.Readings.Taking.{answered_as}
 
 kind_of : (s : Spec) → (has_buckets s ≡ true) ⊎ (s ≡ spec.Sparse)
 kind_of (spec.Linear min max n) = inl refl

@@ -16,9 +16,9 @@ use Rattle.segment_machine.specs.Event.{Event, next, taking_event}
 use Rattle.segment_machine.specs.Made.{SawSample}
 use Rattle.segment_machine.specs.Taking.{IsLaterSample, at_count, is_looking, load_count}
 use Rattle.live_segment.specs.declared.segment.Segment.{Segment}
-use Rattle.live_segment.specs.Finding.{Meets, SeesWords}
+use Rattle.live_segment.specs.Names.Finding.{Meets, SeesWords}
 use Rattle.live_segment.specs.Holders.{table_of, MayStep}
-use Rattle.live_segment.specs.Samples.{SeesSample}
+use Rattle.live_segment.specs.Readings.Samples.{SeesSample}
 use Rattle.live_segment.specs.Steps.{Pass, IsSame, Stepped}
 use Rattle.live_segment.specs.GhostNotes.{KnowsAlone}
 use Rattle.live_segment.proofs.AddCall.Beginning.{known_there}

@@ -9,7 +9,7 @@ use Rattle.segment_machine.specs.Taking.{load_sum}
 use Rattle.segment_promises.proofs.Calls.Orders.{no_repeats, stand_behind}
 use Rattle.live_segment.specs.declared.rule.Setting.{Setting}
 use Rattle.live_segment.specs.Rule.{Runs}
-use Rattle.live_segment.specs.Samples.{LoadsSum}
+use Rattle.live_segment.specs.Readings.Samples.{LoadsSum}
 use Rattle.live_segment.specs.Steps.{Sat}
 use Rattle.live_segment.proofs.Seating.Allowed.{does_at}
 

@@ -14,16 +14,16 @@ use Rattle.segment_machine.specs.Taking.{Takes, is_looking}
 use Rattle.segment_machine.specs.Walking.{load_next}
 use Rattle.segment_invariant.proofs.Lists.Maps.{contains_map}
 use Rattle.live_segment.specs.declared.segment.Segment.{Segment}
-use Rattle.live_segment.specs.Deltas.{HasTaken, HasTakenSum, MayTakeSum, TakesValues}
+use Rattle.live_segment.specs.Readings.Deltas.{HasTaken, HasTakenSum, MayTakeSum, TakesValues}
 use Rattle.live_segment.specs.Seated.{IsSeated}
 use Rattle.segment_promises.specs.Onward.{SeesOn}
 use Rattle.segment_promises.specs.Values.{NoRepeats, AreSorted, ComesTo}
 use Rattle.live_segment.specs.Rule.{IsOf}
-use Rattle.live_segment.specs.Samples.{SamplesStandBehind}
+use Rattle.live_segment.specs.Readings.Samples.{SamplesStandBehind}
 use Rattle.live_segment.specs.Steps.{IsAtRest, IsSame, Pass}
-use Rattle.live_segment.specs.Taking.{HasBegunDelta, MayBeginDelta}
+use Rattle.live_segment.specs.Readings.Taking.{HasBegunDelta, MayBeginDelta}
 use Rattle.live_segment.specs.GhostNotes.{KnowsAlone, Noted}
-use Rattle.live_segment.specs.Values.{HasTakenValues, TakesAlong}
+use Rattle.live_segment.specs.Readings.Values.{HasTakenValues, TakesAlong}
 use Rattle.live_segment.proofs.AddCall.Beginning.{known_there}
 use Rattle.live_segment.proofs.DeltaCall.DeltaEnds.{kept_all, sees_all}
 use Rattle.segment_promises.proofs.Calls.SampleLists.{all_passed, did_with}

@@ -13,12 +13,12 @@ use Rattle.segment_machine.specs.Taking.{is_looking}
 use Rattle.segment_machine.specs.Calls.{ended}
 use Rattle.segment_machine.specs.Walking.{extended, load_next}
 use Rattle.live_segment.specs.declared.segment.Segment.{Segment}
-use Rattle.live_segment.specs.Deltas.{TakesOn, TakesValues}
+use Rattle.live_segment.specs.Readings.Deltas.{TakesOn, TakesValues}
 use Rattle.live_segment.specs.Holders.{MayStep}
 use Rattle.segment_promises.specs.Onward.{SeesOn}
 use Rattle.segment_promises.specs.Values.{NoRepeats, ComesTo, ListsValues, listed_of}
 use Rattle.live_segment.specs.Steps.{IsSame, Pass, Stepped}
-use Rattle.live_segment.specs.Values.{TakesAlong, TakesValue}
+use Rattle.live_segment.specs.Readings.Values.{TakesAlong, TakesValue}
 use Rattle.segment_promises.proofs.ListedValues.{lists_nothing, lists_still}
 use Rattle.live_segment.proofs.DeltaCall.OneBucket.{nothing_more, takes_by, takes_not, takes_then}
 use Rattle.live_segment.proofs.DeltaCall.OneSample.{values_on}

@@ -20,9 +20,9 @@ use Rattle.segment_calls.specs.Asked.{IsAskedFor}
 use Rattle.segment_calls.specs.Blocks.{record_words}
 use Rattle.live_segment.specs.Claims.{KeepsBlocks, MakesOne, NamesAtMostOne}
 use Rattle.live_segment.specs.Ends.{SawAllOfList}
-use Rattle.live_segment.specs.Making.{HasMade}
-use Rattle.live_segment.specs.Searching.{HasSearched}
-use Rattle.live_segment.specs.Settling.{MakesFor}
+use Rattle.live_segment.specs.Names.Making.{HasMade}
+use Rattle.live_segment.specs.Names.Searching.{HasSearched}
+use Rattle.live_segment.specs.Names.Settling.{MakesFor}
 use Rattle.live_segment.proofs.HistCall.HistAnswered.{payload_long}
 use Rattle.live_segment.proofs.HistCall.Searching.{others_still}
 use Rattle.live_segment.proofs.NewRecords.Blocks.{makes_between}

@@ -13,10 +13,10 @@ use Rattle.live_segment.specs.declared.indexing.RecordIndex.{RecordIndex}
 use Rattle.live_segment.specs.declared.segment.Segment.{Segment}
 use Rattle.live_segment.specs.declared.finding.Search.{Search}
 use Rattle.live_segment.specs.declared.finding.Search.TheVariants as search
-use Rattle.live_segment.specs.Finding.{IsAsked, Meets, SeesWords, ShowsName, ShowsSpec}
-use Rattle.live_segment.specs.Indexed.{IsIndexed, IsNameKey}
+use Rattle.live_segment.specs.Names.Finding.{IsAsked, Meets, SeesWords, ShowsName, ShowsSpec}
+use Rattle.live_segment.specs.Names.Indexed.{IsIndexed, IsNameKey}
 use Rattle.live_segment.specs.Seated.{IsSeated}
-use Rattle.live_segment.specs.Searching.{FoundEnd, HasSearched, Searches, WalksAt}
+use Rattle.live_segment.specs.Names.Searching.{FoundEnd, HasSearched, Searches, WalksAt}
 use Rattle.live_segment.specs.Steps.{Pass}
 use Rattle.live_segment.proofs.HistCall.Indexing.{first_here}
 use Rattle.live_segment.proofs.HistCall.Searching.{first_with, first_without, name_still, others_still}

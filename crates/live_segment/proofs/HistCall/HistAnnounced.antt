@@ -25,7 +25,7 @@ use Rattle.segment_invariant.proofs.Notes.Names.{first_right}
 use Rattle.segment_promises.specs.Follows.{MayNoteAll}
 use Rattle.live_segment.specs.declared.rule.Announcement.{Announcement}
 use Rattle.live_segment.specs.declared.rule.Setting.{Setting}
-use Rattle.live_segment.specs.Answering.{Declines, HaveOneName, IsSaid, Knows}
+use Rattle.live_segment.specs.Names.Answering.{Declines, HaveOneName, IsSaid, Knows}
 use Rattle.live_segment.specs.Rule.{Runs}
 use Rattle.live_segment.specs.Steps.{Sat}
 use Rattle.live_segment.proofs.Seating.Openings.{announces}

@@ -24,13 +24,13 @@ use Rattle.segment_calls.specs.declared.asked.Asked.{Asked}
 use Rattle.segment_calls.specs.Asked.{IsAskedFor, IsTooLarge}
 use Rattle.live_segment.specs.declared.recorder.KnownHistogram.{KnownHistogram}
 use Rattle.live_segment.specs.declared.rule.Setting.{Setting}
-use Rattle.live_segment.specs.Adding.{block_words}
-use Rattle.live_segment.specs.Hist.{IsKnownAt, KnowsNone, MayBeAsked, NoneHasName}
+use Rattle.live_segment.specs.Counts.Adding.{block_words}
+use Rattle.live_segment.specs.Names.Hist.{IsKnownAt, KnowsNone, MayBeAsked, NoneHasName}
 use Rattle.live_segment.specs.Known.{known_view, KnowsRight}
 use Rattle.segment_promises.specs.Onward.{Grows}
 use Rattle.live_segment.specs.Rule.{IsOf}
-use Rattle.live_segment.specs.Searching.{asked_at}
-use Rattle.live_segment.specs.Settling.{ComesToKnow, IsKnownAs, LooksAround}
+use Rattle.live_segment.specs.Names.Searching.{asked_at}
+use Rattle.live_segment.specs.Names.Settling.{ComesToKnow, IsKnownAs, LooksAround}
 use Rattle.live_segment.specs.Steps.{IsAtRest}
 use Rattle.live_segment.proofs.HistCall.KnownNames.{is_there}
 use Rattle.live_segment.proofs.HistCall.SameLawful.{same_small}

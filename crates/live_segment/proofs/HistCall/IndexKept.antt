@@ -9,11 +9,11 @@ use Rattle.segment_calls.specs.declared.asked.Asked.{Asked}
 use Rattle.segment_calls.specs.declared.refusal.Refusal.{Refusal}
 use Rattle.live_segment.specs.declared.indexing.RecordIndex.{RecordIndex}
 use Rattle.live_segment.specs.Claims.{KeepsBlocks}
-use Rattle.live_segment.specs.Cursors.{AnswersNext}
-use Rattle.live_segment.specs.Indexed.{IsIndexed}
-use Rattle.live_segment.specs.Making.{HasMade, Makes}
-use Rattle.live_segment.specs.Records.{HasWalked}
-use Rattle.live_segment.specs.Searching.{HasSearched}
+use Rattle.live_segment.specs.Lists.Cursors.{AnswersNext}
+use Rattle.live_segment.specs.Names.Indexed.{IsIndexed}
+use Rattle.live_segment.specs.Names.Making.{HasMade, Makes}
+use Rattle.live_segment.specs.Lists.Records.{HasWalked}
+use Rattle.live_segment.specs.Names.Searching.{HasSearched}
 use Rattle.live_segment.proofs.HistCall.Indexing.{indexed_still}
 use Rattle.live_segment.proofs.HistCall.Settled.{refused_around}
 use Rattle.live_segment.proofs.Walks.Sharing.{answer_grows}

@@ -32,12 +32,12 @@ use Rattle.list_index.proofs.Meeting.{none_met, one_met}
 use Rattle.live_segment.specs.declared.indexing.RecordIndex.{RecordIndex}
 use Rattle.live_segment.specs.declared.records.WalkPlace.{WalkPlace}
 use Rattle.live_segment.specs.declared.segment.Segment.{Segment}
-use Rattle.live_segment.specs.Finding.{SeesWords}
-use Rattle.live_segment.specs.Indexed.{Enters, HasLooked, HasSeen, IsIndexed, IsNameKey, passed, seen_key, seen_letters, seen_word, seen_words}
-use Rattle.live_segment.specs.Searching.{HasSearched, WalksAt}
+use Rattle.live_segment.specs.Names.Finding.{SeesWords}
+use Rattle.live_segment.specs.Names.Indexed.{Enters, HasLooked, HasSeen, IsIndexed, IsNameKey, passed, seen_key, seen_letters, seen_word, seen_words}
+use Rattle.live_segment.specs.Names.Searching.{HasSearched, WalksAt}
 use Rattle.live_segment.specs.Seated.{IsSeated}
 use Rattle.live_segment.specs.Steps.{Pass, Stepped}
-use Rattle.live_segment.specs.Walks.{HasCome, IsWalkProgress}
+use Rattle.live_segment.specs.Lists.Walks.{HasCome, IsWalkProgress}
 use Rattle.live_segment.proofs.HistCall.Searching.{searched_on, sees_searched}
 use Rattle.live_segment.proofs.Walks.Showing.{sees_one, seen_one, words_apart}
 use Rattle.live_segment.proofs.Walks.WalkProgress.{searched, way_on}

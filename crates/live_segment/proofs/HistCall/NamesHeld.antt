@@ -13,8 +13,8 @@ use Rattle.list_index.specs.Firsts.{first_of}
 use Rattle.list_index.specs.Keys.{byte_key_of}
 use Rattle.live_segment.specs.declared.naming.KnownNames.{KnownNames}
 use Rattle.live_segment.specs.declared.recorder.KnownHistogram.{KnownHistogram}
-use Rattle.live_segment.specs.Hist.{NoneHasName}
-use Rattle.live_segment.specs.Naming.{HasNames}
+use Rattle.live_segment.specs.Names.Hist.{NoneHasName}
+use Rattle.live_segment.specs.Names.Naming.{HasNames}
 
 abbrev Held : KnownNames → KnownHistogram → Type 0
 Held names one = is_some (first_of names.places (byte_key_of one.name.items)) ≡ true

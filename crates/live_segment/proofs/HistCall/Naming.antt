@@ -24,7 +24,7 @@ use Rattle.segment_machine.specs.Walking.{load_published}
 use Rattle.live_segment.specs.declared.segment.Segment.{Segment}
 use Rattle.live_segment.specs.Rule.{IsOf}
 use Rattle.live_segment.specs.Steps.{Pass, Stepped}
-use Rattle.live_segment.specs.Finding.{IsAsked, SeesWords, ShowsName, ShowsSpec, ShowsWords}
+use Rattle.live_segment.specs.Names.Finding.{IsAsked, SeesWords, ShowsName, ShowsSpec, ShowsWords}
 use Rattle.segment_promises.proofs.Growing.{still}
 use Rattle.live_segment.proofs.Walks.Showing.{sees_one, seen_one}
 

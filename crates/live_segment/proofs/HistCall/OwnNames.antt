@@ -23,7 +23,7 @@ use Rattle.segment_invariant.proofs.Lists.Elements.{row_in}
 use Rattle.segment_invariant.proofs.Lists.Maps.{contains_map}
 use Rattle.segment_invariant.proofs.Walking.Words.{letters_long, record_long, sighted}
 use Rattle.segment_invariant.proofs.Notes.Letters.{bytes_same, word_bytes}
-use Rattle.live_segment.specs.Records.{KnowsOwnNames}
+use Rattle.live_segment.specs.Lists.Records.{KnowsOwnNames}
 
 -- a word of the name in the words of a record
 letter_word : (r : Record) (i : ℕ) → i < length r.letters → slice_index (record_words r) (15 + i) ≡ slice_index r.letters i

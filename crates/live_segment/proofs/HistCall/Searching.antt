@@ -33,16 +33,16 @@ use Rattle.live_segment.specs.Holders.{MayStep}
 use Rattle.live_segment.specs.Seated.{IsSeated}
 use Rattle.segment_promises.specs.Onward.{Grows}
 use Rattle.segment_promises.specs.Values.{NoRepeats}
-use Rattle.live_segment.specs.Records.{KnowsOwnNames}
-use Rattle.live_segment.specs.Finding.{IsAsked, Meets, SeesWords, ShowsName, ShowsSpec}
-use Rattle.live_segment.specs.Searching.{WalksAt, HasSearched, Searches, HasMadeNone}
+use Rattle.live_segment.specs.Lists.Records.{KnowsOwnNames}
+use Rattle.live_segment.specs.Names.Finding.{IsAsked, Meets, SeesWords, ShowsName, ShowsSpec}
+use Rattle.live_segment.specs.Names.Searching.{WalksAt, HasSearched, Searches, HasMadeNone}
 use Rattle.segment_promises.proofs.Growing.{extended_end, reference_behind, grows_on, still}
 use Rattle.segment_promises.proofs.Furthest.{last_of, last_least, last_most, last_stands}
 use Rattle.live_segment.proofs.Walks.Showing.{sees_on}
 use Rattle.live_segment.proofs.Walks.WalkProgress as way
 use Rattle.live_segment.proofs.Walks.Walked.{all_given}
 use Rattle.live_segment.specs.Ends.{SawAllOfList}
-use Rattle.live_segment.specs.Walks.{IsWalkProgress}
+use Rattle.live_segment.specs.Lists.Walks.{IsWalkProgress}
 
 -- ---- what was seen stays
 

@@ -22,14 +22,14 @@ use Rattle.segment_calls.specs.declared.asked.Asked.{Asked}
 use Rattle.segment_calls.specs.declared.refusal.Refusal.{Refusal}
 use Rattle.segment_calls.specs.declared.refusal.Refusal.TheVariants as why
 use Rattle.live_segment.specs.declared.finding.Search.TheVariants as search
-use Rattle.live_segment.specs.Adding.{HasNoRoom}
+use Rattle.live_segment.specs.Counts.Adding.{HasNoRoom}
 use Rattle.live_segment.specs.Ends.{SawAllOfList}
-use Rattle.live_segment.specs.Allocation.{Allocates, filled, noticed, saw_free}
-use Rattle.live_segment.specs.Answering.{HaveOneName}
-use Rattle.live_segment.specs.Making.{HasMade, Makes}
-use Rattle.live_segment.specs.Settling.{IsRefusedBy, LooksAround, LooksUp, Owes, OwesAs, Settles}
+use Rattle.live_segment.specs.Lists.Allocation.{Allocates, filled, noticed, saw_free}
+use Rattle.live_segment.specs.Names.Answering.{HaveOneName}
+use Rattle.live_segment.specs.Names.Making.{HasMade, Makes}
+use Rattle.live_segment.specs.Names.Settling.{IsRefusedBy, LooksAround, LooksUp, Owes, OwesAs, Settles}
 use Rattle.segment_promises.specs.Onward.{DoesOn}
-use Rattle.live_segment.specs.Searching.{HasMadeNone, HasSearched, Searches, WalksAt, asked_at}
+use Rattle.live_segment.specs.Names.Searching.{HasMadeNone, HasSearched, Searches, WalksAt, asked_at}
 use Rattle.live_segment.proofs.Walks.Ends.{all_on}
 use Rattle.live_segment.proofs.NewRecords.Claimed.{sees_header}
 use Rattle.live_segment.proofs.NewRecords.Rooms.{lacked_since, lacks_room}

@@ -4,9 +4,9 @@ use Rattle.std.specs.Prelude.{Ok}
 use Rattle.segment_machine.specs.declared.actor.Actor.{Actor}
 use Rattle.segment_machine.specs.declared.place.Place.TheVariants.{Idle}
 use Rattle.segment_machine.specs.declared.seen.Seen.{Seen}
-use Rattle.live_segment.specs.Allocation.{Allocates}
+use Rattle.live_segment.specs.Lists.Allocation.{Allocates}
 use Rattle.segment_promises.specs.Onward.{Grows, SeesOn}
-use Rattle.live_segment.specs.Working.{LooksOn}
+use Rattle.live_segment.specs.Counts.Working.{LooksOn}
 use Rattle.segment_promises.proofs.Growing.{grows_by, grows_not}
 
 -- it has seen a free pointer that is no earlier, and flags

@@ -19,7 +19,7 @@ use Rattle.segment_machine.specs.Publishing.{own_at}
 use Rattle.live_segment.specs.declared.segment.Segment.{Segment}
 use Rattle.live_segment.specs.Steps.{Pass, Stepped}
 use Rattle.live_segment.specs.Holders.{table_of, MayStep}
-use Rattle.live_segment.specs.Making.{HasBlock, HasFilled, StandsFilled, filled_with}
+use Rattle.live_segment.specs.Names.Making.{HasBlock, HasFilled, StandsFilled, filled_with}
 
 -- ---- the last of its blocks
 

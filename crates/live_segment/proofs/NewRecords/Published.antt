@@ -20,9 +20,9 @@ use Rattle.live_segment.specs.declared.rule.Announcement.{Announcement}
 use Rattle.live_segment.specs.declared.segment.Segment.{Segment}
 use Rattle.live_segment.specs.Holders.{table_of, MayStep}
 use Rattle.live_segment.specs.Seated.{IsSeated}
-use Rattle.live_segment.specs.Listing.{asked_for, asking_notes, link_notes, MayLink, HasLinked}
+use Rattle.live_segment.specs.Lists.Listing.{asked_for, asking_notes, link_notes, MayLink, HasLinked}
 use Rattle.segment_promises.specs.Onward.{Grows}
-use Rattle.live_segment.specs.Publishing.{IsFilledAs, HasPublished, owed_as}
+use Rattle.live_segment.specs.Lists.Publishing.{IsFilledAs, HasPublished, owed_as}
 use Rattle.live_segment.specs.Steps.{Pass, IsSame, Stepped}
 use Rattle.live_segment.specs.GhostNotes.{Noted}
 use Rattle.live_segment.proofs.NewRecords.Owned.{own_there, own_changed, others_stay}

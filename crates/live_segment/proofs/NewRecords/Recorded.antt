@@ -8,13 +8,13 @@ use Rattle.segment_machine.specs.Taking.{is_looking}
 use Rattle.segment_calls.specs.declared.asked.Asked.{Asked}
 use Rattle.live_segment.specs.declared.rule.Announcement.{Announcement}
 use Rattle.live_segment.specs.declared.segment.Segment.{Segment}
-use Rattle.live_segment.specs.Allocation.{Allocates, claimed}
-use Rattle.live_segment.specs.Finding.{IsAsked}
+use Rattle.live_segment.specs.Lists.Allocation.{Allocates, claimed}
+use Rattle.live_segment.specs.Names.Finding.{IsAsked}
 use Rattle.live_segment.specs.Seated.{IsSeated}
-use Rattle.live_segment.specs.Making.{HasFilled, HasMade, SaysAsked}
-use Rattle.live_segment.specs.Publishing.{HasPublished, HasPublishedFor}
+use Rattle.live_segment.specs.Names.Making.{HasFilled, HasMade, SaysAsked}
+use Rattle.live_segment.specs.Lists.Publishing.{HasPublished, HasPublishedFor}
 use Rattle.segment_promises.specs.Onward.{Grows}
-use Rattle.live_segment.specs.Searching.{asked_at}
+use Rattle.live_segment.specs.Names.Searching.{asked_at}
 use Rattle.live_segment.specs.Steps.{Pass, IsSame}
 
 module _ (segment : Segment) (asked : Asked) (is : IsAsked segment.setting.shape asked) (old mid : Pass)

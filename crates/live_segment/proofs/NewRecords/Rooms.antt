@@ -6,8 +6,8 @@ use Rattle.segment_calls.specs.declared.refusal.Refusal.TheVariants.{Corrupt, Fu
 use Rattle.segment_machine.specs.declared.actor.Actor.{Actor}
 use Rattle.segment_machine.specs.declared.actor.Done.{Done}
 use Rattle.segment_machine.specs.declared.place.Place.TheVariants.{Idle}
-use Rattle.live_segment.specs.Adding.{HasNoRoom}
-use Rattle.live_segment.specs.Allocation.{Allocates, filled, noticed, saw_free}
+use Rattle.live_segment.specs.Counts.Adding.{HasNoRoom}
+use Rattle.live_segment.specs.Lists.Allocation.{Allocates, filled, noticed, saw_free}
 use Rattle.live_segment.proofs.AddCall.Refusing.{only_given_up}
 
 -- an allocation that was refused

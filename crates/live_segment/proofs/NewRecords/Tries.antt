@@ -19,8 +19,8 @@ use Rattle.live_segment.specs.declared.segment.Segment.{Segment}
 use Rattle.live_segment.specs.Rule.{IsOf}
 use Rattle.live_segment.specs.Steps.{Pass, IsSame, Stepped}
 use Rattle.live_segment.specs.Holders.{table_of, MayStep}
-use Rattle.live_segment.specs.Allocation.{Allocates, saw_free, claimed}
-use Rattle.live_segment.specs.Refusing.{flags_notes, refusing_notes}
+use Rattle.live_segment.specs.Lists.Allocation.{Allocates, saw_free, claimed}
+use Rattle.live_segment.specs.Counts.Refusing.{flags_notes, refusing_notes}
 use Rattle.segment_promises.specs.Follows.{noted_by}
 use Rattle.segment_calls.specs.declared.refusal.Refusal.TheVariants as refusal
 use Rattle.live_segment.proofs.AddCall.Refusing.{flags_seen}

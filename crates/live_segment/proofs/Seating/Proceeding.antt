@@ -5,7 +5,7 @@ use Rattle.segment_machine.specs.declared.actor.Done.{Done}
 use Rattle.segment_machine.specs.declared.seen.Seen.{Seen}
 use Rattle.segment_promises.specs.Onward.{DoesOn, SeesOn}
 use Rattle.segment_promises.proofs.Growing.{grows_not, grows_on}
-use Rattle.live_segment.specs.Working.{FrameOfCall, LooksOn}
+use Rattle.live_segment.specs.Counts.Working.{FrameOfCall, LooksOn}
 
 -- ---- what is done and seen
 

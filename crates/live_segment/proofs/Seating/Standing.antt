@@ -17,7 +17,7 @@ use Rattle.segment_promises.specs.Follows.{MayNoteAll, noted_by}
 use Rattle.live_segment.specs.declared.rule.Announcement.{Announcement}
 use Rattle.live_segment.specs.declared.rule.Setting.{Setting}
 use Rattle.live_segment.specs.GhostNotes.{TellsOf}
-use Rattle.live_segment.specs.Owed.{Standing}
+use Rattle.live_segment.specs.Readings.Owed.{Standing}
 use Rattle.live_segment.specs.Rule.{Runs}
 use Rattle.live_segment.specs.Steps.{Sat}
 use Rattle.live_segment.proofs.Seating.GhostNoted.{tells}

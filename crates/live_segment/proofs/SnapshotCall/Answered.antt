@@ -16,7 +16,7 @@ use Rattle.live_segment.specs.declared.rule.Announcement.TheVariants.{Answer}
 use Rattle.live_segment.specs.declared.rule.Setting.{Setting}
 use Rattle.live_segment.specs.Rule.{Runs}
 use Rattle.live_segment.specs.Steps.{Sat}
-use Rattle.live_segment.specs.Taking.{Answers, answered_as}
+use Rattle.live_segment.specs.Readings.Taking.{Answers, answered_as}
 use Rattle.live_segment.specs.GhostNotes.{KnowsAlone}
 use Rattle.live_segment.proofs.Seating.Openings.{announces}
 use Rattle.live_segment.proofs.Seating.Seated.{nothing_exchanged}

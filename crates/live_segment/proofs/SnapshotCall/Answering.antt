@@ -19,9 +19,9 @@ use Rattle.segment_machine.specs.Note.{answers, MayNote, noted, SawAll, SawBucke
 use Rattle.live_segment.specs.declared.segment.Segment.{Segment}
 use Rattle.live_segment.specs.Holders.{table_of, MayStep}
 use Rattle.segment_promises.specs.Onward.{SeesOn}
-use Rattle.live_segment.specs.Snapshots.{HasLooked, HasSeenBuckets, HasSnapshot, saw_sum}
+use Rattle.live_segment.specs.Readings.Snapshots.{HasLooked, HasSeenBuckets, HasSnapshot, saw_sum}
 use Rattle.live_segment.specs.Steps.{Pass, IsAtRest, IsSame}
-use Rattle.live_segment.specs.Taking.{answered_as}
+use Rattle.live_segment.specs.Readings.Taking.{answered_as}
 use Rattle.live_segment.specs.GhostNotes.{KnowsAlone}
 use Rattle.live_segment.proofs.AddCall.Beginning.{known_there}
 use Rattle.segment_promises.proofs.Growing.{grows_by, grows_not}

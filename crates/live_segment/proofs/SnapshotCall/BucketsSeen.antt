@@ -25,9 +25,9 @@ use Rattle.segment_invariant.proofs.Lists.Pairs.{element_at}
 use Rattle.live_segment.specs.declared.segment.Segment.{Segment}
 use Rattle.live_segment.specs.Holders.{MayStep}
 use Rattle.live_segment.specs.Seated.{IsSeated}
-use Rattle.live_segment.specs.Looking.{StandsAt, MayLookAt, HasLookedAt}
+use Rattle.live_segment.specs.Readings.Looking.{StandsAt, MayLookAt, HasLookedAt}
 use Rattle.segment_promises.specs.Onward.{SeesOn}
-use Rattle.live_segment.specs.Snapshots.{HavePacked, HasLooked, HasSeenBuckets}
+use Rattle.live_segment.specs.Readings.Snapshots.{HavePacked, HasLooked, HasSeenBuckets}
 use Rattle.live_segment.specs.Steps.{Pass, IsAtRest, Stepped}
 use Rattle.live_segment.specs.GhostNotes.{KnowsAlone, MayDo, Noted}
 use Rattle.live_segment.proofs.AddCall.Attempts.{is_on}

@@ -8,7 +8,7 @@ use Rattle.atomic_table.proofs.Lists.{at_set}
 use Rattle.bucket_ranges.specs.declared.single.SingleWord.{SingleWord}
 use Rattle.bucket_ranges.specs.Single.{single_of, units_packed}
 use Rattle.segment_invariant.proofs.Lists.Pairs.{element_at}
-use Rattle.live_segment.specs.Snapshots.{HavePacked}
+use Rattle.live_segment.specs.Readings.Snapshots.{HavePacked}
 
 module _ (version word : ℕ) (totals : List (ℤ × ℕ)) where
   abbrev form : Option SingleWord

@@ -3,8 +3,8 @@ use Rattle.std.proofs.Common.{ℕ, ◌≤◌, ℤ, List, length, ap}
 use Rattle.segment_machine.specs.declared.actor.Actor.{Actor}
 use Rattle.segment_promises.specs.Calls as calls
 use Rattle.segment_promises.proofs.Calls.Sights.{sees_more}
-use Rattle.live_segment.specs.Deltas.{TakesOn}
-use Rattle.live_segment.specs.Values.{SeesMore}
+use Rattle.live_segment.specs.Readings.Deltas.{TakesOn}
+use Rattle.live_segment.specs.Readings.Values.{SeesMore}
 
 pub began : (a : Actor) → a.since.singles ≤ length a.seen.singles → a.since.counts ≤ length a.seen.counts → calls.BeganBefore a
 began a singles counts = record { singles = singles; counts = counts }

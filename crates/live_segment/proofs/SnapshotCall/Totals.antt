@@ -15,7 +15,7 @@ use Rattle.segment_machine.specs.Event.{Event, next, taking_event}
 use Rattle.segment_machine.specs.Taking.{load_count, at_count}
 use Rattle.live_segment.specs.declared.segment.Segment.{Segment}
 use Rattle.live_segment.specs.Holders.{MayStep}
-use Rattle.live_segment.specs.Looking.{StandsAt, MayLookAt, HasLookedAt}
+use Rattle.live_segment.specs.Readings.Looking.{StandsAt, MayLookAt, HasLookedAt}
 use Rattle.live_segment.specs.Steps.{Pass, IsSame, Stepped}
 
 -- a recorder that has loaded a count stands at the same counts

@@ -21,17 +21,17 @@ use Rattle.segment_machine.specs.Taking.{is_looking}
 use Rattle.segment_machine.specs.Walking.{extended, load_next}
 use Rattle.segment_machine.proofs.Values.{value_word}
 use Rattle.live_segment.specs.declared.segment.Segment.{Segment}
-use Rattle.live_segment.specs.Deltas.{AreUnits}
+use Rattle.live_segment.specs.Readings.Deltas.{AreUnits}
 use Rattle.live_segment.specs.Holders.{MayStep}
 use Rattle.live_segment.specs.Seated.{IsSeated}
 use Rattle.segment_promises.specs.Onward.{SeesOn}
 use Rattle.segment_promises.specs.Values.{NoRepeats, AreSorted, ComesTo, ListsOf, ListsValues, listed_of}
 use Rattle.live_segment.specs.Rule.{IsOf}
-use Rattle.live_segment.specs.Samples.{CountsSample, SamplesStandBehind, SeesSample}
-use Rattle.live_segment.specs.Snapshots.{HasLooked}
+use Rattle.live_segment.specs.Readings.Samples.{CountsSample, SamplesStandBehind, SeesSample}
+use Rattle.live_segment.specs.Readings.Snapshots.{HasLooked}
 use Rattle.live_segment.specs.Steps.{IsAtRest, IsSame, Pass, Stepped}
 use Rattle.live_segment.specs.GhostNotes.{KnowsAlone, MayDo, Noted}
-use Rattle.live_segment.specs.Values.{HasListed, HasTotal, LooksAlong, LooksAtValues, SeesMore}
+use Rattle.live_segment.specs.Readings.Values.{HasListed, HasTotal, LooksAlong, LooksAtValues, SeesMore}
 use Rattle.live_segment.proofs.SnapshotCall.Answering.{answered, began, redundant_last, saw_still, summed}
 use Rattle.live_segment.proofs.AddCall.Beginning.{known_there}
 use Rattle.segment_promises.proofs.ListedValues.{lists_nothing, lists_still}

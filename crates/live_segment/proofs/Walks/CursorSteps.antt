@@ -24,7 +24,7 @@ use Rattle.segment_promises.proofs.Readings.Lists.{is_chain}
 use Rattle.live_segment.specs.declared.rule.Setting.{Setting}
 use Rattle.live_segment.specs.Rule.{Runs}
 use Rattle.live_segment.specs.Steps.{Sat}
-use Rattle.live_segment.specs.Cursors.{LoadsCursor, MovesCursor, StandsBehind, GaveInOrder}
+use Rattle.live_segment.specs.Lists.Cursors.{LoadsCursor, MovesCursor, StandsBehind, GaveInOrder}
 use Rattle.live_segment.proofs.Seating.Allowed.{does_at}
 
 -- ---- its steps

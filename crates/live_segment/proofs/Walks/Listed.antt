@@ -22,7 +22,7 @@ use Rattle.segment_invariant.proofs.Blocks.Pieces.{one_index}
 use Rattle.live_segment.specs.declared.rule.Setting.{Setting}
 use Rattle.live_segment.specs.Rule.{Runs}
 use Rattle.live_segment.specs.Steps.{Does, Sat}
-use Rattle.live_segment.specs.Listing.{LoadsPublished, StoresPayload}
+use Rattle.live_segment.specs.Lists.Listing.{LoadsPublished, StoresPayload}
 use Rattle.live_segment.proofs.Seating.Allowed.{does}
 
 -- ---- blocks of its own

@@ -17,7 +17,7 @@ use Rattle.live_segment.specs.declared.segment.Segment.{Segment}
 use Rattle.live_segment.specs.Holders.{table_of, MayStep}
 use Rattle.segment_promises.specs.Onward.{Grows}
 use Rattle.live_segment.specs.Steps.{Pass, IsSame, Stepped}
-use Rattle.live_segment.specs.Finding.{Meets, SeesWords, ShowsWords}
+use Rattle.live_segment.specs.Names.Finding.{Meets, SeesWords, ShowsWords}
 use Rattle.segment_promises.proofs.Growing.{grows_on, still}
 
 -- ---- what was seen stays

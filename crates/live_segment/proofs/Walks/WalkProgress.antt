@@ -24,9 +24,9 @@ use Rattle.live_segment.specs.Seated.{IsSeated}
 use Rattle.segment_promises.specs.Onward.{Grows}
 use Rattle.segment_promises.specs.Values.{NoRepeats}
 use Rattle.live_segment.specs.Ends.{FoundNone, SawAllOfList}
-use Rattle.live_segment.specs.Finding.{Meets, SeesWords}
-use Rattle.live_segment.specs.Searching.{HasSearched}
-use Rattle.live_segment.specs.Walks.{IsWalkProgress}
+use Rattle.live_segment.specs.Names.Finding.{Meets, SeesWords}
+use Rattle.live_segment.specs.Names.Searching.{HasSearched}
+use Rattle.live_segment.specs.Lists.Walks.{IsWalkProgress}
 use Rattle.segment_promises.proofs.Growing.{ended_grows, extended_end, extended_grows, reference_behind}
 use Rattle.segment_promises.proofs.Furthest.{last_of, last_least, last_most, last_stands}
 use Rattle.segment_promises.proofs.Calls.Places.{behind_apart}

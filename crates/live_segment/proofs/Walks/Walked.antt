@@ -36,8 +36,8 @@ use Rattle.live_segment.specs.declared.recorder.KnownHistogram.{KnownHistogram}
 use Rattle.live_segment.specs.declared.records.WalkPlace.{WalkPlace}
 use Rattle.live_segment.specs.Known.{KnowsRight}
 use Rattle.segment_promises.specs.Values.{NoRepeats}
-use Rattle.live_segment.specs.Records.{LoadsNext, HasWalked}
-use Rattle.live_segment.specs.Walks.{HasCome, WalksOn}
+use Rattle.live_segment.specs.Lists.Records.{LoadsNext, HasWalked}
+use Rattle.live_segment.specs.Lists.Walks.{HasCome, WalksOn}
 use Rattle.live_segment.proofs.Seating.Allowed.{does_at}
 use Rattle.segment_promises.proofs.Calls.Orders.{once_in}
 use Rattle.live_segment.proofs.HistCall.OwnNames.{knows_own_names}

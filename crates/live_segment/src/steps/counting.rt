@@ -4,7 +4,7 @@ ghost use Rattle.std.specs.Prelude.{◌+◌, ◌<◌, ◌≤◌};
 ghost use Rattle.segment_machine.specs.Event.{counting_event};
 ghost use Rattle.segment_machine.specs.Counting.{load_counts, add_redundant};
 ghost use Rattle.live_segment.specs.Steps.{DoesAt};
-ghost use Rattle.live_segment.specs.Mounting.{LoadsCounts, SawNoNone};
+ghost use Rattle.live_segment.specs.Counts.Mounting.{LoadsCounts, SawNoNone};
 ghost use Rattle.live_segment.specs.GhostNotes.{AddsToCount, AddsToSample, AddsAmount, AddsSum, AddsLast};
 
 use crate::rule::{Announcement, Pass};

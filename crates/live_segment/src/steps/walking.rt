@@ -3,8 +3,8 @@
 ghost use Rattle.std.specs.Prelude.{◌+◌, ◌<◌, ◌≤◌};
 ghost use Rattle.segment_machine.specs.Event.{walking_event};
 ghost use Rattle.segment_machine.specs.Walking.{load_next, load_published};
-ghost use Rattle.live_segment.specs.Listing.{LoadsPublished};
-ghost use Rattle.live_segment.specs.Records.{LoadsNext};
+ghost use Rattle.live_segment.specs.Lists.Listing.{LoadsPublished};
+ghost use Rattle.live_segment.specs.Lists.Records.{LoadsNext};
 
 use crate::rule::{Announcement, Pass};
 use crate::segment::Segment;
@@ -28,7 +28,7 @@ impl Play<Announcement, Actor> for LoadPublished {
 impl Segment {
     ghost use Rattle.live_segment.specs.Holders.{MayStep};
     ghost use Rattle.segment_promises.specs.Values.{NoRepeats};
-    ghost use Rattle.live_segment.specs.Records.{KnowsOwnNames, KnowsOwnSamples};
+    ghost use Rattle.live_segment.specs.Lists.Records.{KnowsOwnNames, KnowsOwnSamples};
     ghost use Rattle.live_segment.specs.Steps.{Stepped};
 
     pub(crate) fn load_next(&self, seat: &mut Pass, at: u64) -> u64

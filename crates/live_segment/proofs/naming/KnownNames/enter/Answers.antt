@@ -1,5 +1,5 @@
 use Rattle.std.proofs.Common.{◌++◌, ◌∷◌, [], refl, subst, sym}
-use Rattle.live_segment.specs.Naming.{HasNames}
+use Rattle.live_segment.specs.Names.Naming.{HasNames}
 use Rattle.live_segment.specs.declared.naming.KnownNames.{KnownNames}
 use Rattle.live_segment.proofs.HistCall.NamesHeld.{names_longer, names_same}
 use Rattle.live_segment.proofs.naming.KnownNames.enter.Goals as goal

@@ -2,7 +2,7 @@ use Rattle.std.proofs.Common.{◌∙◌, ◌≤◌, ℕ, ℤ, sym, subst, w32, a
 use Rattle.std.proofs.lemmas.Int.{to_z-of_z}
 use Rattle.std.proofs.lemmas.Result.{err_from_is_err_and}
 use Rattle.segment_machine.specs.declared.actor.Known.{Known}
-use Rattle.live_segment.specs.Adding.{IsAdded, IsRefused, LacksBlock}
+use Rattle.live_segment.specs.Counts.Adding.{IsAdded, IsRefused, LacksBlock}
 use Rattle.live_segment.specs.Claims.{ClaimsFor}
 use Rattle.live_segment.specs.Known.{known_view}
 use Rattle.live_segment.proofs.AddCall.Adds.{passes, meant, is_of_still, names_still}

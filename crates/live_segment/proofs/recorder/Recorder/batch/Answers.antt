@@ -4,7 +4,7 @@ use Rattle.std.proofs.lemmas.List.{length-take-le}
 use Rattle.segment_image.specs.Checks.{first_fault}
 use Rattle.segment_invariant.proofs.Lists.Elements.{below_length}
 use Rattle.segment_machine.specs.declared.actor.Known.{Known}
-use Rattle.live_segment.specs.Batching.{batch_checks, IsBatched, IsCutShort}
+use Rattle.live_segment.specs.Counts.Batching.{batch_checks, IsBatched, IsCutShort}
 use Rattle.live_segment.specs.Claims.{ClaimsForAll}
 use Rattle.live_segment.specs.Known.{known_view}
 use Rattle.live_segment.proofs.AddCall.Adds.{meant, is_of_still, names_still}

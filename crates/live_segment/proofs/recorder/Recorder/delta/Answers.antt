@@ -1,7 +1,7 @@
 use Rattle.std.proofs.Common.{ℤ, FitsSigned, w64, rules, sym, subst, ◌∙◌}
 use Rattle.std.proofs.lemmas.Int.{to_z-of_z}
 use Rattle.segment_machine.specs.declared.actor.Known.{Known}
-use Rattle.live_segment.specs.Deltas.{HasTaken}
+use Rattle.live_segment.specs.Readings.Deltas.{HasTaken}
 use Rattle.live_segment.proofs.AddCall.Adds.{meant}
 use Rattle.segment_invariant.proofs.Lists.Elements.{contains_at}
 use Rattle.live_segment.proofs.DeltaCall.Owed.{took_enough}

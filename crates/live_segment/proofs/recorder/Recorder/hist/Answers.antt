@@ -4,7 +4,7 @@ use Rattle.std.proofs.lemmas.Result.{err_from_is_err_and}
 use Rattle.segment_machine.specs.declared.actor.Known.{Known}
 use Rattle.live_segment.specs.declared.recorder.KnownHistogram.{KnownHistogram}
 use Rattle.live_segment.specs.Known.{known_view, KnowsRight}
-use Rattle.live_segment.specs.Naming.{HasNames}
+use Rattle.live_segment.specs.Names.Naming.{HasNames}
 use Rattle.live_segment.proofs.Walks.Walked.{all_right, come_still}
 use Rattle.live_segment.proofs.HistCall.HistAnswered.{none_known, names_still, of_still, rests_still, share_still, chain_grew, of_then, rests_then, share_same, right_then, listed_then, named_then, count_of, asked_here}
 use Rattle.live_segment.proofs.HistCall.Blocks.{makes_named}

@@ -1,7 +1,7 @@
 use Rattle.std.proofs.Common.{refl, sym, ap, subst, ◌∙◌}
 use Rattle.std.proofs.lemmas.Result.{err_from_is_err_and}
 use Rattle.segment_machine.specs.declared.actor.Known.{Known}
-use Rattle.live_segment.specs.Snapshots.{HasSnapshot}
+use Rattle.live_segment.specs.Readings.Snapshots.{HasSnapshot}
 use Rattle.live_segment.proofs.AddCall.Adds.{meant}
 use Rattle.segment_invariant.proofs.Lists.Elements.{contains_at}
 use Rattle.live_segment.proofs.DeltaCall.Owed.{has_enough}

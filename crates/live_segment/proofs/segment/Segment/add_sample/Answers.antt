@@ -2,10 +2,10 @@ use Rattle.std.proofs.Common.{ℤ, ◌∷◌, [], refl, sym, subst, w32}
 use Rattle.std.proofs.lemmas.Int.{to_z-of_z}
 use Rattle.std.proofs.lemmas.Result.{err_from_is_err_and}
 use Rattle.live_segment.specs.Claims.{ClaimsFor}
-use Rattle.live_segment.specs.Finishing.{HasEnded, HasSample, item_of, sample_of}
+use Rattle.live_segment.specs.Counts.Finishing.{HasEnded, HasSample, item_of, sample_of}
 use Rattle.live_segment.specs.Known.{known_view}
-use Rattle.live_segment.specs.Refusing.{IsNotCounted}
-use Rattle.live_segment.specs.Working.{CountsAlone, HasCounted}
+use Rattle.live_segment.specs.Counts.Refusing.{IsNotCounted}
+use Rattle.live_segment.specs.Counts.Working.{CountsAlone, HasCounted}
 use Rattle.live_segment.proofs.AddCall.TurnedAway.{turned_rests, turned_refused}
 use Rattle.live_segment.proofs.AddCall.Blocks.{claims_kept, keeps_ended}
 use Rattle.live_segment.proofs.AddCall.Added.{counts_alone, has_sample, added, added_rests}

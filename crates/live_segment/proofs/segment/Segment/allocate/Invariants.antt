@@ -1,7 +1,7 @@
 use Rattle.std.proofs.Common.{◌≡◌, ◌-◌, ◌≤◌, false}
 use Rattle.segment_machine.specs.Actor.{is_bound}
 use Rattle.live_segment.specs.Steps.{IsSame}
-use Rattle.live_segment.specs.Allocation.{saw_free}
+use Rattle.live_segment.specs.Lists.Allocation.{saw_free}
 use Rattle.live_segment.proofs.segment.Segment.allocate.Given as goal
 
 abbrev pub invariant-loop-size : goal.invariant-loop-size

@@ -1,9 +1,9 @@
 use Rattle.std.proofs.Common.{ℕ, ℤ, sym, subst, w32}
 use Rattle.std.proofs.lemmas.Int.{to_z-of_z}
 use Rattle.std.proofs.lemmas.Result.{err_from_is_err_and}
-use Rattle.live_segment.specs.Finishing.{item_of}
+use Rattle.live_segment.specs.Counts.Finishing.{item_of}
 use Rattle.live_segment.specs.Known.{known_view}
-use Rattle.live_segment.specs.Sampling.{HasSampleOf, LacksSampleOf}
+use Rattle.live_segment.specs.Counts.Sampling.{HasSampleOf, LacksSampleOf}
 use Rattle.live_segment.specs.GhostNotes.{HasSampled, MaySample}
 use Rattle.live_segment.proofs.AddCall.CountsAlone.{may_give_up}
 use Rattle.live_segment.proofs.AddCall.ValueCounted.{may_sample, sample_within, same_counted, value_claims, value_counted, value_lacks}

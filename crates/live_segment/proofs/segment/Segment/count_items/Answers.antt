@@ -1,12 +1,12 @@
 use Rattle.std.proofs.Common.{of_z, to_z, ◌≡◌, ◌∙◌, ℕ, ℤ, pos, List, take, slice_index_or, rules, refl, sym, subst, w32, arith}
 use Rattle.std.proofs.lemmas.List.{take_more}
 use Rattle.bucket_ranges.specs.Ranges.{boundaries_of}
-use Rattle.live_segment.specs.Batching.{HasItems, HasNoted}
+use Rattle.live_segment.specs.Counts.Batching.{HasItems, HasNoted}
 use Rattle.live_segment.specs.Claims.{ClaimsFor, ClaimsForEach}
-use Rattle.live_segment.specs.Finishing.{item_of}
+use Rattle.live_segment.specs.Counts.Finishing.{item_of}
 use Rattle.live_segment.specs.Known.{known_view}
-use Rattle.live_segment.specs.Refusing.{IsNotCounted}
-use Rattle.live_segment.specs.Working.{CountsAlone}
+use Rattle.live_segment.specs.Counts.Refusing.{IsNotCounted}
+use Rattle.live_segment.specs.Counts.Working.{CountsAlone}
 use Rattle.live_segment.proofs.BatchCall.Blocks.{each_more}
 use Rattle.live_segment.proofs.BatchCall.Items.{within_all}
 use Rattle.live_segment.proofs.BatchCall.ItemsCounted.{no_items, may_next, one_counted}

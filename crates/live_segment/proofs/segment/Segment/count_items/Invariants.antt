@@ -1,5 +1,5 @@
 use Rattle.std.proofs.Common.{take}
-use Rattle.live_segment.specs.Batching.{HasItems}
+use Rattle.live_segment.specs.Counts.Batching.{HasItems}
 use Rattle.live_segment.specs.Claims.{ClaimsForEach}
 use Rattle.live_segment.specs.Known.{known_view}
 use Rattle.live_segment.specs.Steps.{IsSame}

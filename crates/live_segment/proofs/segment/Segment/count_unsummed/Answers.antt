@@ -4,13 +4,13 @@ use Rattle.std.proofs.lemmas.Result.{err_from_is_err_and}
 use Rattle.segment_machine.specs.Counting.{add_redundant}
 use Rattle.segment_machine.specs.Event.{counting_event}
 use Rattle.segment_machine.specs.Note.{ends}
-use Rattle.live_segment.specs.Batching.{IsBatched, IsCutShort}
+use Rattle.live_segment.specs.Counts.Batching.{IsBatched, IsCutShort}
 use Rattle.live_segment.specs.Claims.{ClaimsFor, ClaimsForAll}
-use Rattle.live_segment.specs.Finishing.{item_of}
+use Rattle.live_segment.specs.Counts.Finishing.{item_of}
 use Rattle.live_segment.specs.Known.{known_view}
-use Rattle.live_segment.specs.Refusing.{IsNotCounted}
+use Rattle.live_segment.specs.Counts.Refusing.{IsNotCounted}
 use Rattle.live_segment.specs.GhostNotes.{MayDo, Noted}
-use Rattle.live_segment.specs.Working.{CountsAlone, HasCounted}
+use Rattle.live_segment.specs.Counts.Working.{CountsAlone, HasCounted}
 use Rattle.live_segment.proofs.BatchCall.Blocks.{claims_all, each_more, keeps_last}
 use Rattle.live_segment.proofs.BatchCall.ItemsCounted.{may_next}
 use Rattle.live_segment.proofs.BatchCall.ItemsRefused.{stops_at}

@@ -3,10 +3,10 @@ use Rattle.std.proofs.lemmas.Int.{to_z-of_z}
 use Rattle.std.proofs.lemmas.Result.{IfOk-weaker, MatchResult-weaker}
 use Rattle.segment_machine.specs.declared.entry.Entry.{Entry}
 use Rattle.live_segment.specs.Claims.{ClaimsFor}
-use Rattle.live_segment.specs.Finishing.{item_of}
+use Rattle.live_segment.specs.Counts.Finishing.{item_of}
 use Rattle.live_segment.specs.Known.{known_view}
-use Rattle.live_segment.specs.Refusing.{IsNotCounted}
-use Rattle.live_segment.specs.Working.{CountsAlone, HasCounted}
+use Rattle.live_segment.specs.Counts.Refusing.{IsNotCounted}
+use Rattle.live_segment.specs.Counts.Working.{CountsAlone, HasCounted}
 use Rattle.segment_promises.proofs.Calls.SpecBuckets.{below, is_bucketed, is_sparse}
 use Rattle.live_segment.proofs.DeltaCall.BucketKeys.{found_is, item_is, one_bucket}
 use Rattle.live_segment.proofs.AddCall.Blocks.{claims_mounted}

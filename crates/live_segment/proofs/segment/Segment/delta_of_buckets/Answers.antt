@@ -1,7 +1,7 @@
 use Rattle.std.proofs.Common.{rules, ℤ, FitsSigned, w64, inl, sym, ap, ◌∙◌, subst}
 use Rattle.std.proofs.lemmas.Int.{to_z-of_z}
 use Rattle.segment_machine.specs.declared.actor.Actor.{Actor}
-use Rattle.live_segment.specs.Deltas.{HasTaken}
+use Rattle.live_segment.specs.Readings.Deltas.{HasTaken}
 use Rattle.live_segment.specs.Known.{known_view}
 use Rattle.segment_promises.specs.Onward.{Grows}
 use Rattle.live_segment.proofs.HistCall.Knowing.{right_on}

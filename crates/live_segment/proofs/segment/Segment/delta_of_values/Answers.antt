@@ -1,6 +1,6 @@
 use Rattle.std.proofs.Common.{rules, ℤ, FitsSigned, w64, sym, subst}
 use Rattle.std.proofs.lemmas.Int.{to_z-of_z}
-use Rattle.live_segment.specs.Deltas.{HasTaken}
+use Rattle.live_segment.specs.Readings.Deltas.{HasTaken}
 use Rattle.live_segment.specs.Known.{known_view}
 use Rattle.live_segment.proofs.DeltaCall.ValuesDelta.{may_take, takes_values, comes, has_taken_values}
 use Rattle.segment_promises.proofs.ValueWalks.{stands_there}

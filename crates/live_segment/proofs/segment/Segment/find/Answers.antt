@@ -1,5 +1,5 @@
 use Rattle.std.proofs.Common.{Bool, refl, subst, arith}
-use Rattle.live_segment.specs.Finding.{ShowsName, ShowsSpec}
+use Rattle.live_segment.specs.Names.Finding.{ShowsName, ShowsSpec}
 use Rattle.segment_promises.proofs.Growing.{grows_not}
 use Rattle.live_segment.proofs.Walks.Ends.{all_on}
 use Rattle.live_segment.proofs.Walks.Showing.{same_on, sees_on, meets_still}

@@ -1,6 +1,6 @@
 use Rattle.std.proofs.Common.{Bool, ℤ, w32, refl, sym, ◌∙◌, subst, arith}
 use Rattle.std.proofs.lemmas.Int.{to_z-of_z}
-use Rattle.live_segment.specs.Sampling.{ShowsValue, WalksBehind}
+use Rattle.live_segment.specs.Counts.Sampling.{ShowsValue, WalksBehind}
 use Rattle.segment_promises.proofs.Growing.{grows_not}
 use Rattle.live_segment.proofs.Walks.Ends.{all_on}
 use Rattle.live_segment.proofs.Walks.WalkProgress.{comes_further}

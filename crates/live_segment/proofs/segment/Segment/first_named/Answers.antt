@@ -3,7 +3,7 @@ use Rattle.segment_machine.specs.declared.actor.Actor.{Actor}
 use Rattle.std.specs.Prelude.{Err}
 use Rattle.std.proofs.lemmas.Result.{err_from_is_err_and}
 use Rattle.segment_calls.specs.declared.refusal.Refusal.{Refusal}
-use Rattle.live_segment.specs.Making.{Makes}
+use Rattle.live_segment.specs.Names.Making.{Makes}
 use Rattle.live_segment.proofs.HistCall.Blocks.{searches_none, makes_one}
 use Rattle.live_segment.proofs.HistCall.IndexKept.{made_on, refused_on}
 use Rattle.live_segment.proofs.HistCall.Settled.{walk_goes_on, meets_own, met_first, met_another, met_then, met_another_then, not_made}

@@ -1,7 +1,7 @@
 use Rattle.std.proofs.Common.{◌≡◌, ◌-◌, ◌*◌, Some}
 use Rattle.segment_machine.specs.declared.actor.Made.{Made}
-use Rattle.live_segment.specs.Listing.{asked_for}
-use Rattle.live_segment.specs.Publishing.{IsFilledAs}
+use Rattle.live_segment.specs.Lists.Listing.{asked_for}
+use Rattle.live_segment.specs.Lists.Publishing.{IsFilledAs}
 use Rattle.live_segment.proofs.NewRecords.Published.{IsWaiting}
 use Rattle.live_segment.proofs.segment.Segment.publish.Given as goal
 

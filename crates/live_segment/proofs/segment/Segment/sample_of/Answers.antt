@@ -2,7 +2,7 @@ use Rattle.std.proofs.Common.{ℤ, w32, subst}
 use Rattle.std.proofs.lemmas.Int.{to_z-of_z}
 use Rattle.std.proofs.lemmas.Result.{err_from_is_err_and}
 use Rattle.live_segment.specs.Known.{known_view}
-use Rattle.live_segment.specs.Sampling.{HasSampleOf, LacksSampleOf}
+use Rattle.live_segment.specs.Counts.Sampling.{HasSampleOf, LacksSampleOf}
 use Rattle.live_segment.proofs.AddCall.SampleOf.{walk_begins, knows_still, walk_goes_on, met_before, met_then, meets_own, lacks_sample}
 use Rattle.live_segment.proofs.segment.Segment.sample_of.Goals as goal
 

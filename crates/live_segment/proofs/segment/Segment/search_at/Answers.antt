@@ -1,5 +1,5 @@
 use Rattle.std.proofs.Common.{Bool, subst}
-use Rattle.live_segment.specs.Finding.{ShowsName, ShowsSpec}
+use Rattle.live_segment.specs.Names.Finding.{ShowsName, ShowsSpec}
 use Rattle.live_segment.proofs.Walks.Showing.{sees_on, meets_still}
 use Rattle.live_segment.proofs.HistCall.ByIndex.{meets_it, room_it, walk_anew, met_here, other_here}
 use Rattle.live_segment.proofs.HistCall.Searching.{sees_searched, seat_on}

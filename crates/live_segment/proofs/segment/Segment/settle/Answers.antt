@@ -1,7 +1,7 @@
 use Rattle.std.proofs.Common.{refl, ap, ◌∙◌}
 use Rattle.segment_machine.specs.declared.actor.Actor.{Actor}
 use Rattle.segment_machine.specs.Actor.{is_opener}
-use Rattle.live_segment.specs.Searching.{asked_at}
+use Rattle.live_segment.specs.Names.Searching.{asked_at}
 use Rattle.live_segment.proofs.Walks.Showing.{same_on}
 use Rattle.live_segment.proofs.HistCall.Blocks.{declined_none, knows_none, makes_kept}
 use Rattle.live_segment.proofs.HistCall.IndexKept.{kept_on}

@@ -9,8 +9,8 @@ use Rattle.segment_calls.specs.declared.answer.Snapshot.{Snapshot}
 use Rattle.segment_machine.specs.Note.{answers, noted}
 use Rattle.segment_invariant.proofs.Packing.OffForms.{few_buckets}
 use Rattle.live_segment.specs.Known.{known_view}
-use Rattle.live_segment.specs.Snapshots.{HasSeenBuckets, HasSnapshot, saw_sum}
-use Rattle.live_segment.specs.Taking.{answered_as}
+use Rattle.live_segment.specs.Readings.Snapshots.{HasSeenBuckets, HasSnapshot, saw_sum}
+use Rattle.live_segment.specs.Readings.Taking.{answered_as}
 use Rattle.segment_promises.proofs.Calls.BlankTotals.{keys_of_buckets, no_units}
 use Rattle.live_segment.proofs.SnapshotCall.Answering.{may_sum, may_answer, saw_buckets, has_snapshot}
 use Rattle.live_segment.proofs.segment.Segment.snapshot_of_buckets.Goals as goal

@@ -1,6 +1,6 @@
 use Rattle.std.proofs.Common.{rules, FitsSigned, w32, to_z, of_z, ℕ, ℤ, pos, List, [], ◌∷◌, ◌++◌, ◌-◌, length, slice_index, sym, ap, ◌∙◌, subst, arith}
 use Rattle.std.proofs.lemmas.Int.{to_z-of_z}
-use Rattle.live_segment.specs.Deltas.{HasTakenBuckets}
+use Rattle.live_segment.specs.Readings.Deltas.{HasTakenBuckets}
 use Rattle.live_segment.specs.Known.{known_view}
 use Rattle.segment_promises.proofs.Calls.SpecBuckets.{split}
 use Rattle.live_segment.proofs.DeltaCall.OneDelta.{may_raise, within, took_some, took_no_more}

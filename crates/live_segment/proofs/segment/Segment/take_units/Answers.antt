@@ -2,7 +2,7 @@ use Rattle.std.proofs.Common.{ℕ, ℤ, List, [], Option, Some, ◌^◌, sym, su
 use Rattle.std.proofs.lemmas.Bool.{le-leb}
 use Rattle.bucket_ranges.specs.Spec.{buckets_of}
 use Rattle.segment_invariant.proofs.Packing.OffForms.{few_buckets}
-use Rattle.live_segment.specs.Deltas.{HasTakenBuckets}
+use Rattle.live_segment.specs.Readings.Deltas.{HasTakenBuckets}
 use Rattle.segment_machine.specs.Form.{SaysPacked}
 use Rattle.live_segment.specs.Known.{known_view}
 use Rattle.live_segment.proofs.DeltaCall.AllBuckets.{buckets_long}

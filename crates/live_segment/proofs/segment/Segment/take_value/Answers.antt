@@ -1,8 +1,8 @@
 use Rattle.std.proofs.Common.{ℕ, ℤ, w32, FitsSigned, rules, Option, Some, sym, subst}
 use Rattle.std.proofs.lemmas.Int.{to_z-of_z}
 use Rattle.live_segment.specs.Known.{known_view}
-use Rattle.live_segment.specs.Samples.{CountsSample}
-use Rattle.live_segment.specs.Values.{TakesValue}
+use Rattle.live_segment.specs.Readings.Samples.{CountsSample}
+use Rattle.live_segment.specs.Readings.Values.{TakesValue}
 use Rattle.live_segment.proofs.DeltaCall.OneValue.{takes_nothing, may_take, takes_none, takes_some}
 use Rattle.live_segment.proofs.segment.Segment.take_value.Goals as goal
 

@@ -15,14 +15,14 @@ use Rattle.segment_machine.specs.Counting.{load_counts}
 use Rattle.segment_machine.specs.Event.{counting_event}
 use Rattle.segment_machine.specs.Form.{is_off}
 use Rattle.segment_machine.specs.Packing.{CountsIn, IsBlankCounts}
-use Rattle.live_segment.specs.Adding.{HasNoRoom, block_words}
+use Rattle.live_segment.specs.Counts.Adding.{HasNoRoom, block_words}
 use Rattle.live_segment.specs.Ends.{FoundNoCounts}
 use Rattle.live_segment.specs.Claims.{IsPurged, KeepsBlocks, MountsOne}
 use Rattle.segment_promises.specs.Onward.{Grows}
-use Rattle.live_segment.specs.Refusing.{given_up}
+use Rattle.live_segment.specs.Counts.Refusing.{given_up}
 use Rattle.live_segment.specs.Steps.{Does, Sat}
 use Rattle.live_segment.specs.GhostNotes.{KnowsAlone}
-use Rattle.live_segment.specs.Working.{CountsWithin, LooksAt, LooksOn}
+use Rattle.live_segment.specs.Counts.Working.{CountsWithin, LooksAt, LooksOn}
 
 -- ---- the counts reference
 

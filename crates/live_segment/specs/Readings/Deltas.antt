@@ -19,12 +19,12 @@ pub use Rattle.segment_promises.specs.Calls.{AreUnits}
 use Rattle.live_segment.specs.declared.deltas.Mounted.{Mounted}
 use Rattle.live_segment.specs.declared.segment.Segment.{Segment}
 use Rattle.live_segment.specs.Holders.{table_of}
-use Rattle.live_segment.specs.Looking.{StandsAt}
+use Rattle.live_segment.specs.Readings.Looking.{StandsAt}
 use Rattle.segment_promises.specs.Onward.{SeesOn}
 use Rattle.live_segment.specs.Rule.{IsOf}
 use Rattle.live_segment.specs.Steps.{Pass}
 use Rattle.live_segment.specs.GhostNotes.{KnowsAlone}
-use Rattle.live_segment.specs.Working.{CountsWithin, LooksAt}
+use Rattle.live_segment.specs.Counts.Working.{CountsWithin, LooksAt}
 
 -- ---- what is taken
 

@@ -17,7 +17,7 @@ use Rattle.live_segment.specs.declared.recorder.KnownHistogram.{KnownHistogram}
 use Rattle.live_segment.specs.declared.recorder.Recorder.{Recorder}
 use Rattle.live_segment.specs.Holders.{Knows, Means, view_of_recorder}
 use Rattle.segment_promises.specs.Onward.{Grows}
-use Rattle.live_segment.specs.Settling.{ComesToKnow, IsRefusedBy, LooksAround}
+use Rattle.live_segment.specs.Names.Settling.{ComesToKnow, IsRefusedBy, LooksAround}
 
 -- ---- which it knows
 

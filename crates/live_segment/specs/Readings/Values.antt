@@ -12,7 +12,7 @@ use Rattle.segment_machine.specs.Note.{TookSample}
 use Rattle.segment_machine.specs.Taking.{is_looking}
 use Rattle.live_segment.specs.declared.recorder.KnownHistogram.{KnownHistogram}
 use Rattle.live_segment.specs.declared.segment.Segment.{Segment}
-use Rattle.live_segment.specs.Deltas.{TakesOn, TakesValues}
+use Rattle.live_segment.specs.Readings.Deltas.{TakesOn, TakesValues}
 use Rattle.live_segment.specs.Holders.{table_of}
 use Rattle.segment_promises.specs.Onward.{SeesOn}
 use Rattle.segment_promises.specs.Values.{ComesTo, Passes, ListsValues, ListsOf, listed_of}

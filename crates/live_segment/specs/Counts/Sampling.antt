@@ -13,12 +13,12 @@ use Rattle.segment_machine.specs.Calls.{MayTurn}
 use Rattle.segment_machine.specs.Made.{IsFirstSample, SawOther, SawSample}
 use Rattle.live_segment.specs.declared.sampling.SampleSearch.{SampleSearch}
 use Rattle.live_segment.specs.declared.sampling.SampleSearch.TheVariants.{Met, End}
-use Rattle.live_segment.specs.Adding.{HasNoRoom}
+use Rattle.live_segment.specs.Counts.Adding.{HasNoRoom}
 use Rattle.live_segment.specs.Ends.{SawAllOfList}
 use Rattle.live_segment.specs.Claims.{MakesOne, MakesSample}
-use Rattle.live_segment.specs.Refusing.{given_up}
-use Rattle.live_segment.specs.Walks.{IsWalkProgress}
-use Rattle.live_segment.specs.Working.{LooksOn}
+use Rattle.live_segment.specs.Counts.Refusing.{given_up}
+use Rattle.live_segment.specs.Lists.Walks.{IsWalkProgress}
+use Rattle.live_segment.specs.Counts.Working.{LooksOn}
 
 -- ---- one that is found
 

@@ -16,7 +16,7 @@ use Rattle.live_segment.specs.declared.rule.Announcement.{Announcement}
 use Rattle.live_segment.specs.declared.rule.Announcement.TheVariants.{Answer}
 use Rattle.live_segment.specs.Steps.{IsSame, Pass, Sat}
 use Rattle.live_segment.specs.GhostNotes.{KnowsAlone, TellsOf, MayDoOf, NotedOf}
-use Rattle.live_segment.specs.Owed.{Standing}
+use Rattle.live_segment.specs.Readings.Owed.{Standing}
 
 -- ---- a delta begins
 

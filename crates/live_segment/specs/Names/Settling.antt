@@ -11,13 +11,13 @@ use Rattle.segment_calls.specs.declared.asked.Asked.{Asked}
 use Rattle.segment_calls.specs.declared.refusal.Refusal.{Refusal}
 use Rattle.segment_calls.specs.declared.refusal.Refusal.TheVariants.{OtherSpec}
 use Rattle.live_segment.specs.declared.recorder.KnownHistogram.{KnownHistogram}
-use Rattle.live_segment.specs.Adding.{HasNoRoom}
-use Rattle.live_segment.specs.Answering.{HaveOneName}
+use Rattle.live_segment.specs.Counts.Adding.{HasNoRoom}
+use Rattle.live_segment.specs.Names.Answering.{HaveOneName}
 use Rattle.live_segment.specs.Ends.{SawAllOfList}
 use Rattle.live_segment.specs.Claims.{NamesAtMostOne}
 use Rattle.live_segment.specs.Known.{known_view}
 use Rattle.segment_promises.specs.Onward.{DoesOn, SeesOn, StaysApart}
-use Rattle.live_segment.specs.Searching.{asked_at, SawOther}
+use Rattle.live_segment.specs.Names.Searching.{asked_at, SawOther}
 
 -- Of the segment it has seen more, and it may have claimed and published records and set the full flag. It has come to no single word, no count
 -- and no mark; but for answers that it owes, all else is as it was.

@@ -2,7 +2,7 @@
 use Rattle.std.specs.Prelude.{◌≡◌, ℕ, List, length, drop}
 use Rattle.live_segment.specs.declared.recorder.Recorder.{Recorder}
 use Rattle.live_segment.specs.Holders.{view_of_recorder}
-use Rattle.live_segment.specs.Records.{HasWalked}
+use Rattle.live_segment.specs.Lists.Records.{HasWalked}
 
 -- how many records of the list a recorder was given as fresh ones
 abbrev pub given_fresh : Recorder → ℕ

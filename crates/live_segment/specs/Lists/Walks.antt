@@ -7,7 +7,7 @@ use Rattle.list_core.specs.Walk.{IsPrefix, stands_behind}
 use Rattle.segment_machine.specs.declared.actor.Actor.{Actor}
 use Rattle.segment_machine.specs.Calls.{MayTurn}
 use Rattle.live_segment.specs.declared.records.WalkPlace.{WalkPlace}
-use Rattle.live_segment.specs.Records.{HasWalked}
+use Rattle.live_segment.specs.Lists.Records.{HasWalked}
 
 -- A walk has given the front of a chain that was seen, all of it within a segment of so many words, and stands behind it.
 pub record HasCome (size : ℕ) (chain : List ℕ) (place : WalkPlace) : Type 0 where

@@ -12,7 +12,7 @@ use Rattle.segment_machine.specs.Actor.{is_bound, looking}
 use Rattle.segment_machine.specs.Calls.{sight}
 use Rattle.segment_machine.specs.Note.{SawAll, SawBucket}
 use Rattle.segment_promises.specs.Onward.{SeesOn}
-use Rattle.live_segment.specs.Taking.{answered_as}
+use Rattle.live_segment.specs.Readings.Taking.{answered_as}
 
 -- ---- what it begins with
 

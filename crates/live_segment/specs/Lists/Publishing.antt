@@ -10,7 +10,7 @@ use Rattle.segment_machine.specs.Calls.{without}
 use Rattle.segment_machine.specs.Made.{IsPayload}
 use Rattle.segment_machine.specs.Publishing.{own_at, MayPublish}
 use Rattle.live_segment.specs.declared.rule.Announcement.{Announcement}
-use Rattle.live_segment.specs.Listing.{asked_for}
+use Rattle.live_segment.specs.Lists.Listing.{asked_for}
 use Rattle.segment_promises.specs.Onward.{Grows}
 
 -- Its block at a word has all that it needs to be published as this: the words of its payload, and a lawful type and size. Its next is not

@@ -17,13 +17,13 @@ use Rattle.segment_machine.specs.declared.entry.Entry.{Entry}
 use Rattle.segment_machine.specs.Actor.{log_of}
 use Rattle.segment_machine.specs.Counting.{note_next}
 use Rattle.segment_machine.specs.Entry.{batch_cost, batch_entries, item_entry}
-use Rattle.live_segment.specs.Adding.{Pays, LacksBlock}
+use Rattle.live_segment.specs.Counts.Adding.{Pays, LacksBlock}
 use Rattle.live_segment.specs.Claims.{ClaimsForAll}
 use Rattle.segment_promises.specs.Follows.{noted_by}
 use Rattle.segment_promises.specs.Onward.{DoesOn, GoesOn, SeesOn}
 use Rattle.live_segment.specs.Steps.{IsAtRest}
 use Rattle.live_segment.specs.GhostNotes.{entry_notes}
-use Rattle.live_segment.specs.Working.{FrameOfCall, counted_next}
+use Rattle.live_segment.specs.Counts.Working.{FrameOfCall, counted_next}
 
 -- An accepted batch: an entry of amount 0 for each item, and behind them one of no units for the sum, where that is not 0, stand at the
 -- end of the log, and its cost is taken from the share.

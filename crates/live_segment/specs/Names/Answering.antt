@@ -11,7 +11,7 @@ use Rattle.segment_machine.specs.Calls.{MayTurn}
 use Rattle.segment_machine.specs.Note.{declines, knows, noted, MayNote}
 use Rattle.segment_promises.specs.Follows.{noted_by}
 use Rattle.live_segment.specs.declared.rule.Announcement.{Announcement}
-use Rattle.live_segment.specs.Listing.{asked_for}
+use Rattle.live_segment.specs.Lists.Listing.{asked_for}
 use Rattle.live_segment.specs.Steps.{IsSame, Pass, Sat}
 
 -- what is said of the record at a word

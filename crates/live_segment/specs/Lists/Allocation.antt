@@ -8,7 +8,7 @@ use Rattle.segment_machine.specs.declared.actor.Actor.{Actor}
 use Rattle.segment_machine.specs.declared.place.Place.{Place}
 use Rattle.segment_machine.specs.declared.place.Place.TheVariants.{Idle}
 use Rattle.segment_machine.specs.Allocating.{new_own}
-use Rattle.live_segment.specs.Refusing.{given_up}
+use Rattle.live_segment.specs.Counts.Refusing.{given_up}
 
 -- it has seen a free pointer, and otherwise is as it was
 abbrev pub saw_free : Actor → Place → ℕ → Actor

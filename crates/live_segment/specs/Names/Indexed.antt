@@ -10,7 +10,7 @@ use Rattle.segment_machine.specs.Made.{AreNameWords}
 use Rattle.list_index.specs.Firsts.{Met, Holds}
 use Rattle.list_index.specs.Keys.{key_of}
 use Rattle.live_segment.specs.declared.indexing.RecordIndex.{RecordIndex}
-use Rattle.live_segment.specs.Walks.{HasCome}
+use Rattle.live_segment.specs.Lists.Walks.{HasCome}
 
 -- ---- a record
 

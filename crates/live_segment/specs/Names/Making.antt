@@ -10,11 +10,11 @@ use Rattle.segment_machine.specs.Taking.{is_looking}
 use Rattle.segment_calls.specs.declared.asked.Asked.{Asked}
 use Rattle.segment_calls.specs.declared.refusal.Refusal.{Refusal}
 use Rattle.live_segment.specs.declared.rule.Announcement.{Announcement}
-use Rattle.live_segment.specs.Allocation.{Allocates}
+use Rattle.live_segment.specs.Lists.Allocation.{Allocates}
 use Rattle.live_segment.specs.Claims.{MakesOne}
-use Rattle.live_segment.specs.Listing.{asked_for}
+use Rattle.live_segment.specs.Lists.Listing.{asked_for}
 use Rattle.segment_promises.specs.Onward.{Grows}
-use Rattle.live_segment.specs.Searching.{asked_at}
+use Rattle.live_segment.specs.Names.Searching.{asked_at}
 
 -- ---- its payload
 

@@ -13,12 +13,12 @@ use Rattle.segment_machine.specs.Entry.{has_ended}
 use Rattle.segment_machine.specs.Event.{allocating_event}
 use Rattle.segment_machine.specs.Note.{Note, refused, is_untouched}
 use Rattle.segment_promises.specs.Follows.{noted_by, GhostNoted}
-use Rattle.live_segment.specs.Adding.{HasNoRoom, LacksBlock, block_words}
+use Rattle.live_segment.specs.Counts.Adding.{HasNoRoom, LacksBlock, block_words}
 use Rattle.live_segment.specs.Ends.{FoundNoCounts}
-use Rattle.live_segment.specs.Finishing.{item_of}
+use Rattle.live_segment.specs.Counts.Finishing.{item_of}
 use Rattle.live_segment.specs.Steps.{Sat}
 use Rattle.live_segment.specs.GhostNotes.{bucket_entry}
-use Rattle.live_segment.specs.Working.{CannotPack, LooksFor}
+use Rattle.live_segment.specs.Counts.Working.{CannotPack, LooksFor}
 
 -- ---- how it ends
 

@@ -1,0 +1,8 @@
+-- The list of records: what is put on it, who walks along it, and whom its records are given to.
+pub mod Allocation
+pub mod Publishing
+pub mod Listing
+pub mod Walks
+pub mod Records
+pub mod Fresh
+pub mod Cursors

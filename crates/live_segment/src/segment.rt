@@ -40,12 +40,13 @@ fn opening_words(alloc: Global, setting: &Setting) -> Result<Vec<u64>, AllocErro
     requires few { setting.now.cursors ≤ 8 }
     ensures { IfOk result (λ words. words.items ≡ 0 ∷ memory (new_state setting.now.shape setting.now.version setting.now.id setting.now.cursors)) }
 {
-    let size = setting.shape.size();
-    let mut words = vec![in alloc;
+    let size = setting.shape.size() as usize;
+    let mut words = Vec::with_capacity(alloc, size + 1 + setting.cursors)?;
+    words.extend_from_slice(&[
         0,
         SEGMENT_COOKIE,
         setting.version,
-        size,
+        setting.shape.size(),
         setting.shape.page(),
         setting.id,
         STATE_READY,
@@ -59,9 +60,9 @@ fn opening_words(alloc: Global, setting: &Setting) -> Result<Vec<u64>, AllocErro
         QUEUE_COOKIE,
         TYPE_PURGED,
         QUEUE,
-    ]?;
-    words.resize(size as usize + 1, 0)?;
-    words.resize(size as usize + 1 + setting.cursors, QUEUE)?;
+    ])?;
+    words.resize(size + 1, 0)?;
+    words.resize(size + 1 + setting.cursors, QUEUE)?;
     Ok(words)
 }
 

@@ -1,4 +1,4 @@
 pub mod Answering
-pub mod Order
+pub mod Numbered
 pub mod Steps
 pub mod Totals

@@ -18,7 +18,7 @@ pub enum Form<'a> {
     Export { prefix: &'a str },
     /// The chosen histograms as a text for people, drawn so.
     Show { style: Style, choice: Choice<'a> },
-    /// The chosen histograms as a page, with all values of sparse ones or those that have the most units.
+    /// The chosen histograms as a web page, with all values of sparse ones or those that have the most units.
     Page { shows_all: bool, choice: Choice<'a> },
 }
 

@@ -25,7 +25,7 @@ pub enum Request<'a> {
         prefix: &'a str,
         explains: bool,
     },
-    /// Write the histograms of the image for people, as a text or as a page: those of the names, those whose name has the part,
+    /// Write the histograms of the image for people, as a text or as a web page: those of the names, those whose name has the part,
     /// or all.
     Show {
         file: Option<&'a str>,
@@ -142,7 +142,7 @@ fn show_command<'a>(alloc: Global) -> Result<Command<'a>, AllocError> {
         .long("html")
         .action(ArgAction::SetTrue)
         .conflicts_with_all(&["width", "ascii"])?
-        .help("Writes a page for a browser, which needs nothing else; it takes no --width and no --ascii");
+        .help("Writes a web page, which needs nothing else; it takes no --width and no --ascii");
     let command = Command::new(alloc, "show")
         .about("Writes the histograms of an image for people: numbers, quantiles and bars")
         .after_help("Example:\n  persist_report show examples/three_samples.img A --width 40")

@@ -1,5 +1,5 @@
 -- A name as text of a page.
-use Rattle.std.specs.Prelude.{◌==◌, ◌&&◌, nat_lt, if◌then◌else◌, ℕ, List, [], ◌∷◌, codes}
+use Rattle.std.specs.Prelude.{Bool, not, ◌==◌, ◌&&◌, ◌||◌, nat_lt, if◌then◌else◌, ℕ, List, [], ◌∷◌, codes}
 use Rattle.std.specs.List.{flat_map}
 
 -- what stands for a byte of a name: the five signs that HTML gives a meaning are escaped, and for a byte that is no sign of
@@ -17,3 +17,7 @@ escaped_byte byte =
 -- a name as it stands in a page, also one of a forged image
 abbrev pub escaped : List ℕ → List ℕ
 escaped name = flat_map escaped_byte name
+
+-- a byte that can open or end neither a tag nor a value in quotes
+abbrev pub is_inert : ℕ → Bool
+is_inert byte = not (byte == 60 || (byte == 62 || (byte == 34 || byte == 39)))

@@ -1,4 +1,4 @@
--- The page of a reading: the numbers and sentences of its text for people, as HTML that needs nothing else.
+-- The web page of a reading: the numbers and sentences of its text for people, as HTML that needs nothing else.
 use Rattle.std.specs.Prelude.{◌≡◌, Bool, ℕ, List, [], ◌∷◌, ◌++◌, codes}
 use Rattle.std.specs.Fmt.{decimal}
 use Rattle.std.specs.List.{flat_map, enumerate_from}

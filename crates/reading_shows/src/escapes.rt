@@ -1,7 +1,8 @@
 //! A name as text of a page.
 
-ghost use Rattle.std.specs.Prelude.{◌≡◌, ◌++◌, IfOk, OnOk};
-ghost use Rattle.reading_shows.specs.Escapes.{escaped_byte, escaped as escaped_of};
+ghost use Rattle.std.specs.Prelude.{◌≡◌, ◌++◌, true, IfOk, OnOk};
+ghost use Rattle.std.specs.List.{list_all};
+ghost use Rattle.reading_shows.specs.Escapes.{escaped_byte, escaped as escaped_of, is_inert};
 
 use std::alloc::{AllocError, Global};
 
@@ -21,9 +22,10 @@ fn put_byte(text: &mut Vec<u8>, byte: u8) -> Result<(), AllocError>
     Ok(())
 }
 
-// A name, also one of a forged image.
+// A name as it stands in a page, also one of a forged image: nothing in it opens or ends a tag or a value in quotes.
 pub(crate) fn escaped(alloc: Global, name: &[u8]) -> Result<Vec<u8>, AllocError>
-    ensures { IfOk result (λ text. text.items ≡ escaped_of name.now) }
+    ensures text { IfOk result (λ text. text.items ≡ escaped_of name.now) }
+    ensures inert { IfOk result (λ text. list_all is_inert text.items ≡ true) }
 {
     let mut text = Vec::new(alloc);
     for byte in name {

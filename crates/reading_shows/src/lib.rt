@@ -1,4 +1,4 @@
-//! The histograms of a reading for people, as a text or as a page: numbers, quantiles and bars.
+//! The histograms of a reading for people, as a text or as a web page: numbers, quantiles and bars.
 //!
 //! The text is defined in `specs/Showing.antt`, and the page in `specs/Page.antt`, over the rows that every text of a reading is
 //! made of. All numbers in them come from whole-number arithmetic, which `specs/Shares.antt` defines with its rounding. Each is

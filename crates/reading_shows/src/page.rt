@@ -1,4 +1,4 @@
-//! The page of a reading.
+//! The web page of a reading.
 
 ghost use Rattle.std.specs.Prelude.{◌≡◌, ◌++◌, All, IfOk, OnOk, map};
 ghost use Rattle.std.specs.List.{flat_map, enumerate_from};
@@ -135,7 +135,7 @@ fn put_sections(
     Ok(())
 }
 
-/// The page of a reading: HTML that needs nothing else, with the numbers and sentences of [`show_text`](crate::show_text), of
+/// The web page of a reading: HTML that needs nothing else, with the numbers and sentences of [`show_text`](crate::show_text), of
 /// the same histograms in the same order. It begins with a table of contents, bars are SVG, and names are escaped. All values
 /// of sparse histograms have rows, or the 20 with the most units. It fails for want of memory alone.
 pub fn page_text(

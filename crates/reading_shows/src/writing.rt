@@ -58,7 +58,7 @@ pub fn show<R: Read, W: Write>(
     write_out(writer, &text)
 }
 
-/// The page of the image that the words are.
+/// The web page of the image that the words are.
 ///
 /// `Image` with the first fault of the image's header, and `NoMemory` where there is none; never another.
 pub fn page_of(
@@ -75,7 +75,7 @@ pub fn page_of(
     Ok(page_text(alloc, &reading, shows_all, choice)?)
 }
 
-/// Writes the page of the image that the reader has left.
+/// Writes the web page of the image that the reader has left.
 ///
 /// On `Ok`, exactly this page was written, and then flushed. The faults are those of `persist_report_core::report`, in the
 /// same order; on all but `Write` nothing was written.

@@ -8,13 +8,13 @@ use Rattle.reading_shows.specs.Escapes.{escaped, escaped_byte, is_inert}
 -- what stands for a byte, by the answers of the tests on it
 by-tests : (byte : ℕ) (ampersand less greater double single plain : Bool) → (byte == 60) ≡ less → (byte == 62) ≡ greater → (byte == 34) ≡ double → (byte == 39) ≡ single
     → list_all is_inert
-      (if ampersand then codes "&amp;"
-      else (if less then codes "&lt;"
-      else (if greater then codes "&gt;"
-      else (if double then codes "&quot;"
-      else (if single then codes "&#39;"
-      else (if plain then byte ∷ []
-      else 239 ∷ 191 ∷ 189 ∷ [])))))) ≡ true
+    (if ampersand then codes "&amp;"
+    else (if less then codes "&lt;"
+    else (if greater then codes "&gt;"
+    else (if double then codes "&quot;"
+    else (if single then codes "&#39;"
+    else (if plain then byte ∷ []
+    else 239 ∷ 191 ∷ 189 ∷ [])))))) ≡ true
 by-tests byte true less greater double single plain l g d s = refl
 by-tests byte false true greater double single plain l g d s = refl
 by-tests byte false false true double single plain l g d s = refl

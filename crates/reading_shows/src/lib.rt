@@ -25,4 +25,4 @@ pub use choice::Choice;
 pub use page::page_text;
 pub use showing::show_text;
 pub use style::Style;
-pub use writing::{page, page_of, show, show_of};
+pub use writing::{page_of, show, show_of, show_page};

@@ -79,7 +79,7 @@ pub fn page_of(
 ///
 /// On `Ok`, exactly this page was written, and then flushed. The faults are those of `persist_report_core::report`, in the
 /// same order; on all but `Write` nothing was written.
-pub fn page<R: Read, W: Write>(
+pub fn show_page<R: Read, W: Write>(
     alloc: Global,
     reader: &mut Watched<R>,
     writer: &mut Watched<W>,

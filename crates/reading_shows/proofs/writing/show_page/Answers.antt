@@ -1,6 +1,6 @@
 use Rattle.reading_shows.specs.Page.{IsPageOf}
 use Rattle.reading_shows.proofs.Answering.{OnOk-map, shown_of_bytes}
-use Rattle.reading_shows.proofs.writing.page.Goals as goal
+use Rattle.reading_shows.proofs.writing.show_page.Goals as goal
 
 pub returns-clause-text : goal.returns-clause-text
 returns-clause-text g c =

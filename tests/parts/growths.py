@@ -22,6 +22,14 @@ from support.program import ROOT, Answer, answer, built, difference
 PROGRAM = "trials"
 GROWTH = {"numbers": tracer.GROWTHS, "growth": True, "error": errno.ENOMEM}
 SCHEDULE = ROOT / "examples" / "pack_before_disabling.csv"
+# A world that goes on with an image, in which an actor finds a histogram and adds to it.
+IMAGE = ROOT / "examples" / "crash.img"
+ADOPTED = f"""adopt,{IMAGE},1
+hist,0,cache.hit,boolean
+step,0,1000
+add,0,cache.hit,1,1
+step,0,1000
+"""
 STEPPED_OUT_OF_MEMORY = b"stepped: NoMemory\n"
 
 # The calls that `trials` makes, those that take memory and those that take none.
@@ -212,8 +220,11 @@ def commands(program, stepped, folder):
     """The commands that are tried, each with what tells what is wrong with its answer."""
     for command in failing.commands(program, folder):
         yield command, wrong_of_command
-    for words in ([], ["--report"], ["--image"]):
-        yield failing.Command(stepped, " ".join(["stepped", *words]), [SCHEDULE, *words]), wrong_of_stepped
+    adopted = folder / "adopted.csv"
+    adopted.write_text(ADOPTED)
+    for name, schedule in (("stepped", SCHEDULE), ("stepped, of an image", adopted)):
+        for words in ([], ["--report"], ["--image"]):
+            yield failing.Command(stepped, " ".join([name, *words]), [schedule, *words]), wrong_of_stepped
 
 
 def command_cases(refused):

@@ -66,6 +66,8 @@ MOST_OF_HIST = 512
 KNOWN = (4 * 88, 8 * 88)
 INDEX = [256, 72, 72, 72]
 INDEXES = 2
+# `adopt` asks twice for the words of the table, 8 bytes for each word, for one more and for the cursor, and for nothing that is larger.
+TABLE = 8 * (SIZE + 2)
 # The histograms that are asked for first: boolean, custom, sparse and five more. Where one is asked for again, with the same spec, its
 # `hist` asks for nothing.
 FIRST_HISTS = 8
@@ -102,6 +104,9 @@ def wrong_sizes(asked):
         came = sizes[name][:len(right)] if name == "merge" else sizes[name]
         if came != right:
             return f"{name} asks for {came} bytes, wanted {right}"
+    largest = sorted(sizes["adopt"])[-3:]
+    if largest[0] >= TABLE or largest[1:] != [TABLE, TABLE]:
+        return f"adopt asks for {largest} bytes, wanted twice {TABLE} and then less"
     if len(hists) != FIRST_HISTS:
         return f"{len(hists)} hists ask for memory, wanted {FIRST_HISTS}"
     growing = [place for place, asked_for in hists.items() if asked_for[-len(INDEX):] == INDEX]

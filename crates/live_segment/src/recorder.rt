@@ -7,7 +7,8 @@ ghost use Rattle.live_segment.specs.Claims.{ClaimsFor, ClaimsForAll, NamesAtMost
 ghost use Rattle.live_segment.specs.Rule.{IsOf};
 ghost use Rattle.live_segment.specs.Seated.{IsSeated};
 ghost use Rattle.live_segment.specs.Steps.{IsAtRest};
-ghost use Rattle.live_segment.specs.Names.Indexed.{IsIndexed};
+ghost use Rattle.live_segment.specs.declared.indexing.KeyKind.TheVariants.{Name as OfName};
+ghost use Rattle.live_segment.specs.Lists.Indexed.{IsIndexed};
 ghost use Rattle.live_segment.specs.Known.{known_view, KnowsRight};
 ghost use Rattle.live_segment.specs.Names.Naming.{HasNames};
 ghost use Rattle.live_segment.specs.Lists.Walks.{HasCome};
@@ -15,7 +16,7 @@ ghost use Rattle.std.specs.List.{All};
 ghost use Rattle.std.proofs.Props.{props};
 
 use crate::costs::{price, units_of_items};
-use crate::indexing::RecordIndex;
+use crate::indexing::{KeyKind, RecordIndex};
 use crate::naming::KnownNames;
 use crate::records::WalkPlace;
 use crate::rule::Pass;
@@ -87,7 +88,7 @@ pub struct Recorder<'a> {
     ghost free: { seat.me.1 ≡ [] } by { Prim.hlevel props },
     ghost come: { HasCome segment.now.setting.shape.size seat.me.0.seen.chain fresh } by { Prim.hlevel props },
     ghost named: { HasNames known.items names } by { Prim.hlevel props },
-    ghost indexed: { IsIndexed segment.now.setting.shape.size seat.me.0.seen index } by { Prim.hlevel props },
+    ghost indexed: { IsIndexed OfName segment.now.setting.shape.size seat.me.0.seen index } by { Prim.hlevel props },
 }
 
 ghost use Rattle.std.specs.Prelude.{true, false, Some, None};
@@ -135,7 +136,7 @@ impl<'a> Recorder<'a> {
         ensures { (result.segment ≡ segment.entry) × (result.seat ≡ seat) × (given_fresh result ≡ 0) }
     {
         let names = KnownNames::new(alloc);
-        let index = RecordIndex::new(alloc);
+        let index = RecordIndex::new(alloc, KeyKind::Name);
         Recorder {
             alloc,
             segment,

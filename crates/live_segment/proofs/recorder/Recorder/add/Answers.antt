@@ -6,7 +6,7 @@ use Rattle.live_segment.specs.Counts.Adding.{IsAdded, IsRefused, LacksBlock}
 use Rattle.live_segment.specs.Claims.{ClaimsFor}
 use Rattle.live_segment.specs.Known.{known_view}
 use Rattle.live_segment.proofs.AddCall.Adds.{passes, meant, is_of_still, names_still}
-use Rattle.live_segment.proofs.HistCall.IndexKept.{seen_on}
+use Rattle.live_segment.proofs.Walks.IndexKept.{seen_on}
 use Rattle.live_segment.proofs.Walks.Walked.{all_right, come_still}
 use Rattle.live_segment.proofs.recorder.Recorder.add.Goals as goal
 

@@ -9,7 +9,7 @@ use Rattle.live_segment.specs.Claims.{ClaimsForAll}
 use Rattle.live_segment.specs.Known.{known_view}
 use Rattle.live_segment.proofs.AddCall.Adds.{meant, is_of_still, names_still}
 use Rattle.live_segment.proofs.BatchCall.Batches.{passed, passes_all, fails_one}
-use Rattle.live_segment.proofs.HistCall.IndexKept.{seen_on}
+use Rattle.live_segment.proofs.Walks.IndexKept.{seen_on}
 use Rattle.live_segment.proofs.Walks.Walked.{all_right, come_still}
 use Rattle.live_segment.proofs.recorder.Recorder.batch.Goals as goal
 

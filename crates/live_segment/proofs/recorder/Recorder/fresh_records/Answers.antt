@@ -1,6 +1,6 @@
 use Rattle.std.proofs.Common.{ap}
 use Rattle.segment_machine.specs.declared.actor.Actor.{Actor}
-use Rattle.live_segment.proofs.HistCall.IndexKept.{walked_on}
+use Rattle.live_segment.proofs.Walks.IndexKept.{walked_on}
 use Rattle.live_segment.proofs.Walks.Walked.{all_right, walk_grows}
 use Rattle.live_segment.proofs.recorder.Recorder.fresh_records.Goals as goal
 

@@ -1,4 +1,4 @@
-use Rattle.live_segment.proofs.HistCall.IndexKept.{answered_on}
+use Rattle.live_segment.proofs.Walks.IndexKept.{answered_on}
 use Rattle.live_segment.proofs.Walks.Sharing.{answer_grows, answer_names}
 use Rattle.live_segment.proofs.Walks.Walked.{all_right, come_still}
 use Rattle.live_segment.proofs.recorder.Recorder.next_shared.Goals as goal

@@ -7,16 +7,14 @@ use mathlib.Core.Logic.{dite}
 use native.Mathlib.Decide.{ℕ_discrete}
 use lib.Seq.{get_or-append_seam}
 use Rattle.std.proofs.Math.Seq.{take-length}
-use Rattle.std.proofs.lemmas.List.Elements.{All-head, All-nil, All-cons, All-tail, Contains-append_right}
-use Rattle.segment_image.specs.Shape.{Dimensions}
+use Rattle.std.proofs.lemmas.List.Elements.{All-tail, Contains-append_right}
 use Rattle.segment_machine.specs.declared.actor.Actor.{Actor}
 use Rattle.segment_machine.specs.declared.seen.Seen.{Seen}
 use Rattle.segment_machine.specs.Actor.{is_bound, word_seen}
 use Rattle.segment_machine.specs.Calls.{MayTurn}
-use Rattle.segment_machine.specs.Made.{IsFirstSample, SawOther, SawSample}
+use Rattle.segment_machine.specs.Made.{SawOther, SawSample}
 use Rattle.segment_invariant.proofs.Lists.Elements.{at_from, split_at}
 use Rattle.segment_promises.specs.Calls.{SamplesStandBehind}
-use Rattle.segment_promises.specs.Onward.{Grows}
 use Rattle.segment_promises.specs.Values.{NoRepeats}
 use Rattle.segment_promises.proofs.Growing.{grows_not, others_still}
 use Rattle.list_index.specs.Firsts.{first_of}

@@ -28,6 +28,7 @@ mod mounting;
 mod naming;
 mod opener;
 mod publishing;
+mod record_keys;
 mod recorder;
 mod records;
 mod rule;

@@ -1,9 +1,9 @@
 use Rattle.std.proofs.Common.{◌≡◌, ◌+◌, ◌<◌, ◌^◌, ℕ}
 use Rattle.list_index.specs.Keys.{key_of}
 use Rattle.live_segment.specs.Names.Finding.{SeesWords}
-use Rattle.live_segment.specs.Names.Indexed.{HasSeen, seen_word, seen_words}
+use Rattle.live_segment.specs.Lists.Keyed.{HasSeen, seen_word, seen_words}
 use Rattle.live_segment.specs.Steps.{IsSame}
-use Rattle.live_segment.proofs.segment.Segment.name_key_at.Given as goal
+use Rattle.live_segment.proofs.segment.Segment.name_key_of.Given as goal
 
 -- it has seen the first words of the name, and has the key of these
 abbrev pub invariant-loop-i : goal.invariant-loop-i

@@ -15,6 +15,8 @@ ghost use Rattle.live_segment.specs.Lists.Walks.{HasCome};
 ghost use Rattle.std.specs.List.{All};
 ghost use Rattle.std.proofs.Props.{props};
 
+mod desk;
+
 use crate::costs::{price, units_of_items};
 use crate::indexing::{KeyKind, RecordIndex};
 use crate::naming::KnownNames;
@@ -23,6 +25,7 @@ use crate::rule::Pass;
 use crate::segment::Segment;
 use bucket_ranges::limits::MAX_CUSTOM_VALUES;
 use bucket_ranges::{Ranges, Spec, SpecFault};
+pub use desk::Desk;
 use segment_calls::{Asked, BatchRefusal, Delta, Refusal, Snapshot};
 use segment_image::layout::{BLOCK_LEAST, HEADER_WORDS};
 use std::alloc::{AllocError, Global};
@@ -31,6 +34,15 @@ use std::alloc::{AllocError, Global};
 #[derive(Clone, Copy, Debug, PartialEq, Eq)]
 pub struct Hist {
     index: usize,
+}
+
+impl Hist {
+    /// Its place in that list, from 0. A recorder that knows it has it there for good.
+    pub fn place(&self) -> usize
+        ensures { result ≡ self.now.index }
+    {
+        self.index
+    }
 }
 
 /// A histogram that a recorder was answered with.
@@ -184,6 +196,17 @@ impl<'a> Recorder<'a> {
         ensures { IsTrue result ↔ Knows self.now histogram }
     {
         histogram.index < self.known.len()
+    }
+
+    /// The histogram that it knows at a place, as [`Hist::place`] has it.
+    pub fn hist_at(&self, place: usize) -> Option<Hist>
+        ensures { MatchOption result (length (view_of_recorder self.now).answers.names ≤ place) (λ histogram. (histogram.index ≡ place) × Knows self.now histogram) }
+    {
+        if place < self.known.len() {
+            Some(Hist { index: place })
+        } else {
+            None
+        }
     }
 
     // The place of the histogram of a name among those that it knows.

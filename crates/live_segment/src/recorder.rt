@@ -129,7 +129,7 @@ impl<'a> Recorder<'a> {
     ghost use Rattle.live_segment.specs.Readings.Snapshots.{HasSnapshot};
     ghost use Rattle.live_segment.specs.Readings.Owed.{HasEnough, TookEnough};
     ghost use Rattle.live_segment.specs.Readings.Values.{HoldsKeys, OpensWith};
-    ghost use Rattle.std.specs.Prelude.{◌↔◌, IsTrue, Err, ◌<◌, ◌++◌, length, IfOk, MatchOption, MatchResult};
+    ghost use Rattle.std.specs.Prelude.{◌↔◌, IsTrue, Err, ◌<◌, ◌≤◌, ◌++◌, length, IfOk, MatchOption, MatchResult};
     ghost use Rattle.segment_image.specs.Checks.{first_fault};
     ghost use Rattle.segment_machine.specs.declared.actor.Known.{Known};
     ghost use Rattle.live_segment.specs.Counts.Adding.{add_checks, AnswersSample};

@@ -186,19 +186,6 @@ private:
         return 0;
     }
 
-    // The first block that the test takes, which is made and published where there is none.
-    template <typename Test, typename Make>
-    Fault find_or_make(Word from, const Test& test, const Make& make, Word& found) {
-        Word place = from;
-        found = walk(place, test);
-        if (found != 0) return nullptr;
-        Word made = 0;
-        if (const Fault fault = make(made)) return fault;
-        publish(made);
-        found = walk(place, test);
-        return nullptr;
-    }
-
     // The name of a histogram's record.
     std::string name_at(Word at) {
         std::string name(segment_[at + kLength].load(), ' ');
@@ -345,16 +332,31 @@ private:
         return segment_[at + 2].load() == kSample && segment_[at + kOwner].load() == known.at;
     }
 
+    // The sample of a value, or 0: one that was met, or one behind the place up to which this recorder has looked for samples.
+    Word first_sampled(Word owner, Word value) {
+        const Word key = owner << 32 | (value & 0xFFFF'FFFF);
+        if (const auto met = sampled_.find(key); met != sampled_.end()) return met->second;
+        walk(sampled_place_, [&](Word at) {
+            if (segment_[at + 2].load() == kSample) {
+                sampled_.emplace(segment_[at + kOwner].load() << 32 | (segment_[at + kValue].load() & 0xFFFF'FFFF), at);
+            }
+            return false;
+        });
+        const auto met = sampled_.find(key);
+        return met == sampled_.end() ? 0 : met->second;
+    }
+
     Fault find_sample(const Known& known, std::int64_t value, Word& found) {
         const auto word = static_cast<Word>(value);
-        const auto is_its = [&](Word at) { return is_sample(known, at) && segment_[at + kValue].load() == word; };
-        const auto make = [&](Word& made) {
-            const Fault fault = allocate(4, kSample, made);
-            if (fault == nullptr) segment_[made + kOwner].store(known.at);
-            if (fault == nullptr && word != 0) segment_[made + kValue].store(word);
-            return fault;
-        };
-        return find_or_make(known.at, is_its, make, found);
+        found = first_sampled(known.at, word);
+        if (found != 0) return nullptr;
+        Word made = 0;
+        if (const Fault fault = allocate(4, kSample, made)) return fault;
+        segment_[made + kOwner].store(known.at);
+        if (word != 0) segment_[made + kValue].store(word);
+        publish(made);
+        found = first_sampled(known.at, word);
+        return nullptr;
     }
 
     void take_samples(const Known& known) {
@@ -387,6 +389,8 @@ private:
     std::unordered_map<std::string, std::size_t> places_;
     std::unordered_map<std::string, Word> met_;
     Word passed_ = kQueue;
+    std::unordered_map<Word, Word> sampled_;  // samples that were met, by histogram and value
+    Word sampled_place_ = kQueue;
 };
 
 }  // namespace plain

@@ -3,6 +3,7 @@
 mod adopt;
 mod record;
 mod script;
+mod sparse;
 mod step;
 
 use anyhow::{Result, bail};
@@ -15,13 +16,14 @@ pub(crate) fn run<R: Threads + Clock + Files + Print + AllocGlobal + Sync>(
     words: &[String],
 ) -> Result<()> {
     let [what, parameters @ ..] = words else {
-        bail!("give record, step, script or adopt");
+        bail!("give record, sparse, step, script or adopt");
     };
     match what.as_str() {
         "record" => record::run(rt, parameters),
+        "sparse" => sparse::run(rt, parameters),
         "step" => step::run(rt, parameters),
         "script" => script::run(rt, parameters),
         "adopt" => adopt::run(rt, parameters),
-        _ => bail!("give record, step, script or adopt"),
+        _ => bail!("give record, sparse, step, script or adopt"),
     }
 }

@@ -1,0 +1,5 @@
+use Rattle.live_segment.proofs.Seating.Callers.{knows_same}
+use Rattle.trials.proofs.timing.sparse.record_some.Goals as goal
+
+pub loop-preserved : goal.loop-preserved
+loop-preserved c = knows_same c.loop.recorder c.add.new.self c.args.histogram c.add.ensures.same c.loop.invariant

@@ -1,4 +1,4 @@
--- The order of what is chosen of a list.
+-- The order of the images of a list.
 use Rattle.std.proofs.Common.{◌+◌, ◌<◌, List, [], ◌∷◌, Ordering, arith, is_lt, length, map}
 use Rattle.std.specs.List.Sorted.{IsSortedBy, IsSortedByKey}
 use Rattle.std.proofs.lemmas.List.{get_or-map, length-map}

@@ -1,6 +1,6 @@
 //! What a recorder has of the records that it met along the list, so that it need not walk there again.
 
-ghost use Rattle.std.specs.Prelude.{◌≡◌, ◌+◌, ◌<◌, ◌^◌, ℕ};
+ghost use Rattle.std.specs.Prelude.{◌≡◌, ◌+◌, ◌<◌, ◌^◌, true, ℕ, length};
 ghost use Rattle.segment_machine.specs.Calls.{MayTurn};
 ghost use Rattle.live_segment.specs.Names.Searching.{HasSearched};
 
@@ -71,8 +71,8 @@ impl Segment {
     ghost use Rattle.live_segment.specs.Steps.{IsSame};
 
     // Walks along the list, on from where the index stands, and enters what it meets: to the end of the list, or to where the index
-    // could not grow.
-    fn look_on(&self, seat: &mut Pass, index: &mut RecordIndex)
+    // could not grow. True where it came to the end.
+    fn look_on(&self, seat: &mut Pass, index: &mut RecordIndex) -> bool
         requires seat { IsSeated self.now seat.old }
         requires free { MayTurn seat.old.me.0 }
         requires indexed { IsIndexed index.old.kind self.now.setting.shape.size seat.old.me.0.seen index.old }
@@ -80,22 +80,23 @@ impl Segment {
         ensures view { HasSearched seat.old.me.0 seat.new.me.0 }
         ensures free { MayTurn seat.new.me.0 }
         ensures indexed { IsIndexed index.old.kind self.now.setting.shape.size seat.new.me.0.seen index.new }
+        ensures ended { result ≡ true → index.new.place.given ≡ length seat.new.me.0.seen.chain }
     {
         let kind = index.kind;
         loop {
             let next = self.load_next(seat, index.place.at);
             if next == QUEUE {
-                return;
+                return true;
             }
             let key = self.key_at(seat, kind, next);
             if !index.enter(next, key) {
-                return;
+                return false;
             }
         }
     }
 
-    // Looks on along the list where the index has no record of a key.
-    pub(crate) fn look_for(&self, seat: &mut Pass, index: &mut RecordIndex, key: u64)
+    // Looks on along the list where the index has no record of a key. True where it came to the end.
+    pub(crate) fn look_for(&self, seat: &mut Pass, index: &mut RecordIndex, key: u64) -> bool
         requires seat { IsSeated self.now seat.old }
         requires free { MayTurn seat.old.me.0 }
         requires indexed { IsIndexed index.old.kind self.now.setting.shape.size seat.old.me.0.seen index.old }
@@ -103,9 +104,11 @@ impl Segment {
         ensures view { HasSearched seat.old.me.0 seat.new.me.0 }
         ensures free { MayTurn seat.new.me.0 }
         ensures indexed { IsIndexed index.old.kind self.now.setting.shape.size seat.new.me.0.seen index.new }
+        ensures ended { result ≡ true → index.new.place.given ≡ length seat.new.me.0.seen.chain }
     {
-        if index.firsts.first(key).is_none() {
-            self.look_on(seat, index);
+        if index.firsts.first(key).is_some() {
+            return false;
         }
+        self.look_on(seat, index)
     }
 }

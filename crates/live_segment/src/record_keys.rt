@@ -1,6 +1,7 @@
 //! The keys by which a recorder finds the records that it met along the list.
 
 ghost use Rattle.std.specs.Prelude.{◌≡◌, ◌+◌, ◌≤◌, ℕ, Some};
+ghost use Rattle.std.specs.Int.{cast_unsigned, w64};
 ghost use Rattle.bucket_ranges.specs.Reading.{name_words};
 ghost use Rattle.segment_image.specs.declared.layout.TheConstants.{BLOCK_TYPE, HISTOGRAM_NAME, HISTOGRAM_NAME_LENGTH, TYPE_HISTOGRAM};
 ghost use Rattle.segment_machine.specs.Actor.{word_seen};
@@ -19,11 +20,19 @@ use segment_image::layout::{
 // How far apart the keys of the samples of two histograms stand: there are as many values.
 const VALUES: u64 = 4_294_967_296;
 
-/// The key of the samples of a value of a histogram, by the word of the value.
-pub(crate) fn sample_key(histogram: u64, word: u64) -> u64
+// The key of the samples of a value of a histogram, by the word of the value.
+fn sample_key(histogram: u64, word: u64) -> u64
     ensures { result ≡ key_of_sample histogram word }
 {
     histogram.wrapping_mul(VALUES).wrapping_add(word)
+}
+
+/// The key of the samples of a value of a histogram.
+pub(crate) fn value_key(histogram: u64, value: i32) -> u64
+    ensures { result ≡ key_of_sample histogram (cast_unsigned w64 value) }
+{
+    let word = i64::from(value).cast_unsigned();
+    sample_key(histogram, word)
 }
 
 impl Segment {

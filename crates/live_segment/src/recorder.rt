@@ -7,7 +7,7 @@ ghost use Rattle.live_segment.specs.Claims.{ClaimsFor, ClaimsForAll, NamesAtMost
 ghost use Rattle.live_segment.specs.Rule.{IsOf};
 ghost use Rattle.live_segment.specs.Seated.{IsSeated};
 ghost use Rattle.live_segment.specs.Steps.{IsAtRest};
-ghost use Rattle.live_segment.specs.declared.indexing.KeyKind.TheVariants.{Name as OfName};
+ghost use Rattle.live_segment.specs.declared.indexing.KeyKind.TheVariants.{Name as OfName, Sample as OfSample};
 ghost use Rattle.live_segment.specs.Lists.Indexed.{IsIndexed};
 ghost use Rattle.live_segment.specs.Known.{known_view, KnowsRight};
 ghost use Rattle.live_segment.specs.Names.Naming.{HasNames};
@@ -78,8 +78,9 @@ pub struct Recorder<'a> {
     fresh: WalkPlace,
     // Where what it knows stands, by names.
     names: KnownNames,
-    // What it met along the list.
+    // What it met along the list: the records of histograms, and the samples of sparse ones.
     index: RecordIndex,
+    samples: RecordIndex,
     ghost seated: { IsSeated segment.now seat },
     ghost rests: { IsAtRest seat.me.0 },
     ghost counted: { units ≡ seat.me.0.units.share },
@@ -89,6 +90,7 @@ pub struct Recorder<'a> {
     ghost come: { HasCome segment.now.setting.shape.size seat.me.0.seen.chain fresh } by { Prim.hlevel props },
     ghost named: { HasNames known.items names } by { Prim.hlevel props },
     ghost indexed: { IsIndexed OfName segment.now.setting.shape.size seat.me.0.seen index } by { Prim.hlevel props },
+    ghost sampled: { IsIndexed OfSample segment.now.setting.shape.size seat.me.0.seen samples } by { Prim.hlevel props },
 }
 
 ghost use Rattle.std.specs.Prelude.{true, false, Some, None};
@@ -137,6 +139,7 @@ impl<'a> Recorder<'a> {
     {
         let names = KnownNames::new(alloc);
         let index = RecordIndex::new(alloc, KeyKind::Name);
+        let samples = RecordIndex::new(alloc, KeyKind::Sample);
         Recorder {
             alloc,
             segment,
@@ -146,6 +149,7 @@ impl<'a> Recorder<'a> {
             fresh: WalkPlace::start(),
             names,
             index,
+            samples,
         }
     }
 
@@ -163,6 +167,7 @@ impl<'a> Recorder<'a> {
             fresh: _,
             names: _,
             index: _,
+            samples: _,
         } = self;
         (segment, seat, units)
     }
@@ -245,7 +250,8 @@ impl<'a> Recorder<'a> {
     ///
     /// `ZeroCount` where there are none and `NoUnits` where the share has fewer, both before anything has happened; then `Corrupt` or
     /// `Full` where a block was needed for them and none could be claimed. Log, share and deltas are then as before, and no count, sum,
-    /// mark or redundant count has changed. It takes no memory.
+    /// mark or redundant count has changed. It asks for no memory, but for its index of the samples of sparse histograms, which it lets grow:
+    /// where there is none for that, it walks along the list, and so do later calls.
     ///
     /// On `Ok` it has claimed one block at most: for the counts, where it found none, or for the sample of the value, which is on the list
     /// then.
@@ -265,7 +271,7 @@ impl<'a> Recorder<'a> {
         }
         let known = &self.known[histogram.index];
         self.segment
-            .add_sample(&mut self.seat, known, value, count)?;
+            .add_sample(&mut self.seat, &mut self.samples, known, value, count)?;
         self.units -= count;
         Ok(())
     }
@@ -277,8 +283,8 @@ impl<'a> Recorder<'a> {
     ///
     /// `ZeroCount` where an item has no units and `NoUnits` where the share has fewer than it costs, both before anything has happened
     /// and with no item counted; then `Corrupt` or `Full` where a block was needed for an item and none could be claimed. Then the
-    /// items before it are counted, as many as the refusal says, and only their units are taken; the sum is not added. It takes no
-    /// memory.
+    /// items before it are counted, as many as the refusal says, and only their units are taken; the sum is not added. It asks for memory
+    /// as [`Recorder::add`] does.
     ///
     /// For each item that is counted it has claimed what [`Recorder::add`] may claim, and nothing else: of a histogram with buckets one
     /// block at most.
@@ -297,9 +303,10 @@ impl<'a> Recorder<'a> {
             Ok(cost) => cost,
             Err(why) => return Err(BatchRefusal { added: 0, why }),
         };
+        let known = &self.known[histogram.index];
         let counted = self
             .segment
-            .count_batch(&mut self.seat, &self.known[histogram.index], items, sum);
+            .count_batch(&mut self.seat, &mut self.samples, known, items, sum);
         if let Err(refusal) = counted {
             self.units -= units_of_items(&items[..refusal.added]) as u32;
             return Err(refusal);

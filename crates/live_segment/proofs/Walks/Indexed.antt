@@ -1,5 +1,5 @@
 -- A recorder's index: what it has stays right, it grows by a record that was looked at, and what it answers.
-use Rattle.std.proofs.Common.{◌≡◌, ◌≢◌, ℕ, ◌+◌, ◌≤◌, Bool, true, false, List, [], ◌∷◌, ◌++◌, length, map, slice_index, Option, Some, None, refl, sym, ap, subst, ◌∙◌, arith, length-append}
+use Rattle.std.proofs.Common.{◌≡◌, ◌≢◌, ℕ, ◌+◌, ◌≤◌, true, false, List, [], ◌∷◌, ◌++◌, length, map, slice_index, Option, Some, None, refl, sym, ap, subst, ◌∙◌, arith, length-append}
 use Rattle.std.specs.Prelude.{take, drop, get_or}
 use Rattle.std.specs.List.{All, Contains}
 use Rattle.std.proofs.lemmas.List.{append_assoc, get_or_push, length_push, length-take-le, map-append, take-append-drop, take-append-le}
@@ -16,6 +16,7 @@ use Rattle.segment_machine.specs.Event.{walking_event}
 use Rattle.segment_machine.specs.Walking.{load_next}
 use Rattle.segment_invariant.proofs.Lists.Elements.{split_map}
 use Rattle.segment_promises.specs.Onward.{Grows}
+use Rattle.segment_promises.specs.Values.{NoRepeats}
 use Rattle.segment_promises.proofs.Growing.{reference_behind}
 use Rattle.list_index.specs.Firsts.{Met, Holds, first_of}
 use Rattle.list_index.proofs.Meeting.{none_met, one_met}
@@ -32,7 +33,7 @@ use Rattle.live_segment.specs.Seated.{IsSeated}
 use Rattle.live_segment.specs.Steps.{Pass, Stepped}
 use Rattle.live_segment.proofs.HistCall.Searching.{searched_on, sees_searched}
 use Rattle.live_segment.proofs.Walks.Keyed.{key_still, looked_still}
-use Rattle.live_segment.proofs.Walks.WalkProgress.{searched, way_on}
+use Rattle.live_segment.proofs.Walks.WalkProgress.{chain_still, searched, way_on, whole}
 use Rattle.live_segment.proofs.Walks.Walked.{come_still, stands_within}
 
 module _ (of_kind : KeyKind) where
@@ -199,6 +200,13 @@ module _ (of_kind : KeyKind) where
       indexed_on b more =
           let all = searched_on old.me.0 next.me.0 b (searched seated way found next load) more in
           indexed_still old.me.0.seen b.seen all.words segment.setting.shape.size index all.chain indexed
+
+      -- where the list ends, all that was seen is passed
+      pub passed_all : NoRepeats old.me.0.seen.chain → found ≡ 12 → index.place.given ≡ length next.me.0.seen.chain
+      passed_all once end =
+          let long = length-take-le index.place.given old.me.0.seen.chain indexed.come.few in
+          let all = ap length (whole seated way found next load once end) in
+          let same = ap length (chain_still seated way found next load once end) in omega (arith, long, all, same)
 
       module _ (miss : found ≢ 12) (b : Actor) (sees : SeesWords next.me.0 b) (looked : HasLooked of_kind b.seen found) (key : Option ℕ)
           (key_is : seen_key of_kind b.seen found ≡ key) (new : RecordIndex) where

@@ -88,6 +88,10 @@ module _ (a b : Seen) (grows : Grows a.words b.words) where
   pub word_still : (word : ℕ) → HasSeen a word → seen_word b word ≡ seen_word a word
   word_still word has = word_is b word (seen_word a word) (seen_still word has)
 
+  -- what it saw later it had seen, where it had seen the word
+  pub was_seen : (word w : ℕ) → HasSeen a word → word_seen b.words word ≡ Some w → word_seen a.words word ≡ Some w
+  was_seen word w has is = seen_is a word has ∙ (sym (seen_still word has) ∙ is)
+
   pub words_still : (from n : ℕ) → ((i : ℕ) → i < n → HasSeen a (from + i)) → seen_words b from n ≡ seen_words a from n
   words_still from zero has = refl
   words_still from (suc n) has =

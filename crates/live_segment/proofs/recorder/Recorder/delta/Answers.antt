@@ -23,6 +23,7 @@ invariant_of-self c =
       come = come_still _ _ _ _ taken.seen.chain old.come;
       named = old.named;
       indexed = seen_on _ _ _ _ taken.seen old.indexed;
+      sampled = seen_on _ _ _ _ taken.seen old.sampled;
     }
 
 pub returns-clause-taken : goal.returns-clause-taken

@@ -28,6 +28,7 @@ invariant_of-self c =
       come = come_still _ _ _ _ has.seen.chain old.come;
       named = old.named;
       indexed = seen_on _ _ _ _ has.seen old.indexed;
+      sampled = seen_on _ _ _ _ has.seen old.sampled;
     }
 
 pub returns-clause-answer : goal.returns-clause-answer

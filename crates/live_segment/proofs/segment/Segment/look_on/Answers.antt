@@ -4,7 +4,7 @@ use Rattle.live_segment.specs.declared.records.WalkPlace.{WalkPlace}
 use Rattle.live_segment.proofs.Walks.Showing.{same_on}
 use Rattle.live_segment.proofs.Walks.WalkProgress.{searched, room, meets, way_on, comes_further}
 use Rattle.live_segment.proofs.HistCall.Searching.{searched_not, searched_on, sees_searched, seat_on}
-use Rattle.live_segment.proofs.Walks.Indexed.{way, indexed_on, not_entered, entered}
+use Rattle.live_segment.proofs.Walks.Indexed.{way, indexed_on, not_entered, entered, passed_all}
 use Rattle.live_segment.proofs.segment.Segment.look_on.Goals as goal
 
 pub load_next-next-requires-clause-room : goal.load_next-next-requires-clause-room
@@ -15,6 +15,11 @@ pub returns-then-next-eq-QUEUE-clause-indexed : goal.returns-then-next-eq-QUEUE-
 returns-then-next-eq-QUEUE-clause-indexed c =
     let was = c.loop-kind.invariant in
     indexed_on _ was.seated was.free was.indexed _ _ c.load_next-next.ensures.step c.load_next-next.new.seat.me.0 (searched_not c.load_next-next.new.seat.me.0)
+
+pub returns-then-next-eq-QUEUE-clause-ended : goal.returns-then-next-eq-QUEUE-clause-ended
+returns-then-next-eq-QUEUE-clause-ended c =
+    let was = c.loop-kind.invariant in
+    λ yes. passed_all _ was.seated was.free was.indexed _ _ c.load_next-next.ensures.step c.load_next-next.ensures.once c.if-next-eq-QUEUE.true
 
 pub key_at-key-requires-clause-met : goal.key_at-key-requires-clause-met
 key_at-key-requires-clause-met c =

@@ -16,7 +16,9 @@ MOST_IMAGES = 1000
 WIDEST = 1000
 # Names with all signs that HTML gives a meaning, and some that look like parts of a page.
 NAMES = ["a<b>&'c'", "&amp;", "&#39;&lt", "</h2>", "<script>alert(1)</script>", "]]>", "<!--", "-->", "%41", "#h0", "\\", "a;b`c=d"]
-SCRIPT = ("segment,4096,64,7\n" + "".join(f"hist,{name},boolean\nadd,{name},{at % 2},{at + 1}\n" for at, name in enumerate(NAMES))).encode()
+HISTS = "".join(f"hist,{name},boolean\n" for name in NAMES)
+ADDS = "".join(f"add,{name},{at % 2},{at + 1}\n" for at, name in enumerate(NAMES))
+SCRIPT = f"segment,4096,64,7\n{HISTS}{ADDS}".encode()
 CHOICES = [([], {}), *(choice for choice in shows.CHOICES if "--width" not in choice[0][0] and "--ascii" not in choice[0])]
 USAGES = [["--html", "--width", "20"], ["--html", "--ascii"], ["--ascii", "--html"], ["--html=x"], ["--html", "--match", "a", "A"]]
 
@@ -62,6 +64,11 @@ def beside(program, data, words=(), **options):
     return complaint(data, came.output, **options)
 
 
+def escaped(name):
+    """A name as a page has it: in an apostrophe's place the decimal number of the sign."""
+    return html.escape(name).replace("&#x27;", "&#39;")
+
+
 def worked(program, folder):
     """The example as a file and on standard input; names that need escapes; each choice of a script's histograms."""
     wanted = answer(program, ["show", "--html", EXAMPLE])
@@ -77,7 +84,7 @@ def worked(program, folder):
             yield f"{name}, {words}", beside(program, image.read_bytes(), words, **options)
         if name == "escapes":
             page = answer(program, ["show", "--html", image]).output.decode()
-            missing = [one for one in NAMES if page.count(f">{html.escape(one)}</") != 2]
+            missing = [one for one in NAMES if page.count(f">{escaped(one)}</") != 2]
             yield "escapes, twice each", f"{missing} do not stand twice in the page" if missing else None
     for words in USAGES:
         came = answer(program, ["show", EXAMPLE, *words])

@@ -141,7 +141,8 @@ fn show_command<'a>(alloc: Global) -> Result<Command<'a>, AllocError> {
     let html = Arg::new(alloc, "html")
         .long("html")
         .action(ArgAction::SetTrue)
-        .conflicts_with_all(&["width", "ascii"])?
+        .conflicts_with("width")?
+        .conflicts_with("ascii")?
         .help("Writes a web page, which needs nothing else; it takes no --width and no --ascii");
     let command = Command::new(alloc, "show")
         .about("Writes the histograms of an image for people: numbers, quantiles and bars")

@@ -1,0 +1,117 @@
+-- What the calls of a recorder answer and make of its desk: the clauses of `Recorder`, of the desk before a call, its answer, and the desk
+-- behind it.
+use Rattle.std.specs.Prelude.{◌≡◌, ℕ, ℤ, List, Result, Err, IfOk, MatchOption, MatchResult}
+use Rattle.std.specs.declared.vec.Vec.{Vec}
+use Rattle.std.specs.declared.alloc.Global.{Global}
+use Rattle.bucket_ranges.specs.declared.spec.Spec.{Spec}
+use Rattle.bucket_ranges.specs.declared.spec.Spec.TheVariants.{Sparse}
+use Rattle.segment_image.specs.Checks.{first_fault}
+use Rattle.segment_calls.specs.Blocks.{record_words}
+use Rattle.segment_calls.specs.declared.refusal.Refusal.{Refusal}
+use Rattle.segment_calls.specs.declared.refusal.Refusal.TheVariants.{NoMemory, OtherSpec}
+use Rattle.segment_calls.specs.declared.refusal.BatchRefusal.{BatchRefusal}
+use Rattle.segment_calls.specs.declared.answer.Delta.{Delta}
+use Rattle.segment_calls.specs.declared.answer.Snapshot.{Snapshot}
+use Rattle.segment_machine.specs.declared.actor.Known.{Known}
+use Rattle.live_segment.specs.declared.recorder.Hist.{Hist}
+use Rattle.live_segment.specs.declared.recorder.desk.Desk.{Desk}
+use Rattle.live_segment.specs.Claims.{ClaimsFor, ClaimsForAll, NamesAtMostOne}
+use Rattle.live_segment.specs.Counts.Adding.{add_checks, AnswersSample}
+use Rattle.live_segment.specs.Counts.Batching.{batch_checks, IsBatched, IsCutShort}
+use Rattle.live_segment.specs.Lists.Records.{HasWalked}
+use Rattle.live_segment.specs.Names.Hist.{IsAnsweredWith, IsRefusedWith}
+use Rattle.live_segment.specs.Readings.Deltas.{AreUnits, HasTaken}
+use Rattle.live_segment.specs.Readings.Owed.{HasEnough, TookEnough}
+use Rattle.live_segment.specs.Readings.Snapshots.{HasSnapshot}
+use Rattle.owned_recorder.specs.Desks.{GivesFresh, Means, view_of_desk}
+
+-- ---- `hist`
+
+-- it is answered with a histogram of the name, or refused
+abbrev pub AnswersHist : List ℕ → Spec → Desk → Result Hist Refusal → Desk → Type 0
+AnswersHist name spec old result new =
+    MatchResult result (λ histogram. IsAnsweredWith name spec histogram (view_of_desk old) (view_of_desk new))
+    (λ why. IsRefusedWith name spec why (view_of_desk old) (view_of_desk new))
+
+-- it has claimed one block at most, for the record of the name
+abbrev pub ClaimsHist : List ℕ → Spec → Desk → Result Hist Refusal → Desk → Type 0
+ClaimsHist name spec old result new =
+    MatchResult result (λ _. NamesAtMostOne name spec (record_words name spec) (view_of_desk old) (view_of_desk new))
+    (λ why. why ≡ OtherSpec → NamesAtMostOne name spec (record_words name spec) (view_of_desk old) (view_of_desk new))
+
+-- ---- `add`
+
+-- the first check that fails is answered, and the desk is the same; else the sample is counted, or refused
+abbrev pub AnswersAdd : Hist → ℤ → ℕ → Desk → Result (Unit {0}) Refusal → Desk → Type 0
+AnswersAdd histogram value count old result new =
+    MatchOption (first_fault (add_checks (view_of_desk old) count))
+    ((known : Known) → Means old histogram known → AnswersSample known value count (view_of_desk old) result (view_of_desk new))
+    (λ why. (result ≡ Err why) × (new ≡ old))
+
+-- it has claimed one block at most, for the sample or the counts
+abbrev pub ClaimsAdd : Hist → ℤ → Desk → Result (Unit {0}) Refusal → Desk → Type 0
+ClaimsAdd histogram value old result new =
+    IfOk result (λ _. (known : Known) → Means old histogram known → ClaimsFor known value (view_of_desk old) (view_of_desk new))
+
+-- ---- `batch`
+
+-- the first check that fails is answered, and the desk is the same; else all is counted, or the items before one
+abbrev pub AnswersBatch : Hist → List (ℤ × ℕ) → ℤ → Desk → Result (Unit {0}) BatchRefusal → Desk → Type 0
+AnswersBatch histogram items sum old result new =
+    MatchOption (first_fault (batch_checks (view_of_desk old) items sum))
+    ((known : Known) → Means old histogram known
+    → MatchResult result (λ _. IsBatched known items sum (view_of_desk old) (view_of_desk new))
+    (λ refusal. IsCutShort known items refusal (view_of_desk old) (view_of_desk new)))
+    (λ why. (result ≡ Err (record { added = 0; why = why })) × (new ≡ old))
+
+-- it has claimed what it may for each item
+abbrev pub ClaimsBatch : Hist → List (ℤ × ℕ) → Desk → Result (Unit {0}) BatchRefusal → Desk → Type 0
+ClaimsBatch histogram items old result new =
+    IfOk result (λ _. (known : Known) → Means old histogram known → ClaimsForAll known items (view_of_desk old) (view_of_desk new))
+
+-- ---- `delta`
+
+-- the delta is what it has taken; or there was no memory, and the desk is the same
+abbrev pub AnswersDelta : Hist → Desk → Result Delta Refusal → Desk → Type 0
+AnswersDelta histogram old result new =
+    MatchResult result
+    (λ delta. (known : Known) → Means old histogram known
+    → HasTaken known delta.counts.items delta.sum (view_of_desk old) (view_of_desk new))
+    (λ why. (why ≡ NoMemory) × (new ≡ old))
+
+-- all deltas together have taken enough
+abbrev pub TakesEnough : Hist → Desk → Result Delta Refusal → Desk → Type 0
+TakesEnough histogram old result new =
+    IfOk result (λ _. (known : Known) → Means old histogram known → TookEnough known (view_of_desk old) (view_of_desk new))
+
+-- ---- `snapshot`
+
+-- the snapshot is what it saw; or there was no memory, and the desk is the same
+abbrev pub AnswersSnapshot : Hist → Desk → Result Snapshot Refusal → Desk → Type 0
+AnswersSnapshot histogram old result new =
+    MatchResult result
+    (λ snapshot. (known : Known) → Means old histogram known → HasSnapshot known (view_of_desk old) snapshot (view_of_desk new))
+    (λ why. (why ≡ NoMemory) × (new ≡ old))
+
+-- the snapshot has enough
+abbrev pub ShowsEnough : Hist → Desk → Result Snapshot Refusal → Desk → Type 0
+ShowsEnough histogram old result new =
+    IfOk result
+    (λ snapshot. (known : Known) → Means old histogram known → HasEnough known (view_of_desk old) snapshot (view_of_desk new))
+
+-- values of a sparse histogram ascend, each once and with units
+abbrev pub ShowsUnits : Hist → Desk → Result Snapshot Refusal → Type 0
+ShowsUnits histogram old result =
+    IfOk result (λ snapshot. (known : Known) → Means old histogram known → known.spec ≡ Sparse → AreUnits snapshot.counts.items)
+
+-- ---- `records` and `fresh_records`
+
+-- the records are all of the list; or there was no memory, and the desk is the same
+abbrev pub AnswersRecords : Desk → Result (Vec ℕ Global) Refusal → Desk → Type 0
+AnswersRecords old result new =
+    MatchResult result (λ records. HasWalked (view_of_desk old) records.items (view_of_desk new)) (λ why. (why ≡ NoMemory) × (new ≡ old))
+
+-- the records are those that it was not given before; or there was no memory, and the desk is the same
+abbrev pub AnswersFresh : Desk → Result (Vec ℕ Global) Refusal → Desk → Type 0
+AnswersFresh old result new =
+    MatchResult result (λ records. GivesFresh old records.items new) (λ why. (why ≡ NoMemory) × (new ≡ old))

@@ -1,0 +1,4 @@
+pub use Rattle.live_segment.specs.Desk
+pub mod Desks
+pub mod Answers
+pub mod Holders

@@ -1,0 +1,43 @@
+//! An opener makes recorders that keep their segment alive, and takes them back.
+
+ghost use Rattle.std.specs.Prelude.{◌≡◌, Err, IfOk, MatchOption, MatchResult};
+ghost use Rattle.std.specs.Arc.{arc_value};
+ghost use Rattle.segment_image.specs.Checks.{first_fault};
+ghost use Rattle.segment_machine.specs.Seats.{offering, parent, newcomer, joined};
+ghost use Rattle.live_segment.specs.declared.segment.Segment.{Segment as SomeSegment};
+ghost use Rattle.live_segment.specs.Steps.{recorder_checks};
+ghost use Rattle.live_segment.specs.Holders.{IsMadeWith, IsSameOpener, view_of_opener};
+ghost use Rattle.owned_recorder.specs.Desks.{given_fresh};
+ghost use Rattle.owned_recorder.specs.Holders.{IsRecorderOf, RecordsInto, view_of_owned};
+
+use crate::owned::OwnedRecorder;
+use live_segment::{Opener, Recorder, Segment};
+use segment_calls::Refusal;
+use std::alloc::Global;
+use std::sync::Arc;
+
+/// A recorder with so many units that keeps the segment alive, as [`Opener::recorder`] makes one that borrows it.
+pub fn owned_recorder(
+    opener: &mut Opener,
+    segment: Arc<Segment, Global>,
+    units: u32,
+) -> Result<OwnedRecorder, Refusal>
+    requires { IsMadeWith (arc_value segment) opener.old }
+    ensures made { IsMadeWith (arc_value segment) opener.new }
+    ensures into { IfOk result (RecordsInto (arc_value segment)) }
+    ensures mine { MatchResult result (λ _. IsSameOpener opener.old opener.new × (view_of_opener opener.new ≡ parent (offering (view_of_opener opener.old) units))) (λ _. opener.new ≡ opener.old) }
+    ensures theirs { MatchOption (first_fault (recorder_checks (view_of_opener opener.old) units)) (MatchResult result (λ owned. (owned.segment ≡ segment) × (view_of_owned owned ≡ newcomer (offering (view_of_opener opener.old) units)) × (given_fresh owned.desk ≡ 0)) (λ _. ⊥)) (λ why. result ≡ Err why) }
+{
+    let desk = opener.recorder(&segment, units)?.into_desk();
+    Ok(OwnedRecorder::of(segment, desk))
+}
+
+/// Takes a recorder back, as [`Opener::join`] does. Where nobody else keeps the segment alive, it ends.
+pub fn join(opener: &mut Opener, owned: OwnedRecorder)
+    requires { IsRecorderOf owned opener.old }
+    ensures takes { IsSameOpener opener.old opener.new × (view_of_opener opener.new ≡ joined (view_of_opener opener.old) (view_of_owned owned)) }
+    ensures made { (segment : SomeSegment) → IsMadeWith segment opener.old → IsMadeWith segment opener.new }
+{
+    let (segment, desk) = owned.into_parts();
+    opener.join(Recorder::at_desk(&segment, desk));
+}

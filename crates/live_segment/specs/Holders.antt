@@ -2,6 +2,7 @@
 use Rattle.std.specs.Prelude.{◌≡◌, false, ◌<◌, ℕ, length}
 use mathlib.Core.Option.{some}
 use lib.ListN.{get_elem?}
+use Rattle.std.specs.Arc.{arc_value}
 use Rattle.atomic_table.specs.Seated.{TableId}
 use Rattle.segment_machine.specs.declared.actor.Actor.{Actor}
 use Rattle.segment_machine.specs.declared.actor.Known.{Known}
@@ -9,6 +10,7 @@ use Rattle.live_segment.specs.declared.rule.Setting.{Setting}
 use Rattle.live_segment.specs.declared.segment.Segment.{Segment}
 use Rattle.live_segment.specs.declared.opener.Opener.{Opener}
 use Rattle.live_segment.specs.declared.recorder.Recorder.{Recorder}
+use Rattle.live_segment.specs.declared.recorder.owned.OwnedRecorder.{OwnedRecorder}
 use Rattle.live_segment.specs.declared.recorder.Hist.{Hist}
 use Rattle.segment_machine.specs.Actor.{is_opener}
 use Rattle.segment_machine.specs.Event.{Event, Ready}
@@ -26,6 +28,32 @@ view_of_opener opener = opener.seat.me.0
 -- what a recorder has done and seen
 abbrev pub view_of_recorder : Recorder → Actor
 view_of_recorder recorder = recorder.seat.me.0
+
+-- the recorder that an owned one is for each of its calls
+abbrev pub recorder_of : OwnedRecorder → Recorder
+recorder_of owned = record {
+  alloc = owned.desk.alloc;
+  segment = record { ref_ptr = (0, 0); now = arc_value owned.segment };
+  seat = owned.desk.seat;
+  units = owned.desk.units;
+  known = owned.desk.known;
+  fresh = owned.desk.fresh;
+  names = owned.desk.names;
+  index = owned.desk.index;
+  seated = owned.fits.seated;
+  rests = owned.fits.rests;
+  counted = owned.fits.counted;
+  listed = owned.fits.listed;
+  right = owned.fits.right;
+  free = owned.fits.free;
+  come = owned.fits.come;
+  named = owned.fits.named;
+  indexed = owned.fits.indexed;
+}
+
+-- what an owned one has done and seen
+abbrev pub view_of_owned : OwnedRecorder → Actor
+view_of_owned owned = view_of_recorder (recorder_of owned)
 
 -- a recorder's seat at a segment may do an event
 pub record MayStep (segment : Segment) (seat : Pass) (event : Event) : Type 0 where

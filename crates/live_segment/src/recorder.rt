@@ -14,6 +14,9 @@ ghost use Rattle.live_segment.specs.Lists.Walks.{HasCome};
 ghost use Rattle.std.specs.List.{All};
 ghost use Rattle.std.proofs.Props.{props};
 
+mod desk;
+mod owned;
+
 use crate::costs::{price, units_of_items};
 use crate::indexing::RecordIndex;
 use crate::naming::KnownNames;
@@ -22,6 +25,7 @@ use crate::rule::Pass;
 use crate::segment::Segment;
 use bucket_ranges::limits::MAX_CUSTOM_VALUES;
 use bucket_ranges::{Ranges, Spec, SpecFault};
+pub use owned::OwnedRecorder;
 use segment_calls::{Asked, BatchRefusal, Delta, Refusal, Snapshot};
 use segment_image::layout::{BLOCK_LEAST, HEADER_WORDS};
 use std::alloc::{AllocError, Global};
@@ -30,6 +34,15 @@ use std::alloc::{AllocError, Global};
 #[derive(Clone, Copy, Debug, PartialEq, Eq)]
 pub struct Hist {
     index: usize,
+}
+
+impl Hist {
+    /// Its place in that list, from 0. A recorder that knows it has it there for good.
+    pub fn place(&self) -> usize
+        ensures { result ≡ self.now.index }
+    {
+        self.index
+    }
 }
 
 /// A histogram that a recorder was answered with.

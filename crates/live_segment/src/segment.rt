@@ -184,6 +184,13 @@ impl Segment {
         Ok((segment, Opener::new(alloc, seat, units)))
     }
 
+    /// How many words it has: as many as its image.
+    pub fn size(&self) -> u64
+        ensures { result ≡ self.now.setting.shape.size }
+    {
+        self.setting.shape.size()
+    }
+
     /// Ends the segment, which no recorder holds any more, and gives its image. The opener was made with it. An image of version 2 that nobody
     /// marked as corrupt can be recorded into again, by [`Segment::adopt`].
     pub fn close(self, opener: Opener) -> Image

@@ -113,7 +113,17 @@ impl Opener {
         ensures mine { MatchResult result (λ _. IsSameOpener self.old self.new × (view_of_opener self.new ≡ parent (offering (view_of_opener self.old) units))) (λ _. self.new ≡ self.old) }
         ensures theirs { MatchOption (first_fault (recorder_checks (view_of_opener self.old) units)) (MatchResult result (λ owned. (owned.segment ≡ segment) × (view_of_owned owned ≡ newcomer (offering (view_of_opener self.old) units)) × (given_fresh (recorder_of owned) ≡ 0)) (λ _. ⊥)) (λ why. result ≡ Err why) }
     {
-        let desk = self.recorder(&segment, units)?.into_desk();
+        if units > self.units {
+            return Err(Refusal::NoUnits);
+        }
+        if self.outstanding == MAX_RECORDERS {
+            return Err(Refusal::TooMany);
+        }
+        segment.offer(&mut self.seat, units);
+        let seat = segment.split(&mut self.seat);
+        self.units -= units;
+        self.outstanding += 1;
+        let desk = Recorder::new(self.alloc, &segment, seat, units).into_desk();
         Ok(OwnedRecorder::of(segment, desk))
     }
 

@@ -101,8 +101,6 @@ impl OwnedRecorder {
     fn hist_within(self, asked: (&[u8], &Spec)) -> (OwnedRecorder, Result<Hist, Refusal>)
         ensures same { KnowsOn (recorder_of self) (recorder_of result.0) }
         ensures named { IfOk result.1 (IsNamed asked.entry.0.now asked.entry.1.now (recorder_of result.0)) }
-        ensures answer { MatchResult result.1 (λ histogram. IsAnsweredWith asked.entry.0.now asked.entry.1.now histogram (view_of_owned self) (view_of_owned result.0)) (λ why. IsRefusedWith asked.entry.0.now asked.entry.1.now why (view_of_owned self) (view_of_owned result.0)) }
-        ensures claims { MatchResult result.1 (λ _. NamesAtMostOne asked.entry.0.now asked.entry.1.now (record_words asked.entry.0.now asked.entry.1.now) (view_of_owned self) (view_of_owned result.0)) (λ why. why ≡ OtherSpec → NamesAtMostOne asked.entry.0.now asked.entry.1.now (record_words asked.entry.0.now asked.entry.1.now) (view_of_owned self) (view_of_owned result.0)) }
     {
         let OwnedRecorder { segment, desk } = self;
         let mut recorder = Recorder::at_desk(&segment, desk);
@@ -115,8 +113,6 @@ impl OwnedRecorder {
     pub fn hist(&mut self, name: &[u8], spec: &Spec) -> Result<Hist, Refusal>
         ensures same { KnowsOn (recorder_of self.old) (recorder_of self.new) }
         ensures named { IfOk result (IsNamed name.now spec.now (recorder_of self.new)) }
-        ensures answer { MatchResult result (λ histogram. IsAnsweredWith name.now spec.now histogram (view_of_owned self.old) (view_of_owned self.new)) (λ why. IsRefusedWith name.now spec.now why (view_of_owned self.old) (view_of_owned self.new)) }
-        ensures claims { MatchResult result (λ _. NamesAtMostOne name.now spec.now (record_words name.now spec.now) (view_of_owned self.old) (view_of_owned self.new)) (λ why. why ≡ OtherSpec → NamesAtMostOne name.now spec.now (record_words name.now spec.now) (view_of_owned self.old) (view_of_owned self.new)) }
     {
         replace_with(self, (name, spec), OwnedRecorder::hist_within)
     }
@@ -125,8 +121,6 @@ impl OwnedRecorder {
     fn add_within(self, asked: (Hist, i32, u32)) -> (OwnedRecorder, Result<(), Refusal>)
         requires { Knows (recorder_of self) asked.0 }
         ensures same { IsSameRecorder (recorder_of self) (recorder_of result.0) }
-        ensures answer { MatchOption (first_fault (add_checks (view_of_owned self) asked.2)) ((known : Known) → Means (recorder_of self) asked.0 known → AnswersSample known asked.1 asked.2 (view_of_owned self) result.1 (view_of_owned result.0)) (λ why. (result.1 ≡ Err why) × (result.0 ≡ self)) }
-        ensures claims { IfOk result.1 (λ _. (known : Known) → Means (recorder_of self) asked.0 known → ClaimsFor known asked.1 (view_of_owned self) (view_of_owned result.0)) }
     {
         let OwnedRecorder { segment, desk } = self;
         let mut recorder = Recorder::at_desk(&segment, desk);
@@ -140,8 +134,6 @@ impl OwnedRecorder {
     pub fn add(&mut self, histogram: Hist, value: i32, count: u32) -> Result<(), Refusal>
         requires { Knows (recorder_of self.old) histogram }
         ensures same { IsSameRecorder (recorder_of self.old) (recorder_of self.new) }
-        ensures answer { MatchOption (first_fault (add_checks (view_of_owned self.old) count)) ((known : Known) → Means (recorder_of self.old) histogram known → AnswersSample known value count (view_of_owned self.old) result (view_of_owned self.new)) (λ why. (result ≡ Err why) × (self.new ≡ self.old)) }
-        ensures claims { IfOk result (λ _. (known : Known) → Means (recorder_of self.old) histogram known → ClaimsFor known value (view_of_owned self.old) (view_of_owned self.new)) }
     {
         replace_with(self, (histogram, value, count), OwnedRecorder::add_within)
     }
@@ -152,8 +144,6 @@ impl OwnedRecorder {
     ) -> (OwnedRecorder, Result<(), BatchRefusal>)
         requires { Knows (recorder_of self) asked.0 }
         ensures same { IsSameRecorder (recorder_of self) (recorder_of result.0) }
-        ensures answer { MatchOption (first_fault (batch_checks (view_of_owned self) asked.entry.1.now asked.entry.2)) ((known : Known) → Means (recorder_of self) asked.entry.0 known → MatchResult result.1 (λ _. IsBatched known asked.entry.1.now asked.entry.2 (view_of_owned self) (view_of_owned result.0)) (λ refusal. IsCutShort known asked.entry.1.now refusal (view_of_owned self) (view_of_owned result.0))) (λ why. (result.1 ≡ Err (record { added = 0; why = why })) × (result.0 ≡ self)) }
-        ensures claims { IfOk result.1 (λ _. (known : Known) → Means (recorder_of self) asked.entry.0 known → ClaimsForAll known asked.entry.1.now (view_of_owned self) (view_of_owned result.0)) }
     {
         let OwnedRecorder { segment, desk } = self;
         let mut recorder = Recorder::at_desk(&segment, desk);
@@ -171,8 +161,6 @@ impl OwnedRecorder {
     ) -> Result<(), BatchRefusal>
         requires { Knows (recorder_of self.old) histogram }
         ensures same { IsSameRecorder (recorder_of self.old) (recorder_of self.new) }
-        ensures answer { MatchOption (first_fault (batch_checks (view_of_owned self.old) items.now sum)) ((known : Known) → Means (recorder_of self.old) histogram known → MatchResult result (λ _. IsBatched known items.now sum (view_of_owned self.old) (view_of_owned self.new)) (λ refusal. IsCutShort known items.now refusal (view_of_owned self.old) (view_of_owned self.new))) (λ why. (result ≡ Err (record { added = 0; why = why })) × (self.new ≡ self.old)) }
-        ensures claims { IfOk result (λ _. (known : Known) → Means (recorder_of self.old) histogram known → ClaimsForAll known items.now (view_of_owned self.old) (view_of_owned self.new)) }
     {
         replace_with(self, (histogram, items, sum), OwnedRecorder::batch_within)
     }
@@ -180,8 +168,6 @@ impl OwnedRecorder {
     fn delta_within(self, asked: Hist) -> (OwnedRecorder, Result<Delta, Refusal>)
         requires { Knows (recorder_of self) asked }
         ensures same { IsSameRecorder (recorder_of self) (recorder_of result.0) }
-        ensures taken { MatchResult result.1 (λ delta. (known : Known) → Means (recorder_of self) asked known → HasTaken known delta.counts.items delta.sum (view_of_owned self) (view_of_owned result.0)) (λ why. (why ≡ NoMemory) × (result.0 ≡ self)) }
-        ensures owed { IfOk result.1 (λ delta. (known : Known) → Means (recorder_of self) asked known → TookEnough known (view_of_owned self) (view_of_owned result.0)) }
     {
         let OwnedRecorder { segment, desk } = self;
         let mut recorder = Recorder::at_desk(&segment, desk);
@@ -194,8 +180,6 @@ impl OwnedRecorder {
     pub fn delta(&mut self, histogram: Hist) -> Result<Delta, Refusal>
         requires { Knows (recorder_of self.old) histogram }
         ensures same { IsSameRecorder (recorder_of self.old) (recorder_of self.new) }
-        ensures taken { MatchResult result (λ delta. (known : Known) → Means (recorder_of self.old) histogram known → HasTaken known delta.counts.items delta.sum (view_of_owned self.old) (view_of_owned self.new)) (λ why. (why ≡ NoMemory) × (self.new ≡ self.old)) }
-        ensures owed { IfOk result (λ delta. (known : Known) → Means (recorder_of self.old) histogram known → TookEnough known (view_of_owned self.old) (view_of_owned self.new)) }
     {
         replace_with(self, histogram, OwnedRecorder::delta_within)
     }
@@ -203,9 +187,6 @@ impl OwnedRecorder {
     fn snapshot_within(self, asked: Hist) -> (OwnedRecorder, Result<Snapshot, Refusal>)
         requires { Knows (recorder_of self) asked }
         ensures same { IsSameRecorder (recorder_of self) (recorder_of result.0) }
-        ensures answer { MatchResult result.1 (λ snapshot. (known : Known) → Means (recorder_of self) asked known → HasSnapshot known (view_of_owned self) snapshot (view_of_owned result.0)) (λ why. (why ≡ NoMemory) × (result.0 ≡ self)) }
-        ensures owed { IfOk result.1 (λ snapshot. (known : Known) → Means (recorder_of self) asked known → HasEnough known (view_of_owned self) snapshot (view_of_owned result.0)) }
-        ensures values { IfOk result.1 (λ snapshot. (known : Known) → Means (recorder_of self) asked known → known.spec ≡ Sparse → AreUnits snapshot.counts.items) }
     {
         let OwnedRecorder { segment, desk } = self;
         let mut recorder = Recorder::at_desk(&segment, desk);
@@ -218,9 +199,6 @@ impl OwnedRecorder {
     pub fn snapshot(&mut self, histogram: Hist) -> Result<Snapshot, Refusal>
         requires { Knows (recorder_of self.old) histogram }
         ensures same { IsSameRecorder (recorder_of self.old) (recorder_of self.new) }
-        ensures answer { MatchResult result (λ snapshot. (known : Known) → Means (recorder_of self.old) histogram known → HasSnapshot known (view_of_owned self.old) snapshot (view_of_owned self.new)) (λ why. (why ≡ NoMemory) × (self.new ≡ self.old)) }
-        ensures owed { IfOk result (λ snapshot. (known : Known) → Means (recorder_of self.old) histogram known → HasEnough known (view_of_owned self.old) snapshot (view_of_owned self.new)) }
-        ensures values { IfOk result (λ snapshot. (known : Known) → Means (recorder_of self.old) histogram known → known.spec ≡ Sparse → AreUnits snapshot.counts.items) }
     {
         replace_with(self, histogram, OwnedRecorder::snapshot_within)
     }
@@ -246,7 +224,6 @@ impl OwnedRecorder {
 
     fn records_within(self, _nothing: ()) -> (OwnedRecorder, Result<Vec<u64>, Refusal>)
         ensures same { IsSameRecorder (recorder_of self) (recorder_of result.0) }
-        ensures walked { MatchResult result.1 (λ records. HasWalked (view_of_owned self) records.items (view_of_owned result.0)) (λ why. (why ≡ NoMemory) × (result.0 ≡ self)) }
     {
         let OwnedRecorder { segment, desk } = self;
         let mut recorder = Recorder::at_desk(&segment, desk);
@@ -258,26 +235,8 @@ impl OwnedRecorder {
     /// The references of all records of the list, as [`Recorder::records`] answers them.
     pub fn records(&mut self) -> Result<Vec<u64>, Refusal>
         ensures same { IsSameRecorder (recorder_of self.old) (recorder_of self.new) }
-        ensures walked { MatchResult result (λ records. HasWalked (view_of_owned self.old) records.items (view_of_owned self.new)) (λ why. (why ≡ NoMemory) × (self.new ≡ self.old)) }
     {
         replace_with(self, (), OwnedRecorder::records_within)
-    }
-
-    fn fresh_records_within(self, _nothing: ()) -> (OwnedRecorder, Result<Vec<u64>, Refusal>)
-        ensures fresh { MatchResult result.1 (λ records. GivesFresh (recorder_of self) records.items (recorder_of result.0)) (λ why. (why ≡ NoMemory) × (result.0 ≡ self)) }
-    {
-        let OwnedRecorder { segment, desk } = self;
-        let mut recorder = Recorder::at_desk(&segment, desk);
-        let answer = recorder.fresh_records();
-        let desk = recorder.into_desk();
-        (OwnedRecorder { segment, desk }, answer)
-    }
-
-    /// Those that no earlier call gave, as [`Recorder::fresh_records`] answers them.
-    pub fn fresh_records(&mut self) -> Result<Vec<u64>, Refusal>
-        ensures fresh { MatchResult result (λ records. GivesFresh (recorder_of self.old) records.items (recorder_of self.new)) (λ why. (why ≡ NoMemory) × (self.new ≡ self.old)) }
-    {
-        replace_with(self, (), OwnedRecorder::fresh_records_within)
     }
 
     fn next_shared_within(self, asked: usize) -> (OwnedRecorder, Option<u64>)

@@ -2,5 +2,4 @@
 
 mod reading;
 mod recording;
-mod reporting;
 mod segments;

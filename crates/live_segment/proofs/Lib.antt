@@ -4,6 +4,7 @@ mod Closing
 mod DeltaCall
 mod HistCall
 mod NewRecords
+mod Owning
 pub mod Seating
 mod SnapshotCall
 mod Walks

@@ -49,7 +49,7 @@ impl Owner {
     }
 
     /// A recorder with so many units; or why there is none.
-    #[tactic(auto, using(crate::proofs::Holding::same_on), using(crate::proofs::Holding::of_tray))]
+    #[tactic(auto, using(crate::proofs::Holding::same_on, crate::proofs::Holding::of_tray))]
     pub(crate) fn recorder(&mut self, units: u32) -> Result<Worker, u32> {
         let Ok(segment) = Arc::try_clone(&self.segment) else {
             return Err(NO_MEMORY);
@@ -65,7 +65,7 @@ impl Owner {
 
     /// Takes a recorder back. One that is not of this segment comes back; unless another thread, which joined one of this segment
     /// elsewhere, has met it there.
-    #[tactic(auto, using(crate::proofs::Holding::of_opener), using(crate::proofs::Holding::same_on))]
+    #[tactic(auto, using(crate::proofs::Holding::of_opener, crate::proofs::Holding::same_on))]
     pub(crate) fn join(&mut self, worker: Worker) -> Result<(), Option<Worker>> {
         let Worker { recorder, tray } = worker;
         if let Some(recorder) = tray.replace(Some(recorder)) {

@@ -8,7 +8,7 @@ use live_segment::{Delta, Image, Snapshot, Spec};
 
 /// A segment, or a recorder; or none, while it is let go.
 #[derive(Drop)]
-pub(crate) enum Held {
+pub enum Held {
     Owner(Owner),
     Worker(Worker),
     Nothing,

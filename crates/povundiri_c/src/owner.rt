@@ -12,7 +12,7 @@ use std::sync::Arc;
 
 /// A segment, who makes its recorders, and its tray.
 #[derive(Drop)]
-pub(crate) struct Owner {
+pub struct Owner {
     segment: Arc<Segment, Global>,
     opener: Opener,
     tray: Arc<Tray, Global>,

@@ -38,7 +38,7 @@ impl Play<Option<OwnedRecorder>, Opener> for Place {
 
 /// Where a recorder lies, or none.
 #[derive(Drop)]
-pub(crate) struct Tray {
+pub struct Tray {
     table: Table<Option<OwnedRecorder>, Opener, Opener, TrayRule, Global>,
     ghost sized: { (table.shared.table_id.words ≡ 1) × (table.shared.table_id.slots ≡ 1) },
 }

@@ -12,7 +12,7 @@ use std::sync::Arc;
 
 /// A recorder, and the tray of its segment.
 #[derive(Drop)]
-pub(crate) struct Worker {
+pub struct Worker {
     pub(crate) recorder: OwnedRecorder,
     pub(crate) tray: Arc<Tray, Global>,
     ghost fits: { IsRecorderOf (recorder_of recorder) (arc_value tray).table.shared.key },

@@ -16,16 +16,21 @@
 
 #include <cstddef>
 #include <cstdint>
+#include <cstdlib>
 #include <exception>
 #include <initializer_list>
+#include <memory>
+#include <new>
 #include <optional>
 #include <string>
 #include <string_view>
+#include <system_error>
 #include <type_traits>
 #include <utility>
 #include <vector>
 
 #include "povundiri.h"
+#include "povundiri_file.h"
 
 #if defined(__cpp_exceptions)
 #define POVUNDIRI_THROWS 1
@@ -319,6 +324,54 @@ public:
         return image;
     }
 #endif
+};
+
+// A mapped file, which is unmapped when this ends: before it end the segment in it and all its recorders.
+class File {
+public:
+    File() = default;
+    File(File&& other) noexcept : file_(std::exchange(other.file_, povundiri_file{})) {}
+    File& operator=(File&& other) noexcept {
+        if (this != &other) {
+            povundiri_file_close(&file_);
+            file_ = std::exchange(other.file_, povundiri_file{});
+        }
+        return *this;
+    }
+    ~File() { povundiri_file_close(&file_); }
+
+    // 0, or the system's fault (povundiri_file.h). 'file' is empty.
+    static int try_open(const char* path, const Shape& shape, File& file) {
+        return povundiri_file_open(&file.file_, path, povundiri_file_bytes(shape.size, shape.cursors));
+    }
+
+    Room room() const { return povundiri_file_room(&file_); }
+
+    // The words of the image that stands in the file; none where a new segment may be created there.
+    std::vector<std::uint64_t> words() const {
+        std::size_t length = 0;
+        const std::unique_ptr<std::uint64_t, void (*)(void*)> copy(povundiri_file_words(&file_, &length), std::free);
+        if (copy == nullptr && length != 0) no_memory();
+        return copy == nullptr ? std::vector<std::uint64_t>() : std::vector<std::uint64_t>(copy.get(), copy.get() + length);
+    }
+
+#if defined(POVUNDIRI_THROWS)
+    File(const char* path, const Shape& shape) {
+        const int fault = try_open(path, shape, *this);
+        if (fault != 0) throw std::system_error(fault, std::generic_category(), path);
+    }
+#endif
+
+private:
+    [[noreturn]] static void no_memory() {
+#if defined(POVUNDIRI_THROWS)
+        throw std::bad_alloc();
+#else
+        std::abort();
+#endif
+    }
+
+    povundiri_file file_{};
 };
 
 // The report of an image as CSV.

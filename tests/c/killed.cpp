@@ -22,7 +22,6 @@
 #include <vector>
 
 #include "povundiri.hpp"
-#include "povundiri_file.h"
 #include "tally.hpp"
 
 namespace {
@@ -153,16 +152,12 @@ tally::Thread* tally_of(const std::string& path) {
     return static_cast<tally::Thread*>(at);
 }
 
-void open_in_file(const Options& options, povundiri::Segment& segment) {
-    povundiri_file file{};
-    const int fault = povundiri_file_open(&file, options.file.c_str(), povundiri_file_bytes(options.shape.size, options.shape.cursors));
+void open_in_file(const Options& options, povundiri::File& file, povundiri::Segment& segment) {
+    const int fault = povundiri::File::try_open(options.file.c_str(), options.shape, file);
     if (fault != 0) stop("file", std::strerror(fault));
-    std::size_t count = 0;
-    std::uint64_t* words = povundiri_file_words(&file, &count);
-    const povundiri::Room room = povundiri_file_room(&file);
-    if (words == nullptr) return need("create", povundiri::Segment::try_create(options.shape, room, segment));
-    need("adopt", povundiri::Segment::try_adopt({words, count}, room, segment, options.shape.cursors));
-    std::free(words);
+    const std::vector<std::uint64_t> words = file.words();
+    if (words.empty()) return need("create", povundiri::Segment::try_create(options.shape, file.room(), segment));
+    need("adopt", povundiri::Segment::try_adopt(words, file.room(), segment, options.shape.cursors));
 }
 
 void open_in_heap(const Options& options, povundiri::Segment& segment) {
@@ -176,8 +171,9 @@ void open_in_heap(const Options& options, povundiri::Segment& segment) {
 
 [[noreturn]] void record(const Options& options) {
     tally::Thread* cells = tally_of(options.tally);
+    povundiri::File file;
     povundiri::Segment segment;
-    options.place == "file" ? open_in_file(options, segment) : open_in_heap(options, segment);
+    options.place == "file" ? open_in_file(options, file, segment) : open_in_heap(options, segment);
     std::uint32_t units = 0;
     need("units", segment.try_units(units));
     std::vector<std::thread> threads;

@@ -77,6 +77,16 @@ static bool is_no_memory(uint32_t status) {
         }                                                        \
     } while (0)
 
+/* Makes a call that asks for no memory. */
+#define ASKS_FOR_NONE(call)                  \
+    do {                                     \
+        const int before_ = refused;         \
+        until_refused = 0;                   \
+        DONE(call);                          \
+        HOLDS(refused == before_);           \
+        until_refused = SIZE_MAX;            \
+    } while (0)
+
 static const uint32_t VALUES[] = {10, 100, 1000};
 
 static void record(struct povundiri_handle *recorder) {
@@ -84,13 +94,16 @@ static void record(struct povundiri_handle *recorder) {
     struct povundiri_totals totals = {0, 0, 0};
     uint64_t records[8];
     size_t hist = 9, again = 9, needed = 0;
+    uint32_t left = 0;
     REFUSE_EACH(povundiri_hist_custom(recorder, "c", VALUES, 3, &hist));
     REFUSE_EACH(povundiri_hist_custom(recorder, "c", VALUES, 3, &again));
     HOLDS(hist == again);
     REFUSE_EACH(povundiri_hist_sparse(recorder, "s", &hist));
-    REFUSE_EACH(povundiri_add(recorder, hist, -3, 2));
-    REFUSE_EACH(povundiri_add(recorder, again, 50, 1));
-    REFUSE_EACH(povundiri_batch(recorder, again, NULL, 0, 5, NULL));
+    ASKS_FOR_NONE(povundiri_add(recorder, hist, -3, 2));
+    ASKS_FOR_NONE(povundiri_add(recorder, again, 50, 1));
+    ASKS_FOR_NONE(povundiri_batch(recorder, again, NULL, 0, 5, NULL));
+    ASKS_FOR_NONE(povundiri_units(recorder, &left));
+    ASKS_FOR_NONE(povundiri_next_shared(recorder, 0, records));
     REFUSE_EACH(povundiri_snapshot(recorder, hist, counts, WORDS, &totals));
     HOLDS(totals.length == 1 && counts[0].key == -3 && counts[0].count == 2 && totals.sum == -6);
     REFUSE_EACH(povundiri_delta(recorder, again, counts, WORDS, &totals));
@@ -111,16 +124,16 @@ static void each_allocation(void) {
     void *memory = malloc(room.bytes + 16);
     room.at = (char *)memory + (16 - (uintptr_t)memory % 16) % 16;
     REFUSE_EACH(povundiri_create(shape, &segment));
-    REFUSE_EACH(povundiri_drop(&segment));
+    ASKS_FOR_NONE(povundiri_drop(&segment));
     REFUSE_EACH(povundiri_create_in(room, shape, &segment));
     REFUSE_EACH(povundiri_recorder(&segment, 100, &recorder));
     record(&recorder);
-    REFUSE_EACH(povundiri_join(&segment, &recorder));
-    REFUSE_EACH(povundiri_close(&segment, words, WORDS, NULL));
+    ASKS_FOR_NONE(povundiri_join(&segment, &recorder));
+    ASKS_FOR_NONE(povundiri_close(&segment, words, WORDS, NULL));
     REFUSE_EACH(povundiri_adopt_in(room, words, WORDS, 1, &segment));
-    REFUSE_EACH(povundiri_drop(&segment));
+    ASKS_FOR_NONE(povundiri_drop(&segment));
     REFUSE_EACH(povundiri_adopt(words, WORDS, 1, &segment));
-    REFUSE_EACH(povundiri_close(&segment, words, WORDS, NULL));
+    ASKS_FOR_NONE(povundiri_close(&segment, words, WORDS, NULL));
     REFUSE_EACH(povundiri_report(words, WORDS, text, sizeof text, &needed));
     HOLDS(needed == sizeof expected - 1 && memcmp(text, expected, needed) == 0);
     HOLDS(refused > 20);

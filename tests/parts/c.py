@@ -97,8 +97,10 @@ def record_example(installed, program, folder):
 def killed_service(service, file):
     """What the service prints until it is killed."""
     with subprocess.Popen([service, file], stdout=subprocess.PIPE) as running:
-        time.sleep(0.5)
-        running.kill()
+        try:
+            time.sleep(0.5)
+        finally:
+            running.kill()
         return running.stdout.read()
 
 

@@ -37,9 +37,11 @@ class Chain:
         self.tally.write_bytes(bytes(bounds.BYTES))
         words = [self.killed, "file", self.file, self.tally, self.chance.getrandbits(31), self.version, *self.shape]
         with subprocess.Popen([str(word) for word in words], stdout=subprocess.PIPE, stderr=subprocess.PIPE) as running:
-            running.stdout.read(7)
-            time.sleep(self.chance.uniform(0, self.chance.choice(LIVES)))
-            running.kill()
+            try:
+                running.stdout.read(7)
+                time.sleep(self.chance.uniform(0, self.chance.choice(LIVES)))
+            finally:
+                running.kill()
             return running.stderr.read().decode()
 
     def wrong(self):

@@ -91,6 +91,7 @@ static const struct named NAMES[] = {
     {POVUNDIRI_IMAGE_DELETED, "Deleted"},
     {POVUNDIRI_IMAGE_BAD_FREE, "BadFree"},
     {POVUNDIRI_IMAGE_BAD_QUEUE, "BadQueue"},
+    {POVUNDIRI_IMAGE_NO_MEMORY, "NoMemory"},
 };
 
 const char *povundiri_status_text(uint32_t status) {

@@ -163,18 +163,20 @@ enum povundiri_status {
     POVUNDIRI_IMAGE_NOT_READY = 506,
     POVUNDIRI_IMAGE_DELETED = 507,
     POVUNDIRI_IMAGE_BAD_FREE = 508,
-    POVUNDIRI_IMAGE_BAD_QUEUE = 509
+    POVUNDIRI_IMAGE_BAD_QUEUE = 509,
+    POVUNDIRI_IMAGE_NO_MEMORY = 513 /* of a report: there was none to read the image */
 };
 
-/* The proved functions. What is behind them tests no pointer: not even an empty array may be null. Call those below instead. */
+/* The proved functions. They test no pointer: not even an empty array may be null. `none` is a handle of zeros, which takes the place of
+ * what is let go. Call the functions below instead. */
 uint32_t povundiri_proved_create(struct povundiri_shape shape, struct povundiri_handle *out);
 uint32_t povundiri_proved_create_in(struct povundiri_room room, struct povundiri_shape shape, struct povundiri_handle *out);
 uint32_t povundiri_proved_adopt(const uint64_t *words, size_t length, size_t cursors, struct povundiri_handle *out);
 uint32_t povundiri_proved_adopt_in(struct povundiri_room room, const uint64_t *words, size_t length, size_t cursors, struct povundiri_handle *out);
-uint32_t povundiri_proved_close(struct povundiri_handle *segment, uint64_t *words, size_t length, size_t *needed);
-uint32_t povundiri_proved_drop(struct povundiri_handle *handle);
+uint32_t povundiri_proved_close(struct povundiri_handle *segment, struct povundiri_handle none, uint64_t *words, size_t length, size_t *needed);
+uint32_t povundiri_proved_drop(struct povundiri_handle *handle, struct povundiri_handle none);
 uint32_t povundiri_proved_recorder(struct povundiri_handle *segment, uint32_t units, struct povundiri_handle *out);
-uint32_t povundiri_proved_join(struct povundiri_handle *segment, struct povundiri_handle *recorder);
+uint32_t povundiri_proved_join(struct povundiri_handle *segment, struct povundiri_handle *recorder, struct povundiri_handle none);
 uint32_t povundiri_proved_units(struct povundiri_handle *handle, uint32_t *units);
 uint32_t povundiri_proved_outstanding(struct povundiri_handle *segment, uint32_t *outstanding);
 uint32_t povundiri_proved_hist(struct povundiri_handle *recorder, const uint8_t *name, size_t name_length, struct povundiri_spec spec,
@@ -248,9 +250,10 @@ inline uint32_t povundiri_adopt_in(struct povundiri_room room, const uint64_t *w
  * Statuses: NULL, EMPTY, OTHER_KIND, IN_USE, SHORT.
  * Keep: pointers, `words` does not lie in the segment's room; handles; turns; process. */
 inline uint32_t povundiri_close(struct povundiri_handle *segment, uint64_t *words, size_t length, size_t *needed) {
+    const struct povundiri_handle none = {false, NULL};
     size_t own = 0;
     if (segment == NULL || !povundiri_is_array(words, length)) return POVUNDIRI_NULL;
-    return povundiri_proved_close(segment, (uint64_t *)povundiri_address(words), length, needed != NULL ? needed : &own);
+    return povundiri_proved_close(segment, none, (uint64_t *)povundiri_address(words), length, needed != NULL ? needed : &own);
 }
 
 /* Lets a segment or a recorder go, whose handle is empty then. What a recorder counted stays in the segment, which does not get its
@@ -258,7 +261,8 @@ inline uint32_t povundiri_close(struct povundiri_handle *segment, uint64_t *word
  * Statuses: NULL, EMPTY.
  * Keep: pointers; handles; turns; process. */
 inline uint32_t povundiri_drop(struct povundiri_handle *handle) {
-    return handle == NULL ? (uint32_t)POVUNDIRI_NULL : povundiri_proved_drop(handle);
+    const struct povundiri_handle none = {false, NULL};
+    return handle == NULL ? (uint32_t)POVUNDIRI_NULL : povundiri_proved_drop(handle, none);
 }
 
 /* A recorder for one thread, with so many of the segment's units.
@@ -273,8 +277,9 @@ inline uint32_t povundiri_recorder(struct povundiri_handle *segment, uint32_t un
  * Statuses: NULL, EMPTY, OTHER_KIND, OTHER_SEGMENT.
  * Keep: pointers; handles; turns: those of both; process. */
 inline uint32_t povundiri_join(struct povundiri_handle *segment, struct povundiri_handle *recorder) {
+    const struct povundiri_handle none = {false, NULL};
     if (segment == NULL || recorder == NULL) return POVUNDIRI_NULL;
-    return segment == recorder ? (uint32_t)POVUNDIRI_OTHER_KIND : povundiri_proved_join(segment, recorder);
+    return segment == recorder ? (uint32_t)POVUNDIRI_OTHER_KIND : povundiri_proved_join(segment, recorder, none);
 }
 
 /* Of a segment the units that no recorder was given, of a recorder those that it may still spend.
@@ -296,8 +301,8 @@ inline uint32_t povundiri_outstanding(struct povundiri_handle *segment, uint32_t
 /* The number of the histogram of a name, for the calls of this recorder alone: of the first record of the name in the segment, which is
  * made where there is none. A name has 1 to 128 bytes from 0x21 to 0x7E without comma and quotation mark, and no '!' in front. `values`
  * are those of a custom spec, from which its buckets begin, in any order; for the other kinds they are not looked at.
- * Statuses: NULL, EMPTY, OTHER_KIND, BAD_KIND; REFUSED_BAD_NAME; SPEC_..; REFUSED_TOO_LARGE, REFUSED_NO_MEMORY, REFUSED_OTHER_SPEC,
- * REFUSED_CORRUPT, REFUSED_FULL; NO_MEMORY.
+ * Statuses: NULL, EMPTY, BAD_KIND, NO_MEMORY, OTHER_KIND; REFUSED_BAD_NAME; SPEC_..; REFUSED_TOO_LARGE, REFUSED_NO_MEMORY,
+ * REFUSED_OTHER_SPEC, REFUSED_CORRUPT, REFUSED_FULL.
  * Keep: pointers; handles; turns; process. */
 inline uint32_t povundiri_hist(struct povundiri_handle *recorder, const char *name, size_t name_length, struct povundiri_spec spec,
                                const uint32_t *values, size_t values_length, size_t *hist) {
@@ -341,7 +346,7 @@ inline uint32_t povundiri_add(struct povundiri_handle *recorder, size_t hist, in
 /* Adds units of values, in order, and then an amount to the sum. It takes as many units as the items have, and no fewer than the size of
  * the sum divided by 2^31. `added`, which may be null, is how many items were counted: all on DONE, and on REFUSED_FULL and
  * REFUSED_CORRUPT those before the one for which no block was found. The sum is added on DONE alone.
- * Statuses: as of povundiri_add.
+ * Statuses: NULL, EMPTY, NO_MEMORY; then as of povundiri_add. It asks for 8 bytes for each item.
  * Keep: pointers; handles; turns; process. */
 inline uint32_t povundiri_batch(struct povundiri_handle *recorder, size_t hist, const struct povundiri_item *items, size_t length,
                                 int64_t sum, size_t *added) {
@@ -397,7 +402,7 @@ inline uint32_t povundiri_next_shared(struct povundiri_handle *recorder, size_t 
 
 /* The report of an image as CSV, without a zero byte behind. Any words may be given. `needed`, which may be null, is how many bytes it
  * has, also on SHORT.
- * Statuses: NULL; IMAGE_..: its header has this fault; SHORT; NO_MEMORY.
+ * Statuses: NULL; IMAGE_..: its header has this fault; IMAGE_NO_MEMORY, NO_MEMORY; SHORT.
  * Keep: pointers; process. */
 inline uint32_t povundiri_report(const uint64_t *words, size_t length, char *text, size_t text_length, size_t *needed) {
     size_t own = 0;

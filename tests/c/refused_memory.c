@@ -57,7 +57,7 @@ void rattle_dealloc(void *at) {
 
 static bool is_no_memory(uint32_t status) {
     return status == POVUNDIRI_NO_MEMORY || status == POVUNDIRI_REFUSED_NO_MEMORY || status == POVUNDIRI_OPEN_NO_MEMORY ||
-           status == POVUNDIRI_ADOPT_NO_MEMORY;
+           status == POVUNDIRI_ADOPT_NO_MEMORY || status == POVUNDIRI_IMAGE_NO_MEMORY;
 }
 
 /* Makes a call with its first allocation refused, then with its second alone, and so on until none is refused any more. */
@@ -92,6 +92,7 @@ static const uint32_t VALUES[] = {10, 100, 1000};
 static void record(struct povundiri_handle *recorder) {
     struct povundiri_count *counts = calloc(WORDS, sizeof *counts);
     struct povundiri_totals totals = {0, 0, 0};
+    const struct povundiri_item items[] = {{50, 1}};
     uint64_t records[8];
     size_t hist = 9, again = 9, needed = 0;
     uint32_t left = 0;
@@ -101,20 +102,20 @@ static void record(struct povundiri_handle *recorder) {
     REFUSE_EACH(povundiri_hist_sparse(recorder, "s", &hist));
     ASKS_FOR_NONE(povundiri_add(recorder, hist, -3, 2));
     ASKS_FOR_NONE(povundiri_add(recorder, again, 50, 1));
-    ASKS_FOR_NONE(povundiri_batch(recorder, again, NULL, 0, 5, NULL));
+    REFUSE_EACH(povundiri_batch(recorder, again, items, 1, 5, NULL));
     ASKS_FOR_NONE(povundiri_units(recorder, &left));
     ASKS_FOR_NONE(povundiri_next_shared(recorder, 0, records));
     REFUSE_EACH(povundiri_snapshot(recorder, hist, counts, WORDS, &totals));
     HOLDS(totals.length == 1 && counts[0].key == -3 && counts[0].count == 2 && totals.sum == -6);
     REFUSE_EACH(povundiri_delta(recorder, again, counts, WORDS, &totals));
-    HOLDS(totals.length == 1 && counts[0].key == 10 && counts[0].count == 1 && totals.sum == 55);
+    HOLDS(totals.length == 1 && counts[0].key == 10 && counts[0].count == 2 && totals.sum == 55);
     REFUSE_EACH(povundiri_records(recorder, records, 8, &needed));
     HOLDS(needed == 3);
     free(counts);
 }
 
 static void each_allocation(void) {
-    static const char expected[] = "c,custom,10,100,1\nc,total,1,55\ns,sparse,-3,-2,2\ns,total,2,-6\n";
+    static const char expected[] = "c,custom,10,100,2\nc,total,2,55\ns,sparse,-3,-2,2\ns,total,2,-6\n";
     struct povundiri_shape shape = {WORDS, PAGE, 7, 1, 2};
     struct povundiri_handle segment = {0}, recorder = {0};
     struct povundiri_room room = {NULL, (WORDS + 2) * 8};

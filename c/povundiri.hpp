@@ -374,8 +374,11 @@ private:
     povundiri_file file_{};
 };
 
-// The report of an image as CSV.
+// The report of an image as CSV. It is made once where it is no longer than this, and else twice.
+inline constexpr std::size_t kUsualReport = 16'384;
+
 inline Status try_report(Span<const std::uint64_t> words, std::string& text) {
+    text.resize(kUsualReport);
     return Recorder::filled(text, [&](char* data, std::size_t size, std::size_t* needed) {
         return povundiri_report(words.data(), words.size(), data, size, needed);
     });

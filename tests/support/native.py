@@ -60,6 +60,5 @@ class Installed:
     def program(self, source, *flags):
         """A program, compiled and linked; `flags` are more words for the compiler."""
         built = self.folder / f"{source.stem}{source.suffix.replace('.', '_')}{'_sanitized' if SANITIZED[0] in flags else ''}"
-        more = shlex.split(os.environ.get("LDLIBS", ""))
-        run([*compiler(source.suffix), *STRICT, *flags, *self.words("--cflags"), "-o", built, source, *self.words("--libs"), *more])
+        run([*compiler(source.suffix), *STRICT, *flags, *self.words("--cflags"), "-o", built, source, *self.words("--libs")])
         return built

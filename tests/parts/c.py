@@ -28,8 +28,10 @@ CHECKS = (
 
 EXAMPLES = ROOT / "examples"
 PAGES = ("README.md", "docs/C.md")
-LINEAR_UNITS = {0: (1, 2), 1: (126, 250), 126: (251, 250), 251: (376, 250), 376: (501, 250), 501: (625, 248), 625: (750, 250), 750: (875, 250), 875: (1000, 250)}
-RECORDED = "".join(f"latency,linear,{low},{high},{units}\n" for low, (high, units) in LINEAR_UNITS.items()) + "latency,total,2000,999000\n"
+# What examples/c/record.c records when it is run twice: where each bucket begins and the last one ends, and the units of each.
+ENDS = (0, 1, 126, 251, 376, 501, 625, 750, 875, 1000)
+UNITS = (2, 250, 250, 250, 250, 248, 250, 250, 250)
+RECORDED = "".join(f"latency,linear,{low},{high},{units}\n" for low, high, units in zip(ENDS, ENDS[1:], UNITS)) + "latency,total,2000,999000\n"
 
 
 def groups(said):

@@ -172,8 +172,10 @@ enum povundiri_status {
 uint32_t povundiri_proved_create(struct povundiri_shape shape, struct povundiri_handle *out);
 uint32_t povundiri_proved_create_in(struct povundiri_room room, struct povundiri_shape shape, struct povundiri_handle *out);
 uint32_t povundiri_proved_adopt(const uint64_t *words, size_t length, size_t cursors, struct povundiri_handle *out);
-uint32_t povundiri_proved_adopt_in(struct povundiri_room room, const uint64_t *words, size_t length, size_t cursors, struct povundiri_handle *out);
-uint32_t povundiri_proved_close(struct povundiri_handle *segment, struct povundiri_handle none, uint64_t *words, size_t length, size_t *needed);
+uint32_t povundiri_proved_adopt_in(struct povundiri_room room, const uint64_t *words, size_t length, size_t cursors,
+                                   struct povundiri_handle *out);
+uint32_t povundiri_proved_close(struct povundiri_handle *segment, struct povundiri_handle none, uint64_t *words, size_t length,
+                                size_t *needed);
 uint32_t povundiri_proved_drop(struct povundiri_handle *handle, struct povundiri_handle none);
 uint32_t povundiri_proved_recorder(struct povundiri_handle *segment, uint32_t units, struct povundiri_handle *out);
 uint32_t povundiri_proved_join(struct povundiri_handle *segment, struct povundiri_handle *recorder, struct povundiri_handle none);
@@ -239,7 +241,8 @@ inline uint32_t povundiri_adopt(const uint64_t *words, size_t length, size_t cur
  * during this call leaves the image as it was.
  * Statuses: NULL, BAD_ROOM, then as above; ADOPT_NO_MEMORY also where the room is too small. On any but DONE the room is the caller's still.
  * Keep: room; pointers, neither `words` nor `out` lies in the room; handles: `out` begins as zeros; process. */
-inline uint32_t povundiri_adopt_in(struct povundiri_room room, const uint64_t *words, size_t length, size_t cursors, struct povundiri_handle *out) {
+inline uint32_t povundiri_adopt_in(struct povundiri_room room, const uint64_t *words, size_t length, size_t cursors,
+                                   struct povundiri_handle *out) {
     if (out == NULL || !povundiri_is_array(words, length)) return POVUNDIRI_NULL;
     if (!povundiri_is_room(room)) return POVUNDIRI_BAD_ROOM;
     return povundiri_proved_adopt_in(room, (const uint64_t *)povundiri_address(words), length, cursors, out);

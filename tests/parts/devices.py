@@ -97,6 +97,7 @@ Arguments:
 
 Options:
       --match <PART>   Shows the histograms whose name has this part
+      --html           Writes a web page, which needs nothing else; it takes no --width and no --ascii
       --width <CELLS>  How many cells the longest bar has: 20 to 200 [default: 72]
       --ascii          Draws bars with #, and not with blocks
       --all            Shows all values of a sparse histogram, and not only the 20 with the most units

@@ -9,8 +9,8 @@ import sys
 import tempfile
 
 from parts import known
-from support import forge, plain_export
-from support.program import EXAMPLE, Answer, answer, difference, fault
+from support import command_faults, forge, plain_export
+from support.program import EXAMPLE, Answer, answer, difference
 
 PROGRAM = "persist_report"
 DEBIAN = "/usr/lib/python3/dist-packages"
@@ -114,15 +114,6 @@ def worked(program, parse, folder):
     yield "escapes and signs", f"wanted {missing} among the lines, came {came}" if missing else beside(program, parse, image.read_bytes())
 
 
-def faults(program):
-    """The faults of `report`, of this command."""
-    yield "a missing file", difference(fault("Read", 4), answer(program, ["export", "missing.img"]))
-    yield "too many bytes", difference(fault("TooLong", 3), answer(program, ["export"], bytes(8_388_609)))
-    yield "no words", difference(fault("NotWords", 3), answer(program, ["export", "-"], EXAMPLE.read_bytes()[:-1]))
-    with open("/dev/full", "wb") as full:
-        yield "a full device", difference(fault("Write", 4), answer(program, ["export", EXAMPLE], stdout=full))
-
-
 def cases(program, options):
     """Worked examples; the known images; and forged ones, a thousand at most."""
     parse = parser()
@@ -130,7 +121,7 @@ def cases(program, options):
         print("exports: nothing is read back, since python3-prometheus-client is not installed", flush=True)
     with tempfile.TemporaryDirectory() as folder:
         yield from worked(program, parse, pathlib.Path(folder))
-    yield from faults(program)
+    yield from command_faults.cases(program, ["export"])
     for image in sorted(known.FOLDER.glob("*.img")):
         yield image.name, beside(program, parse, image.read_bytes())
     for number in range(min(options.images, MOST_IMAGES)):

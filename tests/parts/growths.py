@@ -1,7 +1,7 @@
 """Each growth of memory is refused in turn, and memory is there again behind it.
 
 Of the calls of the libraries, which `trials` makes, each allocation is refused (allocations.py): the call says so, its next answers
-as if nothing had been, and so does all that comes behind. Where an index of names cannot grow, the call answers as ever. Calls that take no memory ask for none.
+as if nothing had been, and so does all that comes behind. Where an index of names or of samples cannot grow, the call answers as ever. Calls that take no memory ask for none.
 
 The commands and `stepped` answer `NoMemory`, with no output but what `stepped` had told before, and OUT as it was. Of them each
 growth is refused for which the C library asks the system (tracer.py).
@@ -22,15 +22,24 @@ from support.program import ROOT, Answer, answer, built, difference
 PROGRAM = "trials"
 GROWTH = {"numbers": tracer.GROWTHS, "growth": True, "error": errno.ENOMEM}
 SCHEDULE = ROOT / "examples" / "pack_before_disabling.csv"
+# A world that goes on with an image, in which an actor finds a histogram and adds to it.
+IMAGE = ROOT / "examples" / "crash.img"
+ADOPTED = f"""adopt,{IMAGE},1
+hist,0,cache.hit,boolean
+step,0,1000
+add,0,cache.hit,1,1
+step,0,1000
+"""
 STEPPED_OUT_OF_MEMORY = b"stepped: NoMemory\n"
 
 # The calls that `trials` makes, those that take memory and those that take none.
 BEGINS = tuple(f"begin {kind}" for kind in ("Hist", "Add", "Batch", "Snapshot", "Delta"))
 OF_RECORDERS = ("hist", "delta", "snapshot", "records", "fresh_records")
-TAKING = ("blank", "ranges", "tally", "world", *BEGINS, "run_schedule", "create", *OF_RECORDERS, "read", "report_of", "report", "merge", "adopt")
-TAKING_NONE = ("begin SetCorrupt", "step", "recorder", "add", "batch", "units", "knows", "next_shared", "set_corrupt", "join", "close")
-# Those that also let an index of names grow: where that is refused, they go on without.
-INDEXED = ("hist", "merge")
+TAKING = ("blank", "ranges", "tally", "world", *BEGINS, "run_schedule", "create", *OF_RECORDERS, "add", "read", "report_of", "report", "merge", "adopt")
+TAKING_NONE = ("begin SetCorrupt", "step", "recorder", "batch", "units", "knows", "next_shared", "set_corrupt", "join", "close")
+# Those that also let an index of names or of samples grow: where that is refused, they go on without. The first `add` of a sparse histogram
+# takes as much as four samples need.
+INDEXED = ("hist", "add", "merge")
 # How each says that memory was refused.
 NO_MEMORY = "NoMemory"
 OTHER_WORDS = {"tally": "memory allocation failed"}
@@ -53,11 +62,13 @@ ASKED = {
 # 32 bytes each, before the `hist` of each.
 MERGED = {"boolean": 3, "custom": 4, "sparse": 5, "A": 3, "B": 3, "C": 3, "D": 3, "a_name_that_is_longer": 3}
 # `hist` so many bytes at most in all, but for the list of what it knows, which has 88 bytes for each, and for its indexes: the one of
-# what it knows, and the one of names on the list. Both grow once, and ask for this.
+# what it knows, and the one of names on the list. Both grow once, and ask for this. So does the one of samples, in an `add`.
 MOST_OF_HIST = 512
 KNOWN = (4 * 88, 8 * 88)
 INDEX = [256, 72, 72, 72]
 INDEXES = 2
+# `adopt` asks twice for the words of the table, 8 bytes for each word, for one more and for the cursor, and for nothing that is larger.
+TABLE = 8 * (SIZE + 2)
 # The histograms that are asked for first: boolean, custom, sparse and five more. Where one is asked for again, with the same spec, its
 # `hist` asks for nothing.
 FIRST_HISTS = 8
@@ -89,11 +100,14 @@ def wrong_sizes(asked):
         if one.call == "hist" and one.size not in KNOWN:
             hists[one.place].append(one.size)
     of_merge = [88 * len(MERGED), *(size for name, keys in MERGED.items() for size in (len(name), len(name), 8 * keys)), 32 * len(MERGED)]
-    wanted = {**ASKED, "merge": of_merge}
+    wanted = {**ASKED, "add": INDEX, "merge": of_merge}
     for name, right in wanted.items():
         came = sizes[name][:len(right)] if name == "merge" else sizes[name]
         if came != right:
             return f"{name} asks for {came} bytes, wanted {right}"
+    largest = sorted(sizes["adopt"])[-3:]
+    if largest[0] >= TABLE or largest[1:] != [TABLE, TABLE]:
+        return f"adopt asks for {largest} bytes, wanted twice {TABLE} and then less"
     if len(hists) != FIRST_HISTS:
         return f"{len(hists)} hists ask for memory, wanted {FIRST_HISTS}"
     growing = [place for place, asked_for in hists.items() if asked_for[-len(INDEX):] == INDEX]
@@ -212,8 +226,11 @@ def commands(program, stepped, folder):
     """The commands that are tried, each with what tells what is wrong with its answer."""
     for command in failing.commands(program, folder):
         yield command, wrong_of_command
-    for words in ([], ["--report"], ["--image"]):
-        yield failing.Command(stepped, " ".join(["stepped", *words]), [SCHEDULE, *words]), wrong_of_stepped
+    adopted = folder / "adopted.csv"
+    adopted.write_text(ADOPTED)
+    for name, schedule in (("stepped", SCHEDULE), ("stepped, of an image", adopted)):
+        for words in ([], ["--report"], ["--image"]):
+            yield failing.Command(stepped, " ".join([name, *words]), [schedule, *words]), wrong_of_stepped
 
 
 def command_cases(refused):

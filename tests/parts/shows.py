@@ -6,8 +6,8 @@ import struct
 import tempfile
 
 from parts import known
-from support import forge, plain_show
-from support.program import EXAMPLE, Answer, answer, difference, fault
+from support import command_faults, forge, plain_show
+from support.program import EXAMPLE, Answer, answer, difference
 
 PROGRAM = "persist_report"
 MOST_IMAGES = 1000
@@ -126,21 +126,12 @@ def sparse(program, folder, options):
             yield f"sparse image {number} of seed {options.seed}, {words}", beside(program, data, words, **settings)
 
 
-def faults(program):
-    """The faults of `report`, of this command."""
-    yield "a missing file", difference(fault("Read", 4), answer(program, ["show", "missing.img"]))
-    yield "too many bytes", difference(fault("TooLong", 3), answer(program, ["show"], bytes(8_388_609)))
-    yield "no words", difference(fault("NotWords", 3), answer(program, ["show", "-"], EXAMPLE.read_bytes()[:-1]))
-    with open("/dev/full", "wb") as full:
-        yield "a full device", difference(fault("Write", 4), answer(program, ["show", EXAMPLE], stdout=full))
-
-
 def cases(program, options):
     """Worked examples; the known images; and forged ones, a thousand at most, each drawn in one way or the other."""
     with tempfile.TemporaryDirectory() as folder:
         yield from worked(program, pathlib.Path(folder))
         yield from sparse(program, pathlib.Path(folder), options)
-    yield from faults(program)
+    yield from command_faults.cases(program, ["show"])
     for image in sorted(known.FOLDER.glob("*.img")):
         yield image.name, beside(program, image.read_bytes())
     for number in range(min(options.images, MOST_IMAGES)):

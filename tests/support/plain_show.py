@@ -91,11 +91,26 @@ def histogram_text(name, histogram, width, is_ascii, shows_all):
     yield ""
 
 
+def shown_of(by_name, names, part):
+    """The names of the histograms that are shown, in their order."""
+    return [name for name in sorted(by_name) if (not names or name.decode() in names) and (part is None or part in name.decode())]
+
+
+def bars_of(data, names=(), part=None, shows_all=False):
+    """The units of each row that has a bar, in the order of the text, and the most units of a row of its histogram."""
+    by_name = plain_reader.reading_of(data, collections.Counter())[0]
+    for name in shown_of(by_name, names, part):
+        buckets = by_name[name]["buckets"]
+        rows = [(low, *buckets[low]) for low in sorted(buckets)]
+        left_out = left_out_of(rows, plain_reader.KINDS[by_name[name]["kind"]] == "sparse", shows_all)
+        yield from ((units, max(row[2] for row in rows)) for low, _, units in rows if units and low not in left_out)
+
+
 def text_of(data, names=(), part=None, width=WIDTH, is_ascii=False, shows_all=False):
     """The whole text; raises the image's fault."""
     by_name, bad_records, stopped, flags = plain_reader.reading_of(data, collections.Counter())
     lines = []
-    shown = [name for name in sorted(by_name) if (not names or name.decode() in names) and (part is None or part in name.decode())]
+    shown = shown_of(by_name, names, part)
     for name in shown:
         lines += histogram_text(name.decode(), by_name[name], width, is_ascii, shows_all)
     if not shown:

@@ -11,10 +11,10 @@ use Rattle.segment_image.specs.Blocks.{field_at, is_block}
 use Rattle.segment_image.specs.declared.head.SegmentHead.{SegmentHead}
 use Rattle.bucket_ranges.specs.declared.reading.RecordFault.{RecordFault}
 use Rattle.bucket_ranges.specs.declared.reading.RecordFault.TheVariants.{BadSample}
-use Rattle.bucket_ranges.specs.Reading.{bad_record, fault_behind, has_bad_sample, is_bad_sample, is_counts_block, is_of_type, is_sparse, record_buckets, record_fault, totals_of, has_large, with_earlier}
+use Rattle.bucket_ranges.specs.Reading.{bad_record, fault_behind, has_bad_sample, is_bad_sample, is_counts_block, is_sample, is_of_type, is_sparse, record_buckets, record_fault, totals_of, has_large, with_earlier}
 use Rattle.image_reader.proofs.Headers.{block_in_words}
 use Rattle.image_reader.proofs.Sound.{HasBuckets-from_none, IsReadable-from_none}
-use Rattle.image_adoption.specs.Records.{AreFaultless, HasRoom, IsFaultless}
+use Rattle.image_adoption.specs.Records.{AreFaultless, HasNoBad, HasRoom, IsFaultless}
 
 -- ---- one record
 
@@ -75,51 +75,60 @@ none_made {X} {Y} f (x ∷ rest) none = by_first (none_made f rest) (f x) refl n
     by_first later (Some y) is none = cc none
     by_first later None is none = All-cons (λ x. f x ≡ None) x rest is (later none)
 
+-- of a list on which no record is bad
+module _ (words : List ℕ) (head : SegmentHead) (references : List ℕ) (none : HasNoBad words head references) (k : ℕ) (below : k < length references) where
+  abbrev at : ℕ
+  at = get_or references k 0
+
+  no_bad : bad_record words head (take k references, at) ≡ None
+  no_bad =
+      subst (λ (p : List ℕ × ℕ). bad_record words head p ≡ None)
+      (get_or-map-range_with_len {X = List ℕ × ℕ} (λ i. (take i references, get_or references i 0)) 0 (length references) k k (take k references, at) below (omega arith))
+      (none_made (bad_record words head) (with_earlier references) none k (take k references, at)
+      (omega (arith, below, length-map-range_with_len {X = List ℕ × ℕ} (λ i. (take i references, get_or references i 0)) 0 (length references))))
+
+  no_fault : fault_behind words head (take k references) at ≡ None
+  no_fault = by_fault (fault_behind words head (take k references) at) refl no_bad
+    where
+      by_fault : (o : Option RecordFault) → fault_behind words head (take k references) at ≡ o
+          → option_map {U = ℕ × RecordFault} (λ (fault : RecordFault). (at, fault)) o ≡ None → fault_behind words head (take k references) at ≡ None
+      by_fault (Some fault) is none = cc none
+      by_fault None is none = is
+
+  -- a histogram's record has no fault
+  pub good_histogram : field_at words at 2 ≡ 1 → record_fault words head at ≡ None
+  good_histogram one = by_test (is_of_type words 1 at) (eq-eqb _ 1 one) no_fault
+    where
+      by_test : (b : Bool) → b ≡ true
+          → (if b then record_fault words head at else (if is_of_type words 3 at && is_bad_sample words head (take k references) at then Some BadSample else None)) ≡ None
+          → record_fault words head at ≡ None
+      by_test true is none = none
+      by_test false is none = cc is
+
+  -- nor has a sample's
+  pub good_sample : field_at words at 2 ≡ 3 → is_bad_sample words head (take k references) at ≡ false
+  good_sample three = by_tests (is_of_type words 1 at) (is_of_type words 3 at) (is_bad_sample words head (take k references) at)
+      (eqb-true (field_at words at 2) 1) (eq-eqb _ 3 three) no_fault
+    where
+      by_tests : (one third bad : Bool) → (one ≡ true → field_at words at 2 ≡ 1) → third ≡ true
+          → (if one then record_fault words head at else (if third && bad then Some BadSample else None)) ≡ None → bad ≡ false
+      by_tests true third bad first is none = let e = first refl in absurd (omega (arith, e, three))
+      by_tests false true true first is none = cc none
+      by_tests false true false first is none = refl
+      by_tests false false bad first is none = cc is
+
+  -- so the sample is read
+  pub read_sample : field_at words at 2 ≡ 3 → is_sample words head (take k references, at) ≡ true
+  read_sample three = λ i. eq-eqb _ 3 three i && not (good_sample three i)
+
 -- none of them has a fault where no record is bad
 pub faultless_of : (words : List ℕ) (head : SegmentHead) (references : List ℕ)
     → ((i : ℕ) → i < length references → is_block words head (get_or references i 0) ≡ true)
-    → filter_map (bad_record words head) (with_earlier references) ≡ [] → AreFaultless words head references
+    → HasNoBad words head references → AreFaultless words head references
 faultless_of words head references lawful none k d below =
     subst (IsFaultless words head) (get_or_default references k 0 d below)
-    (record { block = lawful k below; histogram = histogram; sample = sample })
-  where
-    at : ℕ
-    at = get_or references k 0
-
-    placed : List ℕ × ℕ
-    placed = (take k references, at)
-
-    no_bad : bad_record words head placed ≡ None
-    no_bad =
-        subst (λ (p : List ℕ × ℕ). bad_record words head p ≡ None)
-        (get_or-map-range_with_len {X = List ℕ × ℕ} (λ i. (take i references, get_or references i 0)) 0 (length references) k k placed below (omega arith))
-        (none_made (bad_record words head) (with_earlier references) none k placed
-        (omega (arith, below, length-map-range_with_len {X = List ℕ × ℕ} (λ i. (take i references, get_or references i 0)) 0 (length references))))
-
-    no_fault : fault_behind words head (take k references) at ≡ None
-    no_fault = by_fault (fault_behind words head (take k references) at) refl no_bad
-      where
-        by_fault : (o : Option RecordFault) → fault_behind words head (take k references) at ≡ o
-            → option_map {U = ℕ × RecordFault} (λ (fault : RecordFault). (at, fault)) o ≡ None → fault_behind words head (take k references) at ≡ None
-        by_fault (Some fault) is none = cc none
-        by_fault None is none = is
-
-    histogram : field_at words at 2 ≡ 1 → record_fault words head at ≡ None
-    histogram one = by_test (is_of_type words 1 at) (eq-eqb _ 1 one) no_fault
-      where
-        by_test : (b : Bool) → b ≡ true
-            → (if b then record_fault words head at else (if is_of_type words 3 at && is_bad_sample words head (take k references) at then Some BadSample else None)) ≡ None
-            → record_fault words head at ≡ None
-        by_test true is none = none
-        by_test false is none = cc is
-
-    sample : field_at words at 2 ≡ 3 → has_bad_sample words at ≡ false
-    sample three = (or_parts _ _ (by_tests (is_of_type words 1 at) (is_of_type words 3 at) (is_bad_sample words head (take k references) at)
-        (eqb-true (field_at words at 2) 1) (eq-eqb _ 3 three) no_fault)).0
-      where
-        by_tests : (one third bad : Bool) → (one ≡ true → field_at words at 2 ≡ 1) → third ≡ true
-            → (if one then record_fault words head at else (if third && bad then Some BadSample else None)) ≡ None → bad ≡ false
-        by_tests true third bad first is none = let e = first refl in absurd (omega (arith, e, three))
-        by_tests false true true first is none = cc none
-        by_tests false true false first is none = refl
-        by_tests false false bad first is none = cc is
+    (record {
+      block = lawful k below;
+      histogram = good_histogram words head references none k below;
+      sample = λ three. (or_parts _ _ (good_sample words head references none k below three)).0;
+    })

@@ -1,8 +1,8 @@
 pub mod Zeros
 pub mod Padding
 pub mod Runs
-pub mod Keys
 pub mod Faultless
+pub mod LaterSamples
 pub mod Tails
 pub mod NamedBlocks
 pub mod Used

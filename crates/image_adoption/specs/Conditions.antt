@@ -2,12 +2,16 @@
 pub use Rattle.segment_promises.specs.Adoption.{AreApart, AreZerosFrom, AreLaterEmpty, HasPaddedName, HasUnusedCounts, HasPackedMark}
 use Rattle.std.specs.Prelude.{◌≡◌, true, ℕ, List}
 use Rattle.std.specs.List.{Contains}
-use Rattle.segment_image.specs.declared.layout.TheConstants.{BLOCK_TYPE, TYPE_HISTOGRAM}
+use Rattle.segment_image.specs.declared.layout.TheConstants.{BLOCK_TYPE, SAMPLE_COUNT, SAMPLE_MARK, TYPE_HISTOGRAM}
 use Rattle.segment_image.specs.declared.head.SegmentHead.{SegmentHead}
 use Rattle.segment_image.specs.Blocks.{field_at}
 use Rattle.alloc_core.specs.Planned.{is_pointer}
 use Rattle.list_core.specs.Chain.{IsStop}
 use Rattle.segment_promises.specs.Adoption.{blocks_of, AreApart, AreZerosFrom, AreLaterEmpty, HasPaddedName, HasUnusedCounts, HasPackedMark}
+
+-- a sample has no units, and deltas took none of it
+abbrev pub CountsNothing : List ℕ → ℕ → Type 0
+CountsNothing words at = (field_at words at SAMPLE_COUNT ≡ 0) × (field_at words at SAMPLE_MARK ≡ 0)
 
 -- all three of a histogram's record
 pub record IsSettled (words : List ℕ) (at : ℕ) : Type 0 where

@@ -1,10 +1,15 @@
 -- What is known of the records on a list where none has a fault.
-use Rattle.std.specs.Prelude.{◌≡◌, true, false, ℕ, ◌+◌, ◌<◌, ◌≤◌, List, length, All, None}
+use Rattle.std.specs.Prelude.{◌≡◌, true, false, ℕ, ◌+◌, ◌<◌, ◌≤◌, List, length, [], All, None}
+use Rattle.std.specs.List.{filter_map}
 use Rattle.segment_image.specs.declared.head.SegmentHead.{SegmentHead}
 use Rattle.segment_image.specs.declared.layout.TheConstants.{BLOCK_TYPE, HISTOGRAM_BUCKETS, HISTOGRAM_COUNTS, HISTOGRAM_LEAST, TYPE_HISTOGRAM, TYPE_SAMPLE}
 use Rattle.segment_image.specs.Blocks.{field_at, is_block}
 use Rattle.bucket_ranges.specs.declared.limits.TheConstants.{MAX_BUCKETS}
-use Rattle.bucket_ranges.specs.Reading.{counts_words, has_bad_sample, is_sparse, record_buckets, record_fault}
+use Rattle.bucket_ranges.specs.Reading.{bad_record, counts_words, has_bad_sample, is_sparse, record_buckets, record_fault, with_earlier}
+
+-- no record on a list is bad
+abbrev pub HasNoBad : List ℕ → SegmentHead → List ℕ → Type 0
+HasNoBad words head references = filter_map (bad_record words head) (with_earlier references) ≡ []
 
 -- a record has no fault of its own
 pub record IsFaultless (words : List ℕ) (head : SegmentHead) (at : ℕ) : Type 0 where

@@ -72,6 +72,7 @@ fn check_behind_header(
     let ListReading {
         references,
         reading,
+        ..
     } = list;
     Ok(Adoptable {
         references,

@@ -4,11 +4,12 @@ ghost use Rattle.std.specs.Prelude.{◌≡◌, true, Ok, None, IfOk, Decides};
 ghost use Rattle.segment_image.specs.Head.{header_of};
 ghost use Rattle.segment_image.specs.Blocks.{is_block};
 ghost use Rattle.bucket_ranges.specs.Reading.{IsListed, reading_along, record_fault};
+ghost use Rattle.image_reader.specs.Later.{later_samples};
 ghost use Rattle.image_reader.specs.Views.{reading_view};
 ghost use Rattle.segment_promises.specs.Adoption.{IsUndamaged};
 ghost use Rattle.segment_promises.specs.Reads.{HasNoFault};
 ghost use Rattle.image_adoption.specs.Conditions.{AreSettled, IsSettled, IsWhole};
-ghost use Rattle.image_adoption.specs.Records.{AreFaultless};
+ghost use Rattle.image_adoption.specs.Records.{AreFaultless, HasNoBad};
 
 use crate::blocks::{are_apart, blocks_of};
 use crate::counts::{has_packed_mark, has_unused_counts};
@@ -30,12 +31,13 @@ pub(crate) fn is_undamaged(
     requires header { header_of words.now ≡ Ok head.now }
     requires listed { IsListed words.now head.now list.now.references.items }
     requires reading { reading_view list.now.reading ≡ reading_along words.now head.now list.now.references.items }
+    requires later { list.now.later.items ≡ later_samples words.now head.now list.now.references.items }
     ensures { IfOk result (λ whole. Decides whole (IsUndamaged words.now list.now.references.items (reading_view list.now.reading))) }
 {
     if !is_faultless(&list.reading) {
         return Ok(false);
     }
-    Ok(is_whole(alloc, words, head, &list.references)?)
+    Ok(is_whole(alloc, words, head, list)?)
 }
 
 // Whether all but the reading is as it has to be.
@@ -43,12 +45,13 @@ fn is_whole(
     alloc: Global,
     words: &[u64],
     head: &SegmentHead,
-    references: &[u64],
+    list: &ListReading,
 ) -> Result<bool, AllocError>
     requires header { header_of words.now ≡ Ok head.now }
-    requires listed { IsListed words.now head.now references.now }
-    requires faultless { AreFaultless words.now head.now references.now }
-    ensures { IfOk result (λ whole. Decides whole (IsWhole words.now head.now references.now)) }
+    requires listed { IsListed words.now head.now list.now.references.items }
+    requires good { HasNoBad words.now head.now list.now.references.items }
+    requires later { list.now.later.items ≡ later_samples words.now head.now list.now.references.items }
+    ensures { IfOk result (λ whole. Decides whole (IsWhole words.now head.now list.now.references.items)) }
 {
     if !has_room(&head.shape, head.free) {
         return Ok(false);
@@ -56,14 +59,14 @@ fn is_whole(
     if !has_zeros(words, head.free as usize) {
         return Ok(false);
     }
+    let references: &[u64] = &list.references;
     if !has_tail(references, head.tail) {
         return Ok(false);
     }
     if !are_settled(words, head, references) {
         return Ok(false);
     }
-    let empty = are_later_empty(alloc, words, head, references)?;
-    if !empty {
+    if !are_later_empty(words, head, list) {
         return Ok(false);
     }
     let blocks = blocks_of(alloc, words, head, references)?;

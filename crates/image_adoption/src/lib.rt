@@ -4,7 +4,7 @@
 //! the order that [`AdoptFault`] lists them. What makes an image adoptable is defined in `segment_promises`,
 //! `specs/Adoption.antt`, where a law says that it opens a kept segment; which answer is the right one is defined here, in
 //! `specs/Checking.antt`. No word is trusted. The check takes time that is linear in the words, up to a logarithm for
-//! names and values: each word that a block has is marked once, and values are kept in an ordered set.
+//! names and values: each word that a block has is marked once, and only the reader puts names and values in an order.
 #![tactic(auto)]
 
 mod blocks;

@@ -204,7 +204,7 @@ samples-same words head references reference none =
     ∙ ap (map (λ placed. placed.1)) (filter-push_dropped (is_sample words head) (with_earlier references) (references, reference) none)
 
 -- and with one
-samples-push : (words : List ℕ) (head : SegmentHead) (references : List ℕ) (reference : ℕ)
+pub samples-push : (words : List ℕ) (head : SegmentHead) (references : List ℕ) (reference : ℕ)
     → is_sample words head (references, reference) ≡ true
     → lawful_samples words head (references ++ reference ∷ []) ≡ lawful_samples words head references ++ reference ∷ []
 samples-push words head references reference one =

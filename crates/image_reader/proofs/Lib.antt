@@ -9,6 +9,7 @@ pub mod NameLengths
 pub mod NameKeys
 pub mod NameSets
 pub mod Gathered
+pub mod Laters
 pub mod Gathers
 pub mod Lawful
 pub mod Readables

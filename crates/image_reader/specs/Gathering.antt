@@ -8,9 +8,10 @@ use Rattle.image_reader.specs.declared.gathering.Gathering.{Gathering}
 use Rattle.image_reader.specs.Views.{bad_view, histogram_view}
 use Rattle.image_reader.specs.Names.{holds, AreKeys}
 use Rattle.image_reader.specs.Samples.{AreNear, AreSamples, HoldsSamples}
+use Rattle.image_reader.specs.Later.{later_samples}
 
 -- what is gathered of these references: the histograms that are read, as they are without a sample, the bad records, which
--- names the lawful ones have, where a sparse histogram is read, and the samples
+-- names the lawful ones have, where a sparse histogram is read, the samples, and those that are not the first of their value
 pub record IsGathered (words : List ℕ) (head : SegmentHead) (references : List ℕ) (gathering : Gathering) : Type 0 where
   pub hists_are : map histogram_view gathering.hists.items ≡ map (histogram_of head.version words []) (read_records words head references)
   pub bad_are : map bad_view gathering.bad.items ≡ filter_map (bad_record words head) (with_earlier references)
@@ -18,6 +19,7 @@ pub record IsGathered (words : List ℕ) (head : SegmentHead) (references : List
       ≡ list_any (λ reference. bytes_eq name (name_of words reference)) (lawful_records words head references)
   pub sparse_are : (reference : ℕ) → get_or gathering.sparse.items reference false ≡ is_sparse_read words head references reference
   pub samples_are : HoldsSamples words (lawful_samples words head references) gathering.samples
+  pub later_are : gathering.later.items ≡ later_samples words head references
 
 -- what holds of it all along
 pub record IsReady (words : List ℕ) (gathering : Gathering) : Type 0 where

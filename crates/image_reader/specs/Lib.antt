@@ -8,6 +8,7 @@ pub use Rattle.bucket_ranges.specs.Single
 pub use Rattle.bucket_ranges.specs.Reading
 pub mod Views
 pub mod Samples
+pub mod Later
 pub mod Records
 pub mod Buckets
 pub mod Names

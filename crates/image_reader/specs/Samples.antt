@@ -1,8 +1,8 @@
 -- The samples that a reader has met.
-use Rattle.std.specs.Prelude.{◌≡◌, true, ◌==◌, ℕ, ◌<◌, ◌^◌, ℤ, List, All, map}
-use Rattle.std.specs.List.{filter}
+use Rattle.std.specs.Prelude.{◌≡◌, Bool, true, ◌==◌, ℕ, ◌<◌, ◌^◌, ℤ, List, All, map}
+use Rattle.std.specs.List.{filter, list_any}
 use Rattle.std.specs.declared.cmp.Ordering.{Ordering}
-use Rattle.std.specs.Ordering.{nat_cmp, int_cmp, ordering_then}
+use Rattle.std.specs.Ordering.{nat_cmp, int_cmp, is_eq, ordering_then}
 use Rattle.std.specs.List.Sorted.{IsStrictlySortedBy}
 use Rattle.std.specs.Map.{keys_of}
 use Rattle.bucket_ranges.specs.Reading.{is_i32, sample_histogram, sample_value, sample_count, sample_mark, first_samples, Histogram}
@@ -39,6 +39,10 @@ by_entry_value a b = int_cmp a.0.1 b.0.1
 -- what is held of a histogram
 abbrev pub held : Samples → ℕ → List Entry
 held samples histogram = filter (λ entry. entry.0.0 == histogram) samples.map.entries
+
+-- whether a sample of the histogram and the value of an entry is held
+abbrev pub holds_sample : Samples → Entry → Bool
+holds_sample samples entry = list_any (λ other. is_eq (by_entry_value entry other)) (held samples entry.0.0)
 
 -- the order of histograms and values
 abbrev pub by_key : ℕ × ℤ → ℕ × ℤ → Ordering

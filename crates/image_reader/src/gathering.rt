@@ -25,6 +25,8 @@ pub(crate) struct Gathering {
     pub(crate) hists: Vec<HistReading>,
     /// The samples of those that are sparse.
     pub(crate) samples: Samples,
+    /// The references of the samples that are not the first of their histogram and value.
+    pub(crate) later: Vec<u64>,
     /// The records that have a fault.
     pub(crate) bad: Vec<BadRecord>,
     /// The names of these histograms.
@@ -46,6 +48,7 @@ impl Gathering {
         Ok(Gathering {
             hists: Vec::new(alloc),
             samples: Samples::new(alloc),
+            later: Vec::new(alloc),
             bad: Vec::new(alloc),
             names: Names::new(alloc),
             sparse: vec![in alloc; false; words.len()]?,
@@ -149,7 +152,9 @@ impl Gathering {
             self.bad.push(BadRecord { reference, fault })?;
             return Ok(());
         };
-        self.samples.insert(&sample)?;
+        if !self.samples.insert(&sample)? {
+            self.later.push(reference)?;
+        }
         Ok(())
     }
 }

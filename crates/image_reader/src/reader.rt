@@ -6,6 +6,7 @@ ghost use Rattle.bucket_ranges.specs.Reading.{IsListed, IsReading, is_block, rea
 ghost use Rattle.image_reader.specs.Readable.{IsReadable};
 ghost use Rattle.image_reader.specs.Views.{histogram_view, reading_view};
 ghost use Rattle.image_reader.specs.Gathering.{IsGathered, IsReady};
+ghost use Rattle.image_reader.specs.Later.{later_samples};
 
 use crate::gathering::Gathering;
 use crate::histogram::give_samples;
@@ -40,6 +41,7 @@ pub fn read_list(
     ensures listed { IfOk result (λ list. IsListed words.now head.now list.references.items) }
     ensures reading { IfOk result (λ list. reading_view list.reading ≡ reading_along words.now head.now list.references.items) }
     ensures readable { IfOk result (λ list. All IsReadable (map histogram_view list.reading.hists.items)) }
+    ensures later { IfOk result (λ list. list.later.items ≡ later_samples words.now head.now list.references.items) }
 {
     let Listed {
         references,
@@ -49,6 +51,7 @@ pub fn read_list(
     give_samples(alloc, &mut gathered.hists, &gathered.samples)?;
     Ok(ListReading {
         references,
+        later: gathered.later,
         reading: Reading {
             id: head.id,
             full: head.full,

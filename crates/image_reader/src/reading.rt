@@ -57,6 +57,9 @@ pub struct Reading {
 pub struct ListReading {
     /// The references of all records on the list, in its order: also of those that are not read.
     pub references: Vec<u64>,
+    /// The references of the samples without a fault that are not the first of their histogram and value, in the order
+    /// of the list.
+    pub later: Vec<u64>,
     /// What these records read as.
     pub reading: Reading,
 }

@@ -1,10 +1,10 @@
 //! The samples of sparse histograms.
 
-ghost use Rattle.std.specs.Prelude.{◌≡◌, ◌<◌, ◌≤◌, ◌+◌, ◌^◌, [], true, false, if◌then◌else◌, ◌==◌, get_or, ℕ, map, length, IfOk, OnOk, MatchOption};
+ghost use Rattle.std.specs.Prelude.{◌≡◌, ◌<◌, ◌≤◌, ◌+◌, ◌^◌, [], true, false, not, if◌then◌else◌, ◌==◌, get_or, ℕ, map, length, IfOk, OnOk, MatchOption};
 ghost use Rattle.std.specs.BTreeSet.{insert_key};
 ghost use Rattle.segment_image.specs.Blocks.{field_at};
 ghost use Rattle.bucket_ranges.specs.Reading.{is_i32, is_bad_sample_by, sample_histogram};
-ghost use Rattle.image_reader.specs.Samples.{Entry, by_entry_value, sample_entry, entry_of, held, AreSamples, entry_count, entry_mark};
+ghost use Rattle.image_reader.specs.Samples.{Entry, by_entry_value, sample_entry, entry_of, held, holds_sample, AreSamples, entry_count, entry_mark};
 
 use segment_image::layout::{
     BLOCK_LEAST, BLOCK_SIZE, SAMPLE_COUNT, SAMPLE_HISTOGRAM, SAMPLE_LEAST, SAMPLE_MARK,
@@ -76,19 +76,21 @@ impl Samples {
         }
     }
 
-    /// Adds a sample, unless one of its histogram and value is there.
-    pub(crate) fn insert(&mut self, sample: &Sample) -> Result<(), AllocError>
+    /// Adds a sample, unless one of its histogram and value is there, and says whether it was added.
+    pub(crate) fn insert(&mut self, sample: &Sample) -> Result<bool, AllocError>
         requires are { AreSamples self.old }
         requires small { is_i32 sample.now.value ≡ true }
         ensures held { OnOk result ((histogram : ℕ) → held self.new histogram
             ≡ (if sample.now.histogram == histogram then insert_key by_entry_value (held self.old histogram) (entry_of sample.now) else held self.old histogram)) }
         ensures are { OnOk result (AreSamples self.new) }
+        ensures first { IfOk result (λ first. first ≡ not (holds_sample self.old (entry_of sample.now))) }
     {
         let key = (sample.histogram, sample.value);
         if let Some(first) = self.map.insert(key, (sample.count, sample.mark))? {
             self.map.insert(key, first)?;
+            return Ok(false);
         }
-        Ok(())
+        Ok(true)
     }
 
     /// The values of a histogram, ascending, and their counts; and their marks.

@@ -12,6 +12,7 @@ pub mod Finished
 pub mod Mounted
 pub mod OwnSamples
 pub mod Refusing
+pub mod SampleKeys
 pub mod SampleMade
 pub mod SampleOf
 pub mod SampleSearches

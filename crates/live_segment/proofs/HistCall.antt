@@ -3,7 +3,6 @@ pub mod Blocks
 pub mod ByIndex
 pub mod HistAnnounced
 pub mod HistAnswered
-pub mod IndexKept
 pub mod Indexing
 pub mod Knowing
 pub mod KnownNames

@@ -13,6 +13,7 @@ pub mod Fault
 pub mod Rule
 pub mod Adopted
 pub mod Known
+pub mod Desk
 pub mod Steps
 pub mod Names
 pub mod Holders

@@ -3,6 +3,8 @@ pub mod Allocation
 pub mod Publishing
 pub mod Listing
 pub mod Walks
+pub mod Keyed
+pub mod Indexed
 pub mod Records
 pub mod Fresh
 pub mod Cursors

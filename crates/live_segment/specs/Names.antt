@@ -1,6 +1,5 @@
 -- How a `hist` finds the histogram of a name, or makes it.
 pub mod Hist
-pub mod Indexed
 pub mod Naming
 pub mod Finding
 pub mod Searching

@@ -19,7 +19,8 @@ fn adopted_words(alloc: Global, words: &[u64], cursors: usize) -> Result<Vec<u64
     requires few { cursors ≤ 8 }
     ensures { IfOk result (λ all. all.items ≡ 0 ∷ words.now ++ replicate cursors QUEUE) }
 {
-    let mut all = vec![in alloc; 0]?;
+    let mut all = Vec::with_capacity(alloc, words.len() + 1 + cursors)?;
+    all.push(0)?;
     all.extend_from_slice(words)?;
     all.resize(words.len() + 1 + cursors, QUEUE)?;
     Ok(all)

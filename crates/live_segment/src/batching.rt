@@ -5,6 +5,7 @@ ghost use Rattle.std.specs.List.{All};
 ghost use Rattle.bucket_ranges.specs.Tally.{units_of};
 ghost use Rattle.segment_machine.specs.Entry.{batch_cost};
 
+use crate::indexing::RecordIndex;
 use crate::recorder::KnownHistogram;
 use crate::rule::Pass;
 use crate::segment::Segment;
@@ -14,6 +15,8 @@ impl Segment {
     ghost use Rattle.live_segment.specs.Counts.Batching.{HasItems, HasNoted, IsBatched, IsCutShort, StopsAt};
     ghost use Rattle.live_segment.specs.Claims.{ClaimsFor, ClaimsForAll, ClaimsForEach};
     ghost use Rattle.live_segment.specs.Counts.Finishing.{item_of};
+    ghost use Rattle.live_segment.specs.declared.indexing.KeyKind.TheVariants.{Sample as OfSample};
+    ghost use Rattle.live_segment.specs.Lists.Indexed.{IsIndexed};
     ghost use Rattle.live_segment.specs.Seated.{IsSeated};
     ghost use Rattle.live_segment.specs.Known.{known_view, KnowsRight};
     ghost use Rattle.live_segment.specs.Counts.Refusing.{IsNotCounted};
@@ -27,23 +30,26 @@ impl Segment {
     pub(crate) fn count_batch(
         &self,
         seat: &mut Pass,
+        samples: &mut RecordIndex,
         histogram: &KnownHistogram,
         items: &[(i32, u32)],
         sum: i64,
     ) -> Result<(), BatchRefusal>
         requires seat { IsSeated self.now seat.old }
+        requires indexed { IsIndexed OfSample self.now.setting.shape.size seat.old.me.0.seen samples.old }
         requires right { KnowsRight self.now.setting seat.old.me.0 histogram.now }
         requires rests { IsAtRest seat.old.me.0 }
         requires units { All (λ item. 1 ≤ item.1) items.now × (batch_cost items.now sum ≤ seat.old.me.0.units.share) }
         ensures same { IsSame seat.old seat.new }
+        ensures indexed { IsIndexed OfSample self.now.setting.shape.size seat.new.me.0.seen samples.new }
         ensures rests { IsAtRest seat.new.me.0 }
         ensures outcome { MatchResult result (λ _. IsBatched (known_view histogram.now) items.now sum seat.old.me.0 seat.new.me.0) (λ refusal. IsCutShort (known_view histogram.now) items.now refusal seat.old.me.0 seat.new.me.0) }
         ensures claims { IfOk result (λ _. ClaimsForAll (known_view histogram.now) items.now seat.old.me.0 seat.new.me.0) }
     {
         if sum == 0 {
-            self.count_unsummed(seat, histogram, items)
+            self.count_unsummed(seat, samples, histogram, items)
         } else {
-            self.count_summed(seat, histogram, items, sum)
+            self.count_summed(seat, samples, histogram, items, sum)
         }
     }
 
@@ -51,21 +57,24 @@ impl Segment {
     fn count_summed(
         &self,
         seat: &mut Pass,
+        samples: &mut RecordIndex,
         histogram: &KnownHistogram,
         items: &[(i32, u32)],
         sum: i64,
     ) -> Result<(), BatchRefusal>
         requires seat { IsSeated self.now seat.old }
+        requires indexed { IsIndexed OfSample self.now.setting.shape.size seat.old.me.0.seen samples.old }
         requires right { KnowsRight self.now.setting seat.old.me.0 histogram.now }
         requires rests { IsAtRest seat.old.me.0 }
         requires units { All (λ item. 1 ≤ item.1) items.now × (batch_cost items.now sum ≤ seat.old.me.0.units.share) }
         requires some { sum ≢ pos 0 }
         ensures same { IsSame seat.old seat.new }
+        ensures indexed { IsIndexed OfSample self.now.setting.shape.size seat.new.me.0.seen samples.new }
         ensures rests { IsAtRest seat.new.me.0 }
         ensures outcome { MatchResult result (λ _. IsBatched (known_view histogram.now) items.now sum seat.old.me.0 seat.new.me.0) (λ refusal. IsCutShort (known_view histogram.now) items.now refusal seat.old.me.0 seat.new.me.0) }
         ensures claims { IfOk result (λ _. ClaimsForAll (known_view histogram.now) items.now seat.old.me.0 seat.new.me.0) }
     {
-        self.count_items(seat, histogram, items)?;
+        self.count_items(seat, samples, histogram, items)?;
         self.add_sum(seat, histogram.reference, sum);
         Ok(())
     }
@@ -74,14 +83,17 @@ impl Segment {
     fn count_unsummed(
         &self,
         seat: &mut Pass,
+        samples: &mut RecordIndex,
         histogram: &KnownHistogram,
         items: &[(i32, u32)],
     ) -> Result<(), BatchRefusal>
         requires seat { IsSeated self.now seat.old }
+        requires indexed { IsIndexed OfSample self.now.setting.shape.size seat.old.me.0.seen samples.old }
         requires right { KnowsRight self.now.setting seat.old.me.0 histogram.now }
         requires rests { IsAtRest seat.old.me.0 }
         requires units { All (λ item. 1 ≤ item.1) items.now × (units_of items.now ≤ seat.old.me.0.units.share) }
         ensures same { IsSame seat.old seat.new }
+        ensures indexed { IsIndexed OfSample self.now.setting.shape.size seat.new.me.0.seen samples.new }
         ensures rests { IsAtRest seat.new.me.0 }
         ensures outcome { MatchResult result (λ _. IsBatched (known_view histogram.now) items.now (pos 0) seat.old.me.0 seat.new.me.0) (λ refusal. IsCutShort (known_view histogram.now) items.now refusal seat.old.me.0 seat.new.me.0) }
         ensures claims { IfOk result (λ _. ClaimsForAll (known_view histogram.now) items.now seat.old.me.0 seat.new.me.0) }
@@ -89,8 +101,8 @@ impl Segment {
         let [front @ .., last] = items else {
             return Ok(());
         };
-        self.count_items(seat, histogram, front)?;
-        if let Err(why) = self.count_value(seat, histogram, last.0, last.1) {
+        self.count_items(seat, samples, histogram, front)?;
+        if let Err(why) = self.count_value(seat, samples, histogram, last.0, last.1) {
             return Err(BatchRefusal {
                 added: front.len(),
                 why,
@@ -106,19 +118,22 @@ impl Segment {
     fn count_items(
         &self,
         seat: &mut Pass,
+        samples: &mut RecordIndex,
         histogram: &KnownHistogram,
         items: &[(i32, u32)],
     ) -> Result<(), BatchRefusal>
         requires seat { IsSeated self.now seat.old }
+        requires indexed { IsIndexed OfSample self.now.setting.shape.size seat.old.me.0.seen samples.old }
         requires right { KnowsRight self.now.setting seat.old.me.0 histogram.now }
         requires rests { IsAtRest seat.old.me.0 }
         requires units { All (λ item. 1 ≤ item.1) items.now × (units_of items.now ≤ seat.old.me.0.units.share) }
         ensures same { IsSame seat.old seat.new }
+        ensures indexed { IsIndexed OfSample self.now.setting.shape.size seat.new.me.0.seen samples.new }
         ensures outcome { MatchResult result (λ _. HasItems (known_view histogram.now) items.now seat.old.me.0 seat.new.me.0) (λ refusal. StopsAt (known_view histogram.now) items.now refusal seat.old.me.0 seat.new.me.0) }
         ensures claims { IfOk result (λ _. ClaimsForEach (known_view histogram.now) items.now seat.old.me.0 seat.new.me.0) }
     {
         for (added, item) in items.iter().enumerate() {
-            if let Err(why) = self.count_item(seat, histogram, item.0, item.1) {
+            if let Err(why) = self.count_item(seat, samples, histogram, item.0, item.1) {
                 return Err(BatchRefusal { added, why });
             }
         }
@@ -129,18 +144,21 @@ impl Segment {
     fn count_item(
         &self,
         seat: &mut Pass,
+        samples: &mut RecordIndex,
         histogram: &KnownHistogram,
         value: i32,
         units: u32,
     ) -> Result<(), Refusal>
         requires seat { IsSeated self.now seat.old }
+        requires indexed { IsIndexed OfSample self.now.setting.shape.size seat.old.me.0.seen samples.old }
         requires right { KnowsRight self.now.setting seat.old.me.0 histogram.now }
         requires may { CountsAlone seat.old.me.0 (known_view histogram.now) (item_of (known_view histogram.now) value units) }
         ensures same { IsSame seat.old seat.new }
+        ensures indexed { IsIndexed OfSample self.now.setting.shape.size seat.new.me.0.seen samples.new }
         ensures outcome { MatchResult result (λ _. HasNoted (item_of (known_view histogram.now) value units) seat.old.me.0 seat.new.me.0) (λ why. IsNotCounted why (known_view histogram.now) value units seat.old.me.0 seat.new.me.0) }
         ensures claims { IfOk result (λ _. ClaimsFor (known_view histogram.now) value seat.old.me.0 seat.new.me.0) }
     {
-        self.count_value(seat, histogram, value, units)?;
+        self.count_value(seat, samples, histogram, value, units)?;
         self.add_redundant(seat, histogram.reference, u64::from(units));
         Ok(())
     }

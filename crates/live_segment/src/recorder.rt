@@ -7,21 +7,25 @@ ghost use Rattle.live_segment.specs.Claims.{ClaimsFor, ClaimsForAll, NamesAtMost
 ghost use Rattle.live_segment.specs.Rule.{IsOf};
 ghost use Rattle.live_segment.specs.Seated.{IsSeated};
 ghost use Rattle.live_segment.specs.Steps.{IsAtRest};
-ghost use Rattle.live_segment.specs.Names.Indexed.{IsIndexed};
+ghost use Rattle.live_segment.specs.declared.indexing.KeyKind.TheVariants.{Name as OfName, Sample as OfSample};
+ghost use Rattle.live_segment.specs.Lists.Indexed.{IsIndexed};
 ghost use Rattle.live_segment.specs.Known.{known_view, KnowsRight};
 ghost use Rattle.live_segment.specs.Names.Naming.{HasNames};
 ghost use Rattle.live_segment.specs.Lists.Walks.{HasCome};
 ghost use Rattle.std.specs.List.{All};
 ghost use Rattle.std.proofs.Props.{props};
 
+mod desk;
+
 use crate::costs::{price, units_of_items};
-use crate::indexing::RecordIndex;
+use crate::indexing::{KeyKind, RecordIndex};
 use crate::naming::KnownNames;
 use crate::records::WalkPlace;
 use crate::rule::Pass;
 use crate::segment::Segment;
 use bucket_ranges::limits::MAX_CUSTOM_VALUES;
 use bucket_ranges::{Ranges, Spec, SpecFault};
+pub use desk::Desk;
 use segment_calls::{Asked, BatchRefusal, Delta, Refusal, Snapshot};
 use segment_image::layout::{BLOCK_LEAST, HEADER_WORDS};
 use std::alloc::{AllocError, Global};
@@ -30,6 +34,15 @@ use std::alloc::{AllocError, Global};
 #[derive(Clone, Copy, Debug, PartialEq, Eq)]
 pub struct Hist {
     index: usize,
+}
+
+impl Hist {
+    /// Its place in that list, from 0. A recorder that knows it has it there for good.
+    pub fn place(&self) -> usize
+        ensures { result ≡ self.now.index }
+    {
+        self.index
+    }
 }
 
 /// A histogram that a recorder was answered with.
@@ -77,8 +90,9 @@ pub struct Recorder<'a> {
     fresh: WalkPlace,
     // Where what it knows stands, by names.
     names: KnownNames,
-    // What it met along the list.
+    // What it met along the list: the records of histograms, and the samples of sparse ones.
     index: RecordIndex,
+    samples: RecordIndex,
     ghost seated: { IsSeated segment.now seat },
     ghost rests: { IsAtRest seat.me.0 },
     ghost counted: { units ≡ seat.me.0.units.share },
@@ -87,7 +101,8 @@ pub struct Recorder<'a> {
     ghost free: { seat.me.1 ≡ [] } by { Prim.hlevel props },
     ghost come: { HasCome segment.now.setting.shape.size seat.me.0.seen.chain fresh } by { Prim.hlevel props },
     ghost named: { HasNames known.items names } by { Prim.hlevel props },
-    ghost indexed: { IsIndexed segment.now.setting.shape.size seat.me.0.seen index } by { Prim.hlevel props },
+    ghost indexed: { IsIndexed OfName segment.now.setting.shape.size seat.me.0.seen index } by { Prim.hlevel props },
+    ghost sampled: { IsIndexed OfSample segment.now.setting.shape.size seat.me.0.seen samples } by { Prim.hlevel props },
 }
 
 ghost use Rattle.std.specs.Prelude.{true, false, Some, None};
@@ -114,7 +129,7 @@ impl<'a> Recorder<'a> {
     ghost use Rattle.live_segment.specs.Readings.Snapshots.{HasSnapshot};
     ghost use Rattle.live_segment.specs.Readings.Owed.{HasEnough, TookEnough};
     ghost use Rattle.live_segment.specs.Readings.Values.{HoldsKeys, OpensWith};
-    ghost use Rattle.std.specs.Prelude.{◌↔◌, IsTrue, Err, ◌<◌, ◌++◌, length, IfOk, MatchOption, MatchResult};
+    ghost use Rattle.std.specs.Prelude.{◌↔◌, IsTrue, Err, ◌<◌, ◌≤◌, ◌++◌, length, IfOk, MatchOption, MatchResult};
     ghost use Rattle.segment_image.specs.Checks.{first_fault};
     ghost use Rattle.segment_machine.specs.declared.actor.Known.{Known};
     ghost use Rattle.live_segment.specs.Counts.Adding.{add_checks, AnswersSample};
@@ -135,7 +150,8 @@ impl<'a> Recorder<'a> {
         ensures { (result.segment ≡ segment.entry) × (result.seat ≡ seat) × (given_fresh result ≡ 0) }
     {
         let names = KnownNames::new(alloc);
-        let index = RecordIndex::new(alloc);
+        let index = RecordIndex::new(alloc, KeyKind::Name);
+        let samples = RecordIndex::new(alloc, KeyKind::Sample);
         Recorder {
             alloc,
             segment,
@@ -145,6 +161,7 @@ impl<'a> Recorder<'a> {
             fresh: WalkPlace::start(),
             names,
             index,
+            samples,
         }
     }
 
@@ -162,6 +179,7 @@ impl<'a> Recorder<'a> {
             fresh: _,
             names: _,
             index: _,
+            samples: _,
         } = self;
         (segment, seat, units)
     }
@@ -178,6 +196,17 @@ impl<'a> Recorder<'a> {
         ensures { IsTrue result ↔ Knows self.now histogram }
     {
         histogram.index < self.known.len()
+    }
+
+    /// The histogram that it knows at a place, as [`Hist::place`] has it.
+    pub fn hist_at(&self, place: usize) -> Option<Hist>
+        ensures { MatchOption result (length (view_of_recorder self.now).answers.names ≤ place) (λ histogram. (histogram.index ≡ place) × Knows self.now histogram) }
+    {
+        if place < self.known.len() {
+            Some(Hist { index: place })
+        } else {
+            None
+        }
     }
 
     // The place of the histogram of a name among those that it knows.
@@ -244,7 +273,8 @@ impl<'a> Recorder<'a> {
     ///
     /// `ZeroCount` where there are none and `NoUnits` where the share has fewer, both before anything has happened; then `Corrupt` or
     /// `Full` where a block was needed for them and none could be claimed. Log, share and deltas are then as before, and no count, sum,
-    /// mark or redundant count has changed. It takes no memory.
+    /// mark or redundant count has changed. It asks for no memory, but for its index of the samples of sparse histograms, which it lets grow:
+    /// where there is none for that, it walks along the list, and so do later calls.
     ///
     /// On `Ok` it has claimed one block at most: for the counts, where it found none, or for the sample of the value, which is on the list
     /// then.
@@ -264,7 +294,7 @@ impl<'a> Recorder<'a> {
         }
         let known = &self.known[histogram.index];
         self.segment
-            .add_sample(&mut self.seat, known, value, count)?;
+            .add_sample(&mut self.seat, &mut self.samples, known, value, count)?;
         self.units -= count;
         Ok(())
     }
@@ -276,8 +306,8 @@ impl<'a> Recorder<'a> {
     ///
     /// `ZeroCount` where an item has no units and `NoUnits` where the share has fewer than it costs, both before anything has happened
     /// and with no item counted; then `Corrupt` or `Full` where a block was needed for an item and none could be claimed. Then the
-    /// items before it are counted, as many as the refusal says, and only their units are taken; the sum is not added. It takes no
-    /// memory.
+    /// items before it are counted, as many as the refusal says, and only their units are taken; the sum is not added. It asks for memory
+    /// as [`Recorder::add`] does.
     ///
     /// For each item that is counted it has claimed what [`Recorder::add`] may claim, and nothing else: of a histogram with buckets one
     /// block at most.
@@ -296,9 +326,10 @@ impl<'a> Recorder<'a> {
             Ok(cost) => cost,
             Err(why) => return Err(BatchRefusal { added: 0, why }),
         };
+        let known = &self.known[histogram.index];
         let counted = self
             .segment
-            .count_batch(&mut self.seat, &self.known[histogram.index], items, sum);
+            .count_batch(&mut self.seat, &mut self.samples, known, items, sum);
         if let Err(refusal) = counted {
             self.units -= units_of_items(&items[..refusal.added]) as u32;
             return Err(refusal);

@@ -5,15 +5,14 @@ ghost use Rattle.bucket_ranges.specs.declared.spec.Spec.TheVariants.{Sparse};
 ghost use Rattle.segment_machine.specs.Taking.{is_looking};
 ghost use Rattle.live_segment.specs.Names.Finding.{Meets, SeesWords};
 ghost use Rattle.live_segment.specs.Known.{known_view};
-ghost use Rattle.live_segment.specs.Readings.Samples.{CountsSample, SamplesAreFew, SeesSample, ShowsSample};
+ghost use Rattle.live_segment.specs.Readings.Samples.{CountsSample, SamplesAreFew, SamplesStandBehind, SeesSample, ShowsSample};
+ghost use Rattle.segment_promises.specs.Values.{NoRepeats};
 ghost use Rattle.live_segment.specs.GhostNotes.{KnowsAlone};
 
 use crate::recorder::KnownHistogram;
 use crate::rule::Pass;
 use crate::segment::Segment;
-use segment_image::layout::{
-    BLOCK_TYPE, SAMPLE_COUNT, SAMPLE_HISTOGRAM, SAMPLE_VALUE, TYPE_SAMPLE,
-};
+use segment_image::layout::{SAMPLE_COUNT, SAMPLE_HISTOGRAM, SAMPLE_VALUE, TYPE_SAMPLE};
 
 impl Segment {
     ghost use Rattle.live_segment.specs.Seated.{IsSeated};
@@ -27,8 +26,10 @@ impl Segment {
         ensures same { IsSame seat.old seat.new }
         ensures view { SeesWords seat.old.me.0 seat.new.me.0 }
         ensures shown { ShowsSample histogram at result seat.new.me.0 }
+        ensures behind { SamplesStandBehind seat.old.me.0 }
+        ensures once { NoRepeats seat.old.me.0.seen.chain }
     {
-        if self.load_published(seat, at, BLOCK_TYPE) != TYPE_SAMPLE {
+        if self.load_type(seat, at) != TYPE_SAMPLE {
             return None;
         }
         let of = self.load_published(seat, at, SAMPLE_HISTOGRAM);

@@ -1,13 +1,21 @@
 //! How a recorder finds the sample of a value of a sparse histogram, and makes one where there is none.
 
-ghost use Rattle.std.specs.Prelude.{◌≡◌, ◌+◌, ◌≤◌, false, MatchResult};
+ghost use Rattle.std.specs.Prelude.{◌≡◌, ◌+◌, ◌≤◌, false, if◌then◌else◌, MatchResult, Some};
+ghost use Rattle.std.specs.Int.{cast_unsigned, w64};
+ghost use Rattle.list_index.specs.Firsts.{first_of};
+ghost use Rattle.segment_machine.specs.Calls.{MayTurn};
+ghost use Rattle.live_segment.specs.Lists.Keyed.{sample_key};
 ghost use Rattle.segment_machine.specs.declared.actor.Known.{Known};
 ghost use Rattle.segment_machine.specs.Actor.{is_bound};
 ghost use Rattle.segment_machine.specs.Actor.{Sparse as KnowsSparse};
+ghost use Rattle.segment_promises.specs.Calls.{SamplesStandBehind};
+ghost use Rattle.segment_promises.specs.Values.{NoRepeats};
 ghost use Rattle.live_segment.specs.Names.Finding.{Meets, SeesWords};
 ghost use Rattle.live_segment.specs.Names.Searching.{HasSearched};
 ghost use Rattle.live_segment.specs.Counts.Sampling.{ShowsValue, WalksBehind, FindsSample, FoundEnd, HasMadeSample, HasNotMadeSample, HasSampleOf, LacksSampleOf};
 
+use crate::indexing::RecordIndex;
+use crate::record_keys::value_key;
 use crate::recorder::KnownHistogram;
 use crate::rule::{Announcement, Pass};
 use crate::segment::Segment;
@@ -24,8 +32,22 @@ pub(crate) enum SampleSearch {
     End(u64),
 }
 
+// Where a walk goes on for a sample that the index has not: at its place, where it has passed all that was met, or else at the record of the
+// histogram.
+fn start_behind(index: &RecordIndex, has_passed_all: bool, histogram: u64) -> u64
+    ensures { result ≡ (if has_passed_all then index.now.place.at else histogram) }
+{
+    if has_passed_all {
+        index.place.at
+    } else {
+        histogram
+    }
+}
+
 impl Segment {
     ghost use Rattle.bucket_ranges.specs.declared.spec.Spec.TheVariants.{Sparse};
+    ghost use Rattle.live_segment.specs.declared.indexing.KeyKind.TheVariants.{Sample as OfSample};
+    ghost use Rattle.live_segment.specs.Lists.Indexed.{IsIndexed};
     ghost use Rattle.live_segment.specs.Seated.{IsSeated};
     ghost use Rattle.live_segment.specs.Known.{known_view, KnowsRight};
     ghost use Rattle.live_segment.specs.Counts.Refusing.{MayGiveUp};
@@ -37,19 +59,22 @@ impl Segment {
     pub(crate) fn sample_of(
         &self,
         seat: &mut Pass,
+        index: &mut RecordIndex,
         histogram: &KnownHistogram,
         value: i32,
     ) -> Result<u64, Refusal>
         requires seat { IsSeated self.now seat.old }
+        requires indexed { IsIndexed OfSample self.now.setting.shape.size seat.old.me.0.seen index.old }
         requires free { is_bound seat.old.me.0.hand.place ≡ false }
         requires right { KnowsRight self.now.setting seat.old.me.0 histogram.now }
         requires sparse { histogram.now.spec ≡ Sparse }
         requires closes { MayGiveUp seat.old.me.0 }
         ensures same { IsSame seat.old seat.new }
+        ensures indexed { IsIndexed OfSample self.now.setting.shape.size seat.new.me.0.seen index.new }
         ensures outcome { MatchResult result (λ sample. HasSampleOf (known_view histogram.now) value sample seat.old.me.0 seat.new.me.0) (λ why. LacksSampleOf why (known_view histogram.now) value seat.old.me.0 seat.new.me.0) }
     {
         let record = histogram.reference;
-        let end = match self.find_sample(seat, record, record, value) {
+        let end = match self.search_sample(seat, index, histogram, value) {
             SampleSearch::Met(sample) => return Ok(sample),
             SampleSearch::End(at) => at,
         };
@@ -58,6 +83,62 @@ impl Segment {
             SampleSearch::Met(sample) => Ok(sample),
             SampleSearch::End(_) => unreachable!(),
         }
+    }
+
+    // The first sample of a value of a sparse histogram: by the index, and from its place on along the list.
+    fn search_sample(
+        &self,
+        seat: &mut Pass,
+        index: &mut RecordIndex,
+        histogram: &KnownHistogram,
+        value: i32,
+    ) -> SampleSearch
+        requires seat { IsSeated self.now seat.old }
+        requires free { MayTurn seat.old.me.0 }
+        requires right { KnowsRight self.now.setting seat.old.me.0 histogram.now }
+        requires indexed { IsIndexed OfSample self.now.setting.shape.size seat.old.me.0.seen index.old }
+        ensures same { IsSame seat.old seat.new }
+        ensures view { HasSearched seat.old.me.0 seat.new.me.0 }
+        ensures outcome { FindsSample histogram.now.reference value result seat.new.me.0 }
+        ensures ended { FoundEnd result seat.old.me.0.seen seat.new.me.0.seen }
+        ensures indexed { IsIndexed OfSample self.now.setting.shape.size seat.new.me.0.seen index.new }
+    {
+        let record = histogram.reference;
+        let key = value_key(record, value);
+        let has_passed_all = self.look_for(seat, index, key);
+        match index.firsts.first(key) {
+            None => {
+                let from = start_behind(index, has_passed_all, record);
+                self.find_sample(seat, from, record, value)
+            }
+            Some(at) => self.search_sample_at(seat, index, at, histogram, value),
+        }
+    }
+
+    // The first sample of a value of a sparse histogram, on from the first with the same key.
+    fn search_sample_at(
+        &self,
+        seat: &mut Pass,
+        index: &RecordIndex,
+        at: u64,
+        histogram: &KnownHistogram,
+        value: i32,
+    ) -> SampleSearch
+        requires seat { IsSeated self.now seat.old }
+        requires free { MayTurn seat.old.me.0 }
+        requires right { KnowsRight self.now.setting seat.old.me.0 histogram.now }
+        requires indexed { IsIndexed OfSample self.now.setting.shape.size seat.old.me.0.seen index.now }
+        requires first { first_of index.now.firsts (sample_key histogram.now.reference (cast_unsigned w64 value)) ≡ Some at }
+        ensures same { IsSame seat.old seat.new }
+        ensures view { HasSearched seat.old.me.0 seat.new.me.0 }
+        ensures outcome { FindsSample histogram.now.reference value result seat.new.me.0 }
+        ensures ended { FoundEnd result seat.old.me.0.seen seat.new.me.0.seen }
+    {
+        let record = histogram.reference;
+        if self.shows_value(seat, at, record, value) {
+            return SampleSearch::Met(at);
+        }
+        self.find_sample(seat, record, record, value)
     }
 
     // Makes a sample of a value of a sparse histogram, and puts it on the list.
@@ -118,6 +199,8 @@ impl Segment {
         ensures same { IsSame seat.old seat.new }
         ensures view { SeesWords seat.old.me.0 seat.new.me.0 }
         ensures shown { ShowsValue histogram value at result seat.new.me.0 }
+        ensures behind { SamplesStandBehind seat.old.me.0 }
+        ensures once { NoRepeats seat.old.me.0.seen.chain }
     {
         match self.shows_sample(seat, at, histogram) {
             Some(shown) => shown == value,

@@ -7,7 +7,7 @@ ghost use Rattle.list_index.specs.Keys.{key_of};
 ghost use Rattle.segment_image.specs.Shape.{Dimensions};
 ghost use Rattle.segment_machine.specs.Calls.{MayTurn};
 ghost use Rattle.live_segment.specs.Names.Finding.{IsAsked};
-ghost use Rattle.live_segment.specs.Names.Indexed.{IsNameKey};
+ghost use Rattle.live_segment.specs.Lists.Keyed.{IsNameKey};
 ghost use Rattle.live_segment.specs.Names.Searching.{FoundEnd, HasSearched, Searches};
 
 use crate::finding::Search;
@@ -40,7 +40,8 @@ fn key_of_name(asked: &Asked) -> u64
 }
 
 impl Segment {
-    ghost use Rattle.live_segment.specs.Names.Indexed.{IsIndexed};
+    ghost use Rattle.live_segment.specs.declared.indexing.KeyKind.TheVariants.{Name};
+    ghost use Rattle.live_segment.specs.Lists.Indexed.{IsIndexed};
     ghost use Rattle.live_segment.specs.Seated.{IsSeated};
     ghost use Rattle.live_segment.specs.Steps.{IsSame};
 
@@ -49,8 +50,8 @@ impl Segment {
         requires seat { IsSeated self.now seat.old }
         requires free { MayTurn seat.old.me.0 }
         requires asked { IsAsked self.now.setting.shape asked.now }
-        requires indexed { IsIndexed self.now.setting.shape.size seat.old.me.0.seen index.now }
-        requires first { (key : ℕ) × IsNameKey asked.now.name.items key × (first_of index.now.names key ≡ Some at) }
+        requires indexed { IsIndexed Name self.now.setting.shape.size seat.old.me.0.seen index.now }
+        requires first { (key : ℕ) × IsNameKey asked.now.name.items key × (first_of index.now.firsts key ≡ Some at) }
         ensures same { IsSame seat.old seat.new }
         ensures view { HasSearched seat.old.me.0 seat.new.me.0 }
         ensures outcome { Searches asked.now result seat.new.me.0 }
@@ -71,16 +72,16 @@ impl Segment {
         requires seat { IsSeated self.now seat.old }
         requires free { MayTurn seat.old.me.0 }
         requires asked { IsAsked self.now.setting.shape asked.now }
-        requires indexed { IsIndexed self.now.setting.shape.size seat.old.me.0.seen index.old }
+        requires indexed { IsIndexed Name self.now.setting.shape.size seat.old.me.0.seen index.old }
         ensures same { IsSame seat.old seat.new }
         ensures view { HasSearched seat.old.me.0 seat.new.me.0 }
         ensures outcome { Searches asked.now result seat.new.me.0 }
         ensures ended { FoundEnd result seat.old.me.0.seen seat.new.me.0.seen }
-        ensures indexed { IsIndexed self.now.setting.shape.size seat.new.me.0.seen index.new }
+        ensures indexed { IsIndexed Name self.now.setting.shape.size seat.new.me.0.seen index.new }
     {
         let key = key_of_name(asked);
         self.look_for(seat, index, key);
-        match index.names.first(key) {
+        match index.firsts.first(key) {
             None => self.find(seat, index.place.at, asked),
             Some(at) => self.search_at(seat, index, at, asked),
         }

@@ -40,12 +40,13 @@ fn opening_words(alloc: Global, setting: &Setting) -> Result<Vec<u64>, AllocErro
     requires few { setting.now.cursors ≤ 8 }
     ensures { IfOk result (λ words. words.items ≡ 0 ∷ memory (new_state setting.now.shape setting.now.version setting.now.id setting.now.cursors)) }
 {
-    let size = setting.shape.size();
-    let mut words = vec![in alloc;
+    let size = setting.shape.size() as usize;
+    let mut words = Vec::with_capacity(alloc, size + 1 + setting.cursors)?;
+    words.extend_from_slice(&[
         0,
         SEGMENT_COOKIE,
         setting.version,
-        size,
+        setting.shape.size(),
         setting.shape.page(),
         setting.id,
         STATE_READY,
@@ -59,9 +60,9 @@ fn opening_words(alloc: Global, setting: &Setting) -> Result<Vec<u64>, AllocErro
         QUEUE_COOKIE,
         TYPE_PURGED,
         QUEUE,
-    ]?;
-    words.resize(size as usize + 1, 0)?;
-    words.resize(size as usize + 1 + setting.cursors, QUEUE)?;
+    ])?;
+    words.resize(size + 1, 0)?;
+    words.resize(size + 1 + setting.cursors, QUEUE)?;
     Ok(words)
 }
 
@@ -182,6 +183,13 @@ impl Segment {
             image: opening.words,
         };
         Ok((segment, Opener::new(alloc, seat, units)))
+    }
+
+    /// How many words it has: as many as its image.
+    pub fn size(&self) -> u64
+        ensures { result ≡ self.now.setting.shape.size }
+    {
+        self.setting.shape.size()
     }
 
     /// Ends the segment, which no recorder holds any more, and gives its image. The opener was made with it. An image of version 2 that nobody

@@ -15,7 +15,8 @@ use crate::segment::Segment;
 use segment_calls::{Asked, Refusal};
 
 impl Segment {
-    ghost use Rattle.live_segment.specs.Names.Indexed.{IsIndexed};
+    ghost use Rattle.live_segment.specs.declared.indexing.KeyKind.TheVariants.{Name};
+    ghost use Rattle.live_segment.specs.Lists.Indexed.{IsIndexed};
     ghost use Rattle.live_segment.specs.Seated.{IsSeated};
     ghost use Rattle.live_segment.specs.Steps.{IsSame};
 
@@ -30,12 +31,12 @@ impl Segment {
         said: &Announcement,
     ) -> Result<u64, Refusal>
         requires seat { IsSeated self.now seat.old }
-        requires indexed { IsIndexed self.now.setting.shape.size seat.old.me.0.seen index.old }
+        requires indexed { IsIndexed Name self.now.setting.shape.size seat.old.me.0.seen index.old }
         requires rests { MayTurn seat.old.me.0 × (seat.old.me.0.entries.running ≡ []) × (seat.old.me.0.answers.owed ≡ []) }
         requires asked { IsAsked self.now.setting.shape asked.now }
         requires says { SaysAsked asked.now said.now }
         ensures same { IsSame seat.old seat.new }
-        ensures indexed { IsIndexed self.now.setting.shape.size seat.new.me.0.seen index.new }
+        ensures indexed { IsIndexed Name self.now.setting.shape.size seat.new.me.0.seen index.new }
         ensures outcome { LooksUp asked.now seat.old.me.0 result seat.new.me.0 }
         ensures claims { MatchResult result (λ _. MakesFor asked.now seat.old.me.0 seat.new.me.0) (λ why. why ≡ OtherSpec → MakesFor asked.now seat.old.me.0 seat.new.me.0) }
     {
@@ -64,12 +65,12 @@ impl Segment {
         said: &Announcement,
     ) -> Result<u64, Refusal>
         requires seat { IsSeated self.now seat.old }
-        requires indexed { IsIndexed self.now.setting.shape.size seat.old.me.0.seen index.old }
+        requires indexed { IsIndexed Name self.now.setting.shape.size seat.old.me.0.seen index.old }
         requires rests { MayTurn seat.old.me.0 × (seat.old.me.0.entries.running ≡ []) × (seat.old.me.0.answers.owed ≡ []) }
         requires asked { IsAsked self.now.setting.shape asked.now }
         requires says { SaysAsked asked.now said.now }
         ensures same { IsSame seat.old seat.new }
-        ensures indexed { IsIndexed self.now.setting.shape.size seat.new.me.0.seen index.new }
+        ensures indexed { IsIndexed Name self.now.setting.shape.size seat.new.me.0.seen index.new }
         ensures outcome { Settles asked.now seat.old.me.0 result seat.new.me.0 }
         ensures claims { MatchResult result (λ _. MakesFor asked.now seat.old.me.0 seat.new.me.0) (λ why. why ≡ OtherSpec → MakesFor asked.now seat.old.me.0 seat.new.me.0) }
     {
@@ -96,11 +97,11 @@ impl Segment {
         asked: Asked,
     ) -> Result<KnownHistogram, Refusal>
         requires seat { IsSeated self.now seat.old }
-        requires indexed { IsIndexed self.now.setting.shape.size seat.old.me.0.seen index.old }
+        requires indexed { IsIndexed Name self.now.setting.shape.size seat.old.me.0.seen index.old }
         requires rests { MayTurn seat.old.me.0 × (seat.old.me.0.entries.running ≡ []) × (seat.old.me.0.answers.owed ≡ []) }
         requires asked { IsAsked self.now.setting.shape asked }
         ensures same { IsSame seat.old seat.new }
-        ensures indexed { IsIndexed self.now.setting.shape.size seat.new.me.0.seen index.new }
+        ensures indexed { IsIndexed Name self.now.setting.shape.size seat.new.me.0.seen index.new }
         ensures outcome { IsAnnouncedOf asked seat.old.me.0 result seat.new.me.0 }
         ensures claims { MatchResult result (λ _. MakesFor asked seat.old.me.0 seat.new.me.0) (λ why. why ≡ OtherSpec → MakesFor asked seat.old.me.0 seat.new.me.0) }
     {

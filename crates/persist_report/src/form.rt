@@ -4,7 +4,7 @@ ghost use Rattle.std.specs.Prelude.{◌≡◌, false};
 ghost use Rattle.segment_image.specs.Watched.{has_failed};
 
 use persist_report_core::{CliFault, export, report};
-use reading_shows::{Choice, Style, show};
+use reading_shows::{Choice, Style, show, show_page};
 use segment_image::Watched;
 use std::alloc::Global;
 use std::io::{Read, Write};
@@ -18,6 +18,8 @@ pub enum Form<'a> {
     Export { prefix: &'a str },
     /// The chosen histograms as a text for people, drawn so.
     Show { style: Style, choice: Choice<'a> },
+    /// The chosen histograms as a web page, with all values of sparse ones or those that have the most units.
+    Page { shows_all: bool, choice: Choice<'a> },
 }
 
 /// Writes it, of the image that the reader has left.
@@ -34,5 +36,6 @@ pub fn write_form<R: Read, W: Write>(
         Form::Report => report(alloc, reader, writer),
         Form::Export { prefix } => export(alloc, reader, writer, prefix.as_bytes()),
         Form::Show { style, choice } => show(alloc, reader, writer, style, choice),
+        Form::Page { shows_all, choice } => show_page(alloc, reader, writer, shows_all, choice),
     }
 }

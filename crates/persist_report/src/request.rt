@@ -25,12 +25,14 @@ pub enum Request<'a> {
         prefix: &'a str,
         explains: bool,
     },
-    /// Write the histograms of the image for people: those of the names, those whose name has the part, or all.
+    /// Write the histograms of the image for people, as a text or as a web page: those of the names, those whose name has the part,
+    /// or all.
     Show {
         file: Option<&'a str>,
         names: Vec<&'a str>,
         part: Option<&'a str>,
         style: Style,
+        is_page: bool,
         explains: bool,
     },
     /// Run a script by workers, and write the image to a file and its report to standard output.
@@ -136,12 +138,18 @@ fn show_command<'a>(alloc: Global) -> Result<Command<'a>, AllocError> {
         .value_name("PART")
         .conflicts_with("NAME")?
         .help("Shows the histograms whose name has this part");
+    let html = Arg::new(alloc, "html")
+        .long("html")
+        .action(ArgAction::SetTrue)
+        .conflicts_with_all(&["width", "ascii"])?
+        .help("Writes a web page, which needs nothing else; it takes no --width and no --ascii");
     let command = Command::new(alloc, "show")
         .about("Writes the histograms of an image for people: numbers, quantiles and bars")
         .after_help("Example:\n  persist_report show examples/three_samples.img A --width 40")
         .arg(image(alloc))?
         .arg(names)?
-        .arg(part)?;
+        .arg(part)?
+        .arg(html)?;
     style_options(alloc, command)?.arg(explain_flag(alloc))
 }
 
@@ -322,6 +330,7 @@ fn show_request<'a>(
             is_ascii: show.get_flag("ascii"),
             shows_all: show.get_flag("all"),
         },
+        is_page: show.get_flag("html"),
         explains: show.get_flag("explain"),
     }))
 }

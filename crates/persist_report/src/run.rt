@@ -87,6 +87,18 @@ fn choice_of<'a>(names: &'a [&'a str], part: Option<&'a str>) -> Choice<'a> {
     }
 }
 
+// How histograms are written for people.
+fn form_of<'a>(style: Style, is_page: bool, choice: Choice<'a>) -> Form<'a> {
+    if is_page {
+        Form::Page {
+            shows_all: style.shows_all,
+            choice,
+        }
+    } else {
+        Form::Show { style, choice }
+    }
+}
+
 fn meet<R: Files + Input + Print + RandomSource + AllocGlobal + Threads + Wait>(
     rt: &R,
     request: Request<'_>,
@@ -107,12 +119,13 @@ fn meet<R: Files + Input + Print + RandomSource + AllocGlobal + Threads + Wait>(
             names,
             part,
             style,
+            is_page,
             explains,
         } => {
             let choice = choice_of(names.as_slice(), part);
             write_file(
                 rt,
-                Form::Show { style, choice },
+                form_of(style, is_page, choice),
                 file,
                 explains || is_terminal(rt),
             )

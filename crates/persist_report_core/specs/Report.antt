@@ -14,16 +14,6 @@ pub record AreWordsOf (bytes words : List ℕ) : Type 0 where
   pub fit : All (λ word. word < 2 ^ 64) words
   pub bytes_are : bytes_of_words words ≡ bytes
 
--- the text is that of the reading of the words that the bytes are
-pub record IsReportOf (bytes : List ℕ) (text : List ℕ) : Type 0 where
-  pub words : List ℕ
-  pub words_are : AreWordsOf bytes words
-  pub head : SegmentHead
-  pub head_is : header_of words ≡ Ok head
-  pub reading : Reading
-  pub reading_is : IsReading words head reading
-  pub text_is : IsTextOf reading text
-
 -- this is the reading of the words that the bytes are
 pub record IsReadingOf (bytes : List ℕ) (reading : Reading) : Type 0 where
   pub words : List ℕ
@@ -32,11 +22,19 @@ pub record IsReadingOf (bytes : List ℕ) (reading : Reading) : Type 0 where
   pub head_is : header_of words ≡ Ok head
   pub reading_is : IsReading words head reading
 
--- the text is that of this reading for what scrapes metrics; their names begin so
-pub record IsExportedFrom (prefix bytes text : List ℕ) : Type 0 where
+-- the text is such a one of the reading of the words that the bytes are
+pub record IsOfBytes (IsOf : Reading → List ℕ → Type 0) (bytes text : List ℕ) : Type 0 where
   pub reading : Reading
   pub reading_is : IsReadingOf bytes reading
-  pub text_is : IsExportOf prefix reading text
+  pub text_is : IsOf reading text
+
+-- the text is the report of that reading
+abbrev pub IsReportOf : List ℕ → List ℕ → Type 0
+IsReportOf bytes text = IsOfBytes IsTextOf bytes text
+
+-- the text is that of that reading for what scrapes metrics; their names begin so
+abbrev pub IsExportedFrom : List ℕ → List ℕ → List ℕ → Type 0
+IsExportedFrom prefix bytes text = IsOfBytes (IsExportOf prefix) bytes text
 
 -- A fault has its cause in the bytes of the image. Devices that fail and want of memory have none there. The faults of
 -- scripts, of merges, of workers and of images that are recorded into again come of no report.

@@ -22,7 +22,7 @@ pub use fault::CliFault;
 pub use fields::{read_spec, three_from};
 pub use number::{long_number, signed_long_number, signed_number, unsigned_number};
 pub use reading_texts::text_of;
-pub use reporting::{report, report_of};
+pub use reporting::{MAX_WORDS, reading_of, report, report_of, write_out};
 pub use rows::read_rows;
 pub use script::{
     CallKind, Script, ScriptCall, ScriptFault, ScriptHist, read_script, read_script_for,

@@ -15,12 +15,13 @@ use segment_image::{Watched, read_words};
 use std::alloc::Global;
 use std::io::{Read, Write};
 
-// An image has at most so many words.
-pub(crate) const MAX_WORDS: usize = 1_048_576;
+/// An image has at most so many words.
+pub const MAX_WORDS: usize = 1_048_576;
 
-// What the image that the words are reads as. `Image` with the first fault of its header, and `NoMemory` where there is none;
-// never another.
-pub(crate) fn reading_of(alloc: Global, words: &[u64]) -> Result<Reading, CliFault>
+/// What the image that the words are reads as.
+///
+/// `Image` with the first fault of the image's header, and `NoMemory` where there is none; never another.
+pub fn reading_of(alloc: Global, words: &[u64]) -> Result<Reading, CliFault>
     ensures reading { IfOk result (λ reading. IsReadingOf (bytes_of_words words.now) (reading_view reading)) }
     ensures readable { IfOk result (λ reading. All IsReadable (map histogram_view reading.hists.items)) }
     ensures cause { IfErr result (λ fault. IsCausedBy (bytes_of_words words.now) fault) }
@@ -43,8 +44,8 @@ pub fn report_of(alloc: Global, words: &[u64]) -> Result<Vec<u8>, CliFault>
     Ok(text_of(alloc, &reading)?)
 }
 
-// Writes a text out to the device itself.
-pub(crate) fn write_out<W: Write>(writer: &mut Watched<W>, text: &[u8]) -> Result<(), CliFault>
+/// Writes a text out to the device itself, and flushes it. `Write` where the write or the flush fails.
+pub fn write_out<W: Write>(writer: &mut Watched<W>, text: &[u8]) -> Result<(), CliFault>
     requires { has_failed writer.old ≡ false }
     ensures ok { OnOk result (Appends (W.contents (watched_inner writer.old)) (W.contents (watched_inner writer.new)) text.now) }
     ensures err { IfErr result (λ fault. fault ≡ CliFault.Write) }

@@ -1,4 +1,5 @@
 pub mod Answering
-pub mod Order
+pub mod Inert
+pub mod Numbered
 pub mod Steps
 pub mod Totals

@@ -7,4 +7,8 @@ pub mod Bars
 pub mod Choice
 pub mod Most
 pub mod Showing
+pub mod Escapes
+pub mod Sheet
+pub mod PageRows
+pub mod Page
 pub mod Writing

@@ -49,11 +49,11 @@ quantile_line sparse total rows =
     ∷ codes ", 90%: " ∷ range_of_found sparse (quantile total rows 90)
     ∷ codes ", 99%: " ∷ range_of_found sparse (quantile total rows 99) ∷ codes "\n" ∷ [])
 
--- the lines of the name, and of the kind, the units, the sum and the mean
-abbrev pub name_lines : Histogram → List ℕ
-name_lines hist =
+-- the line of the kind, the units, the sum and the mean
+abbrev pub number_line : Histogram → List ℕ
+number_line hist =
     joined (
-    hist.name ∷ codes "\n  " ∷ kind_word hist.spec ∷ codes ", units " ∷ decimal (units_of hist) ∷ codes ", sum "
+    codes "  " ∷ kind_word hist.spec ∷ codes ", units " ∷ decimal (units_of hist) ∷ codes ", sum "
     ∷ signed_decimal hist.sum ∷ codes ", mean " ∷ mean hist.sum (units_of hist) ∷ codes "\n" ∷ [])
 
 -- the units of a histogram that no delta has taken
@@ -68,6 +68,11 @@ left_text units sum =
 -- the line of what no delta has taken
 abbrev pub left_line : Histogram → List ℕ
 left_line hist = left_text (left_of hist) (hist.sum -ℤ hist.sum_mark)
+
+-- the lines of all these numbers
+abbrev pub number_lines : Histogram → List ℕ
+number_lines hist =
+    number_line hist ++ quantile_line (is_sparse hist.spec) (units_of hist) (rows_of hist) ++ left_line hist
 
 -- ---- the lines of its rows
 
@@ -84,22 +89,22 @@ abbrev pub begins_run : List HistRow → ℕ → Bool
 begins_run rows i = (i == 0) || not (units_at rows (i - 1) == 0)
 
 -- the line of a row that has units: its values, its bar, its units, their percent, and the percent up to it
-abbrev pub unit_line : Frame → HistRow → List ℕ
-unit_line frame row =
+abbrev pub unit_line : Style → Frame → HistRow → List ℕ
+unit_line style frame row =
     joined (
-    at_right 24 (range_text frame.is_sparse row) ∷ codes " " ∷ bar frame.style row.units frame.most
+    at_right 24 (range_text frame.is_sparse row) ∷ codes " " ∷ bar style row.units frame.most
     ∷ at_right 11 (decimal row.units) ∷ at_right 8 (percent row.units frame.total)
     ∷ at_right 8 (percent row.up_to frame.total) ∷ codes "\n" ∷ [])
 
 -- the line of row `i`; a run of rows without units has one line together
-abbrev pub line_at : Frame → List HistRow → ℕ → List ℕ
-line_at frame rows i =
+abbrev pub line_at : Style → Frame → List HistRow → ℕ → List ℕ
+line_at style frame rows i =
     if units_at rows i == 0 then (if begins_run rows i then at_right 24 (codes "...") ++ codes "\n" else [])
-    else unit_line frame (get_or rows i (record { low = pos 0; high = pos 0; units = 0; up_to = 0 }))
+    else unit_line style frame (get_or rows i (record { low = pos 0; high = pos 0; units = 0; up_to = 0 }))
 
 -- the lines of rows
-abbrev pub row_lines : Frame → List HistRow → List ℕ
-row_lines frame rows = flat_map (line_at frame rows) (range_with_len 0 (length rows))
+abbrev pub row_lines : Style → Frame → List HistRow → List ℕ
+row_lines style frame rows = flat_map (line_at style frame rows) (range_with_len 0 (length rows))
 
 -- the line of the rows that are left out: how many they are, and their units together
 abbrev pub left_out_line : List HistRow → List ℕ
@@ -110,26 +115,25 @@ left_out_line rows =
     ∷ decimal (sum_by (λ row. row.units) rows) ∷ codes " units together.\n" ∷ [])
 
 -- what the lines of a histogram have in common
-abbrev pub frame_of : Style → Histogram → Frame
-frame_of style hist = record {
-  style = style;
+abbrev pub frame_of : Histogram → Frame
+frame_of hist = record {
   is_sparse = is_sparse hist.spec;
   total = units_of hist;
   most = most_of (rows_of hist);
 }
 
--- whether all rows of a histogram may have lines: those of a sparse one only where the style says so
-abbrev pub shows_all_of : Style → Histogram → Bool
-shows_all_of style hist = style.shows_all || not (is_sparse hist.spec)
+-- whether all rows of a histogram may have lines: those of a sparse one only where all values are to
+abbrev pub shows_all_of : Bool → Histogram → Bool
+shows_all_of all hist = all || not (is_sparse hist.spec)
 
 -- a histogram
 abbrev pub histogram_text : Style → Histogram → List ℕ
 histogram_text style hist =
-    name_lines hist
-    ++ quantile_line (is_sparse hist.spec) (units_of hist) (rows_of hist)
-    ++ left_line hist
-    ++ row_lines (frame_of style hist) (shown_rows (shows_all_of style hist) (rows_of hist))
-    ++ left_out_line (left_out_rows (shows_all_of style hist) (rows_of hist))
+    hist.name
+    ++ codes "\n"
+    ++ number_lines hist
+    ++ row_lines style (frame_of hist) (shown_rows (shows_all_of style.shows_all hist) (rows_of hist))
+    ++ left_out_line (left_out_rows (shows_all_of style.shows_all hist) (rows_of hist))
     ++ codes "\n"
 
 -- ---- the end
@@ -152,6 +156,15 @@ abbrev pub none_sentence : List Histogram → List ℕ
 none_sentence [] = codes "No histogram is shown.\n"
 none_sentence (hist ∷ hists) = []
 
+-- all sentences behind these histograms of a reading
+abbrev pub ending : List Histogram → Reading → List ℕ
+ending hists reading =
+    none_sentence hists
+    ++ flag_sentence reading.corrupt (codes "The segment is marked as corrupt.\n")
+    ++ flag_sentence reading.full (codes "The segment was full: an allocation did not fit.\n")
+    ++ flat_map bad_sentence reading.bad
+    ++ stopped_sentence reading.stopped
+
 -- ---- the text
 
 -- the chosen histograms of a reading, ascending by the bytes of their names
@@ -161,13 +174,7 @@ pub record AreShown (choice : Choice) (hists : List Histogram) (reading : Readin
 
 -- the text of a reading, of which these histograms are shown in this order
 abbrev pub text_in_order : Style → List Histogram → Reading → List ℕ
-text_in_order style hists reading =
-    flat_map (histogram_text style) hists
-    ++ none_sentence hists
-    ++ flag_sentence reading.corrupt (codes "The segment is marked as corrupt.\n")
-    ++ flag_sentence reading.full (codes "The segment was full: an allocation did not fit.\n")
-    ++ flat_map bad_sentence reading.bad
-    ++ stopped_sentence reading.stopped
+text_in_order style hists reading = flat_map (histogram_text style) hists ++ ending hists reading
 
 -- the text of a reading
 abbrev pub IsShowOf : Style → Choice → Reading → List ℕ → Type 0

@@ -9,7 +9,7 @@ use crate::style::Style;
 use std::alloc::{AllocError, Global};
 
 // How many of `marks` marks the bar of so many units has.
-fn marks(units: u64, most: u64, marks: u32) -> u32
+pub(crate) fn marks(units: u64, most: u64, marks: u32) -> u32
     ensures { result ≡ marks_of units most marks }
 {
     let all = u128::from(marks);

@@ -1,20 +1,9 @@
 //! Texts that stand in columns.
 
-ghost use Rattle.std.specs.Prelude.{◌≡◌, ◌++◌, map, IfOk, OnOk};
-ghost use Rattle.reading_texts.specs.Exporting.{joined};
+ghost use Rattle.std.specs.Prelude.{◌≡◌, ◌++◌, IfOk, OnOk};
 ghost use Rattle.reading_shows.specs.Columns.{times, at_right as at_right_of};
 
 use std::alloc::{AllocError, Global};
-
-// Puts parts behind a text.
-pub(crate) fn put_parts(text: &mut Vec<u8>, parts: &[&[u8]]) -> Result<(), AllocError>
-    ensures { OnOk result (text.new.items ≡ text.old.items ++ joined (map (λ part. part.now) parts.now)) }
-{
-    for part in parts {
-        text.extend_from_slice(part)?;
-    }
-    Ok(())
-}
 
 // Puts a piece behind a text so many times.
 pub(crate) fn put_times(text: &mut Vec<u8>, count: usize, piece: &[u8]) -> Result<(), AllocError>

@@ -1,18 +1,27 @@
-//! The sentences at the end of the text.
+//! The sentences behind the histograms.
 
 ghost use Rattle.std.specs.Prelude.{◌≡◌, ◌++◌, map, OnOk};
 ghost use Rattle.std.specs.List.{flat_map};
-ghost use Rattle.image_reader.specs.Views.{bad_view};
-ghost use Rattle.reading_shows.specs.Showing.{flag_sentence, bad_sentence, stopped_sentence};
+ghost use Rattle.image_reader.specs.Views.{bad_view, histogram_view, reading_view};
+ghost use Rattle.reading_shows.specs.Showing.{none_sentence, flag_sentence, bad_sentence, stopped_sentence, ending};
 
-use crate::columns::put_parts;
-use crate::words::{image_fault_word, record_fault_word};
-use image_reader::BadRecord;
+use image_reader::{BadRecord, HistReading, Reading};
+use reading_texts::{image_fault_word, put_parts, record_fault_word};
 use segment_image::ImageFault;
 use std::alloc::{AllocError, Global};
 
+// Puts the sentence of a choice that no histogram meets.
+fn put_none(text: &mut Vec<u8>, hists: &[&HistReading]) -> Result<(), AllocError>
+    ensures { OnOk result (text.new.items ≡ text.old.items ++ none_sentence (map (λ hist. histogram_view hist.now) hists.now)) }
+{
+    if hists.is_empty() {
+        text.extend_from_slice(b"No histogram is shown.\n")?;
+    }
+    Ok(())
+}
+
 // Puts the sentence of a flag that is set.
-pub(crate) fn put_flag(text: &mut Vec<u8>, flag: bool, sentence: &[u8]) -> Result<(), AllocError>
+fn put_flag(text: &mut Vec<u8>, flag: bool, sentence: &[u8]) -> Result<(), AllocError>
     ensures { OnOk result (text.new.items ≡ text.old.items ++ flag_sentence flag sentence.now) }
 {
     if flag {
@@ -39,11 +48,7 @@ fn put_bad(alloc: Global, text: &mut Vec<u8>, bad: &BadRecord) -> Result<(), All
 }
 
 // Puts the sentences of all bad records.
-pub(crate) fn put_all_bad(
-    alloc: Global,
-    text: &mut Vec<u8>,
-    all: &[BadRecord],
-) -> Result<(), AllocError>
+fn put_all_bad(alloc: Global, text: &mut Vec<u8>, all: &[BadRecord]) -> Result<(), AllocError>
     ensures { OnOk result (text.new.items ≡ text.old.items ++ flat_map bad_sentence (map bad_view all.now)) }
 {
     for bad in all {
@@ -53,7 +58,7 @@ pub(crate) fn put_all_bad(
 }
 
 // Puts the sentence of why the list stopped.
-pub(crate) fn put_stopped(text: &mut Vec<u8>, stopped: Option<ImageFault>) -> Result<(), AllocError>
+fn put_stopped(text: &mut Vec<u8>, stopped: Option<ImageFault>) -> Result<(), AllocError>
     ensures { OnOk result (text.new.items ≡ text.old.items ++ stopped_sentence stopped) }
 {
     if let Some(fault) = stopped {
@@ -66,5 +71,30 @@ pub(crate) fn put_stopped(text: &mut Vec<u8>, stopped: Option<ImageFault>) -> Re
             ],
         )?;
     }
+    Ok(())
+}
+
+// Puts all sentences behind these histograms of a reading.
+pub(crate) fn put_ending(
+    alloc: Global,
+    text: &mut Vec<u8>,
+    hists: &[&HistReading],
+    reading: &Reading,
+) -> Result<(), AllocError>
+    ensures { OnOk result (text.new.items ≡ text.old.items ++ ending (map (λ hist. histogram_view hist.now) hists.now) (reading_view reading.now)) }
+{
+    put_none(text, hists)?;
+    put_flag(
+        text,
+        reading.corrupt,
+        b"The segment is marked as corrupt.\n",
+    )?;
+    put_flag(
+        text,
+        reading.full,
+        b"The segment was full: an allocation did not fit.\n",
+    )?;
+    put_all_bad(alloc, text, reading.bad.as_slice())?;
+    put_stopped(text, reading.stopped)?;
     Ok(())
 }

@@ -1,16 +1,15 @@
-//! What stands above the lines of a histogram: its name, its numbers and its quantiles.
+//! What stands above the rows of a histogram: its numbers and its quantiles.
 
 ghost use Rattle.std.specs.Prelude.{◌≡◌, ◌<◌, ◌++◌, ◌-◌, ◌-ℤ◌, get_or, IfOk, OnOk};
 ghost use Rattle.std.specs.List.{find};
 ghost use Rattle.image_reader.specs.Views.{histogram_view};
 ghost use Rattle.image_reader.specs.Readable.{IsReadable};
-ghost use Rattle.reading_shows.specs.Showing.{range_text as range_text_of, reaches as reaches_of, quantile as quantile_of, range_of_found as range_of_found_of, quantile_line, name_lines, left_of, left_text, left_line};
+ghost use Rattle.reading_texts.specs.Rows.{rows_of as rows_of_histogram};
+ghost use Rattle.reading_shows.specs.Showing.{range_text as range_text_of, reaches as reaches_of, quantile as quantile_of, range_of_found as range_of_found_of, quantile_line, number_line, number_lines, left_of, left_text, left_line};
 
-use crate::columns::put_parts;
 use crate::shares::mean;
-use crate::words::kind_word;
 use image_reader::HistReading;
-use reading_texts::{HistRow, units};
+use reading_texts::{HistRow, is_sparse, kind_word, put_parts, units};
 use std::alloc::{AllocError, Global};
 
 // The values of a row.
@@ -82,7 +81,7 @@ fn quantile_range(
 }
 
 // Puts the line of the quantiles.
-pub(crate) fn put_quantiles(
+fn put_quantiles(
     alloc: Global,
     text: &mut Vec<u8>,
     is_sparse: bool,
@@ -108,14 +107,10 @@ pub(crate) fn put_quantiles(
     )
 }
 
-// Puts the lines of the name, and of the kind, the units, the sum and the mean.
-pub(crate) fn put_name(
-    alloc: Global,
-    text: &mut Vec<u8>,
-    hist: &HistReading,
-) -> Result<(), AllocError>
+// Puts the line of the kind, the units, the sum and the mean.
+fn put_number_line(alloc: Global, text: &mut Vec<u8>, hist: &HistReading) -> Result<(), AllocError>
     requires { IsReadable (histogram_view hist.now) }
-    ensures { OnOk result (text.new.items ≡ text.old.items ++ name_lines (histogram_view hist.now)) }
+    ensures { OnOk result (text.new.items ≡ text.old.items ++ number_line (histogram_view hist.now)) }
 {
     let units = units(hist);
     let mean = mean(alloc, hist.sum, units)?;
@@ -124,8 +119,7 @@ pub(crate) fn put_name(
     put_parts(
         text,
         &[
-            hist.name.as_slice(),
-            b"\n  ",
+            b"  ",
             kind_word(&hist.spec),
             b", units ",
             units.as_bytes(),
@@ -187,13 +181,25 @@ fn put_left_text(alloc: Global, text: &mut Vec<u8>, units: u64, sum: i128) -> Re
 }
 
 // Puts the line of what no delta has taken.
-pub(crate) fn put_left(
-    alloc: Global,
-    text: &mut Vec<u8>,
-    hist: &HistReading,
-) -> Result<(), AllocError>
+fn put_left(alloc: Global, text: &mut Vec<u8>, hist: &HistReading) -> Result<(), AllocError>
     requires { IsReadable (histogram_view hist.now) }
     ensures { OnOk result (text.new.items ≡ text.old.items ++ left_line (histogram_view hist.now)) }
 {
     put_left_text(alloc, text, left(hist), sum_left(hist.sum, hist.sum_mark))
+}
+
+// Puts the lines of all numbers of a histogram, which has these rows.
+pub(crate) fn put_numbers(
+    alloc: Global,
+    text: &mut Vec<u8>,
+    hist: &HistReading,
+    rows: &[HistRow],
+) -> Result<(), AllocError>
+    requires readable { IsReadable (histogram_view hist.now) }
+    requires rows { rows.now ≡ rows_of_histogram (histogram_view hist.now) }
+    ensures { OnOk result (text.new.items ≡ text.old.items ++ number_lines (histogram_view hist.now)) }
+{
+    put_number_line(alloc, text, hist)?;
+    put_quantiles(alloc, text, is_sparse(&hist.spec), units(hist), rows)?;
+    put_left(alloc, text, hist)
 }

@@ -1,24 +1,28 @@
-//! The histograms of a reading as a text for people: numbers, quantiles and bars.
+//! The histograms of a reading for people, as a text or as a web page: numbers, quantiles and bars.
 //!
-//! The text is defined in `specs/Showing.antt`, over the rows that every text of a reading is made of. All numbers in it
-//! come from whole-number arithmetic, which `specs/Shares.antt` defines with its rounding. It is composed whole and only
-//! then written, so that nothing is written but for a writer that fails.
+//! The text is defined in `specs/Showing.antt`, and the page in `specs/Page.antt`, over the rows that every text of a reading is
+//! made of. All numbers in them come from whole-number arithmetic, which `specs/Shares.antt` defines with its rounding. Each is
+//! composed whole and only then written, so that nothing is written but for a writer that fails.
 #![tactic(auto)]
 
 mod bars;
 mod choice;
 mod columns;
 mod ending;
+mod escapes;
 mod heading;
 mod lines;
 mod most;
+mod page;
+mod page_rows;
 mod shares;
+mod sheet;
 mod showing;
 mod style;
-mod words;
 mod writing;
 
 pub use choice::Choice;
+pub use page::page_text;
 pub use showing::show_text;
 pub use style::Style;
-pub use writing::{show, show_of};
+pub use writing::{page_of, show, show_of, show_page};

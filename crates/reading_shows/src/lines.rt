@@ -4,11 +4,11 @@ ghost use Rattle.std.specs.Prelude.{◌≡◌, ◌<◌, ◌^◌, ◌++◌, lengt
 ghost use Rattle.reading_shows.specs.Showing.{most_of, begins_run as begins_run_of, unit_line, line_at, row_lines, left_out_line};
 
 use crate::bars::bar;
-use crate::columns::{at_right, put_parts};
+use crate::columns::at_right;
 use crate::heading::range_text;
 use crate::shares::percent;
-use crate::style::Frame;
-use reading_texts::HistRow;
+use crate::style::{Frame, Style};
+use reading_texts::{HistRow, put_parts};
 use std::alloc::{AllocError, Global};
 
 // The most units that a row has.
@@ -23,7 +23,7 @@ pub(crate) fn most(rows: &[HistRow]) -> u64
 }
 
 // Whether row `i` is the first of its run, where it has no units.
-fn begins_run(rows: &[HistRow], i: usize) -> bool
+pub(crate) fn begins_run(rows: &[HistRow], i: usize) -> bool
     requires { i < length rows.now }
     ensures { result ≡ begins_run_of rows.now i }
 {
@@ -34,14 +34,15 @@ fn begins_run(rows: &[HistRow], i: usize) -> bool
 fn put_units(
     alloc: Global,
     text: &mut Vec<u8>,
+    style: Style,
     frame: Frame,
     row: &HistRow,
 ) -> Result<(), AllocError>
-    ensures { OnOk result (text.new.items ≡ text.old.items ++ unit_line frame row.now) }
+    ensures { OnOk result (text.new.items ≡ text.old.items ++ unit_line style frame row.now) }
 {
     let range = range_text(alloc, frame.is_sparse, row)?;
     let range = at_right(alloc, 24, range.as_slice())?;
-    let bar = bar(alloc, frame.style, row.units, frame.most)?;
+    let bar = bar(alloc, style, row.units, frame.most)?;
     let units = row.units.to_string(alloc)?;
     let units = at_right(alloc, 11, units.as_bytes())?;
     let share = percent(alloc, row.units, frame.total)?;
@@ -66,15 +67,16 @@ fn put_units(
 fn put_row(
     alloc: Global,
     text: &mut Vec<u8>,
+    style: Style,
     frame: Frame,
     rows: &[HistRow],
     i: usize,
 ) -> Result<(), AllocError>
     requires { i < length rows.now }
-    ensures { OnOk result (text.new.items ≡ text.old.items ++ line_at frame rows.now i) }
+    ensures { OnOk result (text.new.items ≡ text.old.items ++ line_at style frame rows.now i) }
 {
     if rows[i].units != 0 {
-        return put_units(alloc, text, frame, &rows[i]);
+        return put_units(alloc, text, style, frame, &rows[i]);
     }
     if begins_run(rows, i) {
         let dots = at_right(alloc, 24, b"...")?;
@@ -87,13 +89,14 @@ fn put_row(
 pub(crate) fn put_rows(
     alloc: Global,
     text: &mut Vec<u8>,
+    style: Style,
     frame: Frame,
     rows: &[HistRow],
 ) -> Result<(), AllocError>
-    ensures { OnOk result (text.new.items ≡ text.old.items ++ row_lines frame rows.now) }
+    ensures { OnOk result (text.new.items ≡ text.old.items ++ row_lines style frame rows.now) }
 {
     for i in 0..rows.len() {
-        put_row(alloc, text, frame, rows, i)?;
+        put_row(alloc, text, style, frame, rows, i)?;
     }
     Ok(())
 }

@@ -3,7 +3,7 @@
 ghost use Rattle.std.specs.Prelude.{◌≡◌, ◌<◌, IfOk};
 ghost use Rattle.reading_shows.specs.Shares.{share_of, size_of_mean as size_of_mean_of, mean as mean_of, percent as percent_of};
 
-use crate::columns::put_parts;
+use reading_texts::put_parts;
 use std::alloc::{AllocError, Global};
 
 // How many of `shares` equal shares of a whole a part is, where `added` says how it is rounded; 0 of nothing.

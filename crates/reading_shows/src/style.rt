@@ -1,5 +1,15 @@
 //! How a histogram is drawn.
 
+ghost use Rattle.std.specs.Prelude.{◌≡◌};
+ghost use Rattle.image_reader.specs.Views.{histogram_view};
+ghost use Rattle.image_reader.specs.Readable.{IsReadable};
+ghost use Rattle.reading_texts.specs.Rows.{rows_of as rows_of_histogram};
+ghost use Rattle.reading_shows.specs.Showing.{frame_of as frame_of_histogram, shows_all_of as shows_all_of_histogram};
+
+use crate::lines::most;
+use image_reader::HistReading;
+use reading_texts::{HistRow, is_sparse, units};
+
 /// How a histogram is drawn.
 #[derive(Clone, Copy, Debug, PartialEq, Eq)]
 pub struct Style {
@@ -11,14 +21,33 @@ pub struct Style {
     pub shows_all: bool,
 }
 
-// What the lines of a histogram have in common.
+// What the rows of a histogram have in common.
 #[derive(Clone, Copy, Debug, PartialEq, Eq)]
 pub(crate) struct Frame {
-    pub(crate) style: Style,
     // Whether a row is one value, and no range.
     pub(crate) is_sparse: bool,
     // The units of all rows.
     pub(crate) total: u64,
     // Those of the row that has the most.
     pub(crate) most: u64,
+}
+
+// What the rows of a histogram have in common, which are these.
+pub(crate) fn frame_of(hist: &HistReading, rows: &[HistRow]) -> Frame
+    requires readable { IsReadable (histogram_view hist.now) }
+    requires rows { rows.now ≡ rows_of_histogram (histogram_view hist.now) }
+    ensures { result ≡ frame_of_histogram (histogram_view hist.now) }
+{
+    Frame {
+        is_sparse: is_sparse(&hist.spec),
+        total: units(hist),
+        most: most(rows),
+    }
+}
+
+// Whether all rows of a histogram may have lines.
+pub(crate) fn shows_all_of(shows_all: bool, hist: &HistReading) -> bool
+    ensures { result ≡ shows_all_of_histogram shows_all (histogram_view hist.now) }
+{
+    shows_all || !is_sparse(&hist.spec)
 }

@@ -1,5 +1,5 @@
 -- The buckets of a lawful spec and their boundaries.
-use Rattle.std.proofs.Common.{◌≡◌, ◌≢◌, ◌∙◌, map, ℕ, ◌+◌, ◌<◌, ◌≤◌, List, length, None, ap, refl, arith}
+use Rattle.std.proofs.Common.{◌≡◌, ◌≢◌, ◌∙◌, map, ℕ, ◌+◌, ◌<◌, List, length, None, ap, refl, arith}
 use Rattle.std.proofs.Common.{ℤ, pos, get_or, drop, sym, All, false, ◌≤ℤ◌, rules}
 use Rattle.std.proofs.lemmas.Grind.{get_or_after_one}
 use Rattle.reading_texts.specs.Rows.{highs_of, row_at, rows_of}

@@ -5,13 +5,13 @@ ghost use Rattle.std.specs.List.{flat_map, list_all};
 ghost use Rattle.image_reader.specs.Views.{histogram_view, reading_view};
 ghost use Rattle.image_reader.specs.Readable.{IsReadable};
 ghost use Rattle.reading_texts.specs.Rows.{rows_of as rows_of_histogram};
-ghost use Rattle.reading_texts.specs.Exporting.{family, bucket_line, value_line, ranged_lines, sparse_lines, flag_line, bad_line, is_sparse as is_sparse_spec, is_metric_prefix, is_first_byte, is_later_byte, all_line, sum_line, count_line, total_lines, flag_value as value_of_flag, label_value as label_value_of, IsExportOf};
+ghost use Rattle.reading_texts.specs.Exporting.{family, bucket_line, value_line, ranged_lines, sparse_lines, flag_line, bad_line, is_metric_prefix, is_first_byte, is_later_byte, all_line, sum_line, count_line, total_lines, flag_value as value_of_flag, label_value as label_value_of, IsExportOf};
 
 use crate::labels::label_value;
 use crate::order::in_order;
 use crate::parts::put_parts;
 use crate::rows::{HistRow, rows_of, units};
-use bucket_ranges::Spec;
+use crate::words::is_sparse;
 use image_reader::{HistReading, Reading};
 use std::alloc::{AllocError, Global};
 
@@ -49,13 +49,6 @@ pub fn is_prefix(text: &[u8]) -> bool
         [first, more @ ..] => is_first(*first) && are_later(more),
         [] => false,
     }
-}
-
-// Whether a spec is sparse.
-fn is_sparse(spec: &Spec) -> bool
-    ensures { result ≡ is_sparse_spec spec.now }
-{
-    matches!(spec, Spec::Sparse)
 }
 
 // The lines that stand before those of a family.

@@ -14,5 +14,7 @@ mod text;
 mod words;
 
 pub use exporting::{export_text, is_prefix};
+pub use parts::put_parts;
 pub use rows::{HistRow, rows_of, units};
 pub use text::text_of;
+pub use words::{image_fault_word, is_sparse, kind_word, record_fault_word};

@@ -5,8 +5,8 @@ ghost use Rattle.reading_texts.specs.Exporting.{joined};
 
 use std::alloc::AllocError;
 
-// Puts parts behind a text.
-pub(crate) fn put_parts(text: &mut Vec<u8>, parts: &[&[u8]]) -> Result<(), AllocError>
+/// Puts parts behind a text, one behind the other. It fails for want of memory alone.
+pub fn put_parts(text: &mut Vec<u8>, parts: &[&[u8]]) -> Result<(), AllocError>
     ensures { OnOk result (text.new.items ≡ text.old.items ++ joined (map (λ part. part.now) parts.now)) }
 {
     for part in parts {

@@ -1,14 +1,22 @@
-//! The words of a report for kinds of histograms and for faults.
+//! The words for kinds of histograms and for faults, which are the same in every text of a reading.
 
 ghost use Rattle.std.specs.Prelude.{◌≡◌};
+ghost use Rattle.reading_texts.specs.Exporting.{is_sparse as is_sparse_of};
 ghost use Rattle.reading_texts.specs.Text.{kind_word as kind_word_of, record_fault_word as record_fault_word_of, image_fault_word as image_fault_word_of};
 
 use bucket_ranges::Spec;
 use image_reader::RecordFault;
 use segment_image::ImageFault;
 
-// The word for a kind of histogram.
-pub(crate) fn kind_word(spec: &Spec) -> &[u8]
+/// Whether a spec is sparse.
+pub fn is_sparse(spec: &Spec) -> bool
+    ensures { result ≡ is_sparse_of spec.now }
+{
+    matches!(spec, Spec::Sparse)
+}
+
+/// The word for a kind of histogram.
+pub fn kind_word(spec: &Spec) -> &[u8]
     ensures { result.now ≡ kind_word_of spec.now }
 {
     match spec {
@@ -19,8 +27,8 @@ pub(crate) fn kind_word(spec: &Spec) -> &[u8]
     }
 }
 
-// The name of a record's fault.
-pub(crate) fn record_fault_word(fault: RecordFault) -> &'static [u8]
+/// The name of a record's fault.
+pub fn record_fault_word(fault: RecordFault) -> &'static [u8]
     ensures { result.now ≡ record_fault_word_of fault }
 {
     match fault {
@@ -35,8 +43,8 @@ pub(crate) fn record_fault_word(fault: RecordFault) -> &'static [u8]
     }
 }
 
-// The name of an image's fault.
-pub(crate) fn image_fault_word(fault: ImageFault) -> &'static [u8]
+/// The name of an image's fault.
+pub fn image_fault_word(fault: ImageFault) -> &'static [u8]
     ensures { result.now ≡ image_fault_word_of fault }
 {
     match fault {

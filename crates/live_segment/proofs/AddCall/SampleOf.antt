@@ -38,7 +38,7 @@ use Rattle.live_segment.proofs.NewRecords.Rooms.{lacked_since}
 -- ---- a walk begins
 
 -- an element stands between others
-split_there : (list : List ℕ) (x : ℕ) → list_any (λ y. y == x) list ≡ true → (front behind : List ℕ) × (list ≡ front ++ x ∷ behind)
+pub split_there : (list : List ℕ) (x : ℕ) → list_any (λ y. y == x) list ≡ true → (front behind : List ℕ) × (list ≡ front ++ x ∷ behind)
 split_there [] x is = absurd (cc is)
 split_there (y ∷ rest) x is = by (y == x) refl is (split_there rest x)
   where

@@ -1,5 +1,6 @@
 -- A sample that is turned away leaves its recorder as it was, at rest, and without a block that it needed.
 use Rattle.std.proofs.Common.{◌≡◌, ◌⊎◌, ℕ, ◌-◌, ◌≤◌, Bool, true, false, true≢false, if◌then◌else◌, ℤ, List, [], ◌∷◌, ◌++◌, length, refl, sym, ap, ◌∙◌, subst, arith, inl, inr}
+use Rattle.std.specs.Prelude.{Err, MatchResult, Ok, Result}
 use Rattle.std.specs.Str.{bytes_eq}
 use Rattle.std.proofs.lemmas.List.{append-nil}
 use Rattle.std.proofs.lemmas.List.Sums.{sum_by-append}
@@ -11,6 +12,7 @@ use Rattle.segment_machine.specs.declared.actor.Cost.{Cost}
 use Rattle.segment_machine.specs.declared.actor.Entries.{Entries}
 use Rattle.segment_machine.specs.declared.actor.Known.{Known}
 use Rattle.segment_machine.specs.declared.actor.Units.{Units}
+use Rattle.segment_machine.specs.declared.seen.Seen.{Seen}
 use Rattle.segment_machine.specs.declared.place.Place.TheVariants.{Idle}
 use Rattle.segment_machine.specs.Actor.{cost_of, has_buckets, is_bound, is_opener}
 use Rattle.segment_machine.specs.Entry.{fresh, key_of}
@@ -26,8 +28,9 @@ use Rattle.live_segment.specs.GhostNotes.{bucket_entry}
 use Rattle.segment_promises.specs.Onward.{DoesOn, GoesOn, SeesOn}
 use Rattle.live_segment.specs.Counts.Refusing.{given_up, how_many_ended, refusing_notes, IsNotCounted, IsTurnedAway}
 use Rattle.live_segment.specs.Steps.{IsAtRest}
-use Rattle.live_segment.specs.Counts.Working.{HasBegun, LooksFor}
+use Rattle.live_segment.specs.Counts.Working.{HasBegun, HasCounted, LooksFor}
 use Rattle.live_segment.proofs.AddCall.Beginning.{notes_new}
+use Rattle.live_segment.proofs.AddCall.Refusing.{only_given_up}
 use Rattle.live_segment.proofs.AddCall.Ended.{still_open}
 
 nothing : (b : Bool) → ◌≡◌ {A = ℕ} (if b then 0 else 0) 0
@@ -149,3 +152,11 @@ turned_not_counted why known bucket value units old new bucketed one is_of turne
     turned.room,
   );
 }
+
+-- units of a bucket were counted or not: it has seen more
+pub bucket_seen : {A : Type 0} (result : Result A Refusal) (known : Known) (bucket units : ℕ) (old new : Actor)
+    → MatchResult result (λ x. HasCounted (bucket_entry known bucket units) old new) (λ why. IsTurnedAway why known bucket units old new)
+    → SeesOn old.seen new.seen
+bucket_seen (Ok x) known bucket units old new has = has.proceeds.seen
+bucket_seen (Err why) known bucket units old new turned =
+    subst (λ (s : Seen). SeesOn old.seen s) (sym (ap (λ (x : Actor). x.seen) (turned.ends ∙ only_given_up turned.last))) turned.looks.proceeds.seen

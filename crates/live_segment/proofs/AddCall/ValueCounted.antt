@@ -21,7 +21,7 @@ use Rattle.segment_promises.specs.Onward.{Grows}
 use Rattle.segment_promises.proofs.Growing.{grows_on}
 use Rattle.live_segment.specs.declared.segment.Segment.{Segment}
 use Rattle.live_segment.specs.Counts.Adding.{HasNoRoom}
-use Rattle.live_segment.specs.Claims.{ClaimsFor}
+use Rattle.live_segment.specs.Claims.{ClaimsFor, KeepsBlocks}
 use Rattle.live_segment.specs.Counts.Finishing.{item_of}
 use Rattle.live_segment.specs.Counts.Refusing.{IsNotCounted}
 use Rattle.live_segment.specs.Rule.{IsOf}
@@ -99,6 +99,9 @@ module _ (known : Known) (value : ℤ) (units sample : ℕ) (old mid : Pass) (ma
 
     pub same_counted : IsSame old mid → IsSame old after
     same_counted same = (told.same.0 ∙ same.0, told.same.1 ∙ same.1, told.same.2 ∙ same.2)
+
+    pub keeps_sampled : KeepsBlocks a after.me.0
+    keeps_sampled = keeps_counted known entry (sample + 6) found mid after may_mid told
 
     pub value_claims : ClaimsFor known value old.me.0 after.me.0
     value_claims =

@@ -14,7 +14,9 @@ use Rattle.live_segment.specs.declared.segment.Segment.{Segment}
 use Rattle.live_segment.specs.declared.finding.Search.{Search}
 use Rattle.live_segment.specs.declared.finding.Search.TheVariants as search
 use Rattle.live_segment.specs.Names.Finding.{IsAsked, Meets, SeesWords, ShowsName, ShowsSpec}
-use Rattle.live_segment.specs.Names.Indexed.{IsIndexed, IsNameKey}
+use Rattle.live_segment.specs.declared.indexing.KeyKind.TheVariants.{Name}
+use Rattle.live_segment.specs.Lists.Indexed.{IsIndexed}
+use Rattle.live_segment.specs.Lists.Keyed.{IsNameKey}
 use Rattle.live_segment.specs.Seated.{IsSeated}
 use Rattle.live_segment.specs.Names.Searching.{FoundEnd, HasSearched, Searches, WalksAt}
 use Rattle.live_segment.specs.Steps.{Pass}
@@ -26,8 +28,8 @@ use Rattle.live_segment.proofs.Walks.Showing.{sees_on}
 use Rattle.segment_promises.proofs.Growing.{grows_not}
 
 module _ {segment : Segment} {old : Pass} {asked : Asked} (is : IsAsked segment.setting.shape asked) (seated : IsSeated segment old) (free : MayTurn old.me.0)
-    {index : RecordIndex} (indexed : IsIndexed segment.setting.shape.size old.me.0.seen index) {at : ℕ}
-    (first : (key : ℕ) × IsNameKey asked.name.items key × (first_of index.names key ≡ Some at)) where
+    {index : RecordIndex} (indexed : IsIndexed Name segment.setting.shape.size old.me.0.seen index) {at : ℕ}
+    (first : (key : ℕ) × IsNameKey asked.name.items key × (first_of index.firsts key ≡ Some at)) where
   -- where it stands on the list
   splits : (before after : List ℕ) × (old.me.0.seen.chain ≡ before ++ at ∷ after) × All (SawOtherName old.me.0.seen asked.name.items) before
       × (at + 5 ≤ segment.setting.shape.size)

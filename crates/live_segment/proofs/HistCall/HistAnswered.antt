@@ -27,7 +27,7 @@ use Rattle.live_segment.specs.declared.rule.Setting.{Setting}
 use Rattle.live_segment.specs.Counts.Adding.{block_words}
 use Rattle.live_segment.specs.Names.Hist.{IsKnownAt, KnowsNone, MayBeAsked, NoneHasName}
 use Rattle.live_segment.specs.Known.{known_view, KnowsRight}
-use Rattle.segment_promises.specs.Onward.{Grows}
+use Rattle.segment_promises.specs.Onward.{Grows, SeesOn}
 use Rattle.live_segment.specs.Rule.{IsOf}
 use Rattle.live_segment.specs.Names.Searching.{asked_at}
 use Rattle.live_segment.specs.Names.Settling.{ComesToKnow, IsKnownAs, LooksAround}
@@ -180,6 +180,9 @@ module _ (asked : Asked) (reference : ℕ) (a b : Actor) (comes : ComesToKnow as
 
   pub share_same : b.units.share ≡ a.units.share
   share_same = ap (λ (x : Actor). x.units.share) comes.view ∙ share_still a comes.last comes.looks
+
+  pub seen_grew : SeesOn a.seen b.seen
+  seen_grew = subst (SeesOn a.seen) (sym (ap (λ (x : Actor). x.seen) comes.view)) comes.looks.seen
 
   pub chain_grew : Grows a.seen.chain b.seen.chain
   chain_grew = subst (Grows a.seen.chain) (sym (ap (λ (x : Actor). x.seen.chain) comes.view)) comes.looks.seen.chain

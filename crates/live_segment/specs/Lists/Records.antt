@@ -1,7 +1,7 @@
 -- What a walk along the list makes of a recorder: it has seen all of the list, and has its records in their order.
 use Rattle.std.specs.Prelude.{◌≡◌, false, ℕ, ◌+◌, ◌≤◌, ℤ, List, [], ◌∷◌, ◌++◌}
 use Rattle.std.specs.List.{All, Contains}
-use Rattle.segment_image.specs.declared.layout.TheConstants.{BLOCK_LEAST, BLOCK_NEXT, HEADER_WORDS}
+use Rattle.segment_image.specs.declared.layout.TheConstants.{BLOCK_LEAST, BLOCK_NEXT, BLOCK_TYPE, HEADER_WORDS}
 use Rattle.bucket_ranges.specs.declared.spec.Spec.{Spec}
 use Rattle.list_core.specs.Walk.{stands_behind}
 use Rattle.segment_machine.specs.declared.actor.Actor.{Actor}
@@ -9,7 +9,8 @@ use Rattle.segment_machine.specs.declared.actor.Made.TheVariants.{Histogram, Sam
 use Rattle.segment_machine.specs.Made.{SawOther, SawOtherName}
 use Rattle.segment_machine.specs.Actor.{is_bound}
 use Rattle.segment_machine.specs.Event.{walking_event}
-use Rattle.segment_machine.specs.Walking.{load_next, records_met}
+use Rattle.segment_machine.specs.Walking.{load_next, load_published, records_met}
+use Rattle.segment_promises.specs.Calls.{SamplesStandBehind}
 use Rattle.segment_promises.specs.Onward.{Grows, StaysApart}
 use Rattle.segment_promises.specs.Values.{NoRepeats}
 use Rattle.live_segment.specs.Steps.{DoesAt, Sat}
@@ -30,6 +31,12 @@ abbrev pub LoadsNext : ℕ → Sat → ℕ → Sat → Type 0
 LoadsNext word me found me' =
     DoesAt (λ at. walking_event (load_next at)) word me found me' × NoRepeats me.0.seen.chain × KnowsOwnNames me.0
     × KnowsOwnSamples me.0
+
+-- The type of a record that was met is loaded: of what its recorder met, each sample stands behind the record of its histogram, and no block
+-- twice.
+abbrev pub LoadsType : ℕ → Sat → ℕ → Sat → Type 0
+LoadsType word me found me' =
+    DoesAt (λ at. walking_event (load_published at BLOCK_TYPE)) word me found me' × SamplesStandBehind me.0 × NoRepeats me.0.seen.chain
 
 -- The records of the list are these, in its order, each once and within the segment: first those that the recorder had seen there, and
 -- among them all that it had met elsewhere. It has seen them now, and that the list ended behind the last of them; a cursor that it had

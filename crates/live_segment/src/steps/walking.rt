@@ -4,19 +4,26 @@ ghost use Rattle.std.specs.Prelude.{◌+◌, ◌<◌, ◌≤◌};
 ghost use Rattle.segment_machine.specs.Event.{walking_event};
 ghost use Rattle.segment_machine.specs.Walking.{load_next, load_published};
 ghost use Rattle.live_segment.specs.Lists.Listing.{LoadsPublished};
-ghost use Rattle.live_segment.specs.Lists.Records.{LoadsNext};
+ghost use Rattle.live_segment.specs.Lists.Records.{LoadsNext, LoadsType};
+ghost use Rattle.segment_image.specs.declared.layout.TheConstants.{BLOCK_TYPE};
 
 use crate::rule::{Announcement, Pass};
 use crate::segment::Segment;
 use crate::steps::FIRST;
 use atomic_table::Play;
-use segment_image::layout::BLOCK_NEXT;
+use segment_image::layout::{BLOCK_NEXT, BLOCK_TYPE};
 use segment_machine::Actor;
 
 pub(crate) struct LoadNext;
 
 impl Play<Announcement, Actor> for LoadNext {
     ghost then = { λ st. LoadsNext st.word };
+}
+
+pub(crate) struct LoadType;
+
+impl Play<Announcement, Actor> for LoadType {
+    ghost then = { λ st. LoadsType st.word };
 }
 
 pub(crate) struct LoadPublished;
@@ -27,6 +34,7 @@ impl Play<Announcement, Actor> for LoadPublished {
 
 impl Segment {
     ghost use Rattle.live_segment.specs.Holders.{MayStep};
+    ghost use Rattle.segment_promises.specs.Calls.{SamplesStandBehind};
     ghost use Rattle.segment_promises.specs.Values.{NoRepeats};
     ghost use Rattle.live_segment.specs.Lists.Records.{KnowsOwnNames, KnowsOwnSamples};
     ghost use Rattle.live_segment.specs.Steps.{Stepped};
@@ -42,6 +50,19 @@ impl Segment {
         self.table
             .shared
             .load::<LoadNext>(seat, FIRST + at as usize + BLOCK_NEXT)
+    }
+
+    // The type of a record that was met. No sample stands before the record of its histogram, and no block twice, among those that were met.
+    pub(crate) fn load_type(&self, seat: &mut Pass, at: u64) -> u64
+        requires may { MayStep self.now seat.old (walking_event (load_published at BLOCK_TYPE)) }
+        requires room { at + BLOCK_TYPE < self.now.setting.shape.size }
+        ensures step { Stepped seat.old (walking_event (load_published at BLOCK_TYPE)) result seat.new }
+        ensures behind { SamplesStandBehind seat.old.me.0 }
+        ensures once { NoRepeats seat.old.me.0.seen.chain }
+    {
+        self.table
+            .shared
+            .load::<LoadType>(seat, FIRST + at as usize + BLOCK_TYPE)
     }
 
     pub(crate) fn load_published(&self, seat: &mut Pass, at: u64, index: usize) -> u64

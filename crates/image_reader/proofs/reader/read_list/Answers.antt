@@ -3,6 +3,7 @@ use Rattle.std.proofs.Common.{◌≡◌, ℕ, List, [], length, map, refl, ap, s
 use Rattle.std.proofs.lemmas.List.{length-map, with_items_is}
 use Rattle.std.proofs.lemmas.Simd.{map-map}
 use Rattle.bucket_ranges.specs.Reading.{Histogram, Reading, lawful_samples, read_records, histogram_of, reading_along, stop_of}
+use Rattle.image_reader.specs.Later.{later_samples}
 use Rattle.image_reader.specs.Readable.{IsReadable}
 use Rattle.image_reader.specs.Samples.{with_samples}
 use Rattle.image_reader.specs.Views.{histogram_view}
@@ -44,4 +45,5 @@ returns c =
       readable = subst (All IsReadable) (ap (λ (reading : Reading). reading.hists) (sym along))
           (reading_readable words c.args.head.now (reading_along words c.args.head.now listed) (head_within words c.args.head.now c.requires)
           (listed, c.in_ok-references.ensures.listed, refl));
+      later = c.in_ok-gathered.ensures.gathered.later_are ∙ ap (later_samples words c.args.head.now) same;
     }

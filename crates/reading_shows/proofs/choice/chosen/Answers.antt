@@ -7,7 +7,7 @@ use Rattle.std.proofs.lemmas.List.Sorted.{ranks_by, IsPermutation-sym, IsPermuta
 use Rattle.image_reader.specs.Views.{histogram_view}
 use Rattle.image_reader.specs.declared.reading.HistReading.{HistReading}
 use Rattle.reading_shows.specs.Choice.{is_chosen}
-use Rattle.reading_shows.proofs.Order.{IsSortedByKey-map}
+use Rattle.reading_texts.proofs.Ascending.{IsSortedByKey-map}
 use Rattle.reading_shows.proofs.choice.chosen.Goals as goal
 
 pub returns : goal.returns

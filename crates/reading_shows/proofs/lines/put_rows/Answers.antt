@@ -7,7 +7,7 @@ use Rattle.reading_shows.proofs.lines.put_rows.Goals as goal
 
 pub loop-i-preserved : goal.loop-i-preserved
 loop-i-preserved c =
-    let line = line_at c.args.frame c.args.rows.now in
+    let line = line_at c.args.style c.args.frame c.args.rows.now in
     let first = c.args.text.now.items in
     written-both first (flat_map line (range_with_len 0 c.loop-i.i)) (line c.loop-i.i) c.loop-i.invariant c.in_ok-put_row.ensures
     ∙ ap (λ s. first ++ s) (sym (texts-more line c.loop-i.i))
@@ -15,4 +15,4 @@ loop-i-preserved c =
 pub returns : goal.returns
 returns c =
     let all : c.loop-i.i ≡ length c.args.rows.now = omega (arith, c.loop-i-test.false, c.loop-i.auto.i-end) in
-    c.loop-i.invariant ∙ ap (λ n. c.args.text.now.items ++ flat_map (line_at c.args.frame c.args.rows.now) (range_with_len 0 n)) all
+    c.loop-i.invariant ∙ ap (λ n. c.args.text.now.items ++ flat_map (line_at c.args.style c.args.frame c.args.rows.now) (range_with_len 0 n)) all

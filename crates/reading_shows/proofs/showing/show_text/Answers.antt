@@ -21,8 +21,6 @@ pub returns : goal.returns
 returns c =
     let hists = map (λ hist. histogram_view hist.now) c.in_ok-hists.hists.items in
     let shown = rw c.as_slice.ensures.value at c.in_ok-put_histograms.ensures in
-    let none = rw c.as_slice-2.ensures.value at c.in_ok-put_none.ensures in
-    let bad = rw c.as_slice-3.ensures.value at c.in_ok-put_all_bad.ensures in
+    let ended = rw c.as_slice-2.ensures.value at c.in_ok-put_ending.ensures in
     let begun : c.put_histograms.new.text.items ≡ flat_map (histogram_text c.args.style) hists = shown ∙ ap (λ s. s ++ flat_map (histogram_text c.args.style) hists) c.new-text.ensures.items in
-    let flags = written-behind _ _ (written-behind _ _ (written-behind _ _ begun none) c.in_ok-put_flag.ensures) c.in_ok-put_flag-2.ensures in
-    (hists, c.in_ok-hists.ensures, written-behind _ _ (written-behind _ _ flags bad) c.in_ok-put_stopped.ensures)
+    (hists, c.in_ok-hists.ensures, written-behind _ _ begun ended)

@@ -1,3 +1,4 @@
+use Rattle.reading_shows.specs.Showing.{IsShowOf}
 use Rattle.reading_shows.proofs.Answering.{OnOk-map, shown_of_bytes}
 use Rattle.reading_shows.proofs.writing.show.Goals as goal
 
@@ -5,5 +6,5 @@ pub returns-clause-text : goal.returns-clause-text
 returns-clause-text g c =
     let shown = rw c.deref.ensures.value at c.in_ok-text.ensures.text in
     let written = rw c.deref-2.ensures.value at c.write_out.ensures.ok in
-    OnOk-map _ _ (shown_of_bytes (λ words. words.items) _ _ c.args.style c.args.choice c.in_ok-text.text.items _ _ c.read_words.result c.in_ok-words.words c.in_ok-words.was shown _ c.read_words.ensures.answer)
+    OnOk-map _ _ (shown_of_bytes (λ words. words.items) _ _ (IsShowOf c.args.style c.args.choice) c.in_ok-text.text.items _ _ c.read_words.result c.in_ok-words.words c.in_ok-words.was shown _ c.read_words.ensures.answer)
     c.write_out.result written

@@ -1,4 +1,4 @@
-use Rattle.std.proofs.Common.{◌≡◌, ◌∙◌, ◌++◌, map, ap, codes}
+use Rattle.std.proofs.Common.{◌∙◌, ◌++◌, map, ap, codes}
 use Rattle.std.proofs.lemmas.List.Sorted.{All-permutation, IsPermutation-sym}
 use Rattle.image_reader.specs.Views.{histogram_view}
 use Rattle.image_reader.specs.Readable.{IsReadable}

@@ -1,22 +1,12 @@
-use Rattle.std.proofs.Common.{◌≡◌, ◌∙◌, ◌+◌, ◌<◌, List, [], ◌∷◌, ℕ, Bor, Ordering, ap, arith, is_lt, length, map, nat_cmp, rules, subst, sym, IsPermutation}
-use Rattle.std.specs.List.Sorted.{IsSortedBy, IsSortedByKey}
-use Rattle.std.proofs.lemmas.List.{get_or-map, length-map}
+use Rattle.std.proofs.Common.{◌≡◌, ◌∙◌, List, ℕ, Bor, ap, map, nat_cmp, rules, subst, sym, IsPermutation}
 use Rattle.std.specs.Cmp.Lexicographic.{slice_cmp, nat_list_cmp_total}
 use Rattle.std.proofs.lemmas.Fn.{always_returns_same}
 use Rattle.std.proofs.lemmas.Simd.{map-map}
 use Rattle.std.proofs.lemmas.List.Sorted.{ranks_by, IsPermutation-sym, IsPermutation-map}
 use Rattle.image_reader.specs.Views.{histogram_view}
 use Rattle.image_reader.specs.declared.reading.HistReading.{HistReading}
+use Rattle.reading_texts.proofs.Ascending.{IsSortedByKey-map}
 use Rattle.reading_texts.proofs.order.in_order.Goals as goal
-
--- what ascends by the keys of its images has images that ascend
-IsSortedByKey-map : {X Y K : Type 0} (g : X → Y) (key : Y → K) (cmp : K → K → Ordering) (xs : List X)
-    → IsSortedBy (λ a b. is_lt (cmp (key (g a)) (key (g b)))) xs → IsSortedByKey key cmp (map g xs)
-IsSortedByKey-map g key cmp [] up = λ k d low h. absurd (omega (arith, h))
-IsSortedByKey-map g key cmp (x ∷ xs) up = λ k d low h.
-    let within : k + 1 < length (x ∷ xs) = rw length-map at h in
-    let here : k < length (x ∷ xs) = omega (arith, within) in
-    rw (get_or-map g (x ∷ xs) (k + 1) x d within, get_or-map g (x ∷ xs) k x d here) (up k x low within)
 
 pub returns : goal.returns
 returns c =

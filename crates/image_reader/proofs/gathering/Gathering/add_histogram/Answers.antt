@@ -10,4 +10,4 @@ returns-in_ok-push-in-Err-Fault-clause-gathered c = λ earlier so_far.
     c.requires.tag (subst (IsRefusedBy c.args.words.now c.args.head.now c.args.reference) c.in-Err-Fault.field-0-is c.in-Err-Fault.ensures.found)
     (c.in_ok-push-in-Err-Fault.ensures.items
     ∙ ap (λ f. c.args.self.now.bad.items ++ record { reference = c.args.reference; fault = f } ∷ []) c.in-Err-Fault.fault-is)
-    refl (λ name. refl) refl (λ h. refl)
+    refl (λ name. refl) refl (λ h. refl) refl

@@ -47,7 +47,7 @@ returns-then-not-branch-clause-gathered c = λ earlier so_far.
     (not-false (holds c.args.self.now.names name)
     (known c.args.self.now.names c.deref.result.now name c.in_ok-insert.field-0 false
     c.deref.ensures.value c.in_ok-insert.ensures.new c.if-not-branch.true))
-    refl refl refl (λ h. refl)
+    refl refl refl (λ h. refl) refl
 
 pub returns-then-words-at-eq-KIND_SPARSE-clause-gathered : goal.returns-then-words-at-eq-KIND_SPARSE-clause-gathered
 returns-then-words-at-eq-KIND_SPARSE-clause-gathered c = λ earlier so_far.
@@ -67,7 +67,7 @@ returns-then-words-at-eq-KIND_SPARSE-clause-gathered c = λ earlier so_far.
     (λ h. marked-sparse c.args.self.now.sparse.items c.args.reference h _ within refl
     ∙ sym (ap (λ b. get_or c.args.self.now.sparse.items h false || ((c.args.reference == h) && b))
     (eq-eqb (field_at c.args.words.now c.args.reference 4) 4 c.if-words-at-eq-KIND_SPARSE.true)))
-    (λ h. refl)
+    (λ h. refl) refl
 
 pub returns-else-words-at-eq-KIND_SPARSE-clause-gathered : goal.returns-else-words-at-eq-KIND_SPARSE-clause-gathered
 returns-else-words-at-eq-KIND_SPARSE-clause-gathered c = λ earlier so_far.
@@ -83,7 +83,7 @@ returns-else-words-at-eq-KIND_SPARSE-clause-gathered c = λ earlier so_far.
     refl
     (λ h. unmarked-sparse c.args.reference h _ (is_sparse c.args.words.now c.args.reference)
     (ne_eqb (field_at c.args.words.now c.args.reference 4) 4 c.if-words-at-eq-KIND_SPARSE.false))
-    (λ h. refl)
+    (λ h. refl) refl
 
 -- the references stay those of words
 near_more : (before now : List HistReading) (hist : HistReading) (words : List ℕ) (head : SegmentHead) (at : ℕ) → header_of words ≡ Ok head

@@ -6,7 +6,7 @@ use Rattle.live_segment.specs.Counts.Adding.{IsAdded, IsRefused, LacksBlock}
 use Rattle.live_segment.specs.Claims.{ClaimsFor}
 use Rattle.live_segment.specs.Known.{known_view}
 use Rattle.live_segment.proofs.AddCall.Adds.{passes, meant, is_of_still, names_still}
-use Rattle.live_segment.proofs.HistCall.IndexKept.{seen_on}
+use Rattle.live_segment.proofs.Walks.IndexKept.{seen_on}
 use Rattle.live_segment.proofs.Walks.Walked.{all_right, come_still}
 use Rattle.live_segment.proofs.recorder.Recorder.add.Goals as goal
 
@@ -24,6 +24,7 @@ invariant_of-self c =
       come = come_still _ _ _ _ onward.seen.chain old.come;
       named = old.named;
       indexed = seen_on _ _ _ _ onward.seen old.indexed;
+      sampled = c.in_err-add_sample.ensures.indexed;
     }
 
 pub invariant_of-self-2-clause-seated : goal.invariant_of-self-2-clause-seated
@@ -50,6 +51,9 @@ invariant_of-self-2-clause-come c = let onward = c.in_ok-add_sample.ensures.outc
 
 pub invariant_of-self-2-clause-indexed : goal.invariant_of-self-2-clause-indexed
 invariant_of-self-2-clause-indexed c = seen_on _ _ _ _ c.in_ok-add_sample.ensures.outcome.onward.seen c.args.self.now.indexed
+
+pub invariant_of-self-2-clause-sampled : goal.invariant_of-self-2-clause-sampled
+invariant_of-self-2-clause-sampled c = c.in_ok-add_sample.ensures.indexed
 
 pub returns-in_err-add_sample-clause-answer : goal.returns-in_err-add_sample-clause-answer
 returns-in_err-add_sample-clause-answer c =

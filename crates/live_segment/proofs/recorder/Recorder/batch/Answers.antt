@@ -9,7 +9,7 @@ use Rattle.live_segment.specs.Claims.{ClaimsForAll}
 use Rattle.live_segment.specs.Known.{known_view}
 use Rattle.live_segment.proofs.AddCall.Adds.{meant, is_of_still, names_still}
 use Rattle.live_segment.proofs.BatchCall.Batches.{passed, passes_all, fails_one}
-use Rattle.live_segment.proofs.HistCall.IndexKept.{seen_on}
+use Rattle.live_segment.proofs.Walks.IndexKept.{seen_on}
 use Rattle.live_segment.proofs.Walks.Walked.{all_right, come_still}
 use Rattle.live_segment.proofs.recorder.Recorder.batch.Goals as goal
 
@@ -44,18 +44,19 @@ invariant_of-self c =
       come = come_still _ _ _ _ onward.seen.chain old.come;
       named = old.named;
       indexed = seen_on _ _ _ _ onward.seen old.indexed;
+      sampled = c.in-Err-counted.ensures.indexed;
     }
 
 pub returns-in-Err-counted-clause-answer : goal.returns-in-Err-counted-clause-answer
 returns-in-Err-counted-clause-answer c =
     let old = c.args.self.now.seat.me.0 in
     let new = c.count_batch-counted.new.seat.me.0 in
-    let one = c.index.result.now in
+    let one = c.index-known.result.now in
     let refusal = c.in-Err-counted.refusal in
     let none = subst (λ (z : ℤ). first_fault (batch_checks old c.args.items.now z) ≡ None) (to_z-of_z w64 c.args.sum c.ranges.sum)
     (c.in-Ok.ensures old (sym c.args.self.now.counted)).1 in
     passes_all old c.args.items.now c.args.sum _ _ none (λ known means. subst (λ (k : Known). IsCutShort k c.args.items.now refusal old new)
-    (meant c.args.self.now.known.items old.answers.names c.args.histogram.index one known c.args.self.now.listed c.index.ensures c.requires means)
+    (meant c.args.self.now.known.items old.answers.names c.args.histogram.index one known c.args.self.now.listed c.index-known.ensures c.requires means)
     c.in-Err-counted.ensures.outcome)
 
 pub overflow_sub-self-2 : goal.overflow_sub-self-2
@@ -80,24 +81,25 @@ invariant_of-self-2 c =
       come = come_still _ _ _ _ onward.seen.chain old.come;
       named = old.named;
       indexed = seen_on _ _ _ _ onward.seen old.indexed;
+      sampled = c.in_default.ensures.indexed;
     }
 
 pub returns-clause-answer : goal.returns-clause-answer
 returns-clause-answer c =
     let old = c.args.self.now.seat.me.0 in
     let new = c.count_batch-counted.new.seat.me.0 in
-    let one = c.index.result.now in
+    let one = c.index-known.result.now in
     let none = subst (λ (z : ℤ). first_fault (batch_checks old c.args.items.now z) ≡ None) (to_z-of_z w64 c.args.sum c.ranges.sum)
     (c.in-Ok.ensures old (sym c.args.self.now.counted)).1 in
     let done = subst (λ (z : ℤ). IsBatched (known_view one) c.args.items.now z old new) (to_z-of_z w64 c.args.sum c.ranges.sum) c.in_default.ensures.outcome in
     passes_all old c.args.items.now c.args.sum _ _ none (λ known means. subst (λ (k : Known). IsBatched k c.args.items.now c.args.sum old new)
-    (meant c.args.self.now.known.items old.answers.names c.args.histogram.index one known c.args.self.now.listed c.index.ensures c.requires means) done)
+    (meant c.args.self.now.known.items old.answers.names c.args.histogram.index one known c.args.self.now.listed c.index-known.ensures c.requires means) done)
 
 pub returns-clause-claims : goal.returns-clause-claims
 returns-clause-claims c =
     let old = c.args.self.now.seat.me.0 in
     let new = c.count_batch-counted.new.seat.me.0 in
-    let one = c.index.result.now in
+    let one = c.index-known.result.now in
     λ known means. subst (λ (k : Known). ClaimsForAll k c.args.items.now old new)
-    (meant c.args.self.now.known.items old.answers.names c.args.histogram.index one known c.args.self.now.listed c.index.ensures c.requires means)
+    (meant c.args.self.now.known.items old.answers.names c.args.histogram.index one known c.args.self.now.listed c.index-known.ensures c.requires means)
     c.in_default.ensures.claims

@@ -6,7 +6,7 @@ use Rattle.live_segment.proofs.AddCall.Adds.{meant}
 use Rattle.segment_invariant.proofs.Lists.Elements.{contains_at}
 use Rattle.live_segment.proofs.DeltaCall.Owed.{took_enough}
 use Rattle.live_segment.proofs.DeltaCall.Given.{taken_rests, taken_of, taken_names, taken_share}
-use Rattle.live_segment.proofs.HistCall.IndexKept.{seen_on}
+use Rattle.live_segment.proofs.Walks.IndexKept.{seen_on}
 use Rattle.live_segment.proofs.Walks.Walked.{all_right, come_still}
 use Rattle.live_segment.proofs.recorder.Recorder.delta.Goals as goal
 
@@ -23,6 +23,7 @@ invariant_of-self c =
       come = come_still _ _ _ _ taken.seen.chain old.come;
       named = old.named;
       indexed = seen_on _ _ _ _ taken.seen old.indexed;
+      sampled = seen_on _ _ _ _ taken.seen old.sampled;
     }
 
 pub returns-clause-taken : goal.returns-clause-taken

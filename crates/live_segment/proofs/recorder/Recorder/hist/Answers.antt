@@ -6,8 +6,9 @@ use Rattle.live_segment.specs.declared.recorder.KnownHistogram.{KnownHistogram}
 use Rattle.live_segment.specs.Known.{known_view, KnowsRight}
 use Rattle.live_segment.specs.Names.Naming.{HasNames}
 use Rattle.live_segment.proofs.Walks.Walked.{all_right, come_still}
-use Rattle.live_segment.proofs.HistCall.HistAnswered.{none_known, names_still, of_still, rests_still, share_still, chain_grew, of_then, rests_then, share_same, right_then, listed_then, named_then, count_of, asked_here}
+use Rattle.live_segment.proofs.HistCall.HistAnswered.{none_known, seen_grew, names_still, of_still, rests_still, share_still, chain_grew, of_then, rests_then, share_same, right_then, listed_then, named_then, count_of, asked_here}
 use Rattle.live_segment.proofs.HistCall.Blocks.{makes_named}
+use Rattle.live_segment.proofs.Walks.IndexKept.{seen_on}
 use Rattle.live_segment.proofs.recorder.Recorder.hist.Goals as goal
 
 pub invariant_of-self-in-Break-branch-3 : goal.invariant_of-self-in-Break-branch-3
@@ -26,6 +27,7 @@ invariant_of-self-in-Break-branch-3 c =
       come = come_still me.segment.now.setting.shape.size old.seen.chain new.seen.chain me.fresh looks.seen.chain me.come;
       named = subst (λ (l : List KnownHistogram). HasNames l me.names) (sym c.in_ok-reserve.ensures.items) me.named;
       indexed = c.in_err-known.ensures.indexed;
+      sampled = seen_on _ _ _ _ looks.seen me.sampled;
     }
 
 pub invariant_of-self-2 : goal.invariant_of-self-2
@@ -50,6 +52,7 @@ invariant_of-self-2 c =
           (ap (λ (l : List KnownHistogram). l ++ known ∷ []) c.as_slice-before.ensures.value ∙ sym c.push_reserved.ensures.items)
           (c.enter.ensures known (ap (λ (k : Known). k.name) is.view ∙ c.in_ok-asked.ensures.named));
       indexed = c.in_ok-known.ensures.indexed;
+      sampled = seen_on _ _ _ _ (seen_grew _ known.reference old new comes) me.sampled;
     }
 
 pub returns-clause-named : goal.returns-clause-named

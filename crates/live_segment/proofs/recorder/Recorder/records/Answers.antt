@@ -1,6 +1,6 @@
 use Rattle.std.proofs.Common.{ap}
 use Rattle.segment_machine.specs.declared.actor.Actor.{Actor}
-use Rattle.live_segment.proofs.HistCall.IndexKept.{walked_on}
+use Rattle.live_segment.proofs.Walks.IndexKept.{walked_on}
 use Rattle.live_segment.proofs.Walks.Walked.{all_right, come_still, walk_grows}
 use Rattle.live_segment.proofs.recorder.Recorder.records.Goals as goal
 
@@ -11,6 +11,9 @@ invariant_of-self-clause-right c =
 
 pub invariant_of-self-clause-come : goal.invariant_of-self-clause-come
 invariant_of-self-clause-come c = come_still _ _ _ _ (walk_grows _ _ _ c.walk.ensures.walked.walked) c.args.self.now.come
+
+pub invariant_of-self-clause-sampled : goal.invariant_of-self-clause-sampled
+invariant_of-self-clause-sampled c = walked_on _ _ _ _ _ c.walk.ensures.walked.walked c.args.self.now.sampled
 
 pub invariant_of-self-clause-indexed : goal.invariant_of-self-clause-indexed
 invariant_of-self-clause-indexed c = walked_on _ _ _ _ _ c.walk.ensures.walked.walked c.args.self.now.indexed

@@ -6,7 +6,7 @@ use Rattle.live_segment.proofs.AddCall.Adds.{meant}
 use Rattle.segment_invariant.proofs.Lists.Elements.{contains_at}
 use Rattle.live_segment.proofs.DeltaCall.Owed.{has_enough}
 use Rattle.live_segment.proofs.DeltaCall.Given.{looked_rests, looked_of, looked_names, looked_share}
-use Rattle.live_segment.proofs.HistCall.IndexKept.{seen_on}
+use Rattle.live_segment.proofs.Walks.IndexKept.{seen_on}
 use Rattle.live_segment.proofs.Walks.Walked.{all_right, come_still}
 use Rattle.live_segment.proofs.recorder.Recorder.snapshot.Goals as goal
 
@@ -28,6 +28,7 @@ invariant_of-self c =
       come = come_still _ _ _ _ has.seen.chain old.come;
       named = old.named;
       indexed = seen_on _ _ _ _ has.seen old.indexed;
+      sampled = seen_on _ _ _ _ has.seen old.sampled;
     }
 
 pub returns-clause-answer : goal.returns-clause-answer

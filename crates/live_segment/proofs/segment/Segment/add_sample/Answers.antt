@@ -9,6 +9,7 @@ use Rattle.live_segment.specs.Counts.Working.{CountsAlone, HasCounted}
 use Rattle.live_segment.proofs.AddCall.TurnedAway.{turned_rests, turned_refused}
 use Rattle.live_segment.proofs.AddCall.Blocks.{claims_kept, keeps_ended}
 use Rattle.live_segment.proofs.AddCall.Added.{counts_alone, has_sample, added, added_rests}
+use Rattle.live_segment.proofs.Walks.IndexKept.{kept_on}
 use Rattle.live_segment.proofs.segment.Segment.add_sample.Goals as goal
 
 pub count_value-requires-clause-may : goal.count_value-requires-clause-may
@@ -73,3 +74,9 @@ returns-clause-claims c =
     (to_z-of_z w32 c.args.value c.ranges.value) c.in_ok-count_value.ensures.claims in
     claims_kept known c.args.value c.args.seat.now.me.0 c.count_value.new.seat.me.0 c.finish_sample.new.seat.me.0 claims
     (keeps_ended _ c.count_value.new.seat.me.0 c.finish_sample.new.seat.me.0 c.finish_sample.ensures.ended)
+
+pub returns-clause-indexed : goal.returns-clause-indexed
+returns-clause-indexed c =
+    kept_on c.args.self.now.setting.shape.size c.count_value.new.samples c.count_value.new.seat.me.0 c.finish_sample.new.seat.me.0
+    (keeps_ended _ c.count_value.new.seat.me.0 c.finish_sample.new.seat.me.0 c.finish_sample.ensures.ended)
+    c.in_ok-count_value.ensures.indexed

@@ -6,7 +6,8 @@ use Rattle.live_segment.specs.Known.{known_view}
 use Rattle.live_segment.specs.Counts.Sampling.{HasSampleOf, LacksSampleOf}
 use Rattle.live_segment.specs.GhostNotes.{HasSampled, MaySample}
 use Rattle.live_segment.proofs.AddCall.CountsAlone.{may_give_up}
-use Rattle.live_segment.proofs.AddCall.ValueCounted.{may_sample, sample_within, same_counted, value_claims, value_counted, value_lacks}
+use Rattle.live_segment.proofs.AddCall.ValueCounted.{keeps_sampled, may_sample, sample_within, same_counted, value_claims, value_counted, value_lacks}
+use Rattle.live_segment.proofs.Walks.IndexKept.{kept_on}
 use Rattle.live_segment.proofs.segment.Segment.count_in_sample.Goals as goal
 
 pub returns-in_err-sample-clause-outcome : goal.returns-in_err-sample-clause-outcome
@@ -66,3 +67,15 @@ returns-clause-claims c =
     c.add_to_sample.ensures in
     value_claims known c.args.value c.args.units c.in_ok-sample.sample c.args.seat.now c.sample_of.new.seat c.requires.may c.requires.sparse has
     c.add_to_sample.result c.add_to_sample.new.seat sampled
+
+pub returns-clause-indexed : goal.returns-clause-indexed
+returns-clause-indexed c =
+    let known = known_view c.args.histogram.now in
+    let has = subst (λ (v : ℤ). HasSampleOf known v c.in_ok-sample.sample c.args.seat.now.me.0 c.sample_of.new.seat.me.0)
+    (to_z-of_z w32 c.args.value c.ranges.value) c.in_ok-sample.ensures.outcome in
+    let sampled = subst (λ (n : ℕ). HasSampled c.sample_of.new.seat c.in_ok-sample.sample n c.add_to_sample.result c.add_to_sample.new.seat) c.from.ensures
+    c.add_to_sample.ensures in
+    kept_on c.args.self.now.setting.shape.size c.sample_of.new.index c.sample_of.new.seat.me.0 c.add_to_sample.new.seat.me.0
+    (keeps_sampled known c.args.value c.args.units c.in_ok-sample.sample c.args.seat.now c.sample_of.new.seat c.requires.may c.requires.sparse has
+    c.add_to_sample.result c.add_to_sample.new.seat sampled)
+    c.in_ok-sample.ensures.indexed

@@ -13,6 +13,7 @@ use Rattle.live_segment.specs.Counts.Working.{CountsAlone, HasCounted}
 use Rattle.live_segment.proofs.AddCall.Blocks.{claims_kept}
 use Rattle.live_segment.proofs.BatchCall.Blocks.{keeps_noted}
 use Rattle.live_segment.proofs.BatchCall.ItemNoted.{may_note, item_noted}
+use Rattle.live_segment.proofs.Walks.IndexKept.{kept_on}
 use Rattle.live_segment.proofs.segment.Segment.count_item.Goals as goal
 
 pub count_value-requires-clause-may : goal.count_value-requires-clause-may
@@ -51,3 +52,9 @@ returns-clause-claims c =
     (to_z-of_z w32 c.args.value c.ranges.value) c.in_ok-count_value.ensures.claims in
     claims_kept known c.args.value c.args.seat.now.me.0 c.count_value.new.seat.me.0 c.add_redundant.new.seat.me.0 claims
     (keeps_noted known.reference _ c.add_redundant.result c.count_value.new.seat c.add_redundant.new.seat c.add_redundant.ensures)
+
+pub returns-clause-indexed : goal.returns-clause-indexed
+returns-clause-indexed c =
+    kept_on c.args.self.now.setting.shape.size c.count_value.new.samples c.count_value.new.seat.me.0 c.add_redundant.new.seat.me.0
+    (keeps_noted c.args.histogram.now.reference _ c.add_redundant.result c.count_value.new.seat c.add_redundant.new.seat c.add_redundant.ensures)
+    c.in_ok-count_value.ensures.indexed

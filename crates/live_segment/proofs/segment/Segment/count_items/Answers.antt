@@ -14,7 +14,7 @@ use Rattle.live_segment.proofs.BatchCall.ItemsRefused.{stops_at}
 use Rattle.live_segment.proofs.segment.Segment.count_items.Goals as goal
 
 pub loop-added-init : goal.loop-added-init
-loop-added-init c = record { same = (refl, refl, refl); counted = no_items (known_view c.args.histogram.now) c.args.seat.now.me.0 c.requires.rests; claims = refl }
+loop-added-init c = record { same = (refl, refl, refl); indexed = c.requires.indexed; counted = no_items (known_view c.args.histogram.now) c.args.seat.now.me.0 c.requires.rests; claims = refl }
 
 pub count_item-requires-clause-may : goal.count_item-requires-clause-may
 count_item-requires-clause-may c =
@@ -41,6 +41,7 @@ loop-added-preserved c =
     let enough = c.requires.units.1 in
     let noted = subst (λ (v : ℤ). HasNoted (item_of known v item.1) c.loop-added.seat.me.0 c.count_item.new.seat.me.0) trip c.in_default.ensures.outcome in record {
       same = (c.count_item.ensures.same.0 ∙ was.same.0, c.count_item.ensures.same.1 ∙ was.same.1, c.count_item.ensures.same.2 ∙ was.same.2);
+      indexed = c.in_default.ensures.indexed;
       counted = subst (λ (l : List (ℤ × ℕ)). HasItems known l c.args.seat.now.me.0 c.count_item.new.seat.me.0) (sym (take_more items k (pos 0, 0) c.loop-added-test.true))
           (one_counted known item c.args.seat.now.me.0 c.loop-added.seat.me.0 c.requires.rests (take k items) c.count_item.new.seat.me.0 was.counted
           (c.requires.units.0 k (pos 0, 0) c.loop-added-test.true) (omega (arith, most, enough)) noted);

@@ -4,6 +4,7 @@ use Rattle.live_segment.specs.Known.{known_view}
 use Rattle.live_segment.specs.GhostNotes.{HasSum, MaySum}
 use Rattle.live_segment.proofs.BatchCall.SumAdded.{may_sum, same_summed, sum_rests, batched, keeps_summed}
 use Rattle.live_segment.proofs.BatchCall.Blocks.{claims_all}
+use Rattle.live_segment.proofs.Walks.IndexKept.{kept_on}
 use Rattle.live_segment.proofs.segment.Segment.count_summed.Goals as goal
 
 pub add_sum-requires-clause-may : goal.add_sum-requires-clause-may
@@ -41,3 +42,12 @@ returns-clause-claims c =
     claims_all known c.args.items.now c.args.seat.now.me.0 c.count_items.new.seat.me.0 c.add_sum.new.seat.me.0 c.in_ok-count_items.ensures.claims
     (keeps_summed known c.args.sum c.args.seat.now.me.0 c.count_items.new.seat c.requires.rests c.requires.right.alone c.requires.some c.args.items.now
     c.in_ok-count_items.ensures.outcome c.requires.units.1 c.add_sum.result c.add_sum.new.seat summed)
+
+pub returns-clause-indexed : goal.returns-clause-indexed
+returns-clause-indexed c =
+    let known = known_view c.args.histogram.now in
+    let summed = subst (λ (z : ℤ). HasSum c.count_items.new.seat known.reference z c.add_sum.result c.add_sum.new.seat) (to_z-of_z w64 c.args.sum c.ranges.sum) c.add_sum.ensures in
+    kept_on c.args.self.now.setting.shape.size c.count_items.new.samples c.count_items.new.seat.me.0 c.add_sum.new.seat.me.0
+    (keeps_summed known c.args.sum c.args.seat.now.me.0 c.count_items.new.seat c.requires.rests c.requires.right.alone c.requires.some c.args.items.now
+    c.in_ok-count_items.ensures.outcome c.requires.units.1 c.add_sum.result c.add_sum.new.seat summed)
+    c.in_ok-count_items.ensures.indexed

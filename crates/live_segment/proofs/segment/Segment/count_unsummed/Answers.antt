@@ -16,6 +16,7 @@ use Rattle.live_segment.proofs.BatchCall.ItemsCounted.{may_next}
 use Rattle.live_segment.proofs.BatchCall.ItemsRefused.{stops_at}
 use Rattle.live_segment.proofs.BatchCall.LastItem.{may_end_batch, same_ended, last_rests, last_batched}
 use Rattle.live_segment.proofs.BatchCall.Unsummed.{batched_none, cut_before, front_and_last, last_fits}
+use Rattle.live_segment.proofs.Walks.IndexKept.{kept_on}
 use Rattle.live_segment.proofs.segment.Segment.count_unsummed.Goals as goal
 
 pub returns-in_err-count_items-clause-outcome : goal.returns-in_err-count_items-clause-outcome
@@ -139,3 +140,9 @@ returns-clause-claims c =
     subst (λ (l : List (ℤ × ℕ)). ClaimsForAll known l c.args.seat.now.me.0 c.add_last.new.seat.me.0) (front_and_last items (pos 0, 0) c.in-len1-up.len_at_least)
     (claims_all known (take k items ++ item ∷ []) c.args.seat.now.me.0 c.count_value.new.seat.me.0 c.add_last.new.seat.me.0 each
     (keeps_last known.reference _ c.add_last.result c.count_value.new.seat c.add_last.new.seat c.add_last.ensures))
+
+pub returns-clause-indexed : goal.returns-clause-indexed
+returns-clause-indexed c =
+    kept_on c.args.self.now.setting.shape.size c.count_value.new.samples c.count_value.new.seat.me.0 c.add_last.new.seat.me.0
+    (keeps_last c.args.histogram.now.reference _ c.add_last.result c.count_value.new.seat c.add_last.new.seat c.add_last.ensures)
+    c.in_default-count_value.ensures.indexed

@@ -10,7 +10,8 @@ use Rattle.live_segment.specs.Counts.Working.{CountsAlone, HasCounted}
 use Rattle.segment_promises.proofs.Calls.SpecBuckets.{below, is_bucketed, is_sparse}
 use Rattle.live_segment.proofs.DeltaCall.BucketKeys.{found_is, item_is, one_bucket}
 use Rattle.live_segment.proofs.AddCall.Blocks.{claims_mounted}
-use Rattle.live_segment.proofs.AddCall.TurnedAway.{turned_not_counted}
+use Rattle.live_segment.proofs.AddCall.TurnedAway.{bucket_seen, turned_not_counted}
+use Rattle.live_segment.proofs.Walks.IndexKept.{seen_on}
 use Rattle.live_segment.proofs.segment.Segment.count_value.Goals as goal
 
 pub count_in_sample-requires-clause-sparse : goal.count_in_sample-requires-clause-sparse
@@ -71,3 +72,10 @@ returns-clause-claims c =
     let bucketed = is_bucketed known.spec c.args.histogram.now.ranges c.requires.right.ranges (λ none. c.if-len-eq0.false (c.len.ensures ∙ none)) in
     IfOk-weaker c.count_in_bucket.result _ _
     (λ x claims. claims_mounted known c.args.value c.args.seat.now.me.0 c.count_in_bucket.new.seat.me.0 bucketed claims) c.count_in_bucket.ensures.claims
+
+pub returns-clause-indexed : goal.returns-clause-indexed
+returns-clause-indexed c =
+    seen_on c.args.self.now.setting.shape.size c.args.samples.now c.args.seat.now.me.0.seen c.count_in_bucket.new.seat.me.0.seen
+    (bucket_seen c.count_in_bucket.result (known_view c.args.histogram.now) c.bucket-bucket.result c.args.units c.args.seat.now.me.0 c.count_in_bucket.new.seat.me.0
+    c.count_in_bucket.ensures.outcome)
+    c.requires.indexed

@@ -4,55 +4,60 @@ use Rattle.live_segment.specs.declared.records.WalkPlace.{WalkPlace}
 use Rattle.live_segment.proofs.Walks.Showing.{same_on}
 use Rattle.live_segment.proofs.Walks.WalkProgress.{searched, room, meets, way_on, comes_further}
 use Rattle.live_segment.proofs.HistCall.Searching.{searched_not, searched_on, sees_searched, seat_on}
-use Rattle.live_segment.proofs.HistCall.Indexing.{way, indexed_on, not_entered, entered}
+use Rattle.live_segment.proofs.Walks.Indexed.{way, indexed_on, not_entered, entered, passed_all}
 use Rattle.live_segment.proofs.segment.Segment.look_on.Goals as goal
 
 pub load_next-next-requires-clause-room : goal.load_next-next-requires-clause-room
 load_next-next-requires-clause-room c =
-    let was = c.loop-next.invariant in room was.seated (way was.seated was.free was.indexed)
+    let was = c.loop-kind.invariant in room was.seated (way _ was.seated was.free was.indexed)
 
 pub returns-then-next-eq-QUEUE-clause-indexed : goal.returns-then-next-eq-QUEUE-clause-indexed
 returns-then-next-eq-QUEUE-clause-indexed c =
-    let was = c.loop-next.invariant in
-    indexed_on was.seated was.free was.indexed _ _ c.load_next-next.ensures.step c.load_next-next.new.seat.me.0 (searched_not c.load_next-next.new.seat.me.0)
+    let was = c.loop-kind.invariant in
+    indexed_on _ was.seated was.free was.indexed _ _ c.load_next-next.ensures.step c.load_next-next.new.seat.me.0 (searched_not c.load_next-next.new.seat.me.0)
+
+pub returns-then-next-eq-QUEUE-clause-ended : goal.returns-then-next-eq-QUEUE-clause-ended
+returns-then-next-eq-QUEUE-clause-ended c =
+    let was = c.loop-kind.invariant in
+    λ yes. passed_all _ was.seated was.free was.indexed _ _ c.load_next-next.ensures.step c.load_next-next.ensures.once c.if-next-eq-QUEUE.true
 
 pub key_at-key-requires-clause-met : goal.key_at-key-requires-clause-met
 key_at-key-requires-clause-met c =
-    let was = c.loop-next.invariant in
-    meets was.seated (way was.seated was.free was.indexed) _ _ c.load_next-next.ensures.step c.if-next-eq-QUEUE.false
+    let was = c.loop-kind.invariant in
+    meets was.seated (way _ was.seated was.free was.indexed) _ _ c.load_next-next.ensures.step c.if-next-eq-QUEUE.false
 
 pub returns-then-not-enter-clause-view : goal.returns-then-not-enter-clause-view
 returns-then-not-enter-clause-view c =
-    let was = c.loop-next.invariant in
+    let was = c.loop-kind.invariant in
     searched_on _ _ _ was.searched
-    (searched_on _ _ _ (searched was.seated (way was.seated was.free was.indexed) _ _ c.load_next-next.ensures.step) (sees_searched _ _ c.key_at-key.ensures.view))
+    (searched_on _ _ _ (searched was.seated (way _ was.seated was.free was.indexed) _ _ c.load_next-next.ensures.step) (sees_searched _ _ c.key_at-key.ensures.view))
 
 pub returns-then-not-enter-clause-indexed : goal.returns-then-not-enter-clause-indexed
 returns-then-not-enter-clause-indexed c =
-    let was = c.loop-next.invariant in
-    not_entered was.seated was.free was.indexed _ _ c.load_next-next.ensures.step c.if-next-eq-QUEUE.false c.key_at-key.new.seat.me.0 c.key_at-key.ensures.view
+    let was = c.loop-kind.invariant in
+    not_entered _ was.seated was.free was.indexed _ _ c.load_next-next.ensures.step c.if-next-eq-QUEUE.false c.key_at-key.new.seat.me.0 c.key_at-key.ensures.view
     c.key_at-key.ensures.looked c.key_at-key.result c.key_at-key.ensures.key c.enter.new.self c.if-not-enter.ensures
 
-pub loop-next-smaller : goal.loop-next-smaller
-loop-next-smaller c =
-    let was = c.loop-next.invariant in
+pub loop-kind-smaller : goal.loop-kind-smaller
+loop-kind-smaller c =
+    let was = c.loop-kind.invariant in
     let (further, most) =
-    comes_further was.seated (way was.seated was.free was.indexed) _ _ c.load_next-next.ensures.step c.if-next-eq-QUEUE.false
+    comes_further was.seated (way _ was.seated was.free was.indexed) _ _ c.load_next-next.ensures.step c.if-next-eq-QUEUE.false
     _ c.key_at-key.ensures.view c.load_next-next.ensures.once in
     subst (λ (n : ℕ). c.args.self.now.setting.shape.size - last_of c.key_at-key.new.seat.me.0.seen.chain n
-    < c.args.self.now.setting.shape.size - last_of c.loop-next.seat.me.0.seen.chain c.loop-next.index.place.at)
+    < c.args.self.now.setting.shape.size - last_of c.loop-kind.seat.me.0.seen.chain c.loop-kind.index.place.at)
     (sym (ap (λ (p : WalkPlace). p.at) c.if-not-enter.ensures.0)) (omega (arith, further, most))
 
-pub loop-next-preserved : goal.loop-next-preserved
-loop-next-preserved c =
-    let was = c.loop-next.invariant in
-    let on = searched_on _ _ _ (searched was.seated (way was.seated was.free was.indexed) _ _ c.load_next-next.ensures.step) (sees_searched _ _ c.key_at-key.ensures.view) in
-    let same = same_on c.loop-next.seat c.load_next-next.new.seat c.key_at-key.new.seat c.load_next-next.ensures.step.same c.key_at-key.ensures.same in record {
+pub loop-kind-preserved : goal.loop-kind-preserved
+loop-kind-preserved c =
+    let was = c.loop-kind.invariant in
+    let on = searched_on _ _ _ (searched was.seated (way _ was.seated was.free was.indexed) _ _ c.load_next-next.ensures.step) (sees_searched _ _ c.key_at-key.ensures.view) in
+    let same = same_on c.loop-kind.seat c.load_next-next.new.seat c.key_at-key.new.seat c.load_next-next.ensures.step.same c.key_at-key.ensures.same in record {
       seated = seat_on c.key_at-key.new.seat was.seated same on;
-      same = same_on c.args.seat.now c.loop-next.seat c.key_at-key.new.seat was.same same;
+      same = same_on c.args.seat.now c.loop-kind.seat c.key_at-key.new.seat was.same same;
       searched = searched_on _ _ _ was.searched on;
-      free = (way_on was.seated (way was.seated was.free was.indexed) _ _ c.load_next-next.ensures.step c.if-next-eq-QUEUE.false
+      free = (way_on was.seated (way _ was.seated was.free was.indexed) _ _ c.load_next-next.ensures.step c.if-next-eq-QUEUE.false
           c.key_at-key.new.seat.me.0 c.key_at-key.ensures.view).free;
-      indexed = entered was.seated was.free was.indexed _ _ c.load_next-next.ensures.step c.if-next-eq-QUEUE.false c.key_at-key.new.seat.me.0 c.key_at-key.ensures.view
+      indexed = entered _ was.seated was.free was.indexed _ _ c.load_next-next.ensures.step c.if-next-eq-QUEUE.false c.key_at-key.new.seat.me.0 c.key_at-key.ensures.view
           c.key_at-key.ensures.looked c.key_at-key.result c.key_at-key.ensures.key c.enter.new.self c.if-not-enter.ensures;
     }

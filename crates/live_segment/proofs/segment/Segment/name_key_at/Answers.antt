@@ -1,41 +1,36 @@
-use Rattle.std.proofs.Common.{◌+◌, arith}
+use Rattle.std.proofs.Common.{◌+◌, ap, refl, inl, inr, ◌∙◌}
+use Rattle.std.specs.Prelude.{Some}
 use Rattle.segment_promises.proofs.Growing.{still}
-use Rattle.live_segment.proofs.Walks.Showing.{same_on, sees_on, sees_one, may_load}
-use Rattle.live_segment.proofs.HistCall.Indexing.{letter_fixed, letters_seen, letters_small, letters_key, looked_at, key_at}
+use Rattle.live_segment.proofs.Walks.Showing.{may_load_fixed, sees_one, seen_one}
+use Rattle.live_segment.proofs.Walks.Keyed.{passed_over, no_key, words_of_bytes}
 use Rattle.live_segment.proofs.segment.Segment.name_key_at.Goals as goal
 
-pub load_published-requires-clause-may : goal.load_published-requires-clause-may
-load_published-requires-clause-may c =
-    let was = c.loop-i.invariant in
-    let (len, long, words) = c.requires.length in
-    may_load c.args.self.now c.args.seat.now c.loop-i.seat c.args.at c.requires.seat.table c.requires.seat.recorder c.requires.met was.same was.sees
-    (15 + c.loop-i.i) (letter_fixed c.args.seat.now.me.0 c.args.at len c.loop-i.i c.requires.tag long (omega (arith, c.loop-i-test.true, c.loop-i.auto.i-end, words)))
+pub returns-then-load_published-ne-TYPE_HISTOGRAM-clause-looked : goal.returns-then-load_published-ne-TYPE_HISTOGRAM-clause-looked
+returns-then-load_published-ne-TYPE_HISTOGRAM-clause-looked c =
+    passed_over c.load_published.new.seat.me.0.seen c.args.at c.load_published.result (seen_one _ _ c.args.at 2 c.load_published.result c.load_published.ensures)
+    c.if-load_published-ne-TYPE_HISTOGRAM.true
 
-pub loop-i-preserved : goal.loop-i-preserved
-loop-i-preserved c =
-    let was = c.loop-i.invariant in
-    let step = c.load_published.ensures in record {
-      same = same_on c.args.seat.now c.loop-i.seat c.load_published.new.seat was.same step.same;
-      sees = sees_on c.args.seat.now.me.0 c.loop-i.seat.me.0 c.load_published.new.seat.me.0 was.sees
-          (sees_one c.loop-i.seat c.load_published.new.seat c.args.at (15 + c.loop-i.i) c.load_published.result step);
-      seen = letters_seen c.loop-i.seat c.load_published.new.seat c.args.at c.loop-i.i c.load_published.result step was.seen;
-      small = letters_small c.loop-i.seat c.load_published.new.seat c.args.at c.loop-i.i c.load_published.result step (omega arith) was.seen was.small;
-      key = letters_key c.loop-i.seat c.load_published.new.seat c.args.at c.loop-i.i c.load_published.result step c.loop-i.key c.next_key-key.result
-          was.seen was.key c.next_key-key.ensures;
-    }
+pub returns-then-load_published-ne-TYPE_HISTOGRAM-clause-key : goal.returns-then-load_published-ne-TYPE_HISTOGRAM-clause-key
+returns-then-load_published-ne-TYPE_HISTOGRAM-clause-key c =
+    no_key c.load_published.new.seat.me.0.seen c.args.at c.load_published.result (seen_one _ _ c.args.at 2 c.load_published.result c.load_published.ensures)
+    c.if-load_published-ne-TYPE_HISTOGRAM.true
 
-pub returns-clause-looked : goal.returns-clause-looked
-returns-clause-looked c =
-    let was = c.loop-i.invariant in
-    let (len, long, words) = c.requires.length in
-    let on = still c.args.seat.now.me.0.seen.words c.loop-i.seat.me.0.seen.words was.sees.words in
-    looked_at c.loop-i.seat.me.0.seen c.args.at len c.loop-i.i (on (c.args.at + 2) 1 c.requires.tag) (on (c.args.at + 14) len long)
-    (omega (arith, c.loop-i-test.false, c.loop-i.auto.i-end, words)) was.seen was.small
+pub load_published-len-requires-clause-may : goal.load_published-len-requires-clause-may
+load_published-len-requires-clause-may c =
+    let step = c.load_published.ensures in
+    may_load_fixed c.args.self.now c.args.seat.now c.load_published.new.seat c.args.at c.requires.seat.table c.requires.seat.recorder c.requires.met step.same
+    (sees_one _ _ c.args.at 2 c.load_published.result step) 14
+    (inr (inl (seen_one _ _ c.args.at 2 c.load_published.result step ∙ ap Some c.if-load_published-ne-TYPE_HISTOGRAM.false, inr (inl refl))))
 
-pub returns-clause-key : goal.returns-clause-key
-returns-clause-key c =
-    let was = c.loop-i.invariant in
-    let (len, long, words) = c.requires.length in
-    let on = still c.args.seat.now.me.0.seen.words c.loop-i.seat.me.0.seen.words was.sees.words in
-    key_at c.loop-i.seat.me.0.seen c.args.at len c.loop-i.i (on (c.args.at + 2) 1 c.requires.tag) (on (c.args.at + 14) len long)
-    (omega (arith, c.loop-i-test.false, c.loop-i.auto.i-end, words)) was.seen was.small c.loop-i.key was.key
+pub name_key_of-requires-clause-tag : goal.name_key_of-requires-clause-tag
+name_key_of-requires-clause-tag c =
+    still c.load_published.new.seat.me.0.seen.words c.load_published-len.new.seat.me.0.seen.words
+    (sees_one c.load_published.new.seat c.load_published-len.new.seat c.args.at 14 c.load_published-len.result c.load_published-len.ensures).words (c.args.at + 2) 1
+    (seen_one _ _ c.args.at 2 c.load_published.result c.load_published.ensures ∙ ap Some c.if-load_published-ne-TYPE_HISTOGRAM.false)
+
+pub name_key_of-requires-clause-length : goal.name_key_of-requires-clause-length
+name_key_of-requires-clause-length c = (
+  c.load_published-len.result,
+  seen_one c.load_published.new.seat c.load_published-len.new.seat c.args.at 14 c.load_published-len.result c.load_published-len.ensures,
+  c.div_ceil.ensures ∙ words_of_bytes c.load_published-len.result,
+)

@@ -4,7 +4,7 @@ use Rattle.segment_machine.specs.Actor.{is_opener}
 use Rattle.live_segment.specs.Names.Searching.{asked_at}
 use Rattle.live_segment.proofs.Walks.Showing.{same_on}
 use Rattle.live_segment.proofs.HistCall.Blocks.{declined_none, knows_none, makes_kept}
-use Rattle.live_segment.proofs.HistCall.IndexKept.{kept_on}
+use Rattle.live_segment.proofs.Walks.IndexKept.{kept_on}
 use Rattle.live_segment.proofs.HistCall.Settled.{may_decline, refused_so, known_so}
 use Rattle.live_segment.proofs.segment.Segment.settle.Goals as goal
 

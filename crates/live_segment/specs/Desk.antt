@@ -1,0 +1,39 @@
+-- What a recorder has beside its segment.
+use Rattle.std.specs.Prelude.{◌≡◌, [], map}
+use Rattle.std.specs.List.{All}
+use Rattle.live_segment.specs.declared.recorder.Recorder.{Recorder}
+use Rattle.live_segment.specs.declared.indexing.KeyKind.TheVariants.{Name, Sample}
+use Rattle.live_segment.specs.declared.recorder.desk.Desk.{Desk}
+use Rattle.live_segment.specs.declared.segment.Segment.{Segment}
+use Rattle.live_segment.specs.Known.{known_view, KnowsRight}
+use Rattle.live_segment.specs.Lists.Indexed.{IsIndexed}
+use Rattle.live_segment.specs.Lists.Walks.{HasCome}
+use Rattle.live_segment.specs.Names.Naming.{HasNames}
+use Rattle.live_segment.specs.Seated.{IsSeated}
+use Rattle.live_segment.specs.Steps.{IsAtRest}
+
+-- it is that of a recorder at a segment
+pub record IsDeskAt (segment : Segment) (desk : Desk) : Type 0 where
+  pub seated : IsSeated segment desk.seat
+  pub rests : IsAtRest desk.seat.me.0
+  pub counted : desk.units ≡ desk.seat.me.0.units.share
+  pub listed : map known_view desk.known.items ≡ desk.seat.me.0.answers.names
+  pub right : All (KnowsRight segment.setting desk.seat.me.0) desk.known.items
+  pub free : desk.seat.me.1 ≡ []
+  pub come : HasCome segment.setting.shape.size desk.seat.me.0.seen.chain desk.fresh
+  pub named : HasNames desk.known.items desk.names
+  pub indexed : IsIndexed Name segment.setting.shape.size desk.seat.me.0.seen desk.index
+  pub sampled : IsIndexed Sample segment.setting.shape.size desk.seat.me.0.seen desk.samples
+
+-- what a recorder has
+abbrev pub desk_of : Recorder → Desk
+desk_of recorder = record {
+  alloc = recorder.alloc;
+  seat = recorder.seat;
+  units = recorder.units;
+  known = recorder.known;
+  fresh = recorder.fresh;
+  names = recorder.names;
+  index = recorder.index;
+  samples = recorder.samples;
+}

@@ -1,0 +1,162 @@
+//! The web page of a reading.
+
+ghost use Rattle.std.specs.Prelude.{◌≡◌, ◌++◌, All, IfOk, OnOk, map};
+ghost use Rattle.std.specs.List.{flat_map, enumerate_from};
+ghost use Rattle.image_reader.specs.Views.{histogram_view, reading_view};
+ghost use Rattle.image_reader.specs.Readable.{IsReadable};
+ghost use Rattle.reading_shows.specs.Page.{contents_line, table, title, section, IsPageOf};
+ghost use Rattle.reading_texts.specs.Rows.{rows_of as rows_of_histogram};
+
+use crate::choice::{Choice, chosen};
+use crate::ending::put_ending;
+use crate::escapes::escaped;
+use crate::heading::put_numbers;
+use crate::lines::put_left_out;
+use crate::most::pick;
+use crate::page_rows::put_page_rows;
+use crate::sheet::put_head;
+use crate::style::{frame_of, shows_all_of};
+use image_reader::{HistReading, Reading};
+use reading_texts::{HistRow, put_parts, rows_of};
+use std::alloc::{AllocError, Global};
+
+// Puts the line of a numbered histogram in the table of contents.
+fn put_contents_line(
+    alloc: Global,
+    text: &mut Vec<u8>,
+    number: usize,
+    hist: &HistReading,
+) -> Result<(), AllocError>
+    ensures { OnOk result (text.new.items ≡ text.old.items ++ contents_line (number, histogram_view hist.now)) }
+{
+    let number = number.to_string(alloc)?;
+    let name = escaped(alloc, hist.name.as_slice())?;
+    put_parts(
+        text,
+        &[
+            b"<li><a href=\"#h",
+            number.as_bytes(),
+            b"\">",
+            name.as_slice(),
+            b"</a></li>\n",
+        ],
+    )
+}
+
+// Puts the table of contents.
+fn put_contents(alloc: Global, text: &mut Vec<u8>, hists: &[&HistReading]) -> Result<(), AllocError>
+    ensures { OnOk result (text.new.items ≡ text.old.items ++ flat_map contents_line (enumerate_from 0 (map (λ hist. histogram_view hist.now) hists.now))) }
+{
+    for (i, hist) in hists.iter().enumerate() {
+        put_contents_line(alloc, text, i, hist)?;
+    }
+    Ok(())
+}
+
+// Puts the table of a histogram, which has these rows, and how many others there are.
+fn put_table(
+    alloc: Global,
+    text: &mut Vec<u8>,
+    shows_all: bool,
+    hist: &HistReading,
+    rows: &[HistRow],
+) -> Result<(), AllocError>
+    requires readable { IsReadable (histogram_view hist.now) }
+    requires rows { rows.now ≡ rows_of_histogram (histogram_view hist.now) }
+    ensures { OnOk result (text.new.items ≡ text.old.items ++ table shows_all (histogram_view hist.now)) }
+{
+    let picked = pick(alloc, shows_all_of(shows_all, hist), rows)?;
+    text.extend_from_slice(
+        b"<table>\n<tr><th>values</th><th></th><th>units</th><th>percent</th><th>up to here</th></tr>\n",
+    )?;
+    put_page_rows(alloc, text, frame_of(hist, rows), picked.shown.as_slice())?;
+    text.extend_from_slice(b"</table>\n<p>")?;
+    put_left_out(alloc, text, picked.left_out.as_slice())?;
+    text.extend_from_slice(b"</p>\n</section>\n")?;
+    Ok(())
+}
+
+// Puts the name of a numbered histogram, to which the table of contents leads.
+fn put_title(
+    alloc: Global,
+    text: &mut Vec<u8>,
+    number: usize,
+    hist: &HistReading,
+) -> Result<(), AllocError>
+    ensures { OnOk result (text.new.items ≡ text.old.items ++ title (number, histogram_view hist.now)) }
+{
+    let number = number.to_string(alloc)?;
+    let name = escaped(alloc, hist.name.as_slice())?;
+    put_parts(
+        text,
+        &[
+            b"<section id=\"h",
+            number.as_bytes(),
+            b"\">\n<h2>",
+            name.as_slice(),
+            b"</h2>\n<p>",
+        ],
+    )
+}
+
+// Puts a numbered histogram: its name, its numbers and its table.
+fn put_section(
+    alloc: Global,
+    text: &mut Vec<u8>,
+    shows_all: bool,
+    number: usize,
+    hist: &HistReading,
+) -> Result<(), AllocError>
+    requires { IsReadable (histogram_view hist.now) }
+    ensures { OnOk result (text.new.items ≡ text.old.items ++ section shows_all (number, histogram_view hist.now)) }
+{
+    let rows = rows_of(alloc, hist)?;
+    let rows = rows.as_slice();
+    put_title(alloc, text, number, hist)?;
+    put_numbers(alloc, text, hist, rows)?;
+    text.extend_from_slice(b"</p>\n")?;
+    put_table(alloc, text, shows_all, hist, rows)?;
+    Ok(())
+}
+
+// Puts histograms, numbered from 0.
+fn put_sections(
+    alloc: Global,
+    text: &mut Vec<u8>,
+    shows_all: bool,
+    hists: &[&HistReading],
+) -> Result<(), AllocError>
+    requires { All IsReadable (map (λ hist. histogram_view hist.now) hists.now) }
+    ensures { OnOk result (text.new.items ≡ text.old.items ++ flat_map (section shows_all) (enumerate_from 0 (map (λ hist. histogram_view hist.now) hists.now))) }
+{
+    for (i, hist) in hists.iter().enumerate() {
+        put_section(alloc, text, shows_all, i, hist)?;
+    }
+    Ok(())
+}
+
+/// The web page of a reading: HTML that needs nothing else, with the numbers and sentences of [`show_text`](crate::show_text), of
+/// the same histograms in the same order. It begins with a table of contents, bars are SVG, and names are escaped. All values
+/// of sparse histograms have rows, or the 20 with the most units. It fails for want of memory alone.
+pub fn page_text(
+    alloc: Global,
+    reading: &Reading,
+    shows_all: bool,
+    choice: Choice<'_>,
+) -> Result<Vec<u8>, AllocError>
+    requires { All IsReadable (map histogram_view reading.now.hists.items) }
+    ensures { IfOk result (λ page. IsPageOf shows_all choice.entry (reading_view reading.now) page.items) }
+{
+    let hists = chosen(alloc, reading, choice)?;
+    let hists = hists.as_slice();
+    let mut text = Vec::new(alloc);
+    put_head(&mut text)?;
+    text.extend_from_slice(b"<nav>\n<ol>\n")?;
+    put_contents(alloc, &mut text, hists)?;
+    text.extend_from_slice(b"</ol>\n</nav>\n<main>\n")?;
+    put_sections(alloc, &mut text, shows_all, hists)?;
+    text.extend_from_slice(b"</main>\n<footer>")?;
+    put_ending(alloc, &mut text, hists, reading)?;
+    text.extend_from_slice(b"</footer>\n</body>\n</html>\n")?;
+    Ok(text)
+}

@@ -1,0 +1,97 @@
+"""`show --html`: the pages of known and forged images say what the plain renderer of `show` says, and are well formed; names that need escapes."""
+
+import fractions
+import html
+import math
+import pathlib
+import random
+import tempfile
+
+from parts import known, shows
+from support import command_faults, forge, page_text, plain_show
+from support.program import EXAMPLE, Answer, answer, difference
+
+PROGRAM = "persist_report"
+MOST_IMAGES = 1000
+WIDEST = 1000
+# Names with all signs that HTML gives a meaning, and some that look like parts of a page.
+NAMES = ["a<b>&'c'", "&amp;", "&#39;&lt", "</h2>", "<script>alert(1)</script>", "]]>", "<!--", "-->", "%41", "#h0", "\\", "a;b`c=d"]
+SCRIPT = ("segment,4096,64,7\n" + "".join(f"hist,{name},boolean\nadd,{name},{at % 2},{at + 1}\n" for at, name in enumerate(NAMES))).encode()
+CHOICES = [([], {}), *(choice for choice in shows.CHOICES if "--width" not in choice[0][0] and "--ascii" not in choice[0])]
+USAGES = [["--html", "--width", "20"], ["--html", "--ascii"], ["--ascii", "--html"], ["--html=x"], ["--html", "--match", "a", "A"]]
+
+
+def complaint(data, page, **options):
+    """Where a page is not well formed, or does not say what the plain renderer says of the image, in its order; None where all is well."""
+    read, wrong = page_text.read(page)
+    if wrong is not None:
+        return wrong
+    wanted = page_text.words_of(plain_show.text_of(data, width=0, is_ascii=True, **options).decode().split("\n"))
+    for number, words in enumerate(wanted):
+        came = read.lines[number] if number < len(read.lines) else "no more"
+        if came != words:
+            return f"line {number + 1}: wanted {words}, came {came}"
+    if len(read.lines) > len(wanted):
+        return f"there is more behind it: {read.lines[len(wanted)]}"
+    return contents_complaint(read, wanted) or widths_complaint(read, plain_show.bars_of(data, **options))
+
+
+def contents_complaint(read, wanted):
+    """Where the table of contents does not lead to each histogram, by its name."""
+    places = [f"h{number}" for number in range(len(read.places))]
+    names = [words[0] for words, below in zip(wanted, wanted[1:]) if len(words) == 1 and below[1:2] == ["units"]]
+    if read.places != places:
+        return f"the places are {read.places}"
+    if read.links != [(f"#{place}", name) for place, name in zip(places, names, strict=True)]:
+        return f"the table of contents is {read.links}"
+    return None
+
+
+def widths_complaint(read, bars):
+    """Where a bar is not as long as its units want, in thousandths of the longest one, rounded up."""
+    wanted = [math.ceil(fractions.Fraction(units * WIDEST, most)) for units, most in bars]
+    return None if read.widths == wanted else f"wanted bars of {wanted[:9]}, came {read.widths[:9]}"
+
+
+def beside(program, data, words=(), **options):
+    """Where the page of an image is not what the plain renderer wants; of what is no image the fault is wanted."""
+    output, error, status = plain_show.answer(data, **options)
+    came = answer(program, ["show", "-", *words, "--html"], data)
+    if status != 0 or came.status != 0:
+        return difference(Answer(output, error, status), came)
+    return complaint(data, came.output, **options)
+
+
+def worked(program, folder):
+    """The example as a file and on standard input; names that need escapes; each choice of a script's histograms."""
+    wanted = answer(program, ["show", "--html", EXAMPLE])
+    yield "the example", complaint(EXAMPLE.read_bytes(), wanted.output)
+    for words in (["-"], []):
+        yield f"the example, {words}", difference(wanted, answer(program, ["show", "--html", *words], EXAMPLE.read_bytes()))
+    script, image = folder / "script", folder / "image"
+    for name, text in [("escapes", SCRIPT), ("many values", shows.MANY_SCRIPT.encode()), ("kinds", shows.SCRIPT)]:
+        script.write_bytes(text)
+        ran = answer(program, ["run", script, image])
+        yield f"{name}, run", None if ran.status == 0 else f"came {ran}"
+        for words, options in CHOICES:
+            yield f"{name}, {words}", beside(program, image.read_bytes(), words, **options)
+        if name == "escapes":
+            page = answer(program, ["show", "--html", image]).output.decode()
+            missing = [one for one in NAMES if page.count(f">{html.escape(one)}</") != 2]
+            yield "escapes, twice each", f"{missing} do not stand twice in the page" if missing else None
+    for words in USAGES:
+        came = answer(program, ["show", EXAMPLE, *words])
+        yield f"{words}", None if came.status == 2 and came.output == b"" else f"wanted a usage fault, came {came}"
+
+
+def cases(program, options):
+    """Worked examples; the known images; and forged ones, a thousand at most."""
+    with tempfile.TemporaryDirectory() as folder:
+        yield from worked(program, pathlib.Path(folder))
+    yield from command_faults.cases(program, ["show", "--html"])
+    for image in sorted(known.FOLDER.glob("*.img")):
+        yield image.name, beside(program, image.read_bytes())
+    for number in range(min(options.images, MOST_IMAGES)):
+        data = forge.image_of(random.Random(f"{options.seed} {number}"))
+        words, settings = (["--all"], {"shows_all": True}) if number % 2 else ([], {})
+        yield f"image {number} of seed {options.seed}", beside(program, data, words, **settings)

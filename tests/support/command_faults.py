@@ -1,0 +1,12 @@
+"""The faults of a command that reads an image and writes a text: those of `report`."""
+
+from support.program import EXAMPLE, answer, difference, fault
+
+
+def cases(program, words):
+    """The faults where these words ask for the command: of the file, the bytes and the device."""
+    yield "a missing file", difference(fault("Read", 4), answer(program, [*words, "missing.img"]))
+    yield "too many bytes", difference(fault("TooLong", 3), answer(program, words, bytes(8_388_609)))
+    yield "no words", difference(fault("NotWords", 3), answer(program, [*words, "-"], EXAMPLE.read_bytes()[:-1]))
+    with open("/dev/full", "wb") as full:
+        yield "a full device", difference(fault("Write", 4), answer(program, [*words, EXAMPLE], stdout=full))

@@ -6,7 +6,9 @@
 #![tactic(auto)]
 
 mod firsts;
+mod groups;
 mod keys;
 
 pub use firsts::Firsts;
+pub use groups::{Groups, group_of};
 pub use keys::{next_byte_key, next_key};

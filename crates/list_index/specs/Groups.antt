@@ -1,9 +1,8 @@
 -- Numbers that were entered with keys, by the groups of the keys.
-use Rattle.std.specs.Prelude.{◌≡◌, ◌==◌, ℕ, ◌+◌, ◌/◌, ◌%◌, ◌^◌, List, [], ◌∷◌, Vec, Option, Some, None, if◌then◌else◌, nat_eq}
+use Rattle.std.specs.Prelude.{ℕ, ◌+◌, ◌/◌, ◌%◌, ◌^◌, List, [], Vec, Option, Some, None, nat_eq}
 use Rattle.std.specs.Global.{Global}
 use Rattle.std.specs.HashMap as hash
 use Rattle.list_index.specs.declared.groups.Groups.{Groups}
-use Rattle.list_index.specs.Firsts.{Met}
 
 -- the numbers of a group, where it has some
 abbrev pub listed : Option (Vec ℕ Global) → List ℕ
@@ -17,13 +16,3 @@ numbers_of groups group = listed (hash.get nat_eq groups.map group)
 -- The group of a key: a group has 2^32 keys, as many below its number times 2^32 as from there on.
 abbrev pub group_of : ℕ → ℕ
 group_of key = (key + 2147483648) % 2 ^ 64 / 4294967296
-
--- those of the numbers that were met whose keys are of a group
-abbrev pub met_in : List Met → ℕ → List ℕ
-met_in [] group = []
-met_in ((at, Some key) ∷ rest) group = if group_of key == group then at ∷ met_in rest group else met_in rest group
-met_in ((at, None) ∷ rest) group = met_in rest group
-
--- of each group all that were met are listed
-abbrev pub HoldsGroups : List Met → Groups → Type 0
-HoldsGroups met groups = (group : ℕ) → numbers_of groups group ≡ met_in met group

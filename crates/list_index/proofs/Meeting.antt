@@ -129,18 +129,18 @@ in_group P ((at, Some own) ∷ rest) group all = by (group_of own == group) (in_
     by true later = All-cons P at (met_in rest group) (All-head P at (map (λ (m : Met). m.0) rest) all) later
     by false later = later
 
--- where none was met twice, a group has none twice
-pub apart_in_group : (met : List Met) (group : ℕ) → AllPairs (λ x y. x ≢ y) (map (λ (m : Met). m.0) met) → AllPairs (λ x y. x ≢ y) (met_in met group)
-apart_in_group [] group apart = λ i j d lt inside. absurd (omega (arith, inside))
-apart_in_group ((at, None) ∷ rest) group apart = apart_in_group rest group (λ i j d lt inside. apart (suc i) (suc j) d (omega (arith, lt)) (omega (arith, inside)))
-apart_in_group ((at, Some own) ∷ rest) group apart =
-    by (group_of own == group) (apart_in_group rest group (λ i j d lt inside. apart (suc i) (suc j) d (omega (arith, lt)) (omega (arith, inside))))
+-- what is said of each that was met and each later one is said of those of a group
+pub pairs_in_group : (R : ℕ → ℕ → Type 0) (met : List Met) (group : ℕ) → AllPairs R (map (λ (m : Met). m.0) met) → AllPairs R (met_in met group)
+pairs_in_group R [] group all = λ i j d lt inside. absurd (omega (arith, inside))
+pairs_in_group R ((at, None) ∷ rest) group all = pairs_in_group R rest group (λ i j d lt inside. all (suc i) (suc j) d (omega (arith, lt)) (omega (arith, inside)))
+pairs_in_group R ((at, Some own) ∷ rest) group all =
+    by (group_of own == group) (pairs_in_group R rest group (λ i j d lt inside. all (suc i) (suc j) d (omega (arith, lt)) (omega (arith, inside))))
   where
-    others : All (λ y. at ≢ y) (met_in rest group)
-    others = in_group (λ y. at ≢ y) rest group (λ k d inside. apart 0 (suc k) d (omega arith) (omega (arith, inside)))
+    others : All (R at) (met_in rest group)
+    others = in_group (R at) rest group (λ k d inside. all 0 (suc k) d (omega arith) (omega (arith, inside)))
 
-    by : (b : Bool) → AllPairs (λ x y. x ≢ y) (met_in rest group) → AllPairs (λ x y. x ≢ y) (if b then at ∷ met_in rest group else met_in rest group)
-    by true later = AllPairs-cons (λ x y. x ≢ y) at (met_in rest group) others later
+    by : (b : Bool) → AllPairs R (met_in rest group) → AllPairs R (if b then at ∷ met_in rest group else met_in rest group)
+    by true later = AllPairs-cons R at (met_in rest group) others later
     by false later = later
 
 -- what is said of those of a group is said of each that was met with a key of it

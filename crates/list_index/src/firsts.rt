@@ -21,6 +21,7 @@ impl Firsts {
     /// Nothing was entered. It takes no memory.
     pub fn new(alloc: Global) -> Firsts
         ensures first { (key : ℕ) → first_of result key ≡ None }
+        ensures all { (group : ℕ) → all_of result group ≡ [] }
         ensures alone { is_grouping result ≡ false }
     {
         Firsts {

@@ -1,6 +1,8 @@
 //! What a recorder has of the records that it met along the list, so that it need not walk there again.
 
-ghost use Rattle.std.specs.Prelude.{◌≡◌, ◌+◌, ◌<◌, ◌^◌, true, ℕ, length};
+ghost use Rattle.std.specs.Prelude.{◌≡◌, ◌+◌, ◌<◌, ◌^◌, true, ℕ, [], length};
+ghost use Rattle.list_index.specs.Firsts.{Holds, is_grouping};
+ghost use Rattle.live_segment.specs.declared.indexing.KeyKind.TheVariants.{Sample};
 ghost use Rattle.segment_machine.specs.Calls.{MayTurn};
 ghost use Rattle.live_segment.specs.Names.Searching.{HasSearched};
 
@@ -27,8 +29,19 @@ pub(crate) struct RecordIndex {
     pub(crate) kind: KeyKind,
     /// Up to where it has passed the list.
     pub(crate) place: WalkPlace,
-    /// The first record of each key.
+    /// The first record of each key; and of samples those of each histogram.
     pub(crate) firsts: Firsts,
+}
+
+// What an index begins with: one of samples groups them by their histograms.
+fn firsts_for(alloc: Global, kind: KeyKind) -> Firsts
+    ensures holds { Holds [] result }
+    ensures grouping { kind ≡ Sample → is_grouping result ≡ true }
+{
+    match kind {
+        KeyKind::Name => Firsts::new(alloc),
+        KeyKind::Sample => Firsts::with_groups(alloc),
+    }
 }
 
 impl RecordIndex {
@@ -42,7 +55,7 @@ impl RecordIndex {
         RecordIndex {
             kind,
             place: WalkPlace::start(),
-            firsts: Firsts::new(alloc),
+            firsts: firsts_for(alloc, kind),
         }
     }
 

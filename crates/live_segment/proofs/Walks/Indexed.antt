@@ -37,7 +37,7 @@ use Rattle.live_segment.proofs.Walks.WalkProgress.{chain_still, searched, way_on
 use Rattle.live_segment.proofs.Walks.Walked.{come_still, stands_within}
 
 module _ (of_kind : KeyKind) where
-  abbrev keyed : Seen → ℕ → Met
+  abbrev pub keyed : Seen → ℕ → Met
   keyed seen at = (at, seen_key of_kind seen at)
 
   -- ---- more was seen

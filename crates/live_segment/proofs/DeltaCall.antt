@@ -11,6 +11,7 @@ pub mod OneValue
 pub mod Owed
 pub mod SampleCounts
 pub mod SamplesBehind
+pub mod SamplesListed
 pub mod ValuesDelta
 pub mod ValuesListed
 pub mod ValuesTaken

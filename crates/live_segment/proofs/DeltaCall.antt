@@ -4,6 +4,7 @@ pub mod BucketKeys
 pub mod DeltaEnds
 pub mod FewSamples
 pub mod Given
+pub mod ListedDelta
 pub mod OneBucket
 pub mod OneDelta
 pub mod OneSample

@@ -10,7 +10,9 @@ ghost use Rattle.segment_machine.specs.Form.{is_off, SaysPacked};
 ghost use Rattle.segment_machine.specs.Note.{TookBucket};
 ghost use Rattle.live_segment.specs.Readings.Deltas.{AreUnits, HasTaken, HasTakenBuckets, HasTakenSample, HasTakenSum, MayTakeSample, MayTakeSum, TakesAt, TakesOn, TakesValues, TakesWord, units_of_key};
 ghost use Rattle.live_segment.specs.Known.{known_view, KnowsRight};
-ghost use Rattle.segment_promises.specs.Values.{ComesTo};
+ghost use Rattle.segment_promises.specs.Values.{ComesTo, NoRepeats};
+ghost use Rattle.live_segment.specs.Readings.Listed.{AreOwn, TakesListed};
+ghost use Rattle.live_segment.specs.Readings.Samples.{SamplesStandBehind};
 ghost use Rattle.live_segment.specs.Readings.Values.{HasTakenValues, HoldsKeys, TakesAlong, TakesValue};
 ghost use Rattle.segment_image.specs.declared.layout.TheConstants.{QUEUE};
 
@@ -198,6 +200,8 @@ impl Segment {
         requires room { at + 5 ≤ self.now.setting.shape.size }
         ensures same { IsSame seat.old seat.new }
         ensures takes { TakesValue self.now (known_view histogram.now) at result seat.old seat.new }
+        ensures behind { SamplesStandBehind seat.old.me.0 }
+        ensures once { NoRepeats seat.old.me.0.seen.chain }
     {
         let (value, count) = self.sample_at(seat, histogram, at)?;
         let units = self.take_sample(seat, at, count);
@@ -248,6 +252,52 @@ impl Segment {
     {
         let first = self.take_next(seat, histogram.reference);
         self.take_values(seat, histogram, first, taken);
+        sort_by_key(taken);
+        self.take_sum(seat, histogram)
+    }
+
+    // The delta takes what is new of the samples of a sparse histogram, which an index has, and lists the values in their order there. There
+    // is room for all of them.
+    fn take_listed(
+        &self,
+        seat: &mut Pass,
+        histogram: &KnownHistogram,
+        samples: &[u64],
+        taken: &mut Vec<(i32, u64)>,
+    )
+        requires takes { TakesValues self.now (known_view histogram.now) seat.old }
+        requires right { KnowsRight self.now.setting seat.old.me.0 histogram.now }
+        requires own { AreOwn self.now.setting.shape.size seat.old.me.0.seen histogram.now.reference samples.now }
+        requires room { (taken.old.items ≡ []) × (length samples.now ≤ vec_capacity taken.old) }
+        ensures { TakesListed self.now (known_view histogram.now) samples.now taken.new.items seat.old seat.new }
+    {
+        for at in samples {
+            if let Some(count) = self.take_value(seat, histogram, *at) {
+                taken.push_reserved(count);
+            }
+        }
+    }
+
+    // A delta of a sparse histogram whose samples an index has. There is room for all of them. It answers what it took of the sum.
+    pub(crate) fn delta_of_listed(
+        &self,
+        seat: &mut Pass,
+        histogram: &KnownHistogram,
+        samples: &[u64],
+        taken: &mut Vec<(i32, u64)>,
+    ) -> i64
+        requires seat { IsSeated self.now seat.old }
+        requires rests { IsAtRest seat.old.me.0 }
+        requires right { KnowsRight self.now.setting seat.old.me.0 histogram.now }
+        requires sparse { histogram.now.spec ≡ Sparse }
+        requires own { AreOwn self.now.setting.shape.size seat.old.me.0.seen histogram.now.reference samples.now }
+        requires room { (taken.old.items ≡ []) × (length samples.now ≤ vec_capacity taken.old) }
+        ensures same { IsSame seat.old seat.new }
+        ensures taken { HasTaken (known_view histogram.now) taken.new.items result seat.old.me.0 seat.new.me.0 }
+        ensures stands { Standing seat.new.me.0 }
+    {
+        self.take_type(seat, histogram.reference);
+        self.take_listed(seat, histogram, samples, taken);
         sort_by_key(taken);
         self.take_sum(seat, histogram)
     }

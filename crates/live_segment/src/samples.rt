@@ -60,6 +60,8 @@ impl Segment {
         ensures view { SeesSample seat.old.me.0 seat.new.me.0 }
         ensures counts { CountsSample histogram.now.reference at result seat.new.me.0 }
         ensures few { IfSome result (λ count. SamplesAreFew seat.new.me.0) }
+        ensures behind { SamplesStandBehind seat.old.me.0 }
+        ensures once { NoRepeats seat.old.me.0.seen.chain }
     {
         let value = self.shows_sample(seat, at, histogram.reference)?;
         let count = self.load_count_of_sample(seat, at + SAMPLE_COUNT as u64);

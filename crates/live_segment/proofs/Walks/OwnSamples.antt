@@ -1,11 +1,13 @@
 -- What an index of samples has of one histogram: all of its samples that were met, each once.
-use Rattle.std.proofs.Common.{◌≡◌, ◌≢◌, ℕ, ◌+◌, ◌*◌, ◌%◌, ◌/◌, ◌^◌, ◌<◌, ◌≤◌, Bool, true, false, ℤ, pos, negsuc, List, [], ◌∷◌, length, map, true≢false, Some, None, inl, inr, refl, sym, ap, subst, ◌∙◌, arith}
+use Rattle.std.proofs.Common.{◌≡◌, ◌≢◌, ℕ, ◌+◌, ◌*◌, ◌%◌, ◌/◌, ◌^◌, ◌<◌, ◌≤◌, Bool, true, false, ℤ, pos, negsuc, List, [], ◌∷◌, length, map, get_or, slice_index, suc, true≢false, Some, None, inl, inr, refl, sym, ap, subst, ◌∙◌, arith}
 use Rattle.std.specs.Prelude.{take}
 use Rattle.std.specs.Int.{cast_signed, cast_unsigned, w64}
 use Rattle.std.specs.List.{All, AllByRecursion, AllPairs, Contains}
 use mathlib.Core.Logic.{dite}
 use native.Mathlib.Decide.{ℕ_discrete}
 use Rattle.std.proofs.Math.Seq.{take-length}
+use Rattle.std.proofs.lemmas.List.{get_or-take, get_or_default, length-take-le}
+use Rattle.segment_promises.specs.Values.{NoRepeats}
 use Rattle.std.proofs.lemmas.Bool.{ltb-true}
 use Rattle.std.proofs.lemmas.List.Elements.{All-cons, All-contains, All-contains_itself, All-head, All-nil, All-tail}
 use Rattle.bucket_ranges.specs.Reading.{is_i32}
@@ -22,9 +24,9 @@ use Rattle.live_segment.specs.declared.indexing.KeyKind.TheVariants as kind
 use Rattle.live_segment.specs.declared.indexing.RecordIndex.{RecordIndex}
 use Rattle.live_segment.specs.Lists.Indexed.{IsIndexed, passed}
 use Rattle.live_segment.specs.Lists.Keyed.{HasLooked, HasLookedForSample, sample_key, seen_sample, seen_word}
-use Rattle.live_segment.specs.Readings.Listed.{HasPassedAll, own_samples}
+use Rattle.live_segment.specs.Readings.Listed.{AreOwn, HasPassedAll, own_samples}
 use Rattle.live_segment.proofs.Walks.Indexed.{indexed_still, keyed}
-use Rattle.live_segment.proofs.Walks.Keyed.{sample_some, seen_is, word_is}
+use Rattle.live_segment.proofs.Walks.Keyed.{sample_some, seen_is, was_seen, word_is}
 
 -- ---- which group a sample is of
 
@@ -105,12 +107,28 @@ module _ (P : ℕ → Type 0) (seen : Seen) (group : ℕ) where
       All-cons IfSample x xs (All-head IfKeyed (keyed kind.Sample seen x) (map (keyed kind.Sample seen) xs) all)
       (each_keyed xs (All-tail IfKeyed (keyed kind.Sample seen x) (map (keyed kind.Sample seen) xs) all))
 
+-- on a list on which nothing stands twice, two places have two records
+apart_chain : (chain : List ℕ) → NoRepeats chain → AllPairs (λ x y. x ≢ y) chain
+apart_chain chain once i j d lt inside same =
+    once (suc i) (suc j) (omega (arith, lt)) (omega (arith, inside))
+    (get_or_default chain i 0 d (omega (arith, lt, inside)) ∙ (same ∙ get_or_default chain j d 0 inside))
+
+-- none of the front of a list stands behind it, where none stands twice
+new_behind : (list : List ℕ) → AllPairs (λ x y. x ≢ y) list → (i at : ℕ) → i < length list → get_or list i 0 ≡ at → ¬ (Contains (take i list) at)
+new_behind list apart i at inside is (k, low, here) =
+    let long = length-take-le i list (omega (arith, inside)) in
+    let below : k < i = omega (arith, low, long) in
+    apart k i 0 below inside (sym (get_or-take i list k 0 below) ∙ (get_or_default (take i list) k 0 at low ∙ (here ∙ sym is)))
+
 module _ (size : ℕ) (seen : Seen) (index : RecordIndex) (has : HasPassedAll size seen index) where
   whole : take index.place.given seen.chain ≡ seen.chain
   whole = ap (λ (n : ℕ). take n seen.chain) has.all ∙ take-length seen.chain
 
   pub all_looked_for : All (HasLookedForSample seen) seen.chain
   all_looked_for = subst (All (HasLookedForSample seen)) whole has.indexed.looked
+
+  pub looked_at : (at : ℕ) → Contains seen.chain at → HasLookedForSample seen at
+  looked_at at met = All-contains (HasLookedForSample seen) seen.chain at all_looked_for met
 
   module _ (histogram : ℕ) where
     samples_are : own_samples index histogram ≡ met_in (map (keyed kind.Sample seen) seen.chain) histogram
@@ -130,7 +148,7 @@ module _ (size : ℕ) (seen : Seen) (index : RecordIndex) (has : HasPassedAll si
     own_within = said_of_own (λ at. (16 ≤ at) × (at + 5 ≤ size)) (subst (All (λ at. (16 ≤ at) × (at + 5 ≤ size))) whole has.indexed.come.within)
 
     -- none stands twice among them
-    pub own_apart : AllPairs (λ x y. x ≢ y) seen.chain → AllPairs (λ x y. x ≢ y) (own_samples index histogram)
+    own_apart : AllPairs (λ x y. x ≢ y) seen.chain → AllPairs (λ x y. x ≢ y) (own_samples index histogram)
     own_apart apart = subst (AllPairs (λ x y. x ≢ y)) (sym samples_are)
         (pairs_in_group (λ x y. x ≢ y) (map (keyed kind.Sample seen) seen.chain) histogram
         (subst (AllPairs (λ x y. x ≢ y)) (sym (numbers_are seen seen.chain)) apart))
@@ -154,3 +172,33 @@ passed_still size a b index chain words has = record {
   indexed = indexed_still kind.Sample a b words size index (subst (Grows a.chain) (sym chain) (grows_not a.chain)) has.indexed;
   all = has.all ∙ ap length (sym chain);
 }
+
+-- a record that it sees to be a sample it had seen to be one, where it had looked at it
+pub sample_was : (a b : Seen) → Grows a.words b.words → (histogram : ℕ) (value : ℤ) (at : ℕ) → HasLookedForSample a at → SawSample b histogram value at
+    → SawSample a histogram value at
+sample_was a b words histogram value at looked (tag, of, valued, small) =
+    let tag_was = was_seen a b words (at + 2) 3 looked.tag tag in
+    let tagged : seen_word a (at + 2) ≡ 3 = word_is a (at + 2) 3 tag_was in (
+      tag_was,
+      was_seen a b words (at + 4) histogram (looked.histogram tagged) of,
+      was_seen a b words (at + 5) (cast_unsigned w64 value) (looked.value tagged) valued,
+      small,
+    )
+
+-- ---- by their places
+
+module _ (size : ℕ) (seen : Seen) (histogram : ℕ) (samples : List ℕ) (own : AreOwn size seen histogram samples) where
+  pub met_own : (i : ℕ) → i < length samples → Contains seen.chain (slice_index samples i)
+  met_own i low = let (index, has, are) = own in subst (All (Contains seen.chain)) (sym are) (own_met size seen index has histogram) i 0 low
+
+  pub within_own : (i : ℕ) → i < length samples → (16 ≤ slice_index samples i) × (slice_index samples i + 5 ≤ size)
+  within_own i low =
+      let (index, has, are) = own in
+      subst (All (λ at. (16 ≤ at) × (at + 5 ≤ size))) (sym are) (own_within size seen index has histogram) i 0 low
+
+  -- each is new behind those before it
+  pub new_own : NoRepeats seen.chain → (i : ℕ) → i < length samples → ¬ (Contains (take i samples) (slice_index samples i))
+  new_own once i low =
+      let (index, has, are) = own in
+      new_behind samples (subst (AllPairs (λ x y. x ≢ y)) (sym are) (own_apart size seen index has histogram (apart_chain seen.chain once)))
+      i (slice_index samples i) low refl

@@ -25,6 +25,10 @@ pub record HasPassedAll (size : ℕ) (seen : Seen) (index : RecordIndex) : Type 
 abbrev pub own_samples : RecordIndex → ℕ → List ℕ
 own_samples index histogram = all_of index.firsts histogram
 
+-- these are the samples of a histogram, of an index that has passed all
+abbrev pub AreOwn : ℕ → Seen → ℕ → List ℕ → Type 0
+AreOwn size seen histogram samples = (index : RecordIndex) × HasPassedAll size seen index × (samples ≡ own_samples index histogram)
+
 -- ---- what is listed
 
 -- Of each of these records it saw which sample it is, and did something with each sample. What it listed are values, each once, with units

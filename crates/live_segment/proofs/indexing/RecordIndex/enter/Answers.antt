@@ -1,5 +1,3 @@
-use Rattle.live_segment.proofs.DeltaCall.SamplesListed.{lists_first}
-use Rattle.live_segment.proofs.Walks.OwnSamples.{own_each, own_apart, shows_all, passed_still}
 use Rattle.std.proofs.Common.{ℕ, ◌+◌, ◌++◌, ◌∷◌, [], Option, ap, sym, subst, ◌∙◌}
 use Rattle.list_index.specs.declared.firsts.Firsts.{Firsts}
 use Rattle.list_index.specs.Firsts.{Holds, is_grouping}

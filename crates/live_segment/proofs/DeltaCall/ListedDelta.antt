@@ -24,7 +24,10 @@ use Rattle.segment_promises.proofs.Calls.SampleLists.{did_with}
 use Rattle.segment_promises.proofs.Calls.Sights.{took_sample}
 use Rattle.segment_promises.proofs.Growing.{grows_not}
 use Rattle.live_segment.specs.declared.indexing.RecordIndex.{RecordIndex}
+use Rattle.live_segment.specs.declared.recorder.KnownHistogram.{KnownHistogram}
+use Rattle.live_segment.specs.declared.rule.Setting.{Setting}
 use Rattle.live_segment.specs.declared.segment.Segment.{Segment}
+use Rattle.live_segment.specs.Known.{KnowsRight}
 use Rattle.live_segment.specs.GhostNotes.{KnowsAlone, Noted}
 use Rattle.live_segment.specs.Readings.Deltas.{HasTaken, HasTakenSum, MayTakeSum, TakesOn, TakesValues}
 use Rattle.live_segment.specs.Readings.Listed.{HasPassedAll, ListsSamples, TakesListed, own_samples}
@@ -40,6 +43,7 @@ use Rattle.live_segment.proofs.DeltaCall.SamplesListed.{lists_first, lists_nothi
 use Rattle.live_segment.proofs.SnapshotCall.Seeing.{began, takes_sees}
 use Rattle.live_segment.proofs.Walks.OwnSamples.{all_looked_for, looked_at, own_each, passed_still, sample_was}
 use Rattle.live_segment.proofs.Walks.Sharing.{same_on}
+use Rattle.live_segment.proofs.Walks.Walked.{right_still}
 
 -- ---- it begins
 
@@ -115,6 +119,11 @@ module _ {segment : Segment} (known : Known) {first : Pass} (seated : IsSeated s
     pub passed_one : (size : ℕ) (index : RecordIndex) → HasPassedAll size first.me.0.seen index → HasPassedAll size one.me.0.seen index
     passed_one size index passed = passed_still size first.me.0.seen one.me.0.seen index chain_one words_one passed
 
+    -- and its histogram is right
+    pub right_one : (setting : Setting) (histogram : KnownHistogram) → KnowsRight setting first.me.0 histogram → KnowsRight setting one.me.0 histogram
+    right_one setting histogram right = right_still setting first.me.0 one.me.0 histogram (ap (λ (a : Actor). a.answers.names) view)
+        (subst (Grows first.me.0.seen.chain) (sym chain_one) (grows_not first.me.0.seen.chain)) right
+
     sees : SeesOn first.me.0.seen at_first.seen
     sees = record {
       free = omega arith;
@@ -147,7 +156,7 @@ module _ {segment : Segment} (known : Known) {first : Pass} (seated : IsSeated s
 
 -- ---- at the sum
 
-pub may_take_sum : (segment : Segment) (known : Known) (size : ℕ) (index : RecordIndex) (one two : Pass) (units : List (ℤ × ℕ)) → known.reference < 2 ^ 32
+may_take_sum : (segment : Segment) (known : Known) (size : ℕ) (index : RecordIndex) (one two : Pass) (units : List (ℤ × ℕ)) → known.reference < 2 ^ 32
     → HasPassedAll size one.me.0.seen index → TakesListed segment known (own_samples index known.reference) units one two → MayTakeSum segment known two
 may_take_sum segment known size index one two units small has listed =
     let all = passed_still size one.me.0.seen two.me.0.seen index listed.chain listed.on.seen.words has in record {
@@ -161,13 +170,19 @@ may_take_sum segment known size index one two units small has listed =
           (did_with (λ value sample. TookSample two.me.0 sample) two.me.0.seen known.reference (own_samples index known.reference) listed.lists.passes value sample there saw).2;
     }
 
+pub may_take_own : (segment : Segment) (known : Known) (size : ℕ) (index : RecordIndex) (one two : Pass) (units : List (ℤ × ℕ)) → known.reference < 2 ^ 32
+    → HasPassedAll size one.me.0.seen index → (samples : List ℕ) → samples ≡ own_samples index known.reference → TakesListed segment known samples units one two
+    → MayTakeSum segment known two
+may_take_own segment known size index one two units small has samples are listed =
+    may_take_sum segment known size index one two units small has (subst (λ (l : List ℕ). TakesListed segment known l units one two) are listed)
+
 -- ---- sample by sample
 
 -- it begins with nothing taken
 pub begins : (segment : Segment) (known : Known) (first : Pass) → TakesValues segment known first → TakesListed segment known [] [] first first
-begins segment known first takes = record {
+begins segment known first was = record {
   same = (refl, refl, refl);
-  takes = takes;
+  takes = was;
   on = takes_not first.me.0;
   chain = refl;
   lists = lists_nothing (λ value sample. TookSample first.me.0 sample) (λ sample units. 1 ≤ units) known.reference first.me.0.seen;

@@ -12,6 +12,7 @@ use Rattle.live_segment.specs.declared.indexing.RecordIndex.{RecordIndex}
 use Rattle.live_segment.specs.declared.segment.Segment.{Segment}
 use Rattle.live_segment.specs.Lists.Indexed.{IsIndexed}
 use Rattle.live_segment.specs.Readings.Deltas.{TakesOn, TakesValues}
+use Rattle.live_segment.specs.Readings.Values.{HasListed, HasTotal, LooksAtValues, SeesMore}
 use Rattle.live_segment.specs.Steps.{IsSame, Pass}
 
 -- ---- what the index has
@@ -48,3 +49,14 @@ pub record TakesListed (segment : Segment) (known : Known) (passed : List ℕ) (
   pub on : TakesOn taken old.me.0 new.me.0
   pub chain : new.me.0.seen.chain ≡ old.me.0.seen.chain
   pub lists : ListsSamples (λ value sample. TookSample new.me.0 sample) (λ sample units. 1 ≤ units) known.reference passed taken new.me.0.seen
+
+-- ---- a snapshot
+
+-- A snapshot of a sparse histogram looked at each of these samples, and listed what it saw of the first of each value. Of the list it has seen
+-- no more.
+pub record LooksListed (segment : Segment) (known : Known) (passed : List ℕ) (listed : List (ℤ × ℕ)) (old new : Pass) : Type 0 where
+  pub same : IsSame old new
+  pub looks : LooksAtValues segment known new
+  pub on : SeesMore old.me.0 new.me.0
+  pub chain : new.me.0.seen.chain ≡ old.me.0.seen.chain
+  pub lists : ListsSamples (HasListed listed new.me.0) (HasTotal new.me.0) known.reference passed listed new.me.0.seen

@@ -1,6 +1,6 @@
 //! How a recorder takes a delta of a histogram: of each bucket the units that no delta has taken yet, and of the sum what is new.
 
-ghost use Rattle.std.specs.Prelude.{◌≡◌, ◌⊎◌, ◌<◌, ◌+◌, ◌-◌, ◌/◌, ◌≤◌, true, false, ℕ, ℤ, List, [], Some, length, vec_capacity};
+ghost use Rattle.std.specs.Prelude.{◌≡◌, ◌⊎◌, ◌<◌, ◌+◌, ◌-◌, ◌/◌, ◌≤◌, true, false, ℕ, ℤ, List, [], Some, length, vec_capacity, IfSome, MatchOption};
 ghost use Rattle.std.specs.List.{Contains};
 ghost use Rattle.bucket_ranges.specs.declared.spec.Spec.TheVariants.{Sparse};
 ghost use Rattle.bucket_ranges.specs.Spec.{buckets_of};
@@ -302,34 +302,42 @@ impl Segment {
         self.take_sum(seat, histogram)
     }
 
-    // How many keys a histogram may have: its buckets, or as many values as records fit in a segment.
-    pub(crate) fn most_keys(&self, histogram: &KnownHistogram) -> usize
+    // How many keys are listed of a histogram at most: its buckets; or its samples, where an index has all of them; or else as many values as
+    // records fit in a segment.
+    pub(crate) fn most_keys(&self, histogram: &KnownHistogram, samples: Option<&[u64]>) -> usize
         requires right { (setting : Setting) × (a : Actor) × KnowsRight setting a histogram.now }
-        ensures { HoldsKeys self.now (known_view histogram.now) result }
+        ensures { MatchOption samples (HoldsKeys self.now (known_view histogram.now) result) (λ own. length own.now ≤ result) }
     {
-        if histogram.ranges.len() == 0 {
+        if let Some(own) = samples {
+            own.len()
+        } else if histogram.ranges.len() == 0 {
             (self.setting.shape.size() as usize - HEADER_WORDS) / BLOCK_LEAST
         } else {
             histogram.ranges.len()
         }
     }
 
-    // A delta of a histogram. There is room for as many keys as it may have. It answers what it took of the sum.
+    // A delta of a histogram. There is room for as many keys as are listed of it at most. It answers what it took of the sum.
     pub(crate) fn take_delta(
         &self,
         seat: &mut Pass,
         histogram: &KnownHistogram,
+        samples: Option<&[u64]>,
         taken: &mut Vec<(i32, u64)>,
     ) -> i64
         requires seat { IsSeated self.now seat.old }
         requires rests { IsAtRest seat.old.me.0 }
         requires right { KnowsRight self.now.setting seat.old.me.0 histogram.now }
-        requires room { (taken.old.items ≡ []) × HoldsKeys self.now (known_view histogram.now) (vec_capacity taken.old) }
+        requires own { IfSome samples (λ own. (histogram.now.spec ≡ Sparse) × AreOwn self.now.setting.shape.size seat.old.me.0.seen histogram.now.reference own.now) }
+        requires begins { taken.old.items ≡ [] }
+        requires room { MatchOption samples (HoldsKeys self.now (known_view histogram.now) (vec_capacity taken.old)) (λ own. length own.now ≤ vec_capacity taken.old) }
         ensures same { IsSame seat.old seat.new }
         ensures taken { HasTaken (known_view histogram.now) taken.new.items result seat.old.me.0 seat.new.me.0 }
         ensures stands { Standing seat.new.me.0 }
     {
-        if histogram.ranges.len() == 0 {
+        if let Some(own) = samples {
+            self.delta_of_listed(seat, histogram, own, taken)
+        } else if histogram.ranges.len() == 0 {
             self.delta_of_values(seat, histogram, taken)
         } else {
             self.delta_of_buckets(seat, histogram, taken)

@@ -1,5 +1,6 @@
 -- The call `delta`.
 pub mod AllBuckets
+pub mod Behind
 pub mod BucketKeys
 pub mod DeltaEnds
 pub mod FewSamples

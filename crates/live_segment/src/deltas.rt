@@ -306,7 +306,7 @@ impl Segment {
     // records fit in a segment.
     pub(crate) fn most_keys(&self, histogram: &KnownHistogram, samples: Option<&[u64]>) -> usize
         requires right { (setting : Setting) × (a : Actor) × KnowsRight setting a histogram.now }
-        ensures { MatchOption samples (HoldsKeys self.now (known_view histogram.now) result) (λ own. length own.now ≤ result) }
+        ensures { MatchOption samples.entry (HoldsKeys self.now (known_view histogram.now) result) (λ own. length own.now ≤ result) }
     {
         if let Some(own) = samples {
             own.len()

@@ -271,7 +271,7 @@ impl Segment {
         samples: Option<&[u64]>,
     ) -> Result<Vec<(i32, u64)>, AllocError>
         requires right { (setting : Setting) × (a : Actor) × KnowsRight setting a histogram.now }
-        ensures { IfOk result (λ totals. MatchOption samples (OpensWith self.now histogram.now totals) (λ own. (totals.items ≡ []) × (length own.now ≤ vec_capacity totals))) }
+        ensures { IfOk result (λ totals. MatchOption samples.entry (OpensWith self.now histogram.now totals) (λ own. (totals.items ≡ []) × (length own.now ≤ vec_capacity totals))) }
     {
         if samples.is_some() || histogram.ranges.len() == 0 {
             return Vec::with_capacity(alloc, self.most_keys(histogram, samples));

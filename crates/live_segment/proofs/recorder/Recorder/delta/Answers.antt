@@ -23,9 +23,9 @@ invariant_of-self c =
     let sees = sees_behind a b looked.view in record {
       seated = seat_on c.look_for_own-has_all.new.seat old.seated looked.same looked.view;
       rests = rests_behind a b looked.view old.rests looked.free;
-      counted = old.counted ∙ sym (ap (λ (x : Actor). x.units.share) looked.view);
-      listed = old.listed ∙ sym (ap (λ (x : Actor). x.answers.names) looked.view);
-      right = all_right old.segment.now.setting a b old.known.items (ap (λ (x : Actor). x.answers.names) looked.view) sees.chain old.right;
+      counted = old.counted ∙ sym (ap (λ (x : Actor). x.units.share) looked.view.view);
+      listed = old.listed ∙ sym (ap (λ (x : Actor). x.answers.names) looked.view.view);
+      right = all_right old.segment.now.setting a b old.known.items (ap (λ (x : Actor). x.answers.names) looked.view.view) sees.chain old.right;
       free = looked.same.2 ∙ old.free;
       come = come_still _ _ _ _ sees.chain old.come;
       named = old.named;
@@ -62,14 +62,14 @@ returns-clause-taken c = λ known means.
     subst (λ (d : ℤ). HasTaken known c.take_delta-sum.new.taken.items d a c.take_delta-sum.new.seat.me.0) (sym (to_z-of_z w64 c.take_delta-sum.result fits))
     (taken_behind a b c.look_for_own-has_all.ensures.view known c.take_delta-sum.new.taken.items c.take_delta-sum.result c.take_delta-sum.new.seat.me.0
     (subst (λ (k : Known). HasTaken k c.take_delta-sum.new.taken.items c.take_delta-sum.result b c.take_delta-sum.new.seat.me.0)
-    (meant old.known.items a.answers.names c.args.histogram.index c.index.result.now known old.listed c.index.ensures c.requires means) c.take_delta-sum.ensures.taken))
+    (meant old.known.items a.answers.names c.args.histogram.index c.index-known.result.now known old.listed c.index-known.ensures c.requires means) c.take_delta-sum.ensures.taken))
 
 pub returns-clause-owed : goal.returns-clause-owed
 returns-clause-owed c = λ known means.
     let old = c.args.self.now in
     let a = old.seat.me.0 in
     let b = c.look_for_own-has_all.new.seat.me.0 in
-    let same = meant old.known.items a.answers.names c.args.histogram.index c.index.result.now known old.listed c.index.ensures c.requires means in
+    let same = meant old.known.items a.answers.names c.args.histogram.index c.index-known.result.now known old.listed c.index-known.ensures c.requires means in
     took_enough known c.take_delta-sum.new.taken.items c.take_delta-sum.result a c.take_delta-sum.new.seat.me.0
     (taken_behind a b c.look_for_own-has_all.ensures.view known c.take_delta-sum.new.taken.items c.take_delta-sum.result c.take_delta-sum.new.seat.me.0
     (subst (λ (k : Known). HasTaken k c.take_delta-sum.new.taken.items c.take_delta-sum.result b c.take_delta-sum.new.seat.me.0) same

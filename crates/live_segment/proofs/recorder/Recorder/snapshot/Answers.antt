@@ -27,9 +27,9 @@ invariant_of-self c =
     let sees = sees_behind a b looked.view in record {
       seated = seat_on c.look_for_own-has_all.new.seat old.seated looked.same looked.view;
       rests = rests_behind a b looked.view old.rests looked.free;
-      counted = old.counted ∙ sym (ap (λ (x : Actor). x.units.share) looked.view);
-      listed = old.listed ∙ sym (ap (λ (x : Actor). x.answers.names) looked.view);
-      right = all_right old.segment.now.setting a b old.known.items (ap (λ (x : Actor). x.answers.names) looked.view) sees.chain old.right;
+      counted = old.counted ∙ sym (ap (λ (x : Actor). x.units.share) looked.view.view);
+      listed = old.listed ∙ sym (ap (λ (x : Actor). x.answers.names) looked.view.view);
+      right = all_right old.segment.now.setting a b old.known.items (ap (λ (x : Actor). x.answers.names) looked.view.view) sees.chain old.right;
       free = looked.same.2 ∙ old.free;
       come = come_still _ _ _ _ sees.chain old.come;
       named = old.named;
@@ -64,13 +64,13 @@ returns-clause-answer c = λ known means.
     let b = c.look_for_own-has_all.new.seat.me.0 in
     answered_behind a b c.look_for_own-has_all.ensures.view known c.take_snapshot-snapshot.result c.take_snapshot-snapshot.new.seat.me.0
     (subst (λ (k : Known). HasSnapshot k b c.take_snapshot-snapshot.result c.take_snapshot-snapshot.new.seat.me.0)
-    (meant old.known.items a.answers.names c.args.histogram.index c.index.result.now known old.listed c.index.ensures c.requires means)
+    (meant old.known.items a.answers.names c.args.histogram.index c.index-known.result.now known old.listed c.index-known.ensures c.requires means)
     c.take_snapshot-snapshot.ensures.answer)
 
 pub returns-clause-values : goal.returns-clause-values
 returns-clause-values c = λ known means sparse.
     let old = c.args.self.now in
-    let same = meant old.known.items old.seat.me.0.answers.names c.args.histogram.index c.index.result.now known old.listed c.index.ensures c.requires means in
+    let same = meant old.known.items old.seat.me.0.answers.names c.args.histogram.index c.index-known.result.now known old.listed c.index-known.ensures c.requires means in
     c.take_snapshot-snapshot.ensures.units (ap (λ (k : Known). k.spec) same ∙ sparse)
 
 pub returns-clause-owed : goal.returns-clause-owed
@@ -78,7 +78,7 @@ returns-clause-owed c = λ known means.
     let old = c.args.self.now in
     let a = old.seat.me.0 in
     let b = c.look_for_own-has_all.new.seat.me.0 in
-    let same = meant old.known.items a.answers.names c.args.histogram.index c.index.result.now known old.listed c.index.ensures c.requires means in
+    let same = meant old.known.items a.answers.names c.args.histogram.index c.index-known.result.now known old.listed c.index-known.ensures c.requires means in
     has_enough known c.take_snapshot-snapshot.result a c.take_snapshot-snapshot.new.seat.me.0
     (answered_behind a b c.look_for_own-has_all.ensures.view known c.take_snapshot-snapshot.result c.take_snapshot-snapshot.new.seat.me.0
     (subst (λ (k : Known). HasSnapshot k b c.take_snapshot-snapshot.result c.take_snapshot-snapshot.new.seat.me.0) same

@@ -129,8 +129,7 @@ module _ (segment : Segment) (known : Known) (size : ℕ) (index : RecordIndex) 
       lists_first known mid.me.0 (all_looked_for size mid.me.0.seen index has_mid)
       ((known_there mid.me.0.answers.names known.reference known looks_mid.alone).0, refl, looks_mid.sparse) front behind
       (chain_mid ∙ split_old) value at (subst (λ (l : List ℕ). Contains l at) (sym chain_mid) met_old) there counted.saw counted.first
-      (HasListed (listed ++ (value, units) ∷ []) mid.me.0) (HasTotal mid.me.0) passed listed (lists_mid (Some (value, units))) new units
-      (
+      (HasListed (listed ++ (value, units) ∷ []) mid.me.0) (HasTotal mid.me.0) passed listed (lists_mid (Some (value, units))) new units (
         units,
         counted.counted,
         inr (subst (λ (l : List ℤ). Contains l value) (sym (map-append (λ (c : ℤ × ℕ). c.0) listed ((value, units) ∷ [])))

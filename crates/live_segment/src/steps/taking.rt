@@ -14,7 +14,8 @@ use crate::segment::Segment;
 use crate::steps::FIRST;
 use atomic_table::Play;
 use segment_image::layout::{
-    BLOCK_NEXT, BLOCK_TYPE, HISTOGRAM_REDUNDANT, HISTOGRAM_SINGLE, HISTOGRAM_SINGLE_MARK, HISTOGRAM_SUM_MARK,
+    BLOCK_NEXT, BLOCK_TYPE, HISTOGRAM_REDUNDANT, HISTOGRAM_SINGLE, HISTOGRAM_SINGLE_MARK,
+    HISTOGRAM_SUM_MARK,
 };
 use segment_machine::Actor;
 

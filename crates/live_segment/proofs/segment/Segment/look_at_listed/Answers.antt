@@ -23,10 +23,11 @@ pub sample_at-requires-clause-met : goal.sample_at-requires-clause-met
 sample_at-requires-clause-met c =
     let samples = c.args.samples.now in
     let i = c.loop-at.at-index in
-    let below : i < length samples = omega (arith, c.loop-at-test.true, c.loop-at.auto.at-index-end) in
-    (c.loop-at.invariant.looks.looks.free,
-    subst (λ (l : List ℕ). Contains l (slice_index samples i)) (sym c.loop-at.invariant.looks.chain)
-    (met_own c.args.self.now.setting.shape.size c.args.seat.now.me.0.seen c.args.histogram.now.reference samples c.requires.own i below))
+    let below : i < length samples = omega (arith, c.loop-at-test.true, c.loop-at.auto.at-index-end) in (
+      c.loop-at.invariant.looks.looks.free,
+      subst (λ (l : List ℕ). Contains l (slice_index samples i)) (sym c.loop-at.invariant.looks.chain)
+          (met_own c.args.self.now.setting.shape.size c.args.seat.now.me.0.seen c.args.histogram.now.reference samples c.requires.own i below),
+    )
 
 pub sample_at-requires-clause-room : goal.sample_at-requires-clause-room
 sample_at-requires-clause-room c =

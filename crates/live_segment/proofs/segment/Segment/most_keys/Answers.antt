@@ -11,8 +11,7 @@ pub returns-else-len-eq0 : goal.returns-else-len-eq0
 returns-else-len-eq0 c =
     let right = c.requires.right.2 in
     let bucketed = is_bucketed c.args.histogram.now.spec c.args.histogram.now.ranges right.ranges (λ none. c.if-len-eq0.false (c.len.ensures ∙ none)) in
-    let holds : HoldsKeys c.args.self.now (known_view c.args.histogram.now) c.len-else-len-eq0.result =
-    (
+    let holds : HoldsKeys c.args.self.now (known_view c.args.histogram.now) c.len-else-len-eq0.result = (
       λ has.
           let count = (split c.args.histogram.now.spec right.lawful has).count in
           let long = ap length right.ranges in

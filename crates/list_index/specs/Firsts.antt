@@ -1,11 +1,26 @@
--- What was met along a list, and the first of each key.
-use Rattle.std.specs.Prelude.{◌≡◌, ◌==◌, ℕ, List, [], ◌∷◌, Option, Some, None, if◌then◌else◌, nat_eq}
+-- What was met along a list, the first of each key, and all of each group of keys.
+use Rattle.std.specs.Prelude.{◌≡◌, ◌==◌, Bool, true, ℕ, List, [], ◌∷◌, Option, Some, None, is_some, if◌then◌else◌, nat_eq}
 use Rattle.std.specs.HashMap as hash
 use Rattle.list_index.specs.declared.firsts.Firsts.{Firsts}
+use Rattle.list_index.specs.declared.groups.Groups.{Groups}
+use Rattle.list_index.specs.Groups.{group_of, numbers_of}
 
 -- the first number that was entered with a key
 abbrev pub first_of : Firsts → ℕ → Option ℕ
 first_of firsts key = hash.get nat_eq firsts.map key
+
+-- whether it has the numbers of groups too
+abbrev pub is_grouping : Firsts → Bool
+is_grouping firsts = is_some firsts.groups
+
+-- the numbers of a group, where there are groups
+abbrev pub numbers_in : Option Groups → ℕ → List ℕ
+numbers_in (Some groups) group = numbers_of groups group
+numbers_in None group = []
+
+-- the numbers that were entered with keys of a group, in their order
+abbrev pub all_of : Firsts → ℕ → List ℕ
+all_of firsts group = numbers_in firsts.groups group
 
 -- a number that was met, with its key where it has one
 abbrev pub Met : Type 0
@@ -17,6 +32,18 @@ first_met [] key = None
 first_met ((at, Some own) ∷ rest) key = if own == key then Some at else first_met rest key
 first_met ((at, None) ∷ rest) key = first_met rest key
 
--- of each key the first of those that were met is held
-abbrev pub Holds : List Met → Firsts → Type 0
-Holds met firsts = (key : ℕ) → first_of firsts key ≡ first_met met key
+-- those of them whose keys are of a group
+abbrev pub met_in : List Met → ℕ → List ℕ
+met_in [] group = []
+met_in ((at, Some own) ∷ rest) group = if group_of own == group then at ∷ met_in rest group else met_in rest group
+met_in ((at, None) ∷ rest) group = met_in rest group
+
+-- Of each key the first of those that were met is held, and where there are groups, of each group all.
+pub record Holds (met : List Met) (firsts : Firsts) : Type 0 where
+  pub first : (key : ℕ) → first_of firsts key ≡ first_met met key
+  pub all : is_grouping firsts ≡ true → (group : ℕ) → all_of firsts group ≡ met_in met group
+
+-- nothing has changed
+pub record HasStill (old new : Firsts) : Type 0 where
+  pub first : (key : ℕ) → first_of new key ≡ first_of old key
+  pub all : (group : ℕ) → all_of new group ≡ all_of old group

@@ -1,2 +1,3 @@
 pub mod Firsts
+pub mod Groups
 pub mod Keys

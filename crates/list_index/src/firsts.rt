@@ -1,25 +1,44 @@
 //! A map from keys to the first number that was entered with each.
 
-ghost use Rattle.std.specs.Prelude.{◌≡◌, ◌==◌, true, false, ℕ, None, Some, if◌then◌else◌};
+ghost use Rattle.std.specs.Prelude.{◌≡◌, ◌==◌, ◌++◌, ◌∷◌, ◌<◌, [], true, false, ℕ, None, Some, if◌then◌else◌};
+ghost use Rattle.std.specs.HashMap.{spare};
 ghost use Rattle.std.specs.Option.{option_or};
-ghost use Rattle.list_index.specs.Firsts.{first_of};
+ghost use Rattle.list_index.specs.Firsts.{all_of, first_of, HasStill, is_grouping};
+ghost use Rattle.list_index.specs.Groups.{group_of as group_of_key};
 
+use crate::groups::{Groups, group_of};
 use std::alloc::Global;
 use std::collections::HashMap;
 
-/// Of each key the first number that was entered with it.
+/// Of each key the first number that was entered with it; and where it is made so, of each group of keys all numbers.
 #[derive(Drop)]
 pub struct Firsts {
     map: HashMap<u64, u64>,
+    groups: Option<Groups>,
 }
 
 impl Firsts {
     /// Nothing was entered. It takes no memory.
     pub fn new(alloc: Global) -> Firsts
-        ensures { (key : ℕ) → first_of result key ≡ None }
+        ensures first { (key : ℕ) → first_of result key ≡ None }
+        ensures all { (group : ℕ) → all_of result group ≡ [] }
+        ensures alone { is_grouping result ≡ false }
     {
         Firsts {
             map: HashMap::new(alloc),
+            groups: None,
+        }
+    }
+
+    /// The same, with groups.
+    pub fn with_groups(alloc: Global) -> Firsts
+        ensures first { (key : ℕ) → first_of result key ≡ None }
+        ensures all { (group : ℕ) → all_of result group ≡ [] }
+        ensures grouping { is_grouping result ≡ true }
+    {
+        Firsts {
+            map: HashMap::new(alloc),
+            groups: Some(Groups::new(alloc)),
         }
     }
 
@@ -31,17 +50,64 @@ impl Firsts {
         self.map.get(&key).copied()
     }
 
+    /// The numbers that were entered with keys of a group, in their order, or none where there are no groups.
+    pub fn all(&self, group: u64) -> &[u64]
+        ensures { result.now ≡ all_of self.now group }
+    {
+        match &self.groups {
+            Some(groups) => groups.numbers(group),
+            None => &[],
+        }
+    }
+
     /// Enters a number with a key. Where the key was entered before, the first number stays.
     ///
     /// False where there is no memory for it: then nothing has changed.
     pub fn enter(&mut self, key: u64, number: u64) -> bool
         ensures entered { result ≡ true → (other : ℕ) → first_of self.new other ≡ option_or (first_of self.old other) (if key == other then Some number else None) }
-        ensures kept { result ≡ false → (other : ℕ) → first_of self.new other ≡ first_of self.old other }
+        ensures listed { result ≡ true → is_grouping self.old ≡ true → (other : ℕ) → all_of self.new other ≡ all_of self.old other ++ (if group_of_key key == other then number ∷ [] else []) }
+        ensures kept { result ≡ false → HasStill self.old self.new }
+        ensures grouping { is_grouping self.new ≡ is_grouping self.old }
+    {
+        if !self.has_room_for(key) || !self.enter_in_group(group_of(key), number) {
+            return false;
+        }
+        self.enter_first(key, number);
+        true
+    }
+
+    // Whether there is room for the first number of a key, which is made where there is none.
+    fn has_room_for(&mut self, key: u64) -> bool
+        ensures still { HasStill self.old self.new }
+        ensures room { result ≡ true → first_of self.new key ≡ None → 0 < spare self.new.map }
+        ensures grouping { is_grouping self.new ≡ is_grouping self.old }
+    {
+        self.map.contains_key(&key) || self.map.reserve(1).is_ok()
+    }
+
+    // Enters a number with a group, where there are groups.
+    fn enter_in_group(&mut self, group: u64, number: u64) -> bool
+        ensures map { self.new.map ≡ self.old.map }
+        ensures listed { result ≡ true → is_grouping self.old ≡ true → (other : ℕ) → all_of self.new other ≡ all_of self.old other ++ (if group == other then number ∷ [] else []) }
+        ensures kept { result ≡ false → (other : ℕ) → all_of self.new other ≡ all_of self.old other }
+        ensures grouping { is_grouping self.new ≡ is_grouping self.old }
+    {
+        match &mut self.groups {
+            Some(groups) => groups.enter(group, number),
+            None => true,
+        }
+    }
+
+    // Enters the first number of a key, for which there is room.
+    fn enter_first(&mut self, key: u64, number: u64)
+        requires { first_of self.old key ≡ None → 0 < spare self.old.map }
+        ensures entered { (other : ℕ) → first_of self.new other ≡ option_or (first_of self.old other) (if key == other then Some number else None) }
+        ensures groups { self.new.groups ≡ self.old.groups }
     {
         if self.map.contains_key(&key) {
-            return true;
+            return;
         }
-        self.map.insert(key, number).is_ok()
+        let _ = self.map.insert(key, number);
     }
 }
 
@@ -55,4 +121,15 @@ fn the_first_stays(rt: HostRuntime) {
     assert!(rt; firsts.first(7) == Some(16));
     assert!(rt; firsts.first(8) == Some(50));
     assert!(rt; firsts.first(9).is_none());
+    assert!(rt; firsts.all(0).len() == 0);
+}
+
+#[test]
+fn groups_have_all(rt: HostRuntime) {
+    let mut firsts = Firsts::with_groups(rt.alloc());
+    assert!(rt; firsts.enter(7, 16));
+    assert!(rt; firsts.enter(7, 40));
+    assert!(rt; firsts.first(7) == Some(16));
+    assert!(rt; firsts.all(0).len() == 2);
+    assert!(rt; firsts.all(1).len() == 0);
 }

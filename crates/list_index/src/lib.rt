@@ -1,12 +1,14 @@
-//! What was met along a list, by keys: of each key the first that was entered.
+//! What was met along a list, by keys: of each key the first that was entered, and of each group of keys all.
 //!
 //! [`Firsts`] is a map that never makes a call fail: where it cannot grow, [`Firsts::enter`] says so, and nothing has changed. Keys
-//! are numbers. [`next_key`] makes one of the words of a name, [`next_byte_key`] one of its bytes. Two names may have one key, so
-//! whoever finds a name by its key compares the name.
+//! are numbers, and those of a group stand beside one another ([`group_of`]). [`next_key`] makes one of the words of a name,
+//! [`next_byte_key`] one of its bytes. Two names may have one key, so whoever finds a name by its key compares the name.
 #![tactic(auto)]
 
 mod firsts;
+mod groups;
 mod keys;
 
 pub use firsts::Firsts;
+pub use groups::{Groups, group_of};
 pub use keys::{next_byte_key, next_key};

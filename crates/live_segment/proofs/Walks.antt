@@ -9,3 +9,4 @@ pub mod Sharing
 pub mod Showing
 pub mod WalkProgress
 pub mod Walked
+pub mod OwnSamples

@@ -1,6 +1,11 @@
 -- What a recorder has beside its segment.
-use Rattle.std.specs.Prelude.{◌≡◌, [], map}
+use Rattle.std.specs.Prelude.{◌≡◌, ◌<◌, [], length, map}
+use mathlib.Core.Option.{some}
+use lib.ListN.{get_elem?}
 use Rattle.std.specs.List.{All}
+use Rattle.segment_machine.specs.declared.actor.Actor.{Actor}
+use Rattle.segment_machine.specs.declared.actor.Known.{Known}
+use Rattle.live_segment.specs.declared.recorder.Hist.{Hist}
 use Rattle.live_segment.specs.declared.recorder.Recorder.{Recorder}
 use Rattle.live_segment.specs.declared.indexing.KeyKind.TheVariants.{Name, Sample}
 use Rattle.live_segment.specs.declared.recorder.desk.Desk.{Desk}
@@ -37,3 +42,15 @@ desk_of recorder = record {
   index = recorder.index;
   samples = recorder.samples;
 }
+
+-- what the recorder of a desk has done and seen
+abbrev pub view_of_desk : Desk → Actor
+view_of_desk desk = desk.seat.me.0
+
+-- a histogram is one that it knows
+abbrev pub Knows : Desk → Hist → Type 0
+Knows desk histogram = histogram.index < length (view_of_desk desk).answers.names
+
+-- a histogram that it knows is this one
+abbrev pub Means : Desk → Hist → Known → Type 0
+Means desk histogram known = get_elem? (view_of_desk desk).answers.names histogram.index ≡ some known

@@ -6,3 +6,4 @@ pub mod Taking
 pub mod Deltas
 pub mod Snapshots
 pub mod Owed
+pub mod Listed

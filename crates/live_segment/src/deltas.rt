@@ -1,6 +1,6 @@
 //! How a recorder takes a delta of a histogram: of each bucket the units that no delta has taken yet, and of the sum what is new.
 
-ghost use Rattle.std.specs.Prelude.{◌≡◌, ◌⊎◌, ◌<◌, ◌+◌, ◌-◌, ◌/◌, ◌≤◌, true, false, ℕ, ℤ, List, [], Some, length, vec_capacity};
+ghost use Rattle.std.specs.Prelude.{◌≡◌, ◌⊎◌, ◌<◌, ◌+◌, ◌-◌, ◌/◌, ◌≤◌, true, false, ℕ, ℤ, List, [], Some, length, vec_capacity, IfSome, MatchOption};
 ghost use Rattle.std.specs.List.{Contains};
 ghost use Rattle.bucket_ranges.specs.declared.spec.Spec.TheVariants.{Sparse};
 ghost use Rattle.bucket_ranges.specs.Spec.{buckets_of};
@@ -10,8 +10,10 @@ ghost use Rattle.segment_machine.specs.Form.{is_off, SaysPacked};
 ghost use Rattle.segment_machine.specs.Note.{TookBucket};
 ghost use Rattle.live_segment.specs.Readings.Deltas.{AreUnits, HasTaken, HasTakenBuckets, HasTakenSample, HasTakenSum, MayTakeSample, MayTakeSum, TakesAt, TakesOn, TakesValues, TakesWord, units_of_key};
 ghost use Rattle.live_segment.specs.Known.{known_view, KnowsRight};
-ghost use Rattle.segment_promises.specs.Values.{ComesTo};
-ghost use Rattle.live_segment.specs.Readings.Values.{HasTakenValues, HoldsKeys, TakesAlong, TakesValue};
+ghost use Rattle.segment_promises.specs.Values.{ComesTo, NoRepeats};
+ghost use Rattle.live_segment.specs.Readings.Listed.{AreOwn, TakesListed};
+ghost use Rattle.live_segment.specs.Readings.Samples.{SamplesStandBehind};
+ghost use Rattle.live_segment.specs.Readings.Values.{AreMostKeys, HasTakenValues, HoldsKeys, TakesAlong, TakesValue};
 ghost use Rattle.segment_image.specs.declared.layout.TheConstants.{QUEUE};
 
 use crate::recorder::KnownHistogram;
@@ -198,6 +200,8 @@ impl Segment {
         requires room { at + 5 ≤ self.now.setting.shape.size }
         ensures same { IsSame seat.old seat.new }
         ensures takes { TakesValue self.now (known_view histogram.now) at result seat.old seat.new }
+        ensures behind { SamplesStandBehind seat.old.me.0 }
+        ensures once { NoRepeats seat.old.me.0.seen.chain }
     {
         let (value, count) = self.sample_at(seat, histogram, at)?;
         let units = self.take_sample(seat, at, count);
@@ -252,10 +256,56 @@ impl Segment {
         self.take_sum(seat, histogram)
     }
 
+    // The delta takes what is new of the samples of a sparse histogram, which an index has, and lists the values in their order there. There
+    // is room for all of them.
+    fn take_listed(
+        &self,
+        seat: &mut Pass,
+        histogram: &KnownHistogram,
+        samples: &[u64],
+        taken: &mut Vec<(i32, u64)>,
+    )
+        requires takes { TakesValues self.now (known_view histogram.now) seat.old }
+        requires right { KnowsRight self.now.setting seat.old.me.0 histogram.now }
+        requires own { AreOwn self.now.setting.shape.size seat.old.me.0.seen histogram.now.reference samples.now }
+        requires room { (taken.old.items ≡ []) × (length samples.now ≤ vec_capacity taken.old) }
+        ensures { TakesListed self.now (known_view histogram.now) samples.now taken.new.items seat.old seat.new }
+    {
+        for at in samples {
+            if let Some(count) = self.take_value(seat, histogram, *at) {
+                taken.push_reserved(count);
+            }
+        }
+    }
+
+    // A delta of a sparse histogram whose samples an index has. There is room for all of them. It answers what it took of the sum.
+    pub(crate) fn delta_of_listed(
+        &self,
+        seat: &mut Pass,
+        histogram: &KnownHistogram,
+        samples: &[u64],
+        taken: &mut Vec<(i32, u64)>,
+    ) -> i64
+        requires seat { IsSeated self.now seat.old }
+        requires rests { IsAtRest seat.old.me.0 }
+        requires right { KnowsRight self.now.setting seat.old.me.0 histogram.now }
+        requires sparse { histogram.now.spec ≡ Sparse }
+        requires own { AreOwn self.now.setting.shape.size seat.old.me.0.seen histogram.now.reference samples.now }
+        requires room { (taken.old.items ≡ []) × (length samples.now ≤ vec_capacity taken.old) }
+        ensures same { IsSame seat.old seat.new }
+        ensures taken { HasTaken (known_view histogram.now) taken.new.items result seat.old.me.0 seat.new.me.0 }
+        ensures stands { Standing seat.new.me.0 }
+    {
+        self.take_type(seat, histogram.reference);
+        self.take_listed(seat, histogram, samples, taken);
+        sort_by_key(taken);
+        self.take_sum(seat, histogram)
+    }
+
     // How many keys a histogram may have: its buckets, or as many values as records fit in a segment.
-    pub(crate) fn most_keys(&self, histogram: &KnownHistogram) -> usize
+    pub(crate) fn keys_of(&self, histogram: &KnownHistogram) -> usize
         requires right { (setting : Setting) × (a : Actor) × KnowsRight setting a histogram.now }
-        ensures { HoldsKeys self.now (known_view histogram.now) result }
+        ensures { AreMostKeys self.now (known_view histogram.now) result }
     {
         if histogram.ranges.len() == 0 {
             (self.setting.shape.size() as usize - HEADER_WORDS) / BLOCK_LEAST
@@ -264,22 +314,38 @@ impl Segment {
         }
     }
 
-    // A delta of a histogram. There is room for as many keys as it may have. It answers what it took of the sum.
+    // How many keys are listed of a histogram at most: its samples, where an index has all of them, or else as many as it may have.
+    pub(crate) fn most_keys(&self, histogram: &KnownHistogram, samples: Option<&[u64]>) -> usize
+        requires right { (setting : Setting) × (a : Actor) × KnowsRight setting a histogram.now }
+        ensures { MatchOption samples.entry (HoldsKeys self.now (known_view histogram.now) result) (λ own. length own.now ≤ result) }
+    {
+        match samples {
+            Some(own) => own.len(),
+            None => self.keys_of(histogram),
+        }
+    }
+
+    // A delta of a histogram. There is room for as many keys as are listed of it at most. It answers what it took of the sum.
     pub(crate) fn take_delta(
         &self,
         seat: &mut Pass,
         histogram: &KnownHistogram,
+        samples: Option<&[u64]>,
         taken: &mut Vec<(i32, u64)>,
     ) -> i64
         requires seat { IsSeated self.now seat.old }
         requires rests { IsAtRest seat.old.me.0 }
         requires right { KnowsRight self.now.setting seat.old.me.0 histogram.now }
-        requires room { (taken.old.items ≡ []) × HoldsKeys self.now (known_view histogram.now) (vec_capacity taken.old) }
+        requires own { IfSome samples (λ own. (histogram.now.spec ≡ Sparse) × AreOwn self.now.setting.shape.size seat.old.me.0.seen histogram.now.reference own.now) }
+        requires begins { taken.old.items ≡ [] }
+        requires room { MatchOption samples (HoldsKeys self.now (known_view histogram.now) (vec_capacity taken.old)) (λ own. length own.now ≤ vec_capacity taken.old) }
         ensures same { IsSame seat.old seat.new }
         ensures taken { HasTaken (known_view histogram.now) taken.new.items result seat.old.me.0 seat.new.me.0 }
         ensures stands { Standing seat.new.me.0 }
     {
-        if histogram.ranges.len() == 0 {
+        if let Some(own) = samples {
+            self.delta_of_listed(seat, histogram, own, taken)
+        } else if histogram.ranges.len() == 0 {
             self.delta_of_values(seat, histogram, taken)
         } else {
             self.delta_of_buckets(seat, histogram, taken)

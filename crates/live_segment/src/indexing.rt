@@ -1,6 +1,8 @@
 //! What a recorder has of the records that it met along the list, so that it need not walk there again.
 
-ghost use Rattle.std.specs.Prelude.{◌≡◌, ◌+◌, ◌<◌, ◌^◌, true, ℕ, length};
+ghost use Rattle.std.specs.Prelude.{◌≡◌, ◌+◌, ◌<◌, ◌^◌, true, false, ℕ, [], length, MatchOption};
+ghost use Rattle.list_index.specs.Firsts.{Holds, is_grouping};
+ghost use Rattle.live_segment.specs.declared.indexing.KeyKind.TheVariants.{Sample};
 ghost use Rattle.segment_machine.specs.Calls.{MayTurn};
 ghost use Rattle.live_segment.specs.Names.Searching.{HasSearched};
 
@@ -27,12 +29,24 @@ pub(crate) struct RecordIndex {
     pub(crate) kind: KeyKind,
     /// Up to where it has passed the list.
     pub(crate) place: WalkPlace,
-    /// The first record of each key.
+    /// The first record of each key; and of samples those of each histogram.
     pub(crate) firsts: Firsts,
+}
+
+// What an index begins with: one of samples groups them by their histograms.
+fn firsts_for(alloc: Global, kind: KeyKind) -> Firsts
+    ensures holds { Holds [] result }
+    ensures grouping { kind ≡ Sample → is_grouping result ≡ true }
+{
+    match kind {
+        KeyKind::Name => Firsts::new(alloc),
+        KeyKind::Sample => Firsts::with_groups(alloc),
+    }
 }
 
 impl RecordIndex {
     ghost use Rattle.live_segment.specs.Lists.Indexed.{Enters, IsIndexed};
+    ghost use Rattle.live_segment.specs.Readings.Listed.{own_samples};
     ghost use Rattle.segment_machine.specs.declared.seen.Seen.{Seen};
 
     // It has passed nothing.
@@ -42,7 +56,7 @@ impl RecordIndex {
         RecordIndex {
             kind,
             place: WalkPlace::start(),
-            firsts: Firsts::new(alloc),
+            firsts: firsts_for(alloc, kind),
         }
     }
 
@@ -62,6 +76,17 @@ impl RecordIndex {
         };
         true
     }
+
+    /// The samples of a histogram, where it has passed the whole list.
+    pub(crate) fn own(&self, has_passed_all: bool, histogram: u64) -> Option<&[u64]>
+        ensures { MatchOption result (has_passed_all ≡ false) (λ samples. (has_passed_all ≡ true) × (samples.now ≡ own_samples self.now histogram)) }
+    {
+        if has_passed_all {
+            Some(self.firsts.all(histogram))
+        } else {
+            None
+        }
+    }
 }
 
 impl Segment {
@@ -72,7 +97,7 @@ impl Segment {
 
     // Walks along the list, on from where the index stands, and enters what it meets: to the end of the list, or to where the index
     // could not grow. True where it came to the end.
-    fn look_on(&self, seat: &mut Pass, index: &mut RecordIndex) -> bool
+    pub(crate) fn look_on(&self, seat: &mut Pass, index: &mut RecordIndex) -> bool
         requires seat { IsSeated self.now seat.old }
         requires free { MayTurn seat.old.me.0 }
         requires indexed { IsIndexed index.old.kind self.now.setting.shape.size seat.old.me.0.seen index.old }

@@ -28,7 +28,7 @@ use bucket_ranges::{Ranges, Spec, SpecFault};
 pub use desk::Desk;
 use segment_calls::{Asked, BatchRefusal, Delta, Refusal, Snapshot};
 use segment_image::layout::{BLOCK_LEAST, HEADER_WORDS};
-use std::alloc::{AllocError, Global};
+use std::alloc::Global;
 
 /// A histogram that a recorder knows: its place in the list of those.
 #[derive(Clone, Copy, Debug, PartialEq, Eq)]
@@ -128,7 +128,8 @@ impl<'a> Recorder<'a> {
     ghost use Rattle.live_segment.specs.Readings.Deltas.{AreUnits, HasTaken};
     ghost use Rattle.live_segment.specs.Readings.Snapshots.{HasSnapshot};
     ghost use Rattle.live_segment.specs.Readings.Owed.{HasEnough, TookEnough};
-    ghost use Rattle.live_segment.specs.Readings.Values.{HoldsKeys, OpensWith};
+    ghost use Rattle.live_segment.specs.Readings.Values.{AreMostKeys};
+    ghost use Rattle.live_segment.specs.Names.Searching.{HasSearched};
     ghost use Rattle.std.specs.Prelude.{◌↔◌, IsTrue, Err, ◌<◌, ◌≤◌, ◌++◌, length, IfOk, MatchOption, MatchResult};
     ghost use Rattle.segment_image.specs.Checks.{first_fault};
     ghost use Rattle.segment_machine.specs.declared.actor.Known.{Known};
@@ -207,6 +208,15 @@ impl<'a> Recorder<'a> {
         } else {
             None
         }
+    }
+
+    /// How many keys a delta or a snapshot of a histogram that it knows may have at most, whatever others record meanwhile: as many as it
+    /// has buckets, or of a sparse one as many samples as fit in the segment. So an array of that length has room for any of them.
+    pub fn most_keys(&self, histogram: Hist) -> usize
+        requires { Knows self.now histogram }
+        ensures { (known : Known) → Means self.now histogram known → AreMostKeys self.now.segment.now known result }
+    {
+        self.segment.keys_of(&self.known[histogram.index])
     }
 
     // The place of the histogram of a name among those that it knows.
@@ -338,42 +348,32 @@ impl<'a> Recorder<'a> {
         Ok(())
     }
 
-    // How many keys a histogram may have.
-    fn room_for(&self, histogram: Hist) -> usize
-        requires { Knows self.now histogram }
-        ensures { (known : KnownHistogram) → known ≡ slice_index_or self.now.known.items histogram.index known → HoldsKeys self.now.segment.now (known_view known) result }
-    {
-        self.segment.most_keys(&self.known[histogram.index])
-    }
-
     /// Takes a delta of a histogram that it knows: of each of its keys the units that no delta has taken yet, the keys with such units
     /// alone and in ascending order, and what is new of the sum. What it takes stands behind what its deltas took before.
     ///
     /// All deltas of all recorders together have then taken of each key at least what the recorder had accepted, or seen, before. In
     /// version 1 one bucket may be excepted, whose units are being moved out of the single word.
     ///
-    /// `NoMemory` where there is none for as many keys as the histogram may have, of 16 bytes each; then nothing has changed. It asks for
-    /// that alone.
+    /// `NoMemory` where there is none for as many keys as the histogram may have, of 16 bytes each: its buckets, or its samples on the list.
+    /// Then nothing was taken, and of a sparse histogram it may have looked further along the list. It asks for that, and for its index of the
+    /// samples of sparse histograms, which it lets grow: where there is no memory for that, it asks for as many keys as there may be samples
+    /// in the segment, and walks along the list.
     pub fn delta(&mut self, histogram: Hist) -> Result<Delta, Refusal>
         requires { Knows self.old histogram }
         ensures same { IsSameRecorder self.old self.new }
-        ensures taken { MatchResult result (λ delta. (known : Known) → Means self.old histogram known → HasTaken known delta.counts.items delta.sum (view_of_recorder self.old) (view_of_recorder self.new)) (λ why. (why ≡ NoMemory) × (self.new ≡ self.old)) }
+        ensures taken { MatchResult result (λ delta. (known : Known) → Means self.old histogram known → HasTaken known delta.counts.items delta.sum (view_of_recorder self.old) (view_of_recorder self.new)) (λ why. (why ≡ NoMemory) × HasSearched (view_of_recorder self.old) (view_of_recorder self.new)) }
         ensures owed { IfOk result (λ delta. (known : Known) → Means self.old histogram known → TookEnough known (view_of_recorder self.old) (view_of_recorder self.new)) }
     {
-        let mut counts = Vec::with_capacity(self.alloc, self.room_for(histogram))?;
+        let known = &self.known[histogram.index];
+        let has_all = self
+            .segment
+            .look_for_own(&mut self.seat, &mut self.samples, known);
+        let own = self.samples.own(has_all, known.reference);
+        let mut counts = Vec::with_capacity(self.alloc, self.segment.most_keys(known, own))?;
         let sum = self
             .segment
-            .take_delta(&mut self.seat, &self.known[histogram.index], &mut counts);
+            .take_delta(&mut self.seat, known, own, &mut counts);
         Ok(Delta { counts, sum })
-    }
-
-    // The totals with which a snapshot of a histogram begins.
-    fn totals_for(&self, histogram: Hist) -> Result<Vec<(i32, u64)>, AllocError>
-        requires { Knows self.now histogram }
-        ensures { IfOk result (λ totals. (known : KnownHistogram) → known ≡ slice_index_or self.now.known.items histogram.index known → OpensWith self.now.segment.now known totals) }
-    {
-        self.segment
-            .opening_totals(self.alloc, &self.known[histogram.index])
     }
 
     /// What a histogram that it knows has: the units of all of its buckets in order, or of a sparse one those of the values that have
@@ -382,19 +382,24 @@ impl<'a> Recorder<'a> {
     /// Of each key it has at least what the recorder had accepted, or seen, before, with the same exception as for [`Recorder::delta`]; and
     /// the redundant count is at least the units that it had accepted.
     ///
-    /// `NoMemory` where there is none for as many keys as the histogram may have, of 16 bytes each; then nothing has changed. It asks for
-    /// that alone.
+    /// `NoMemory` as for [`Recorder::delta`]: then nothing is answered, and of a sparse histogram it may have looked further along the list. It
+    /// asks for the same.
     pub fn snapshot(&mut self, histogram: Hist) -> Result<Snapshot, Refusal>
         requires { Knows self.old histogram }
         ensures same { IsSameRecorder self.old self.new }
-        ensures answer { MatchResult result (λ snapshot. (known : Known) → Means self.old histogram known → HasSnapshot known (view_of_recorder self.old) snapshot (view_of_recorder self.new)) (λ why. (why ≡ NoMemory) × (self.new ≡ self.old)) }
+        ensures answer { MatchResult result (λ snapshot. (known : Known) → Means self.old histogram known → HasSnapshot known (view_of_recorder self.old) snapshot (view_of_recorder self.new)) (λ why. (why ≡ NoMemory) × HasSearched (view_of_recorder self.old) (view_of_recorder self.new)) }
         ensures owed { IfOk result (λ snapshot. (known : Known) → Means self.old histogram known → HasEnough known (view_of_recorder self.old) snapshot (view_of_recorder self.new)) }
         ensures values { IfOk result (λ snapshot. (known : Known) → Means self.old histogram known → known.spec ≡ Sparse → AreUnits snapshot.counts.items) }
     {
-        let totals = self.totals_for(histogram)?;
+        let known = &self.known[histogram.index];
+        let has_all = self
+            .segment
+            .look_for_own(&mut self.seat, &mut self.samples, known);
+        let own = self.samples.own(has_all, known.reference);
+        let totals = self.segment.opening_totals(self.alloc, known, own)?;
         let snapshot = self
             .segment
-            .take_snapshot(&mut self.seat, &self.known[histogram.index], totals);
+            .take_snapshot(&mut self.seat, known, own, totals);
         Ok(snapshot)
     }
 

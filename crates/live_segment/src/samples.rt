@@ -1,6 +1,6 @@
 //! How a recorder meets the samples of a sparse histogram along the list.
 
-ghost use Rattle.std.specs.Prelude.{◌≡◌, ◌+◌, ◌≤◌, false, length, IfSome};
+ghost use Rattle.std.specs.Prelude.{◌≡◌, ◌+◌, ◌≤◌, true, false, length, IfSome};
 ghost use Rattle.bucket_ranges.specs.declared.spec.Spec.TheVariants.{Sparse};
 ghost use Rattle.segment_machine.specs.Taking.{is_looking};
 ghost use Rattle.live_segment.specs.Names.Finding.{Meets, SeesWords};
@@ -9,12 +9,21 @@ ghost use Rattle.live_segment.specs.Readings.Samples.{CountsSample, SamplesAreFe
 ghost use Rattle.segment_promises.specs.Values.{NoRepeats};
 ghost use Rattle.live_segment.specs.GhostNotes.{KnowsAlone};
 
+use crate::indexing::RecordIndex;
 use crate::recorder::KnownHistogram;
 use crate::rule::Pass;
 use crate::segment::Segment;
 use segment_image::layout::{SAMPLE_COUNT, SAMPLE_HISTOGRAM, SAMPLE_VALUE, TYPE_SAMPLE};
 
 impl Segment {
+    ghost use Rattle.segment_machine.specs.declared.actor.Actor.{Actor};
+    ghost use Rattle.segment_machine.specs.Calls.{MayTurn};
+    ghost use Rattle.live_segment.specs.declared.indexing.KeyKind.TheVariants.{Sample as OfSample};
+    ghost use Rattle.live_segment.specs.declared.rule.Setting.{Setting};
+    ghost use Rattle.live_segment.specs.Known.{KnowsRight};
+    ghost use Rattle.live_segment.specs.Lists.Indexed.{IsIndexed};
+    ghost use Rattle.live_segment.specs.Names.Searching.{HasSearched};
+    ghost use Rattle.live_segment.specs.Readings.Listed.{HasPassedAll};
     ghost use Rattle.live_segment.specs.Seated.{IsSeated};
     ghost use Rattle.live_segment.specs.Steps.{IsSame};
 
@@ -60,6 +69,8 @@ impl Segment {
         ensures view { SeesSample seat.old.me.0 seat.new.me.0 }
         ensures counts { CountsSample histogram.now.reference at result seat.new.me.0 }
         ensures few { IfSome result (λ count. SamplesAreFew seat.new.me.0) }
+        ensures behind { SamplesStandBehind seat.old.me.0 }
+        ensures once { NoRepeats seat.old.me.0.seen.chain }
     {
         let value = self.shows_sample(seat, at, histogram.reference)?;
         let count = self.load_count_of_sample(seat, at + SAMPLE_COUNT as u64);
@@ -67,5 +78,25 @@ impl Segment {
             return None;
         }
         Some((value, count))
+    }
+
+    // Looks on along the list for the samples of a histogram, where it is sparse. True where the index has all of them then.
+    pub(crate) fn look_for_own(
+        &self,
+        seat: &mut Pass,
+        index: &mut RecordIndex,
+        histogram: &KnownHistogram,
+    ) -> bool
+        requires seat { IsSeated self.now seat.old }
+        requires free { MayTurn seat.old.me.0 }
+        requires right { (setting : Setting) × (a : Actor) × KnowsRight setting a histogram.now }
+        requires indexed { IsIndexed OfSample self.now.setting.shape.size seat.old.me.0.seen index.old }
+        ensures same { IsSame seat.old seat.new }
+        ensures view { HasSearched seat.old.me.0 seat.new.me.0 }
+        ensures free { MayTurn seat.new.me.0 }
+        ensures indexed { IsIndexed OfSample self.now.setting.shape.size seat.new.me.0.seen index.new }
+        ensures passed { result ≡ true → HasPassedAll self.now.setting.shape.size seat.new.me.0.seen index.new × (histogram.now.spec ≡ Sparse) }
+    {
+        histogram.ranges.len() == 0 && self.look_on(seat, index)
     }
 }

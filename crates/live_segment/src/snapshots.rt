@@ -1,6 +1,6 @@
 //! How a recorder answers a snapshot: it looks at all that is counted of a histogram, and notes what it saw.
 
-ghost use Rattle.std.specs.Prelude.{◌≡◌, ◌≤◌, ℕ, length, IfOk};
+ghost use Rattle.std.specs.Prelude.{◌≡◌, ◌≤◌, ℕ, length, IfOk, IfSome, MatchOption};
 ghost use Rattle.segment_calls.specs.declared.answer.Snapshot.{Snapshot};
 ghost use Rattle.live_segment.specs.declared.rule.Announcement.TheVariants.{Answer};
 ghost use Rattle.std.specs.List.{All};
@@ -54,6 +54,7 @@ impl Segment {
     ghost use Rattle.live_segment.specs.declared.rule.Setting.{Setting};
     ghost use Rattle.live_segment.specs.Readings.Deltas.{AreUnits};
     ghost use Rattle.live_segment.specs.Readings.Values.{LooksAlong, LooksAtValues, OpensWith};
+    ghost use Rattle.live_segment.specs.Readings.Listed.{AreOwn, LooksListed};
     ghost use Rattle.bucket_ranges.specs.Spec.{buckets_of};
     ghost use Rattle.segment_machine.specs.Actor.{has_buckets, is_opener};
     ghost use Rattle.segment_machine.specs.Event.{taking_event};
@@ -209,17 +210,71 @@ impl Segment {
         self.answer_with(seat, histogram, snapshot)
     }
 
-    // The totals with which a snapshot of a histogram begins.
+    // The values of a sparse histogram that have units are listed, of its samples, which an index has, in their order there. There is room
+    // for all of them.
+    fn look_at_listed(
+        &self,
+        seat: &mut Pass,
+        histogram: &KnownHistogram,
+        samples: &[u64],
+        totals: &mut Vec<(i32, u64)>,
+    )
+        requires looks { LooksAtValues self.now (known_view histogram.now) seat.old }
+        requires right { KnowsRight self.now.setting seat.old.me.0 histogram.now }
+        requires own { AreOwn self.now.setting.shape.size seat.old.me.0.seen histogram.now.reference samples.now }
+        requires room { (totals.old.items ≡ []) × (length samples.now ≤ vec_capacity totals.old) }
+        ensures { LooksListed self.now (known_view histogram.now) samples.now totals.new.items seat.old seat.new }
+    {
+        for at in samples {
+            if let Some(total) = self.sample_at(seat, histogram, *at) {
+                totals.push_reserved(total);
+            }
+        }
+    }
+
+    // What a sparse histogram has whose samples an index has: the totals are empty, and there is room for all of them.
+    pub(crate) fn snapshot_of_listed(
+        &self,
+        seat: &mut Pass,
+        histogram: &KnownHistogram,
+        samples: &[u64],
+        mut totals: Vec<(i32, u64)>,
+    ) -> Snapshot
+        requires seat { IsSeated self.now seat.old }
+        requires rests { IsAtRest seat.old.me.0 }
+        requires right { KnowsRight self.now.setting seat.old.me.0 histogram.now }
+        requires sparse { histogram.now.spec ≡ Sparse }
+        requires own { AreOwn self.now.setting.shape.size seat.old.me.0.seen histogram.now.reference samples.now }
+        requires room { (totals.items ≡ []) × (length samples.now ≤ vec_capacity totals) }
+        ensures same { IsSame seat.old seat.new }
+        ensures answer { HasSnapshot (known_view histogram.now) seat.old.me.0 result seat.new.me.0 }
+        ensures stands { Standing seat.new.me.0 }
+        ensures units { AreUnits result.counts.items }
+    {
+        self.look_type(seat, histogram.reference);
+        self.look_at_listed(seat, histogram, samples, &mut totals);
+        sort_by_key(&mut totals);
+        let (sum, redundant) = self.look_at_sum(seat, histogram.reference);
+        let snapshot = Snapshot {
+            counts: totals,
+            sum,
+            redundant,
+        };
+        self.answer_with(seat, histogram, snapshot)
+    }
+
+    // The totals with which a snapshot of a histogram begins. Where an index has all samples of a sparse one, there is room for these.
     pub(crate) fn opening_totals(
         &self,
         alloc: Global,
         histogram: &KnownHistogram,
+        samples: Option<&[u64]>,
     ) -> Result<Vec<(i32, u64)>, AllocError>
         requires right { (setting : Setting) × (a : Actor) × KnowsRight setting a histogram.now }
-        ensures { IfOk result (λ totals. OpensWith self.now histogram.now totals) }
+        ensures { IfOk result (λ totals. MatchOption samples.entry (OpensWith self.now histogram.now totals) (λ own. (totals.items ≡ []) × (length own.now ≤ vec_capacity totals))) }
     {
-        if histogram.ranges.len() == 0 {
-            return Vec::with_capacity(alloc, self.most_keys(histogram));
+        if samples.is_some() || histogram.ranges.len() == 0 {
+            return Vec::with_capacity(alloc, self.most_keys(histogram, samples));
         }
         empty_buckets(alloc, &histogram.ranges)
     }
@@ -229,17 +284,22 @@ impl Segment {
         &self,
         seat: &mut Pass,
         histogram: &KnownHistogram,
+        samples: Option<&[u64]>,
         totals: Vec<(i32, u64)>,
     ) -> Snapshot
         requires seat { IsSeated self.now seat.old }
         requires rests { IsAtRest seat.old.me.0 }
         requires right { KnowsRight self.now.setting seat.old.me.0 histogram.now }
-        requires totals { OpensWith self.now histogram.now totals }
+        requires own { IfSome samples (λ own. (histogram.now.spec ≡ Sparse) × AreOwn self.now.setting.shape.size seat.old.me.0.seen histogram.now.reference own.now) }
+        requires totals { MatchOption samples (OpensWith self.now histogram.now totals) (λ own. (totals.items ≡ []) × (length own.now ≤ vec_capacity totals)) }
         ensures same { IsSame seat.old seat.new }
         ensures answer { HasSnapshot (known_view histogram.now) seat.old.me.0 result seat.new.me.0 }
         ensures stands { Standing seat.new.me.0 }
         ensures units { histogram.now.spec ≡ Sparse → AreUnits result.counts.items }
     {
+        if let Some(own) = samples {
+            return self.snapshot_of_listed(seat, histogram, own, totals);
+        }
         if histogram.ranges.len() == 0 {
             return self.snapshot_of_values(seat, histogram, totals);
         }

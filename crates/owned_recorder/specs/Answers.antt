@@ -20,6 +20,7 @@ use Rattle.live_segment.specs.Counts.Adding.{add_checks, AnswersSample}
 use Rattle.live_segment.specs.Counts.Batching.{batch_checks, IsBatched, IsCutShort}
 use Rattle.live_segment.specs.Lists.Records.{HasWalked}
 use Rattle.live_segment.specs.Names.Hist.{IsAnsweredWith, IsRefusedWith}
+use Rattle.live_segment.specs.Names.Searching.{HasSearched}
 use Rattle.live_segment.specs.Readings.Deltas.{AreUnits, HasTaken}
 use Rattle.live_segment.specs.Readings.Owed.{HasEnough, TookEnough}
 use Rattle.live_segment.specs.Readings.Snapshots.{HasSnapshot}
@@ -71,13 +72,13 @@ ClaimsBatch histogram items old result new =
 
 -- ---- `delta`
 
--- the delta is what it has taken; or there was no memory, and the desk is the same
+-- the delta is what it has taken; or there was no memory, and it has looked along the list
 abbrev pub AnswersDelta : Hist → Desk → Result Delta Refusal → Desk → Type 0
 AnswersDelta histogram old result new =
     MatchResult result
     (λ delta. (known : Known) → Means old histogram known
     → HasTaken known delta.counts.items delta.sum (view_of_desk old) (view_of_desk new))
-    (λ why. (why ≡ NoMemory) × (new ≡ old))
+    (λ why. (why ≡ NoMemory) × HasSearched (view_of_desk old) (view_of_desk new))
 
 -- all deltas together have taken enough
 abbrev pub TakesEnough : Hist → Desk → Result Delta Refusal → Desk → Type 0
@@ -86,12 +87,12 @@ TakesEnough histogram old result new =
 
 -- ---- `snapshot`
 
--- the snapshot is what it saw; or there was no memory, and the desk is the same
+-- the snapshot is what it saw; or there was no memory, and it has looked along the list
 abbrev pub AnswersSnapshot : Hist → Desk → Result Snapshot Refusal → Desk → Type 0
 AnswersSnapshot histogram old result new =
     MatchResult result
     (λ snapshot. (known : Known) → Means old histogram known → HasSnapshot known (view_of_desk old) snapshot (view_of_desk new))
-    (λ why. (why ≡ NoMemory) × (new ≡ old))
+    (λ why. (why ≡ NoMemory) × HasSearched (view_of_desk old) (view_of_desk new))
 
 -- the snapshot has enough
 abbrev pub ShowsEnough : Hist → Desk → Result Snapshot Refusal → Desk → Type 0

@@ -1,27 +1,13 @@
 -- What stands on a desk of `live_segment`, that is, what a recorder has beside its segment: what it has done and seen, and what it knows.
-use Rattle.std.specs.Prelude.{◌≡◌, ◌<◌, ℕ, List, length, drop}
-use mathlib.Core.Option.{some}
-use lib.ListN.{get_elem?}
+use Rattle.std.specs.Prelude.{◌≡◌, ℕ, List, length, drop}
 use Rattle.bucket_ranges.specs.declared.spec.Spec.{Spec}
 use Rattle.bucket_ranges.specs.Spec.{SameSpec}
-use Rattle.segment_machine.specs.declared.actor.Actor.{Actor}
 use Rattle.segment_machine.specs.declared.actor.Known.{Known}
 use Rattle.segment_promises.specs.Onward.{Grows}
 use Rattle.live_segment.specs.declared.recorder.Hist.{Hist}
 use Rattle.live_segment.specs.declared.recorder.desk.Desk.{Desk}
 use Rattle.live_segment.specs.Lists.Records.{HasWalked}
-
--- what the recorder of a desk has done and seen
-abbrev pub view_of_desk : Desk → Actor
-view_of_desk desk = desk.seat.me.0
-
--- a histogram is one that it knows
-abbrev pub Knows : Desk → Hist → Type 0
-Knows desk histogram = histogram.index < length (view_of_desk desk).answers.names
-
--- a histogram that it knows is this one
-abbrev pub Means : Desk → Hist → Known → Type 0
-Means desk histogram known = get_elem? (view_of_desk desk).answers.names histogram.index ≡ some known
+pub use Rattle.live_segment.specs.Desk.{view_of_desk, Knows, Means}
 
 -- it knows a histogram, which is of the name and has the same spec
 abbrev pub IsNamed : List ℕ → Spec → Desk → Hist → Type 0

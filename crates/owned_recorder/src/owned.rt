@@ -7,7 +7,9 @@ ghost use Rattle.live_segment.specs.Desk.{IsDeskAt};
 ghost use Rattle.live_segment.specs.Lists.Allocation.{spoiled};
 ghost use Rattle.live_segment.specs.Lists.Cursors.{AnswersNext, gift};
 ghost use Rattle.owned_recorder.specs.Answers.{AnswersAdd, AnswersBatch, AnswersDelta, AnswersFresh, AnswersHist, AnswersRecords, AnswersSnapshot, ClaimsAdd, ClaimsBatch, ClaimsHist, ShowsEnough, ShowsUnits, TakesEnough};
-ghost use Rattle.owned_recorder.specs.Desks.{IsNamed, IsSameDesk, Knows, KnowsOn, view_of_desk};
+ghost use Rattle.owned_recorder.specs.Desks.{IsNamed, IsSameDesk, Knows, KnowsOn, Means, view_of_desk};
+ghost use Rattle.live_segment.specs.Readings.Values.{AreMostKeys};
+ghost use Rattle.segment_machine.specs.declared.actor.Known.{Known};
 
 use bucket_ranges::Spec;
 use core::mem::replace_with;
@@ -19,7 +21,7 @@ use std::sync::Arc;
 /// Records for one thread, as a [`Recorder`] does, and keeps its segment alive. It may move to another thread.
 ///
 /// Each call is that of [`Recorder`] of the same name, with the same clauses and faults. It takes up the recorder of its desk, calls that,
-/// and lets it go again: so the calls that only look take a `&mut` too.
+/// and lets it go again; those that only ask what it has ask the desk.
 #[derive(Drop)]
 pub struct OwnedRecorder {
     segment: Arc<Segment, Global>,
@@ -44,67 +46,33 @@ impl OwnedRecorder {
         (segment, desk)
     }
 
-    fn units_within(self, _nothing: ()) -> (OwnedRecorder, u32)
-        ensures kept { result.0.segment ≡ self.segment }
-        ensures same { result.0.desk ≡ self.desk }
-        ensures units { result.1 ≡ (view_of_desk self.desk).units.share }
-    {
-        let OwnedRecorder { segment, desk } = self;
-        let recorder = Recorder::at_desk(&segment, desk);
-        let answer = recorder.units();
-        let desk = recorder.into_desk();
-        (OwnedRecorder { segment, desk }, answer)
-    }
-
     /// The units that it may still spend.
-    pub fn units(&mut self) -> u32
-        ensures kept { self.new.segment ≡ self.old.segment }
-        ensures same { self.new.desk ≡ self.old.desk }
-        ensures units { result ≡ (view_of_desk self.old.desk).units.share }
+    pub fn units(&self) -> u32
+        ensures { result ≡ (view_of_desk self.now.desk).units.share }
     {
-        replace_with(self, (), OwnedRecorder::units_within)
-    }
-
-    fn knows_within(self, asked: Hist) -> (OwnedRecorder, bool)
-        ensures kept { result.0.segment ≡ self.segment }
-        ensures same { result.0.desk ≡ self.desk }
-        ensures knows { IsTrue result.1 ↔ Knows self.desk asked }
-    {
-        let OwnedRecorder { segment, desk } = self;
-        let recorder = Recorder::at_desk(&segment, desk);
-        let answer = recorder.knows(asked);
-        let desk = recorder.into_desk();
-        (OwnedRecorder { segment, desk }, answer)
+        self.desk.units()
     }
 
     /// Whether it knows a histogram: the calls that take one ask for that.
-    pub fn knows(&mut self, histogram: Hist) -> bool
-        ensures kept { self.new.segment ≡ self.old.segment }
-        ensures same { self.new.desk ≡ self.old.desk }
-        ensures knows { IsTrue result ↔ Knows self.old.desk histogram }
+    pub fn knows(&self, histogram: Hist) -> bool
+        ensures { IsTrue result ↔ Knows self.now.desk histogram }
     {
-        replace_with(self, histogram, OwnedRecorder::knows_within)
-    }
-
-    fn hist_at_within(self, asked: usize) -> (OwnedRecorder, Option<Hist>)
-        ensures kept { result.0.segment ≡ self.segment }
-        ensures same { result.0.desk ≡ self.desk }
-        ensures answer { MatchOption result.1 (length (view_of_desk self.desk).answers.names ≤ asked) (λ histogram. (histogram.index ≡ asked) × Knows self.desk histogram) }
-    {
-        let OwnedRecorder { segment, desk } = self;
-        let recorder = Recorder::at_desk(&segment, desk);
-        let answer = recorder.hist_at(asked);
-        let desk = recorder.into_desk();
-        (OwnedRecorder { segment, desk }, answer)
+        self.desk.knows(histogram)
     }
 
     /// The histogram that it knows at a place, as [`Hist::place`] has it.
-    pub fn hist_at(&mut self, place: usize) -> Option<Hist>
-        ensures kept { self.new.segment ≡ self.old.segment }
-        ensures same { self.new.desk ≡ self.old.desk }
-        ensures answer { MatchOption result (length (view_of_desk self.old.desk).answers.names ≤ place) (λ histogram. (histogram.index ≡ place) × Knows self.old.desk histogram) }
+    pub fn hist_at(&self, place: usize) -> Option<Hist>
+        ensures { MatchOption result (length (view_of_desk self.now.desk).answers.names ≤ place) (λ histogram. (histogram.index ≡ place) × Knows self.now.desk histogram) }
     {
-        replace_with(self, place, OwnedRecorder::hist_at_within)
+        self.desk.hist_at(place)
+    }
+
+    /// How many keys a delta or a snapshot of a histogram may have at most, as [`Recorder::most_keys`] has it.
+    pub fn most_keys(&self, histogram: Hist) -> usize
+        requires { Knows self.now.desk histogram }
+        ensures { (known : Known) → Means self.now.desk histogram known → AreMostKeys (arc_value self.now.segment) known result }
+    {
+        self.desk.most_keys(&self.segment, histogram)
     }
 
     fn hist_within(self, asked: (&[u8], &Spec)) -> (OwnedRecorder, Result<Hist, Refusal>)

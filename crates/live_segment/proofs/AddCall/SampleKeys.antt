@@ -72,7 +72,7 @@ same_front (x ∷ p) q (y ∷ r) s long same =
 
 -- ---- by another key
 
-all_behind : (P : ℕ → Type 0) (xs : List ℕ) (x : ℕ) (ys : List ℕ) → All P (xs ++ x ∷ ys) → All P ys
+pub all_behind : (P : ℕ → Type 0) (xs : List ℕ) (x : ℕ) (ys : List ℕ) → All P (xs ++ x ∷ ys) → All P ys
 all_behind P [] x ys all = All-tail P x ys all
 all_behind P (z ∷ xs) x ys all = all_behind P xs x ys (All-tail P z (xs ++ x ∷ ys) all)
 

@@ -49,20 +49,20 @@ use Rattle.segment_promises.proofs.ValueWalks as way
 
 -- ---- it sees more
 
-more_on : (a b c : Actor) → SeesMore a b → SeesMore b c → SeesMore a c
+pub more_on : (a b c : Actor) → SeesMore a b → SeesMore b c → SeesMore a c
 more_on a b c one two = record {
   view = two.view ∙ ap (λ (x : Actor). record x { hand = record x.hand { place = c.hand.place }; seen = c.seen }) one.view;
   seen = sees_on a.seen b.seen c.seen one.seen two.seen;
 }
 
 -- a step that leaves all but what it has seen and where it stands
-more_by : (a b : Actor) (seen : Seen) → b ≡ record a { hand = record a.hand { place = b.hand.place }; seen = seen } → SeesOn a.seen seen → SeesMore a b
+pub more_by : (a b : Actor) (seen : Seen) → b ≡ record a { hand = record a.hand { place = b.hand.place }; seen = seen } → SeesOn a.seen seen → SeesMore a b
 more_by a b seen is sees = record {
   view = is ∙ (λ i. record a { hand = record a.hand { place = b.hand.place }; seen = sym (ap (λ (x : Actor). x.seen) is) i });
   seen = subst (SeesOn a.seen) (sym (ap (λ (x : Actor). x.seen) is)) sees;
 }
 
-looks_on : (segment : Segment) (known : Known) (old new : Pass) → LooksAtValues segment known old → IsSame old new → SeesMore old.me.0 new.me.0
+pub looks_on : (segment : Segment) (known : Known) (old new : Pass) → LooksAtValues segment known old → IsSame old new → SeesMore old.me.0 new.me.0
     → is_bound new.me.0.hand.place ≡ false → is_looking new.me.0.hand.place ≡ false → LooksAtValues segment known new
 looks_on segment known old new was same more free apart = record {
   table = same.0 ∙ was.table;
@@ -294,7 +294,7 @@ module _ {segment : Segment} (known : Known) {first : Pass} (seated : IsSeated s
 -- ---- it is answered
 
 -- a record is the sample of one value
-one_value : (seen : Seen) (histogram at : ℕ) (v value : ℤ) → SawSample seen histogram v at → SawSample seen histogram value at → v ≡ value
+pub one_value : (seen : Seen) (histogram at : ℕ) (v value : ℤ) → SawSample seen histogram v at → SawSample seen histogram value at → v ≡ value
 one_value seen histogram at v value (tag, of, word, fits) (other, same_of, same, fit) =
     let both : Some (cast_unsigned w64 v) ≡ Some (cast_unsigned w64 value) = sym word ∙ same in
     let one : cast_unsigned w64 v ≡ cast_unsigned w64 value = cc both in

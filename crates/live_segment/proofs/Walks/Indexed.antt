@@ -37,7 +37,7 @@ use Rattle.live_segment.proofs.Walks.WalkProgress.{chain_still, searched, way_on
 use Rattle.live_segment.proofs.Walks.Walked.{come_still, stands_within}
 
 module _ (of_kind : KeyKind) where
-  abbrev keyed : Seen → ℕ → Met
+  abbrev pub keyed : Seen → ℕ → Met
   keyed seen at = (at, seen_key of_kind seen at)
 
   -- ---- more was seen
@@ -66,16 +66,18 @@ module _ (of_kind : KeyKind) where
         of_kind = indexed.of_kind;
         come = come_still size a.chain b.chain index.place chain indexed.come;
         looked = subst (All (HasLooked of_kind b)) (sym front_still) (all_looked given indexed.looked);
+        grouping = indexed.grouping;
         holds = subst (λ (met : List Met). Holds met index.firsts)
             (sym (ap (map (keyed b)) front_still ∙ keys_still given indexed.looked)) indexed.holds;
       }
 
       -- where it could not grow
       pub indexed_as : (at : ℕ) (key : Option ℕ) (new : RecordIndex) → Enters at key index false new → IsIndexed of_kind size b new
-      indexed_as at key new (place, same_kind, holds) = record {
+      indexed_as at key new (place, same_kind, same_groups, holds) = record {
         of_kind = same_kind ∙ indexed.of_kind;
         come = subst (HasCome size b.chain) (sym place) indexed_still.come;
         looked = subst (λ (p : WalkPlace). All (HasLooked of_kind b) (take p.given b.chain)) (sym place) indexed_still.looked;
+        grouping = λ is. same_groups ∙ indexed.grouping is;
         holds = subst (λ (p : WalkPlace). Holds (passed of_kind b p.given) new.firsts) (sym place)
             (holds (passed of_kind b index.place.given) indexed_still.holds);
       }
@@ -83,7 +85,7 @@ module _ (of_kind : KeyKind) where
       -- one record more
       pub indexed_more : (at : ℕ) (key : Option ℕ) (new : RecordIndex) (rest : List ℕ) → b.chain ≡ (given ++ at ∷ []) ++ rest → 16 ≤ at → at + 5 ≤ size
           → HasLooked of_kind b at → seen_key of_kind b at ≡ key → Enters at key index true new → IsIndexed of_kind size b new
-      indexed_more at key new rest front from to looked key_is (place, same_kind, holds) =
+      indexed_more at key new rest front from to looked key_is (place, same_kind, same_groups, holds) =
           let long : length given ≡ index.place.given = length-take-le index.place.given a.chain indexed.come.few in
           let one = length_push given at in
           let count : length (given ++ at ∷ []) ≡ index.place.given + 1 = omega (arith, long, one) in
@@ -107,6 +109,7 @@ module _ (of_kind : KeyKind) where
             come = subst (HasCome size b.chain) (sym place) come;
             looked = subst (λ (p : WalkPlace). All (HasLooked of_kind b) (take p.given b.chain)) (sym place)
                 (subst (All (HasLooked of_kind b)) (sym taken) (All-push (HasLooked of_kind b) given at (all_looked given indexed.looked) looked));
+            grouping = λ is. same_groups ∙ indexed.grouping is;
             holds = subst (λ (p : WalkPlace). Holds (passed of_kind b p.given) new.firsts) (sym place)
                 (subst (λ (l : List Met). Holds l new.firsts) (sym met) (holds (passed of_kind a index.place.given) indexed.holds));
           }
@@ -135,12 +138,12 @@ module _ (of_kind : KeyKind) where
 
       pub none_met_here : first_of index.firsts key ≡ None → All IsOther front
       none_met_here none =
-          others_by_key front indexed.looked (none_met (passed of_kind seen index.place.given) key (sym (indexed.holds key) ∙ none))
+          others_by_key front indexed.looked (none_met (passed of_kind seen index.place.given) key (sym (indexed.holds.first key) ∙ none))
 
       pub first_met_here : (at : ℕ) → first_of index.firsts key ≡ Some at
           → (before after : List ℕ) × (seen.chain ≡ before ++ at ∷ after) × All IsOther before × (at + 5 ≤ size) × HasLooked of_kind seen at
       first_met_here at one =
-          let (keys_before, keys_after, is_met, apart) = one_met (passed of_kind seen index.place.given) key at (sym (indexed.holds key) ∙ one) in
+          let (keys_before, keys_after, is_met, apart) = one_met (passed of_kind seen index.place.given) key at (sym (indexed.holds.first key) ∙ one) in
           let (before, after, x, is_list, is_before, is_one) =
           split_map (keyed seen) front keys_before keys_after (at, Some key) is_met in
           let here : x ≡ at = ap (λ (m : Met). m.0) is_one in

@@ -23,7 +23,13 @@ use Rattle.live_segment.specs.GhostNotes.{KnowsAlone}
 
 -- ---- along the list
 
--- so many keys are as many as a histogram may have: its buckets, or as many values as records fit in a segment
+-- so many keys a histogram may have: its buckets, or as many values as records fit in a segment
+abbrev pub AreMostKeys : Segment → Known → ℕ → Type 0
+AreMostKeys segment known many =
+    (has_buckets known.spec ≡ true → many ≡ buckets_of known.spec)
+    × (known.spec ≡ Sparse → many ≡ (segment.setting.shape.size - HEADER_WORDS) / BLOCK_LEAST)
+
+-- so many are enough for these
 abbrev pub HoldsKeys : Segment → Known → ℕ → Type 0
 HoldsKeys segment known many =
     (has_buckets known.spec ≡ true → buckets_of known.spec ≤ many)

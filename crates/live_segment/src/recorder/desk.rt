@@ -2,8 +2,9 @@
 
 ghost use Rattle.std.specs.Prelude.{◌≡◌};
 ghost use Rattle.live_segment.specs.Desk.{IsDeskAt, desk_of};
+ghost use Rattle.live_segment.specs.declared.segment.Segment.{Segment as SomeSegment};
 
-use super::{KnownHistogram, Recorder};
+use super::{Hist, KnownHistogram, Recorder};
 use crate::indexing::RecordIndex;
 use crate::naming::KnownNames;
 use crate::records::WalkPlace;
@@ -23,6 +24,50 @@ pub struct Desk {
     pub(super) names: KnownNames,
     pub(super) index: RecordIndex,
     pub(super) samples: RecordIndex,
+}
+
+impl Desk {
+    ghost use Rattle.std.specs.Prelude.{◌↔◌, ◌≤◌, IsTrue, MatchOption, length};
+    ghost use Rattle.live_segment.specs.Desk.{Knows, Means, view_of_desk};
+    ghost use Rattle.live_segment.specs.Readings.Values.{AreMostKeys};
+    ghost use Rattle.segment_machine.specs.declared.actor.Known.{Known};
+
+    /// The units that its recorder may still spend. This and the calls below need no recorder: they are those of [`Recorder`].
+    pub fn units(&self) -> u32
+        requires { (segment : SomeSegment) × IsDeskAt segment self.now }
+        ensures { result ≡ (view_of_desk self.now).units.share }
+    {
+        self.units
+    }
+
+    /// Whether its recorder knows a histogram.
+    pub fn knows(&self, histogram: Hist) -> bool
+        requires { (segment : SomeSegment) × IsDeskAt segment self.now }
+        ensures { IsTrue result ↔ Knows self.now histogram }
+    {
+        histogram.index < self.known.len()
+    }
+
+    /// The histogram that its recorder knows at a place.
+    pub fn hist_at(&self, place: usize) -> Option<Hist>
+        requires { (segment : SomeSegment) × IsDeskAt segment self.now }
+        ensures { MatchOption result (length (view_of_desk self.now).answers.names ≤ place) (λ histogram. (histogram.index ≡ place) × Knows self.now histogram) }
+    {
+        if place < self.known.len() {
+            Some(Hist { index: place })
+        } else {
+            None
+        }
+    }
+
+    /// How many keys a delta or a snapshot of a histogram that its recorder knows may have at most.
+    pub fn most_keys(&self, segment: &Segment, histogram: Hist) -> usize
+        requires at { IsDeskAt segment.now self.now }
+        requires knows { Knows self.now histogram }
+        ensures { (known : Known) → Means self.now histogram known → AreMostKeys segment.now known result }
+    {
+        segment.keys_of(&self.known[histogram.index])
+    }
 }
 
 impl<'a> Recorder<'a> {

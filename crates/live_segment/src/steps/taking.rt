@@ -1,10 +1,10 @@
 //! The steps that take: how a delta and a snapshot begin and end, counts and marks, the sum and its mark, and the redundant count.
 
-ghost use Rattle.std.specs.Prelude.{◌≡◌, ◌+◌, ◌<◌, ◌≤◌};
-ghost use Rattle.segment_image.specs.declared.layout.TheConstants.{BLOCK_NEXT, HISTOGRAM_SINGLE};
+ghost use Rattle.std.specs.Prelude.{◌≡◌, ◌+◌, ◌<◌, ◌≤◌, ℕ};
+ghost use Rattle.segment_image.specs.declared.layout.TheConstants.{BLOCK_NEXT, BLOCK_TYPE, HISTOGRAM_SINGLE};
 ghost use Rattle.segment_machine.specs.Event.{packing_event, taking_event, walking_event};
 ghost use Rattle.segment_machine.specs.Packing.{load_single};
-ghost use Rattle.segment_machine.specs.Walking.{load_next};
+ghost use Rattle.segment_machine.specs.Walking.{load_next, load_published};
 ghost use Rattle.segment_machine.specs.Taking.{load_count, raise_mark, raise_single_mark, swap_sum_mark, load_redundant};
 ghost use Rattle.live_segment.specs.Steps.{DoesAt};
 ghost use Rattle.live_segment.specs.Readings.Taking.{Answers, BeginsDelta, BeginsSnapshot, EndsDelta};
@@ -14,7 +14,8 @@ use crate::segment::Segment;
 use crate::steps::FIRST;
 use atomic_table::Play;
 use segment_image::layout::{
-    BLOCK_NEXT, HISTOGRAM_REDUNDANT, HISTOGRAM_SINGLE, HISTOGRAM_SINGLE_MARK, HISTOGRAM_SUM_MARK,
+    BLOCK_NEXT, BLOCK_TYPE, HISTOGRAM_REDUNDANT, HISTOGRAM_SINGLE, HISTOGRAM_SINGLE_MARK,
+    HISTOGRAM_SUM_MARK,
 };
 use segment_machine::Actor;
 
@@ -30,6 +31,12 @@ impl Play<Announcement, Actor> for TakeNext {
     ghost then = { λ st. BeginsDelta BLOCK_NEXT (λ histogram. walking_event (load_next histogram)) st.word };
 }
 
+pub(crate) struct TakeType;
+
+impl Play<Announcement, Actor> for TakeType {
+    ghost then = { λ st. BeginsDelta BLOCK_TYPE (λ histogram. walking_event (load_published histogram BLOCK_TYPE)) st.word };
+}
+
 pub(crate) struct LookSingle;
 
 impl Play<Announcement, Actor> for LookSingle {
@@ -40,6 +47,12 @@ pub(crate) struct LookNext;
 
 impl Play<Announcement, Actor> for LookNext {
     ghost then = { λ st. BeginsSnapshot BLOCK_NEXT (λ histogram. walking_event (load_next histogram)) st.word };
+}
+
+pub(crate) struct LookType;
+
+impl Play<Announcement, Actor> for LookType {
+    ghost then = { λ st. BeginsSnapshot BLOCK_TYPE (λ histogram. walking_event (load_published histogram BLOCK_TYPE)) st.word };
 }
 
 pub(crate) struct LoadCount;
@@ -111,7 +124,32 @@ impl Segment {
             .load::<TakeNext>(seat, FIRST + histogram as usize + BLOCK_NEXT)
     }
 
+    // A delta of a sparse histogram begins whose samples were all met: the type of its record is loaded, which tells nothing new. So of the
+    // list no more is seen.
+    pub(crate) fn take_type(&self, seat: &mut Pass, histogram: u64)
+        requires table { seat.old.table_id ≡ table_of self.now }
+        requires room { histogram + 15 ≤ self.now.setting.shape.size }
+        requires may { MayBeginDelta seat.old histogram (λ at. walking_event (load_published at BLOCK_TYPE)) }
+        ensures { (found : ℕ) × HasBegunDelta seat.old histogram (λ at. walking_event (load_published at BLOCK_TYPE)) found seat.new }
+    {
+        self.table
+            .shared
+            .load::<TakeType>(seat, FIRST + histogram as usize + BLOCK_TYPE);
+    }
+
     // The same of snapshots.
+    pub(crate) fn look_type(&self, seat: &mut Pass, histogram: u64)
+        requires table { seat.old.table_id ≡ table_of self.now }
+        requires room { histogram + 15 ≤ self.now.setting.shape.size }
+        requires may { MayDo seat.old (looks ∷ []) (walking_event (load_published histogram BLOCK_TYPE)) [] }
+        ensures { (found : ℕ) × Noted seat.old (looks ∷ []) (walking_event (load_published histogram BLOCK_TYPE)) [] found seat.new }
+    {
+        self.table
+            .shared
+            .load::<LookType>(seat, FIRST + histogram as usize + BLOCK_TYPE);
+    }
+
+    // A snapshot begins as a delta does.
     pub(crate) fn look_single(&self, seat: &mut Pass, histogram: u64) -> u64
         requires table { seat.old.table_id ≡ table_of self.now }
         requires room { histogram + 15 ≤ self.now.setting.shape.size }

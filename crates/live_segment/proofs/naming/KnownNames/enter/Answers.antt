@@ -13,6 +13,6 @@ returns-else-self-place c = λ last named.
       | else-self-place-via-then-self-place+else-enter w ↦
           let new : KnownNames = record { entered = old.entered; places = w.enter.new.self } in
           subst (HasNames (known ++ last ∷ [])) (sym w.self-is)
-          (names_longer known last new (names_same known old new refl (w.enter.ensures.kept w.if-enter.false) c.requires))
+          (names_longer known last new (names_same known old new refl (w.enter.ensures.kept w.if-enter.false).first c.requires))
       | else-self-place-via-else-self-place w ↦ subst (HasNames (known ++ last ∷ [])) (sym w.self-is) (names_longer known last old c.requires)
     ]

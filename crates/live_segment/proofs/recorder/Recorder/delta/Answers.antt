@@ -1,11 +1,15 @@
-use Rattle.std.proofs.Common.{ℤ, FitsSigned, w64, rules, sym, subst, ◌∙◌}
+use Rattle.std.proofs.Common.{ℤ, FitsSigned, w64, rules, sym, ap, subst, ◌∙◌}
 use Rattle.std.proofs.lemmas.Int.{to_z-of_z}
+use Rattle.segment_machine.specs.declared.actor.Actor.{Actor}
 use Rattle.segment_machine.specs.declared.actor.Known.{Known}
+use Rattle.live_segment.specs.Known.{known_view}
 use Rattle.live_segment.specs.Readings.Deltas.{HasTaken}
 use Rattle.live_segment.proofs.AddCall.Adds.{meant}
 use Rattle.segment_invariant.proofs.Lists.Elements.{contains_at}
+use Rattle.live_segment.proofs.DeltaCall.Behind.{rests_behind, sees_behind, taken_behind}
 use Rattle.live_segment.proofs.DeltaCall.Owed.{took_enough}
 use Rattle.live_segment.proofs.DeltaCall.Given.{taken_rests, taken_of, taken_names, taken_share}
+use Rattle.live_segment.proofs.HistCall.Searching.{seat_on}
 use Rattle.live_segment.proofs.Walks.IndexKept.{seen_on}
 use Rattle.live_segment.proofs.Walks.Walked.{all_right, come_still}
 use Rattle.live_segment.proofs.recorder.Recorder.delta.Goals as goal
@@ -13,32 +17,61 @@ use Rattle.live_segment.proofs.recorder.Recorder.delta.Goals as goal
 pub invariant_of-self : goal.invariant_of-self
 invariant_of-self c =
     let old = c.args.self.now in
-    let taken = c.take_delta-sum.ensures.taken in record {
-      seated = record { table = c.take_delta-sum.ensures.same.0 ∙ old.seated.table; recorder = (taken_rests _ _ _ _ _ taken old.rests).recorder; of = taken_of _ _ _ _ _ taken _ old.seated.of };
+    let looked = c.look_for_own-has_all.ensures in
+    let a = old.seat.me.0 in
+    let b = c.look_for_own-has_all.new.seat.me.0 in
+    let sees = sees_behind a b looked.view in record {
+      seated = seat_on c.look_for_own-has_all.new.seat old.seated looked.same looked.view;
+      rests = rests_behind a b looked.view old.rests looked.free;
+      counted = old.counted ∙ sym (ap (λ (x : Actor). x.units.share) looked.view.view);
+      listed = old.listed ∙ sym (ap (λ (x : Actor). x.answers.names) looked.view.view);
+      right = all_right old.segment.now.setting a b old.known.items (ap (λ (x : Actor). x.answers.names) looked.view.view) sees.chain old.right;
+      free = looked.same.2 ∙ old.free;
+      come = come_still _ _ _ _ sees.chain old.come;
+      named = old.named;
+      indexed = seen_on _ _ _ _ sees old.indexed;
+      sampled = looked.indexed;
+    }
+
+pub invariant_of-self-2 : goal.invariant_of-self-2
+invariant_of-self-2 c =
+    let old = c.args.self.now in
+    let looked = c.look_for_own-has_all.ensures in
+    let a = old.seat.me.0 in
+    let b = c.look_for_own-has_all.new.seat.me.0 in
+    let last = c.take_delta-sum.ensures.taken in
+    let taken = taken_behind a b looked.view _ _ _ _ last in record {
+      seated = record { table = c.take_delta-sum.ensures.same.0 ∙ (looked.same.0 ∙ old.seated.table); recorder = (taken_rests _ _ _ _ _ taken old.rests).recorder; of = taken_of _ _ _ _ _ taken _ old.seated.of };
       rests = taken_rests _ _ _ _ _ taken old.rests;
       counted = old.counted ∙ sym (taken_share _ _ _ _ _ taken);
       listed = old.listed ∙ sym (taken_names _ _ _ _ _ taken);
       right = all_right old.segment.now.setting _ _ old.known.items (taken_names _ _ _ _ _ taken) taken.seen.chain old.right;
-      free = c.take_delta-sum.ensures.same.2 ∙ old.free;
+      free = c.take_delta-sum.ensures.same.2 ∙ (looked.same.2 ∙ old.free);
       come = come_still _ _ _ _ taken.seen.chain old.come;
       named = old.named;
       indexed = seen_on _ _ _ _ taken.seen old.indexed;
-      sampled = seen_on _ _ _ _ taken.seen old.sampled;
+      sampled = seen_on _ _ _ _ last.seen looked.indexed;
     }
 
 pub returns-clause-taken : goal.returns-clause-taken
 returns-clause-taken c = λ known means.
     let old = c.args.self.now in
+    let a = old.seat.me.0 in
+    let b = c.look_for_own-has_all.new.seat.me.0 in
     let fits : FitsSigned w64 c.take_delta-sum.result = search rules in
-    subst (λ (d : ℤ). HasTaken known c.take_delta-sum.new.taken.items d old.seat.me.0 c.take_delta-sum.new.seat.me.0) (sym (to_z-of_z w64 c.take_delta-sum.result fits))
-    (subst (λ (k : Known). HasTaken k c.take_delta-sum.new.taken.items c.take_delta-sum.result old.seat.me.0 c.take_delta-sum.new.seat.me.0)
-    (meant old.known.items old.seat.me.0.answers.names c.args.histogram.index c.index.result.now known old.listed c.index.ensures c.requires means) c.take_delta-sum.ensures.taken)
+    subst (λ (d : ℤ). HasTaken known c.take_delta-sum.new.taken.items d a c.take_delta-sum.new.seat.me.0) (sym (to_z-of_z w64 c.take_delta-sum.result fits))
+    (taken_behind a b c.look_for_own-has_all.ensures.view known c.take_delta-sum.new.taken.items c.take_delta-sum.result c.take_delta-sum.new.seat.me.0
+    (subst (λ (k : Known). HasTaken k c.take_delta-sum.new.taken.items c.take_delta-sum.result b c.take_delta-sum.new.seat.me.0)
+    (meant old.known.items a.answers.names c.args.histogram.index c.index-known.result.now known old.listed c.index-known.ensures c.requires means) c.take_delta-sum.ensures.taken))
 
 pub returns-clause-owed : goal.returns-clause-owed
 returns-clause-owed c = λ known means.
     let old = c.args.self.now in
-    let same = meant old.known.items old.seat.me.0.answers.names c.args.histogram.index c.index.result.now known old.listed c.index.ensures c.requires means in
-    took_enough known c.take_delta-sum.new.taken.items c.take_delta-sum.result old.seat.me.0 c.take_delta-sum.new.seat.me.0
-    (subst (λ (k : Known). HasTaken k c.take_delta-sum.new.taken.items c.take_delta-sum.result old.seat.me.0 c.take_delta-sum.new.seat.me.0) same
-    c.take_delta-sum.ensures.taken)
-    (contains_at old.seat.me.0.answers.names c.args.histogram.index known means) old.rests.recorder c.take_delta-sum.ensures.stands
+    let a = old.seat.me.0 in
+    let b = c.look_for_own-has_all.new.seat.me.0 in
+    let same = meant old.known.items a.answers.names c.args.histogram.index c.index-known.result.now known old.listed c.index-known.ensures c.requires means in
+    took_enough known c.take_delta-sum.new.taken.items c.take_delta-sum.result a c.take_delta-sum.new.seat.me.0
+    (taken_behind a b c.look_for_own-has_all.ensures.view known c.take_delta-sum.new.taken.items c.take_delta-sum.result c.take_delta-sum.new.seat.me.0
+    (subst (λ (k : Known). HasTaken k c.take_delta-sum.new.taken.items c.take_delta-sum.result b c.take_delta-sum.new.seat.me.0) same
+    c.take_delta-sum.ensures.taken))
+    (contains_at a.answers.names c.args.histogram.index known means) old.rests.recorder c.take_delta-sum.ensures.stands

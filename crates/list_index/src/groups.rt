@@ -1,0 +1,85 @@
+//! A map from groups to all numbers that were entered with each.
+
+ghost use Rattle.std.specs.Prelude.{◌≡◌, ◌++◌, ◌==◌, ◌∷◌, [], true, false, ℕ, if◌then◌else◌};
+ghost use Rattle.list_index.specs.Groups.{group_of as group_of_key, numbers_of};
+
+use std::alloc::Global;
+use std::collections::HashMap;
+
+// A group has as many keys, half of them below its number times this.
+const KEYS: u64 = 4_294_967_296;
+
+/// The group of a key: a group has 2^32 keys, as many below its number times 2^32 as from there on.
+#[inline(always)]
+pub fn group_of(key: u64) -> u64
+    ensures { result ≡ group_of_key key }
+{
+    key.wrapping_add(KEYS / 2) / KEYS
+}
+
+/// Of each group the numbers that were entered with it, in their order.
+#[derive(Drop)]
+pub struct Groups {
+    alloc: Global,
+    map: HashMap<u64, Vec<u64>>,
+}
+
+impl Groups {
+    /// Nothing was entered. It takes no memory.
+    pub fn new(alloc: Global) -> Groups
+        ensures { (group : ℕ) → numbers_of result group ≡ [] }
+    {
+        Groups {
+            alloc,
+            map: HashMap::new(alloc),
+        }
+    }
+
+    /// The numbers of a group.
+    pub fn numbers(&self, group: u64) -> &[u64]
+        ensures { result.now ≡ numbers_of self.now group }
+    {
+        match self.map.get(&group) {
+            Some(numbers) => numbers.as_slice(),
+            None => &[],
+        }
+    }
+
+    /// Enters a number with a group.
+    ///
+    /// False where there is no memory for it: then nothing has changed.
+    pub fn enter(&mut self, group: u64, number: u64) -> bool
+        ensures entered { result ≡ true → (other : ℕ) → numbers_of self.new other ≡ numbers_of self.old other ++ (if group == other then number ∷ [] else []) }
+        ensures kept { result ≡ false → (other : ℕ) → numbers_of self.new other ≡ numbers_of self.old other }
+    {
+        if let Some(numbers) = self.map.get_mut(&group) {
+            return numbers.push(number).is_ok();
+        }
+        self.begin(group, number)
+    }
+
+    // Enters the first number of a group.
+    fn begin(&mut self, group: u64, number: u64) -> bool
+        requires { numbers_of self.old group ≡ [] }
+        ensures entered { result ≡ true → (other : ℕ) → numbers_of self.new other ≡ numbers_of self.old other ++ (if group == other then number ∷ [] else []) }
+        ensures kept { result ≡ false → (other : ℕ) → numbers_of self.new other ≡ numbers_of self.old other }
+    {
+        let mut numbers = Vec::new(self.alloc);
+        numbers.push(number).is_ok() && self.map.insert(group, numbers).is_ok()
+    }
+}
+
+#[test]
+fn groups_are_apart(rt: HostRuntime) {
+    let mut groups = Groups::new(rt.alloc());
+    assert!(rt; groups.numbers(7).len() == 0);
+    assert!(rt; groups.enter(7, 16));
+    assert!(rt; groups.enter(8, 40));
+    assert!(rt; groups.enter(7, 50));
+    assert!(rt; groups.numbers(7).len() == 2);
+    assert!(rt; groups.numbers(7)[0] == 16);
+    assert!(rt; groups.numbers(7)[1] == 50);
+    assert!(rt; groups.numbers(8).len() == 1);
+    assert!(rt; group_of(7 * 4_294_967_296) == 7);
+    assert!(rt; group_of(7 * 4_294_967_296 - 1) == 7);
+}

@@ -210,8 +210,8 @@ impl<'a> Recorder<'a> {
         }
     }
 
-    /// How many keys a delta or a snapshot of a histogram that it knows may have at most, whatever others record meanwhile: as many as it
-    /// has buckets, or of a sparse one as many samples as fit in the segment. So an array of that length has room for any of them.
+    /// How many keys a histogram that it knows may have, whatever others record meanwhile: as many as it has buckets, or of a sparse one as
+    /// many records of the least size as fit in the segment. It is the same each time.
     pub fn most_keys(&self, histogram: Hist) -> usize
         requires { Knows self.now histogram }
         ensures { (known : Known) → Means self.now histogram known → AreMostKeys self.now.segment.now known result }

@@ -1,6 +1,6 @@
 -- What a recorder promises of itself, the desks that it was made at and taken apart into have.
 use Rattle.std.proofs.Common.{◌≡◌, Bor, Option, Some, None, Result, Ok, Err, MatchOption, MatchResult, ℕ, sym, ap, subst}
-use Rattle.std.proofs.lemmas.Result.{MatchResult-at_ok, MatchResult-weaker}
+use Rattle.std.proofs.lemmas.Result.{MatchResult-at_ok}
 use Rattle.std.specs.declared.alloc.Global.{Global}
 use Rattle.std.specs.declared.vec.Vec.{Vec}
 use Rattle.segment_calls.specs.declared.refusal.Refusal.{Refusal}
@@ -19,12 +19,7 @@ carried P old new before behind was is held =
 
 -- ---- where nothing has changed
 
--- a recorder that is the same has the same desk
-pub same_on_err : {T E : Type 0} (result : Result T E) (P : T → Type 0) (Q : E → Type 0) (old new : Recorder)
-    → MatchResult result P (λ why. Q why × (new ≡ old)) → MatchResult result P (λ why. Q why × (desk_of new ≡ desk_of old))
-same_on_err result P Q old new held = MatchResult-weaker result held (λ x has. has) (λ why has. (has.0, ap desk_of has.1))
-
--- the same, of a check that fails
+-- where a check fails, a recorder that is the same has the same desk
 pub same_on_some : {T : Type 0} (fault : Option T) (P : Type 0) (Q : T → Type 0) (old new : Recorder)
     → MatchOption fault P (λ why. Q why × (new ≡ old)) → MatchOption fault P (λ why. Q why × (desk_of new ≡ desk_of old))
 same_on_some (Some why) P Q old new held = (held.0, ap desk_of held.1)

@@ -67,7 +67,7 @@ impl OwnedRecorder {
         self.desk.hist_at(place)
     }
 
-    /// How many keys a delta or a snapshot of a histogram may have at most, as [`Recorder::most_keys`] has it.
+    /// How many keys a histogram may have, as [`Recorder::most_keys`] has it.
     pub fn most_keys(&self, histogram: Hist) -> usize
         requires { Knows self.now.desk histogram }
         ensures { (known : Known) → Means self.now.desk histogram known → AreMostKeys (arc_value self.now.segment) known result }

@@ -1,13 +1,12 @@
 -- A call that takes or looks, behind a search along the list: what is said of it holds from before the search on.
-use Rattle.std.proofs.Common.{◌≡◌, ◌∙◌, false, ℕ, ℤ, List, [], ◌∷◌, ◌++◌, ap, sym, subst, arith}
+use Rattle.std.proofs.Common.{◌∙◌, false, ℕ, ℤ, List, [], ◌∷◌, ◌++◌, ap, sym, subst, arith}
 use Rattle.segment_calls.specs.declared.answer.Snapshot.{Snapshot}
 use Rattle.segment_machine.specs.declared.actor.Actor.{Actor}
 use Rattle.segment_machine.specs.declared.actor.Known.{Known}
 use Rattle.segment_machine.specs.declared.place.Place.TheVariants.{Idle}
-use Rattle.segment_machine.specs.Actor.{is_bound, is_opener, looking}
+use Rattle.segment_machine.specs.Actor.{is_opener, looking}
 use Rattle.segment_machine.specs.Calls.{MayTurn}
 use Rattle.segment_machine.specs.Note.{SawAll}
-use Rattle.segment_machine.specs.Taking.{is_looking}
 use Rattle.segment_promises.specs.Onward.{SeesOn}
 use Rattle.segment_promises.proofs.Growing.{grows_not}
 use Rattle.live_segment.specs.Names.Searching.{HasSearched}

@@ -1,5 +1,5 @@
 -- A delta of a sparse histogram whose samples an index has: how it begins, what it takes of each, and how it ends.
-use Rattle.std.proofs.Common.{◌≡◌, ◌≢◌, ℕ, ◌+◌, ◌<◌, ◌≤◌, ◌^◌, ◌==◌, ℤ, true≢false, if◌then◌else◌, List, [], ◌∷◌, ◌++◌, length, Option, Some, None, inl, inr, refl, sym, ap, subst, ◌∙◌, arith}
+use Rattle.std.proofs.Common.{◌≡◌, ℕ, ◌+◌, ◌<◌, ◌≤◌, ◌^◌, ℤ, true≢false, if◌then◌else◌, List, [], ◌∷◌, ◌++◌, length, Option, Some, None, inl, refl, sym, ap, subst, ◌∙◌, arith}
 use Rattle.std.specs.List.{All, Contains}
 use Rattle.std.specs.Ordering.{int_eq}
 use Rattle.std.proofs.lemmas.List.{append-nil}
@@ -8,18 +8,16 @@ use Rattle.std.proofs.lemmas.List.Sorted.{All-permutation, sum_by-IsPermutation}
 use Rattle.bucket_ranges.specs.declared.spec.Spec.TheVariants as spec
 use Rattle.segment_machine.specs.declared.actor.Actor.{Actor}
 use Rattle.segment_machine.specs.declared.actor.Known.{Known}
-use Rattle.segment_machine.specs.declared.seen.Seen.{Seen}
 use Rattle.segment_machine.specs.Actor.{has_buckets, is_bound, is_opener}
 use Rattle.segment_machine.specs.Calls.{sight}
 use Rattle.segment_machine.specs.Event.{Event, next, walking_event}
-use Rattle.segment_machine.specs.Made.{SawSample}
 use Rattle.segment_machine.specs.Note.{TookSample, noted, takes}
 use Rattle.segment_machine.specs.Taking.{Takes, is_looking}
 use Rattle.segment_machine.specs.Walking.{load_published}
 use Rattle.segment_invariant.proofs.Lists.Maps.{contains_map}
 use Rattle.segment_promises.specs.Calls.{SamplesStandBehind}
 use Rattle.segment_promises.specs.Onward.{Grows, SeesOn}
-use Rattle.segment_promises.specs.Values.{NoRepeats, AreSorted, ListsOf, listed_of}
+use Rattle.segment_promises.specs.Values.{AreSorted, ListsOf, listed_of}
 use Rattle.segment_promises.proofs.Calls.SampleLists.{did_with}
 use Rattle.segment_promises.proofs.Calls.Sights.{took_sample}
 use Rattle.segment_promises.proofs.Growing.{grows_not}
@@ -29,7 +27,7 @@ use Rattle.live_segment.specs.declared.rule.Setting.{Setting}
 use Rattle.live_segment.specs.declared.segment.Segment.{Segment}
 use Rattle.live_segment.specs.Known.{KnowsRight}
 use Rattle.live_segment.specs.GhostNotes.{KnowsAlone, Noted}
-use Rattle.live_segment.specs.Readings.Deltas.{HasTaken, HasTakenSum, MayTakeSum, TakesOn, TakesValues}
+use Rattle.live_segment.specs.Readings.Deltas.{HasTaken, HasTakenSum, MayTakeSum, TakesValues}
 use Rattle.live_segment.specs.Readings.Listed.{HasPassedAll, ListsSamples, TakesListed, own_samples}
 use Rattle.live_segment.specs.Readings.Taking.{HasBegunDelta, MayBeginDelta}
 use Rattle.live_segment.specs.Readings.Values.{TakesValue}

@@ -6,7 +6,7 @@ use mathlib.Core.Logic.{dite}
 use native.Mathlib.Decide.{ℕ_discrete}
 use Rattle.std.proofs.Math.ListN.{get_or}
 use Rattle.std.proofs.lemmas.Bool.Decides.{Decides-int_eq}
-use Rattle.std.proofs.lemmas.List.{append-nil, length_push}
+use Rattle.std.proofs.lemmas.List.{length_push}
 use Rattle.std.proofs.lemmas.List.Elements.{All-cons, All-nil, All-push, Contains-append_left, Contains-push}
 use Rattle.std.proofs.lemmas.List.Sums.{sum_by-append, sum_by_push}
 use Rattle.segment_machine.specs.declared.actor.Actor.{Actor}
@@ -17,9 +17,8 @@ use Rattle.bucket_ranges.specs.Reading.{is_i32}
 use Rattle.segment_machine.specs.Firsts.{ComesFirst}
 use Rattle.segment_machine.specs.Made.{IsFirstSample, SawOther, SawSample}
 use Rattle.segment_machine.specs.Taking.{IsLaterSample}
-use Rattle.segment_promises.specs.Calls.{SamplesStandBehind}
 use Rattle.segment_promises.specs.Onward.{Grows}
-use Rattle.segment_promises.specs.Values.{NoKeyRepeats, ListsOf, Passes, listed_of}
+use Rattle.segment_promises.specs.Values.{NoKeyRepeats, Passes}
 use Rattle.segment_promises.proofs.FirstValues.{Shows, not_both, other_value}
 use Rattle.segment_promises.proofs.Growing.{all_push, others_still}
 use Rattle.segment_promises.proofs.ListedValues.{passes_still, sample_still}

@@ -1,5 +1,5 @@
 -- A snapshot looks at the samples of a sparse histogram that an index has.
-use Rattle.std.proofs.Common.{◌≡◌, ◌≢◌, ℕ, ◌+◌, ◌<◌, ◌≤◌, ◌^◌, ℤ, false, true≢false, map, List, [], ◌∷◌, ◌++◌, length, Option, Some, None, inl, inr, ⊎_elim, refl, sym, ap, subst, ◌∙◌, arith}
+use Rattle.std.proofs.Common.{◌≡◌, ℕ, ◌+◌, ◌<◌, ◌≤◌, ◌^◌, ℤ, true≢false, map, List, [], ◌∷◌, ◌++◌, length, Option, Some, None, inl, inr, ⊎_elim, refl, sym, ap, subst, ◌∙◌, arith}
 use Rattle.std.specs.List.{All, Contains}
 use Rattle.std.proofs.Math.ListN.{get_or}
 use Rattle.std.proofs.lemmas.List.{append-nil, map-append}
@@ -18,7 +18,7 @@ use Rattle.segment_machine.specs.Taking.{is_looking}
 use Rattle.segment_machine.specs.Walking.{load_published}
 use Rattle.segment_promises.specs.Calls.{SamplesStandBehind}
 use Rattle.segment_promises.specs.Onward.{Grows, SeesOn}
-use Rattle.segment_promises.specs.Values.{AreSorted, ListsOf, listed_of}
+use Rattle.segment_promises.specs.Values.{AreSorted, listed_of}
 use Rattle.segment_promises.proofs.Calls.SampleLists.{did_with}
 use Rattle.segment_promises.proofs.Calls.Sights.{saw_count}
 use Rattle.segment_promises.proofs.Growing.{grows_not}
@@ -30,7 +30,7 @@ use Rattle.live_segment.specs.declared.segment.Segment.{Segment}
 use Rattle.live_segment.specs.GhostNotes.{KnowsAlone, MayDo, Noted}
 use Rattle.live_segment.specs.Known.{KnowsRight}
 use Rattle.live_segment.specs.Readings.Deltas.{AreUnits}
-use Rattle.live_segment.specs.Readings.Listed.{AreOwn, HasPassedAll, ListsSamples, LooksListed, own_samples}
+use Rattle.live_segment.specs.Readings.Listed.{AreOwn, HasPassedAll, ListsSamples, LooksListed}
 use Rattle.live_segment.specs.Readings.Samples.{CountsSample, SeesSample}
 use Rattle.live_segment.specs.Readings.Snapshots.{HasLooked}
 use Rattle.live_segment.specs.Readings.Values.{HasListed, HasTotal, LooksAtValues, SeesMore}

@@ -1,5 +1,5 @@
 -- What an index of samples has of one histogram: all of its samples that were met, each once.
-use Rattle.std.proofs.Common.{◌≡◌, ◌≢◌, ℕ, ◌+◌, ◌*◌, ◌%◌, ◌/◌, ◌^◌, ◌<◌, ◌≤◌, Bool, true, false, ℤ, pos, negsuc, List, [], ◌∷◌, length, map, get_or, slice_index, suc, true≢false, Some, None, inl, inr, refl, sym, ap, subst, ◌∙◌, arith}
+use Rattle.std.proofs.Common.{◌≡◌, ◌≢◌, ℕ, ◌+◌, ◌%◌, ◌^◌, ◌<◌, ◌≤◌, Bool, true, false, ℤ, pos, negsuc, List, [], ◌∷◌, length, map, get_or, slice_index, suc, true≢false, Some, inl, inr, refl, sym, ap, subst, ◌∙◌, arith}
 use Rattle.std.specs.Prelude.{take}
 use Rattle.std.specs.Int.{cast_signed, cast_unsigned, w64}
 use Rattle.std.specs.List.{All, AllByRecursion, AllPairs, Contains}
@@ -12,18 +12,17 @@ use Rattle.std.proofs.lemmas.Bool.{ltb-true}
 use Rattle.std.proofs.lemmas.List.Elements.{All-cons, All-contains, All-contains_itself, All-head, All-nil, All-tail}
 use Rattle.bucket_ranges.specs.Reading.{is_i32}
 use Rattle.segment_machine.specs.declared.seen.Seen.{Seen}
-use Rattle.segment_machine.specs.Made.{SawOther, SawSample}
+use Rattle.segment_machine.specs.Made.{SawSample}
 use Rattle.segment_machine.proofs.Values.{value_word}
 use Rattle.segment_promises.proofs.FirstValues.{Shows}
 use Rattle.segment_promises.proofs.Growing.{grows_not}
 use Rattle.segment_promises.specs.Onward.{Grows}
-use Rattle.list_index.specs.Firsts.{Met, all_of, met_in}
+use Rattle.list_index.specs.Firsts.{Met, met_in}
 use Rattle.list_index.specs.Groups.{group_of}
 use Rattle.list_index.proofs.Meeting.{in_group, of_group, pairs_in_group}
 use Rattle.live_segment.specs.declared.indexing.KeyKind.TheVariants as kind
 use Rattle.live_segment.specs.declared.indexing.RecordIndex.{RecordIndex}
-use Rattle.live_segment.specs.Lists.Indexed.{IsIndexed, passed}
-use Rattle.live_segment.specs.Lists.Keyed.{HasLooked, HasLookedForSample, sample_key, seen_sample, seen_word}
+use Rattle.live_segment.specs.Lists.Keyed.{HasLookedForSample, sample_key, seen_sample, seen_word}
 use Rattle.live_segment.specs.Readings.Listed.{AreOwn, HasPassedAll, own_samples}
 use Rattle.live_segment.proofs.Walks.Indexed.{indexed_still, keyed}
 use Rattle.live_segment.proofs.Walks.Keyed.{sample_some, seen_is, was_seen, word_is}

@@ -60,7 +60,7 @@ impl Desk {
         }
     }
 
-    /// How many keys a delta or a snapshot of a histogram that its recorder knows may have at most.
+    /// How many keys a histogram that its recorder knows may have. The segment is the one that it is of.
     pub fn most_keys(&self, segment: &Segment, histogram: Hist) -> usize
         requires at { IsDeskAt segment.now self.now }
         requires knows { Knows self.now histogram }

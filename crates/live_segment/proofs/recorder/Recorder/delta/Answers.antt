@@ -2,7 +2,6 @@ use Rattle.std.proofs.Common.{ℤ, FitsSigned, w64, rules, sym, ap, subst, ◌�
 use Rattle.std.proofs.lemmas.Int.{to_z-of_z}
 use Rattle.segment_machine.specs.declared.actor.Actor.{Actor}
 use Rattle.segment_machine.specs.declared.actor.Known.{Known}
-use Rattle.live_segment.specs.Known.{known_view}
 use Rattle.live_segment.specs.Readings.Deltas.{HasTaken}
 use Rattle.live_segment.proofs.AddCall.Adds.{meant}
 use Rattle.segment_invariant.proofs.Lists.Elements.{contains_at}

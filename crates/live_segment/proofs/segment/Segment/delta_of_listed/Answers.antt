@@ -1,7 +1,6 @@
-use Rattle.std.proofs.Common.{rules, ◌<◌, ◌^◌, ℤ, FitsSigned, w64, inl, sym, subst, ◌∙◌, ap, arith}
+use Rattle.std.proofs.Common.{rules, ℤ, FitsSigned, w64, inl, sym, subst, arith}
 use Rattle.std.proofs.lemmas.Int.{to_z-of_z}
 use Rattle.live_segment.specs.Readings.Deltas.{HasTaken}
-use Rattle.live_segment.specs.Readings.Listed.{AreOwn}
 use Rattle.live_segment.specs.Known.{known_view}
 use Rattle.live_segment.proofs.DeltaCall.ListedDelta.{may_take, takes_values, passed_one, right_one, has_taken_listed, may_take_own}
 use Rattle.segment_promises.proofs.ValueWalks.{stands_there}

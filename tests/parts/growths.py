@@ -47,11 +47,12 @@ OTHER_WORDS = {"tally": "memory allocation failed"}
 # The units of a segment.
 UNITS = 2**32 - 1
 
-# What calls ask for (docs/PERFORMANCE.md): `delta` and `snapshot` 16 bytes for each key that the histogram may have, and `records`
-# and `fresh_records` 8 for each record that fits in the segment.
+# What calls ask for (docs/PERFORMANCE.md): `delta` and `snapshot` 16 bytes for each key, of the sparse histogram for each of its samples,
+# which the calls before have made, and `records` and `fresh_records` 8 for each record that fits in the segment.
 SIZE = 1024
 FITTING = (SIZE - 16) // 5
-KEYS = (3, 4, FITTING, 4)
+SAMPLES = 4
+KEYS = (3, 4, SAMPLES, 4)
 ASKED = {
     "delta": [16 * keys for keys in KEYS],
     "snapshot": [16 * keys for keys in KEYS],
@@ -62,11 +63,13 @@ ASKED = {
 # 32 bytes each, before the `hist` of each.
 MERGED = {"boolean": 3, "custom": 4, "sparse": 5, "A": 3, "B": 3, "C": 3, "D": 3, "a_name_that_is_longer": 3}
 # `hist` so many bytes at most in all, but for the list of what it knows, which has 88 bytes for each, and for its indexes: the one of
-# what it knows, and the one of names on the list. Both grow once, and ask for this. So does the one of samples, in an `add`.
+# what it knows, and the one of names on the list. Both grow once, and ask for this. So does the one of samples, in an `add`, and asks then
+# for a list of samples, and for a map of such lists.
 MOST_OF_HIST = 512
 KNOWN = (4 * 88, 8 * 88)
 INDEX = [256, 72, 72, 72]
 INDEXES = 2
+INDEX_OF_SAMPLES = [*INDEX, 4 * 8, 256, 72, 72, 9 * 24]
 # `adopt` asks twice for the words of the table, 8 bytes for each word, for one more and for the cursor, and for nothing that is larger.
 TABLE = 8 * (SIZE + 2)
 # The histograms that are asked for first: boolean, custom, sparse and five more. Where one is asked for again, with the same spec, its
@@ -100,7 +103,7 @@ def wrong_sizes(asked):
         if one.call == "hist" and one.size not in KNOWN:
             hists[one.place].append(one.size)
     of_merge = [88 * len(MERGED), *(size for name, keys in MERGED.items() for size in (len(name), len(name), 8 * keys)), 32 * len(MERGED)]
-    wanted = {**ASKED, "add": INDEX, "merge": of_merge}
+    wanted = {**ASKED, "add": INDEX_OF_SAMPLES, "merge": of_merge}
     for name, right in wanted.items():
         came = sizes[name][:len(right)] if name == "merge" else sizes[name]
         if came != right:

@@ -2,7 +2,7 @@
 
 An index grows in one function alone, `Firsts::enter` of `list_index`. In the copy each call of that function goes by way of code that
 notes, for this thread, that it is inside. Each call of the C functions that give memory goes by way of code that counts the requests
-from inside; for a chosen one it asks the allocator for more than there can be, which refuses that. All else is the program's own code.
+from inside; for a chosen one it asks for more than there can be, and counts that it was refused. All else is the program's own code.
 What is chosen and what was counted stands on a page, the standard input of the copy (`Page`).
 """
 
@@ -207,9 +207,14 @@ def put_giving(code, page, function, set_size):
         b"\x25" + struct.pack("<i", CHOICES - 1),  # and eax, CHOICES - 1
         b"\x41\x80\xbc\x02" + struct.pack("<i", CHOICES_AT) + b"\x00",  # cmp byte [r10 + rax + CHOICES_AT], 0
         b"\x0f\x84", function,  # je function
-        b"\xf0\x49\xff\x42" + bytes([REFUSED_AT]),  # lock inc qword [r10 + REFUSED_AT]
         set_size + struct.pack("<q", NEVER_GIVEN),  # mov rdi or rdx, NEVER_GIVEN
-        b"\xe9", function,  # jmp function
+        b"\x48\x83\xec\x08",  # sub rsp, 8
+        b"\xe8", function,  # call function
+        b"\x48\x83\xc4\x08",  # add rsp, 8
+        b"\xa8\x01",  # test al, 1: whether there is memory
+        b"\x75\x08",  # jne past the next
+        b"\xf0\x48\xff\x05", page + REFUSED_AT,  # lock inc qword [page + REFUSED_AT]
+        b"\xc3",  # ret
     )
     return begins
 

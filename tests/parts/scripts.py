@@ -23,8 +23,8 @@ def wrong_image(script, image, wanted):
     return None if read == wanted else f"the image reads as {read[:500]!r}, wanted {wanted[:500]!r}"
 
 
-def wrong_of(program, seed, folder):
-    """What is wrong with the answers to the script of a seed, or None."""
+def wrong_of(program, seed, folder, **settings):
+    """What is wrong with the answers to the script of a seed, or None; the settings are those of an answer."""
     chance = random.Random(seed)
     script = seeded.script_of(chance)
     wanted = plain_tally.report(script.histograms())
@@ -32,7 +32,7 @@ def wrong_of(program, seed, folder):
     text.write_bytes(seeded.text_of(chance, script))
     looked_at = chance.choice(WORKERS)
     for workers in WORKERS:
-        came = answer(program, ["run", text, image, "--workers", str(workers)])
+        came = answer(program, ["run", text, image, "--workers", str(workers)], **settings)
         wrong = difference(Answer(wanted), came)
         if wrong is None and workers == looked_at:
             wrong = wrong_image(script, image.read_bytes(), wanted)
@@ -43,7 +43,10 @@ def wrong_of(program, seed, folder):
     return None
 
 
+def seeds(options):
+    return [f"{options.seed}-{number}" for number in range(options.scripts)]
+
+
 def cases(program, options):
-    seeds = [f"{options.seed}-{number}" for number in range(options.scripts)]
-    tried = seeded.tried(seeds, lambda seed, folder: wrong_of(program, seed, folder))
+    tried = seeded.tried(seeds(options), lambda seed, folder: wrong_of(program, seed, folder))
     yield from ((f"script {seed}", wrong) for seed, wrong in tried)

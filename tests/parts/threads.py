@@ -107,9 +107,9 @@ def wrong_round(lines):
     return None
 
 
-def rounds(program, words):
+def rounds(program, words, **settings):
     """The lines of each round of a run, or what it said in place of them."""
-    came = answer(program, words)
+    came = answer(program, words, **settings)
     if came.status != 0 or came.error:
         return None, f"status {came.status}, {came.error[:200]!r}"
     lines = came.output.decode().splitlines()
@@ -117,11 +117,12 @@ def rounds(program, words):
     return [lines[start + 1:end] for start, end in zip(starts, [*starts[1:], len(lines)])], None
 
 
-def recorded(program, threads, seed):
-    every, wrong = rounds(program, ["record", str(threads), str(seed), str(ROUNDS)])
+def recorded(program, threads, seed, number=ROUNDS, **settings):
+    """What is wrong with so many rounds, or None; the settings are those of an answer."""
+    every, wrong = rounds(program, ["record", str(threads), str(seed), str(number)], **settings)
     if wrong is not None:
         return wrong
-    if len(every) != ROUNDS:
+    if len(every) != number:
         return f"{len(every)} rounds"
     return next(filter(None, map(wrong_round, every)), None)
 

@@ -1,7 +1,8 @@
 """The pictures that `stepped --show` makes of schedules, beside a plain picture maker.
 
-Each known schedule of cases/schedules is shown whole: its lines are known, and the plain picture is made of them. The two stored schedules are
-shown whole and stopped at every event. README.md shows a part of the race for a name as the program draws it.
+Each known schedule of cases/schedules is shown whole: its lines are known, and the plain picture is made of them, with plain calls that say
+which exchanges fail. The two stored schedules are shown whole and stopped at every event. README.md shows a part of the race for a name as
+the program draws it. What exchanges that fail wanted and found is also known by hand, of one at each place where there can be one.
 """
 
 import concurrent.futures
@@ -24,6 +25,35 @@ SPARSE = "world,128,64,7,1,2\nhist,0,S,sparse\nstep,0,100\nadd,0,S,-5,2\nstep,0,
 SAID = ["S.sample(-5).mark 0 -> 2", "S.sample(-5).count 0 -> 2", "S.redundant 0 -> 2", "free 16 -> 32", "tail 12 -> 16"]
 MOUNTED = "world,128,64,7,1,2\nhist,0,A,boolean\nstep,0,100\nadd,0,A,0,1\nstep,0,100\nadd,0,A,1,3\nstep,0,100\ndelta,0,A\nstep,0,100\n"
 COUNTED = ["A.single 0 -> 1", "A.counts 0 -> 32", "A.count[1] 0 -> 3", "A.mark[1] 0 -> 3", "A.single_mark 0 -> 1"]
+
+# Exchanges that fail, in the order of their events. A packed word has its bucket times 2^32 and its units.
+LATE = {
+    "free pointer": (
+        "world,128,64,7,2,2\nhist,0,A,boolean\nhist,1,B,boolean\nstep,0,3\nstep,1,3\nstep,0,1000\nstep,1,1000\n",
+        ["free 16 -> 32", "free: wanted 16, found 32", "free 32 -> 48"],
+    ),
+    "list": (
+        "world,128,64,7,2,2\nhist,0,A,boolean\nstep,0,16\nhist,1,B,boolean\nstep,1,1000\nstep,0,1000\n",
+        [
+            "queue.next 12 -> 16",
+            "queue.next: wanted 12, found 16",
+            "tail 12 -> 16",
+            "A.next 12 -> 32",
+            "tail 16 -> 32",
+            "tail: wanted 12, found 32",
+        ],
+    ),
+    "counts": (
+        "world,128,64,7,2,2\nhist,0,A,boolean\nstep,0,100\nhist,1,A,boolean\nstep,1,100\nadd,0,A,0,1\nstep,0,100\n"
+        "add,0,A,1,1\nadd,1,A,1,1\nstep,0,8\nstep,1,8\nstep,0,1\nstep,1,100\nstep,0,100\n",
+        ["A.single 0 -> 1", "free 32 -> 42", "free 42 -> 52", "A.counts 0 -> 32", "A.counts: wanted 0, found 32", "@42.type 2 -> 0"],
+    ),
+    "single word": (
+        "world,128,64,7,2,2\nhist,0,A,boolean\nstep,0,100\nhist,1,A,boolean\nstep,1,100\n"
+        "add,0,A,1,1\nadd,1,A,1,1\nstep,0,1\nstep,1,1\nstep,0,100\nstep,1,100\n",
+        ["A.single 0 -> 4294967297", "A.single: wanted 0, found 4294967297", "A.single 4294967297 -> 4294967298"],
+    ),
+}
 
 
 def wrong_known(program, case):
@@ -56,6 +86,16 @@ def wrong_words(program, path, text, said):
     return f"{missing} is missing in {came}" if missing else None
 
 
+def wrong_late(program, path, text, said):
+    """What of these rows is missing in a picture, or stands in another order, or None. Every exchange that fails is one of them."""
+    path.write_text(text)
+    came = answer(program, [path, "--show"])
+    rows = [line.split("\t")[1].strip() for line in came.output.decode().splitlines()]
+    kept = [row for row in rows if row in said]
+    late = [row for row in rows if ": wanted " in row and row not in said]
+    return None if kept == said and not late else f"{kept} came in place of {said}, with {late}"
+
+
 def wrong_readme(program):
     """What of the picture in README.md does not stand in the picture of the race, or None."""
     shown = README.read_text().split("stepped examples/race_for_a_name.csv --show ")[1].split("\n\n")[0]
@@ -82,6 +122,8 @@ def cases(program, options):
         folder = pathlib.Path(scratch)
         yield "words of a sample", wrong_words(program, folder / "sparse.csv", SPARSE, SAID)
         yield "words of counts", wrong_words(program, folder / "counts.csv", MOUNTED, COUNTED)
+        for name, (text, said) in LATE.items():
+            yield f"late: {name}", wrong_late(program, folder / "late.csv", text, said)
     yield "README.md", wrong_readme(program)
     yield "a full device", wrong_device(program)
     for other in ("--report", "--image"):

@@ -5,6 +5,7 @@ It is written after docs/FORMAT.md, "The picture of a replayed schedule", and sh
 
 import csv
 
+from support.plain_calls import Calls
 from support.plain_reader import signed
 from support.seeded_schedules import Schedule
 
@@ -70,6 +71,17 @@ def asked(record):
     return " ".join([kind, *rest[:shown]])
 
 
+def effect(words, event, change):
+    """What an event did, which changed this of the words: they stand as they did before."""
+    if change:
+        at, old, new = change
+        words[at] = new
+        return f"{meaning(words, at)} {old} -> {new}"
+    if event and event[0] == "exchange" and words[event[1]] != event[2]:
+        return f"{meaning(words, event[1])}: wanted {event[2]}, found {words[event[1]]}"
+    return "-"
+
+
 def row(number, actor, cell):
     return f"{number}\t{' ' * (COLUMN * actor)}{cell}\n"
 
@@ -78,7 +90,8 @@ def picture(schedule, lines, most=None):
     """The picture of a schedule, whose replay writes these lines, up to so many events."""
     records = list(csv.reader(schedule.splitlines()))
     size, page, segment_id, actors, version = map(int, records[0][1:])
-    words = Schedule(size, page, segment_id, actors, version).words()
+    world = Schedule(size, page, segment_id, actors, version)
+    words, calls = world.words(), Calls(world, records)
     rows, events, running = [], 0, set()
     for line in lines.splitlines():
         number, actor, what, *rest = line.split(",")
@@ -88,17 +101,16 @@ def picture(schedule, lines, most=None):
                 break
         if what == "step":
             events += 1
-            cell = "-"
-            if rest:
-                at, old, new = map(int, rest)
-                words[at] = new
-                cell = f"{meaning(words, at)} {old} -> {new}"
-            rows.append(row(events, actor, cell))
+            change = [int(number) for number in rest]
+            rows.append(row(events, actor, effect(words, calls.step(actor, words, change), change)))
             continue
         if actor not in running:
             rows.append(row("", actor, f"actor {actor}: {asked(record)}"))
             running.add(actor)
+        if what == "begin":
+            calls.begin(int(number), actor)
         if what == "answer":
+            calls.answer(int(number), actor, rest)
             rows.append(row("", actor, ",".join(["answer", *rest])))
             running.discard(actor)
     return "".join(rows)

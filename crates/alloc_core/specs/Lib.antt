@@ -6,5 +6,6 @@ pub use Rattle.segment_image.specs.Image
 pub mod Layout
 pub mod Planned
 pub mod Event
+pub mod Attempt
 pub mod Alloc
 pub mod Laws

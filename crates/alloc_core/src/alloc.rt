@@ -1,5 +1,6 @@
 //! One allocation, an event at a time.
 
+use crate::attempt::Attempt;
 use crate::event::{exchange, set_bits, store};
 use crate::planned::{Planned, is_pointer, plan};
 use segment_image::Shape;
@@ -137,6 +138,7 @@ impl Alloc {
     ghost use lib.ListN.{get_elem?};
     ghost use Rattle.segment_image.specs.Words.{word_at};
     ghost use Rattle.alloc_core.specs.Event.{spot, after, change};
+    ghost use Rattle.alloc_core.specs.Attempt.{attempt_of};
     ghost use Rattle.alloc_core.specs.Planned.{planned, is_pointer};
     ghost use Rattle.alloc_core.specs.Alloc.{event_at, next_event, stage_of_plan, seen_after, stage_after, started, moved, Allocation, IsStep, IsCorruptBy};
     ghost use Rattle.alloc_core.specs.Laws.{Keeps, IsNewBlock};
@@ -178,6 +180,19 @@ impl Alloc {
         let found = self.act(words);
         self.go_on(found);
         self.stage.answer()
+    }
+
+    /// The exchange that is its next event, where that is one.
+    pub fn next_exchange(&self) -> Option<Attempt>
+        ensures { result ≡ attempt_of (next_event self.now) }
+    {
+        match self.stage {
+            Stage::ExchangeFree { .. } => Some(Attempt {
+                at: FREE_WORD,
+                wanted: self.seen,
+            }),
+            _ => None,
+        }
     }
 
     // The next event: what becomes of the words, and the number that it found.

@@ -7,9 +7,11 @@
 #![tactic(auto)]
 
 mod alloc;
+mod attempt;
 pub mod event;
 pub mod laws;
 mod planned;
 
 pub use alloc::{Alloc, AllocStep, TooLarge};
+pub use attempt::Attempt;
 pub use planned::{Planned, plan};

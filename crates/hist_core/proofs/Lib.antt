@@ -6,4 +6,5 @@ mod Makes
 mod Parts
 mod SnapshotCall
 mod Walks
+mod Exchanging
 pub mod Worlds

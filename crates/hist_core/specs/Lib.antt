@@ -6,6 +6,7 @@ pub mod Sampling
 pub mod Add
 pub mod Batch
 pub mod ActorRun
+pub mod Exchanging
 pub mod Start
 pub mod WorldState
 pub mod Transit

@@ -10,6 +10,7 @@ use crate::ghost_notes::{batch_entries, entry_of, new_items};
 use crate::hist::{Hist, HistStep, Known};
 use crate::samples::key_of;
 use crate::snapshot_call::{SnapshotCall, SnapshotCallStep};
+use alloc_core::Attempt;
 use alloc_core::event::set_bits;
 use bucket_ranges::amount_of;
 use segment_calls::{Asked, Delta, Refusal, Snapshot};
@@ -65,6 +66,7 @@ impl ActorRun {
     ghost use Rattle.segment_machine.specs.declared.actor.Actor.{Actor};
     ghost use Rattle.hist_core.specs.declared.hist.HistStep.TheVariants.{Done};
     ghost use Rattle.hist_core.specs.Batch.{added_of};
+    ghost use Rattle.hist_core.specs.Exchanging.{running_attempt};
     ghost use Rattle.hist_core.specs.StepsBy.{WalksInOrder};
     ghost use Rattle.hist_core.specs.ActorRun.{IsFresh, IsRun, IsSomeRun, NoneHasName, IsKnownAt, IsKnownAnswer, BeginsHist, HasRoom, AsksForOne, IsHistAnnounced, IsAddAnnounced, Adds, BeginsAdd, IsBatchAnnounced, BeginsBatch, BeginsSnapshot, BeginsDelta, IsNowShown, TakesOfOne, HasEndedDelta, HasPlace, IsDeltaAnnounced, LooksAtOne, IsSnapshotAnnounced, IsAsItWas, held_by, Advances, Answers};
 
@@ -384,6 +386,18 @@ impl ActorRun {
             sum,
             redundant,
         }))
+    }
+
+    // The exchange that is the next event of the running call, where that is one.
+    pub(crate) fn next_exchange(&self) -> Option<Attempt>
+        ensures { result ≡ running_attempt self.now.running }
+    {
+        match &self.running {
+            Some(Running::Hist(hist)) => hist.next_exchange(),
+            Some(Running::Add(add)) => add.next_exchange(),
+            Some(Running::Batch(batch)) => batch.next_exchange(),
+            Some(Running::SetCorrupt | Running::Delta(..) | Running::Snapshot(_)) | None => None,
+        }
     }
 
     // Goes on by one event, which is the next of the running call.

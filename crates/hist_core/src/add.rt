@@ -6,7 +6,7 @@ use crate::hist::Known;
 use crate::sampling::{Sampling, SamplingStep};
 use crate::word_ops::fetch_add;
 use alloc_core::event::{exchange, store};
-use alloc_core::{Alloc, AllocStep};
+use alloc_core::{Alloc, AllocStep, Attempt};
 use segment_calls::Refusal;
 use segment_calls::packing::{DISABLED_BIT, off_word, packed_with, unpacked};
 use segment_image::Shape;
@@ -103,6 +103,7 @@ impl Add {
     ghost use Rattle.bucket_ranges.specs.Ranges.{boundaries_of};
     ghost use Rattle.bucket_ranges.specs.Spec.{spec_fault};
     ghost use Rattle.hist_core.specs.ActorRun.{known_of};
+    ghost use Rattle.hist_core.specs.Exchanging.{add_attempt};
     ghost use Rattle.alloc_core.specs.Layout.{IsShape};
     ghost use Rattle.hist_core.specs.declared.add.Stage.TheVariants.{LoadingSingle, Packing, LoadingCounts, SeekingCounts, Mounting, Purging, LoadingAgain, Disabling, Moving, Counting, Summing, Noting};
     ghost use Rattle.hist_core.specs.Add.{IsSomeAdd, AddSteps, IsBehindSingle, BeginsToAllocate, IsAllocating, IsAllocated, IsSampled, IsSearching, IsStarted, behind_count, behind_disabling, count_in};
@@ -446,6 +447,25 @@ impl Add {
         let at = self.histogram as usize + HISTOGRAM_REDUNDANT;
         fetch_add(words, at, u64::from(self.units));
         AddStep::Done
+    }
+
+    // The exchange that is its next event, where that is one.
+    pub(crate) fn next_exchange(&self) -> Option<Attempt>
+        ensures { result ≡ add_attempt self.now self.now.stage }
+    {
+        match &self.stage {
+            Stage::Packing { old, .. } | Stage::Disabling { old, .. } => Some(Attempt {
+                at: (self.histogram as usize).wrapping_add(HISTOGRAM_SINGLE),
+                wanted: *old,
+            }),
+            Stage::Mounting { .. } => Some(Attempt {
+                at: (self.histogram as usize).wrapping_add(HISTOGRAM_COUNTS),
+                wanted: 0,
+            }),
+            Stage::Allocating { alloc } => alloc.next_exchange(),
+            Stage::Sampling { sampling } => sampling.next_exchange(),
+            _ => None,
+        }
     }
 
     // Goes on by one event.

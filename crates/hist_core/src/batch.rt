@@ -4,6 +4,7 @@ ghost use Rattle.std.specs.Prelude.{◌≡◌, length};
 
 use crate::add::{Add, AddStep};
 use crate::word_ops::fetch_add;
+use alloc_core::Attempt;
 use segment_calls::BatchRefusal;
 use segment_image::layout::HISTOGRAM_SUM;
 
@@ -35,6 +36,8 @@ pub(crate) struct Batch {
 
 impl Batch {
     ghost use Rattle.std.specs.Prelude.{◌<◌, ◌≤◌, vec_len};
+    ghost use lib.ListN.{get_elem?};
+    ghost use Rattle.hist_core.specs.Exchanging.{item_attempt};
     ghost use Rattle.hist_core.specs.declared.batch.BatchStep.TheVariants.{Done};
     ghost use Rattle.hist_core.specs.Batch.{BatchSteps, IsItemSaid, IsRefusedAt, IsSameBatch, IsSomeBatch};
 
@@ -87,6 +90,16 @@ impl Batch {
         let at = self.histogram as usize + HISTOGRAM_SUM;
         fetch_add(words, at, self.sum.cast_unsigned());
         BatchStep::Done
+    }
+
+    // The exchange that is its next event, where that is one.
+    pub(crate) fn next_exchange(&self) -> Option<Attempt>
+        ensures { result ≡ item_attempt (get_elem? self.now.items.items self.now.added) }
+    {
+        if self.added >= self.items.len() {
+            return None;
+        }
+        self.items[self.added].next_exchange()
     }
 
     // Goes on by one event.

@@ -3,6 +3,7 @@
 ghost use Rattle.std.specs.Prelude.{◌≡◌, ◌≢◌, ◌≤◌, ◌<◌, ℕ, List, length};
 
 use crate::making::{Making, MakingStep};
+use alloc_core::Attempt;
 use bucket_ranges::{Ranges, Spec};
 use list_core::{Walk, WalkStep};
 use segment_calls::{Asked, Refusal};
@@ -58,6 +59,7 @@ pub(crate) struct Hist {
 impl Hist {
     ghost use Rattle.std.specs.Prelude.{◌+◌, ◌-◌, ◌*◌, ◌^◌, vec_len, slice_index};
     ghost use Rattle.segment_machine.specs.declared.actor.Actor.{Actor};
+    ghost use Rattle.hist_core.specs.Exchanging.{hist_attempt};
     ghost use Rattle.hist_core.specs.Hist.{compared_place, compared_index, compared_word, IsBegun, IsSomeHist, HistSteps, IsMade, IsMakingRecord, IsMatched, IsDifferent};
     ghost use Rattle.hist_core.specs.declared.hist.Stage.TheVariants.{Walking, Comparing};
 
@@ -215,6 +217,16 @@ impl Hist {
                 self.made(said)
             }
             _ => HistStep::More,
+        }
+    }
+
+    // The exchange that is its next event, where that is one.
+    pub(crate) fn next_exchange(&self) -> Option<Attempt>
+        ensures { result ≡ hist_attempt self.now.stage }
+    {
+        match &self.stage {
+            Stage::Making { making } => making.next_exchange(),
+            _ => None,
         }
     }
 

@@ -22,6 +22,7 @@ mod word_ops;
 mod world;
 mod world_state;
 
+pub use alloc_core::Attempt;
 pub use call::{Answer, Begun, Call, Move, Stepped};
 pub use entry::{Entry, Taken};
 pub use fault::WorldFault;

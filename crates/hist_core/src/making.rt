@@ -3,7 +3,7 @@
 ghost use Rattle.std.specs.Prelude.{◌≡◌, length};
 
 use alloc_core::event::store;
-use alloc_core::{Alloc, AllocStep};
+use alloc_core::{Alloc, AllocStep, Attempt};
 use list_core::{PubStep, Publish};
 use segment_calls::Refusal;
 use segment_image::Shape;
@@ -39,6 +39,7 @@ pub(crate) struct Making {
 
 impl Making {
     ghost use Rattle.std.specs.Prelude.{◌+◌, ◌≤◌, vec_len};
+    ghost use Rattle.hist_core.specs.Exchanging.{making_attempt};
     ghost use Rattle.alloc_core.specs.Layout.{IsShape};
     ghost use Rattle.hist_core.specs.declared.making.Stage.TheVariants.{Filling};
     ghost use Rattle.hist_core.specs.Making.{IsSomeMaking, MakingSteps, IsStarted, IsAllocated, IsAllocating, IsPublished, IsPublishing, IsNextFilled, IsFilled};
@@ -148,6 +149,17 @@ impl Making {
                 Making::published(said)
             }
             _ => MakingStep::More,
+        }
+    }
+
+    // The exchange that is its next event, where that is one.
+    pub(crate) fn next_exchange(&self) -> Option<Attempt>
+        ensures { result ≡ making_attempt self.now.stage }
+    {
+        match &self.stage {
+            Stage::Allocating { alloc } => alloc.next_exchange(),
+            Stage::Filling { .. } => None,
+            Stage::Publishing { publish } => publish.next_exchange(),
         }
     }
 

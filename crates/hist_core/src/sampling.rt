@@ -5,6 +5,7 @@ ghost use Rattle.std.specs.Prelude.{◌≡◌, length};
 ghost use Rattle.hist_core.specs.Sampling.{behind_type};
 
 use crate::making::{Making, MakingStep};
+use alloc_core::Attempt;
 use list_core::{Walk, WalkStep};
 use segment_calls::Refusal;
 use segment_image::Shape;
@@ -62,6 +63,7 @@ fn behind_type(at: u64, tag: u64) -> Stage
 
 impl Sampling {
     ghost use Rattle.std.specs.Int.{w64, cast_unsigned};
+    ghost use Rattle.hist_core.specs.Exchanging.{sampling_attempt};
     ghost use Rattle.hist_core.specs.declared.sampling.Stage.TheVariants.{Walking, LoadingType, LoadingHistogram, LoadingValue};
     ghost use Rattle.hist_core.specs.Sampling.{IsSomeSampling, SamplingSteps, IsStarted, IsIts, IsMade, IsMakingSample};
 
@@ -178,6 +180,16 @@ impl Sampling {
                 self.made(said)
             }
             _ => SamplingStep::More,
+        }
+    }
+
+    // The exchange that is its next event, where that is one.
+    pub(crate) fn next_exchange(&self) -> Option<Attempt>
+        ensures { result ≡ sampling_attempt self.now.stage }
+    {
+        match &self.stage {
+            Stage::Making { making } => making.next_exchange(),
+            _ => None,
         }
     }
 

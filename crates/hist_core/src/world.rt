@@ -4,6 +4,7 @@ use crate::call::{Begun, Call, Move, Stepped};
 use crate::entry::{Entry, Taken};
 use crate::fault::WorldFault;
 use crate::world_state::WorldState;
+use alloc_core::Attempt;
 use image_adoption::{Adoptable, check};
 use segment_image::Shape;
 use segment_image::layout::{VERSION_FROZEN, VERSION_MOVING};
@@ -34,6 +35,7 @@ impl World {
     ghost use Rattle.hist_core.specs.Start.{Start};
     ghost use Rattle.hist_core.specs.WorldState.{IsReachedAs, IsReachedFromImage, IsReachedFromNew, IsAdoptedWorldState, IsNewWorldState, BeginsFrom, HoldsNoPointer, StepsTo, IsAsBefore, OthersStay, Says, IsConsistentAs, IsReadAs, MayBeAdopted, AreKnownFirst};
     ghost use Rattle.hist_core.specs.Transit.{MoveTheirOwn};
+    ghost use Rattle.hist_core.specs.Exchanging.{next_attempt};
     ghost use Rattle.hist_core.specs.Moves.{Makes, MakesAll, FaultsAt, StopsAt};
     ghost use Rattle.hist_core.specs.World.{actor_checks, world_checks, IsAdoptFault, begin_checks, TakesMemory, BeginSays, step_checks, ChangesOneWord, ended_of, begun_of, taken_of};
 
@@ -217,6 +219,17 @@ impl World {
                 Ok(Begun::Going)
             }
         }
+    }
+
+    /// The exchange that is the next event of an actor's call, where that is one: of which word, and what is wanted there. An actor that is
+    /// not there, or that runs no call, has none.
+    pub fn next_exchange(&self, actor: usize) -> Option<Attempt>
+        ensures { result ≡ next_attempt self.now.world_state actor }
+    {
+        if actor >= self.world_state.actor_runs.len() {
+            return None;
+        }
+        self.world_state.actor_runs[actor].next_exchange()
     }
 
     /// An actor goes on with its call by one event. `Added` puts what the call counted at the end of `ended`; a `BatchRefused` puts

@@ -1,6 +1,7 @@
 //! One publish, an event at a time.
 
 use crate::reference::is_reference;
+use alloc_core::Attempt;
 use alloc_core::event::{exchange, store};
 use segment_image::layout::{BLOCK_NEXT, QUEUE, TAIL_WORD};
 use std::marker::Model;
@@ -69,6 +70,7 @@ impl Publish {
     ghost use Rattle.std.specs.Prelude.{◌≡◌, ◌≢◌, ℕ, List, length, is_some, true, IfSome};
     ghost use Rattle.segment_image.specs.Words.{word_at};
     ghost use Rattle.alloc_core.specs.Event.{spot, after};
+    ghost use Rattle.alloc_core.specs.Attempt.{attempt_of};
     ghost use Rattle.list_core.specs.Chain.{IsStop};
     ghost use Rattle.list_core.specs.Publish.{Publishing, next_event, stage_after, started, moved, IsStep, IsStrayBy, IsReach, chain_after, StandsOn, TailGoesOn};
 
@@ -110,6 +112,23 @@ impl Publish {
         let found = self.act(words);
         self.go_on(count, found);
         self.stage.answer()
+    }
+
+    /// The exchange that is its next event, where that is one.
+    pub fn next_exchange(&self) -> Option<Attempt>
+        ensures { result ≡ attempt_of (next_event self.now) }
+    {
+        match self.stage {
+            Stage::Link { tail } => Some(Attempt {
+                at: (tail as usize).wrapping_add(BLOCK_NEXT),
+                wanted: QUEUE,
+            }),
+            Stage::MoveTail { old, .. } => Some(Attempt {
+                at: TAIL_WORD,
+                wanted: old,
+            }),
+            _ => None,
+        }
     }
 
     // The next event: what becomes of the words, and the number that it found.

@@ -22,7 +22,7 @@ counted (Picture events) = Picture (next_number events)
 abbrev pub form_after : Deed → Form → Form
 form_after (Begins call) form = form
 form_after (AtOnce call answer) form = form
-form_after (Steps words change) form = counted form
+form_after (Steps words effect) form = counted form
 form_after (Ends answer) form = form
 
 -- the text of what was done: in a picture a begin, an event and an answer have a row each
@@ -30,7 +30,7 @@ abbrev pub text_of : Form → Place → Deed → List ℕ
 text_of Lines place deed = deed_line place deed
 text_of (Picture events) place (Begins call) = row [] place.actor (begin_cell place.actor call)
 text_of (Picture events) place (AtOnce call answer) = row [] place.actor (begin_cell place.actor call) ++ row [] place.actor (answer_cell answer)
-text_of (Picture events) place (Steps words change) = row (decimal (next_number events)) place.actor (event_cell words change)
+text_of (Picture events) place (Steps words effect) = row (decimal (next_number events)) place.actor (event_cell words effect)
 text_of (Picture events) place (Ends answer) = row [] place.actor (answer_cell answer)
 
 -- how the next is shown behind all that was done, each at its place

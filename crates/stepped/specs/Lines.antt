@@ -10,6 +10,9 @@ use Rattle.hist_core.specs.declared.call.Call.{Call}
 use Rattle.hist_core.specs.declared.call.Answer.{Answer}
 use Rattle.hist_core.specs.declared.call.Answer.TheVariants.{Hist, Added, Flagged, Delta, Snapshot, Refused, BatchRefused}
 use Rattle.stepped.specs.declared.lines.Change.{Change}
+use Rattle.stepped.specs.declared.lines.Effect.{Effect}
+use Rattle.stepped.specs.declared.lines.Effect.TheVariants.{Quiet, Changed, Missed}
+use Rattle.stepped.specs.declared.lines.Miss.{Miss}
 use Rattle.stepped.specs.declared.lines.Place.{Place}
 
 -- ---- refusals
@@ -44,12 +47,18 @@ refusal_fields why = refusal_word why ∷ []
 
 -- ---- what is shown of a call
 
--- It begins; it begins and has ended with an answer, without an event; an event of it happens, which changes a word or none and leads to
--- these words; or it ends with its last event, and an answer.
+-- what an event did that changed this, where it missed that if it changed nothing
+abbrev pub effect_of : Option Change → Option Miss → Effect
+effect_of (Some change) miss = Changed change
+effect_of None (Some miss) = Missed miss
+effect_of None None = Quiet
+
+-- It begins; it begins and has ended with an answer, without an event; an event of it happens, which does this and leads to these words; or
+-- it ends with its last event, and an answer.
 pub data Deed : Type 0 where
   Begins : (call : Call) → Deed
   AtOnce : (call : Call) → (answer : Answer) → Deed
-  Steps : (words : List ℕ) → (change : Option Change) → Deed
+  Steps : (words : List ℕ) → (effect : Effect) → Deed
   Ends : (answer : Answer) → Deed
 
 -- each key with its units
@@ -68,15 +77,16 @@ answer_fields (Refused why) = codes "refused" ∷ refusal_fields why
 answer_fields (BatchRefused refused) = codes "batch_refused" ∷ decimal refused.added ∷ refusal_fields refused.why
 
 -- the fields of an event
-abbrev pub step_fields : Option Change → List (List ℕ)
-step_fields None = codes "step" ∷ []
-step_fields (Some change) = codes "step" ∷ decimal change.at ∷ decimal change.old ∷ decimal change.new ∷ []
+abbrev pub step_fields : Effect → List (List ℕ)
+step_fields Quiet = codes "step" ∷ []
+step_fields (Missed miss) = codes "step" ∷ []
+step_fields (Changed change) = codes "step" ∷ decimal change.at ∷ decimal change.old ∷ decimal change.new ∷ []
 
 -- the fields behind those of the place
 abbrev pub deed_fields : Deed → List (List ℕ)
 deed_fields (Begins call) = codes "begin" ∷ []
 deed_fields (AtOnce call answer) = codes "answer" ∷ answer_fields answer
-deed_fields (Steps words change) = step_fields change
+deed_fields (Steps words effect) = step_fields effect
 deed_fields (Ends answer) = codes "answer" ∷ answer_fields answer
 
 -- ---- texts

@@ -1,10 +1,11 @@
 -- The rows of a picture of what is done: a column for each actor, a row for each begin, each event and each answer.
-use Rattle.std.specs.Prelude.{ℕ, zero, suc, List, [], ◌++◌, codes, Option, Some, None}
+use Rattle.std.specs.Prelude.{ℕ, zero, suc, List, [], ◌++◌, codes}
 use Rattle.std.specs.Fmt.{decimal, signed_decimal}
 use Rattle.hist_core.specs.declared.call.Answer.{Answer}
 use Rattle.hist_core.specs.declared.call.Call.{Call}
 use Rattle.hist_core.specs.declared.call.Call.TheVariants.{Hist, Add, Delta, Snapshot, Batch, SetCorrupt}
-use Rattle.stepped.specs.declared.lines.Change.{Change}
+use Rattle.stepped.specs.declared.lines.Effect.{Effect}
+use Rattle.stepped.specs.declared.lines.Effect.TheVariants.{Quiet, Changed, Missed}
 use Rattle.stepped.specs.Lines.{answer_fields, behind}
 use Rattle.stepped.specs.Meaning.{meaning}
 
@@ -21,10 +22,12 @@ call_text SetCorrupt = codes "set_corrupt"
 abbrev pub begin_cell : ℕ → Call → List ℕ
 begin_cell actor call = codes "actor " ++ decimal actor ++ codes ": " ++ call_text call
 
--- An event: what the word that it changed means as the words then stand, what it was and what it is; or that it changed none.
-abbrev pub event_cell : List ℕ → Option Change → List ℕ
-event_cell words None = codes "-"
-event_cell words (Some change) = meaning words change.at ++ codes " " ++ decimal change.old ++ codes " -> " ++ decimal change.new
+-- An event: what the word that it changed means as the words then stand, what it was and what it is; or what the word means of an exchange
+-- that did not go through, what that wanted and what it found; or that it changed none.
+abbrev pub event_cell : List ℕ → Effect → List ℕ
+event_cell words Quiet = codes "-"
+event_cell words (Missed miss) = meaning words miss.at ++ codes ": wanted " ++ decimal miss.wanted ++ codes ", found " ++ decimal miss.found
+event_cell words (Changed change) = meaning words change.at ++ codes " " ++ decimal change.old ++ codes " -> " ++ decimal change.new
 
 -- a call's answer
 abbrev pub answer_cell : Answer → List ℕ

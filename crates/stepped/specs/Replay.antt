@@ -1,5 +1,5 @@
 -- A schedule as it is replayed: the moves that its records make, and what is shown of them.
-use Rattle.std.specs.Prelude.{◌≡◌, ◌≢◌, ◌⊎◌, ◌<◌, ◌≤◌, ◌+◌, ℕ, zero, suc, List, [], ◌∷◌, ◌++◌, map, length, slice_index, slice_set, Option, Some, None}
+use Rattle.std.specs.Prelude.{◌≡◌, ◌≢◌, ◌⊎◌, ◌<◌, ◌≤◌, ◌+◌, ℕ, zero, suc, List, [], ◌∷◌, ◌++◌, ◌==◌, if◌then◌else◌, map, length, slice_index, slice_set, Option, Some, None}
 use Rattle.hist_core.specs.declared.world_state.WorldState.{WorldState}
 use Rattle.hist_core.specs.declared.call.Answer.{Answer}
 use Rattle.hist_core.specs.declared.call.Call.{Call}
@@ -11,15 +11,20 @@ use Rattle.hist_core.specs.declared.call.Stepped.{Stepped}
 use Rattle.hist_core.specs.declared.call.Stepped.TheVariants.{More, Done}
 use Rattle.hist_core.specs.declared.fault.WorldFault.{WorldFault}
 use Rattle.hist_core.specs.Moves.{FaultsAt, IsBegun, IsStepped}
+use Rattle.hist_core.specs.Exchanging.{next_attempt}
+use Rattle.alloc_core.specs.declared.attempt.Attempt.{Attempt}
+use Rattle.segment_image.specs.Words.{word_at}
 use Rattle.schedule.specs.declared.order.Order.{Order}
 use Rattle.schedule.specs.declared.order.OrderKind.{OrderKind}
 use Rattle.schedule.specs.declared.order.OrderKind.TheVariants as kind
 use Rattle.stepped.specs.declared.fault.ReplayFault.{ReplayFault}
 use Rattle.stepped.specs.declared.fault.ReplayFault.TheVariants.{Write}
 use Rattle.stepped.specs.declared.lines.Change.{Change}
+use Rattle.stepped.specs.declared.lines.Effect.{Effect}
+use Rattle.stepped.specs.declared.lines.Miss.{Miss}
 use Rattle.stepped.specs.declared.lines.Place.{Place}
 use Rattle.stepped.specs.Fault.{fault_of_world}
-use Rattle.stepped.specs.Lines.{Deed}
+use Rattle.stepped.specs.Lines.{Deed, effect_of}
 use Rattle.stepped.specs.Lines.Deed.{Begins, AtOnce, Steps, Ends}
 
 -- ---- moves
@@ -43,22 +48,33 @@ pub record IsDifference (old new : List ℕ) (change : Change) : Type 0 where
   pub is : slice_index new change.at ≡ change.new
   pub other : change.old ≢ change.new
 
+-- what an exchange of a word misses, where it comes to these words: the word is another than it wants
+abbrev pub miss_in : List ℕ → Option Attempt → Option Miss
+miss_in words None = None
+miss_in words (Some attempt) =
+    if word_at words attempt.at == attempt.wanted then None
+    else Some (record { at = attempt.at; wanted = attempt.wanted; found = word_at words attempt.at })
+
+-- what an actor misses by its next event, in a world
+abbrev pub next_miss : WorldState → ℕ → Option Miss
+next_miss world_state actor = miss_in world_state.words.items (next_attempt world_state actor)
+
 -- what is done at a begin: the call begins, or it has ended with its answer, where it needs no event
 abbrev pub begin_deeds : Call → Begun → List Deed
 begin_deeds call Going = Begins call ∷ []
 begin_deeds call (Ended answer) = AtOnce call answer ∷ []
 
 -- what is done at an event: it happens, and behind it comes the answer of a call that it ended
-abbrev pub step_deeds : List ℕ → Option Change → Stepped → List Deed
-step_deeds words change More = Steps words change ∷ []
-step_deeds words change (Done answer) = Steps words change ∷ Ends answer ∷ []
+abbrev pub step_deeds : List ℕ → Effect → Stepped → List Deed
+step_deeds words effect More = Steps words effect ∷ []
+step_deeds words effect (Done answer) = Steps words effect ∷ Ends answer ∷ []
 
 -- a move leads from a world to another, and is shown so
 abbrev pub Shows : Move → WorldState → WorldState → List Deed → Type 0
 Shows (Begin actor call) old new deeds = (said : Begun) × IsBegun actor call old new said × (deeds ≡ begin_deeds call said)
 Shows (Step actor) old new deeds =
     (said : Stepped) × IsStepped actor old new said
-    × ((change : Option Change) × HasChanged old.words.items new.words.items change × (deeds ≡ step_deeds new.words.items change said))
+    × ((change : Option Change) × HasChanged old.words.items new.words.items change × (deeds ≡ step_deeds new.words.items (effect_of change (next_miss old actor)) said))
 
 -- so do the events of an actor's call, one after the other
 abbrev pub GoesBy : ℕ → ℕ → WorldState → WorldState → List Deed → Type 0

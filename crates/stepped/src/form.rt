@@ -5,7 +5,7 @@ ghost use Rattle.std.specs.Io.KnownBytes.{Appends};
 ghost use Rattle.stepped.specs.Form.{form_after, text_of};
 ghost use Rattle.stepped.specs.Lines.Deed.{Begins, AtOnce, Steps, Ends};
 
-use crate::lines::{Change, Place, show_answer, show_begin, show_step};
+use crate::lines::{Effect, Place, show_answer, show_begin, show_step};
 use crate::picture::{draw_answer, draw_begin, draw_event};
 use hist_core::{Answer, Call};
 use std::io;
@@ -50,22 +50,22 @@ impl Form {
         }
     }
 
-    /// Shows an event, with the word that it changed, as the words then stand. The error is the writer's.
+    /// Shows an event, with what it did, as the words then stand. The error is the writer's.
     pub fn show_event<W: Write>(
         &mut self,
         writer: &mut W,
         place: Place,
-        change: Option<Change>,
+        effect: Effect,
         words: &[u64],
     ) -> io::Result<()>
-        ensures form { self.new ≡ form_after (Steps words.now change) self.old }
-        ensures text { OnOk result (Appends (W.contents writer.old) (W.contents writer.new) (text_of self.old place (Steps words.now change))) }
+        ensures form { self.new ≡ form_after (Steps words.now effect) self.old }
+        ensures text { OnOk result (Appends (W.contents writer.old) (W.contents writer.new) (text_of self.old place (Steps words.now effect))) }
     {
         match self {
-            Form::Lines => show_step(writer, place, change),
+            Form::Lines => show_step(writer, place, effect),
             Form::Picture(events) => {
                 *events = events.saturating_add(1);
-                draw_event(writer, *events, place.actor, change, words)
+                draw_event(writer, *events, place.actor, effect, words)
             }
         }
     }

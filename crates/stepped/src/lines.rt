@@ -30,6 +30,43 @@ pub struct Change {
     pub new: u64,
 }
 
+/// An exchange of a word that was not what it wanted, so that it did not go through.
+#[derive(Clone, Copy, Debug, PartialEq, Eq)]
+pub struct Miss {
+    /// The number of the word.
+    pub at: usize,
+    /// What it wanted there.
+    pub wanted: u64,
+    /// What it found.
+    pub found: u64,
+}
+
+/// What an event did.
+#[derive(Clone, Copy, Debug, PartialEq, Eq)]
+pub enum Effect {
+    /// It changed no word.
+    Quiet,
+    /// It changed a word.
+    Changed(Change),
+    /// It was an exchange that did not go through.
+    Missed(Miss),
+}
+
+impl Effect {
+    ghost use Rattle.stepped.specs.Lines.{effect_of};
+
+    /// What an event did that changed this, where it missed that if it changed nothing.
+    pub fn of(change: Option<Change>, miss: Option<Miss>) -> Effect
+        ensures { result ≡ effect_of change miss }
+    {
+        match (change, miss) {
+            (Some(change), _) => Effect::Changed(change),
+            (None, Some(miss)) => Effect::Missed(miss),
+            (None, None) => Effect::Quiet,
+        }
+    }
+}
+
 // The number of the record and the actor, with which a line begins.
 fn put_place<W: Write>(writer: &mut W, place: Place) -> io::Result<()>
     ensures { OnOk result (Appends (W.contents writer.old) (W.contents writer.new) (place_text place)) }
@@ -86,12 +123,12 @@ fn put_change<W: Write>(writer: &mut W, change: Change) -> io::Result<()>
 }
 
 /// Writes the line of an event, with the word that it changed. The error is the writer's.
-pub fn show_step<W: Write>(writer: &mut W, place: Place, change: Option<Change>) -> io::Result<()>
-    ensures { OnOk result (Appends (W.contents writer.old) (W.contents writer.new) (line place (step_fields change))) }
+pub fn show_step<W: Write>(writer: &mut W, place: Place, effect: Effect) -> io::Result<()>
+    ensures { OnOk result (Appends (W.contents writer.old) (W.contents writer.new) (line place (step_fields effect))) }
 {
     put_place(writer, place)?;
     put_word(writer, b"step")?;
-    if let Some(change) = change {
+    if let Effect::Changed(change) = effect {
         put_change(writer, change)?;
     }
     end_line(writer)

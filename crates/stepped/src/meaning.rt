@@ -39,8 +39,8 @@ pub enum Role {
     Other,
 }
 
-// A word, or 0 behind the last.
-fn word(words: &[u64], at: usize) -> u64
+/// A word, or 0 behind the last.
+pub fn word(words: &[u64], at: usize) -> u64
     ensures { result ≡ word_at words.now at }
 {
     if at < words.len() { words[at] } else { 0 }

@@ -5,7 +5,7 @@ ghost use Rattle.std.specs.Fmt.{decimal};
 ghost use Rattle.std.specs.Io.KnownBytes.{Appends};
 ghost use Rattle.stepped.specs.Picture.{answer_cell, begin_cell, call_text, column, event_cell, row, row_start};
 
-use crate::lines::{Change, put_answer};
+use crate::lines::{Effect, put_answer};
 use crate::meaning::put_meaning;
 use hist_core::{Answer, Call};
 use std::io;
@@ -80,23 +80,28 @@ pub fn draw_begin<W: Write>(writer: &mut W, actor: usize, call: &Call) -> io::Re
     writer.write_all(b"\n")
 }
 
-/// Writes the row of an event, with the word that it changed, as the words then stand. The error is the writer's.
+/// Writes the row of an event, with the word that it changed, or with the exchange that did not go through, as the words then stand. The
+/// error is the writer's.
 pub fn draw_event<W: Write>(
     writer: &mut W,
     event: u64,
     actor: usize,
-    change: Option<Change>,
+    effect: Effect,
     words: &[u64],
 ) -> io::Result<()>
-    ensures { OnOk result (Appends (W.contents writer.old) (W.contents writer.new) (row (decimal event) actor (event_cell words.now change))) }
+    ensures { OnOk result (Appends (W.contents writer.old) (W.contents writer.new) (row (decimal event) actor (event_cell words.now effect))) }
 {
     start_event(writer, event, actor)?;
-    match change {
-        Some(change) => {
+    match effect {
+        Effect::Changed(change) => {
             put_meaning(writer, words, change.at)?;
             writeln!(writer, " {} -> {}", change.old, change.new)
         }
-        None => writer.write_all(b"-\n"),
+        Effect::Missed(miss) => {
+            put_meaning(writer, words, miss.at)?;
+            writeln!(writer, ": wanted {}, found {}", miss.wanted, miss.found)
+        }
+        Effect::Quiet => writer.write_all(b"-\n"),
     }
 }
 

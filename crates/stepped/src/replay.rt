@@ -4,7 +4,8 @@ ghost use Rattle.std.specs.Prelude.{◌≡◌};
 
 use crate::fault::ReplayFault;
 use crate::form::Form;
-use crate::lines::{Change, Place};
+use crate::lines::{Change, Effect, Miss, Place};
+use crate::meaning::word;
 use hist_core::{Begun, Call, Stepped, World};
 use schedule::{NewWorld, Order, OrderKind};
 use std::alloc::{AllocError, Global};
@@ -36,7 +37,7 @@ ghost use Rattle.segment_image.specs.Head.{head_of, header_of};
 ghost use Rattle.stepped.specs.Fault.{fault_of_world};
 ghost use Rattle.stepped.specs.Form.{Writes, texts};
 ghost use Rattle.stepped.specs.Lines.{Deed};
-ghost use Rattle.stepped.specs.Replay.{Does, EndsCall, FailsAt, GoesOn, HasChanged, IsDifference, Replays, Shows, StopsWith, placed};
+ghost use Rattle.stepped.specs.Replay.{Does, EndsCall, FailsAt, GoesOn, HasChanged, IsDifference, Replays, Shows, StopsWith, next_miss, placed};
 
 // Where two lists of words differ first.
 fn change_of(old: &[u64], new: &[u64]) -> Option<Change>
@@ -145,6 +146,24 @@ impl Replay {
         }
     }
 
+    // What an actor misses by its next event: an exchange of a word that is not what it wants.
+    fn next_miss(&self, actor: usize) -> Option<Miss>
+        ensures { result ≡ next_miss self.now.world.world_state actor }
+    {
+        let Some(attempt) = self.world.next_exchange(actor) else {
+            return None;
+        };
+        let found = word(self.world.words(), attempt.at);
+        if found == attempt.wanted {
+            return None;
+        }
+        Some(Miss {
+            at: attempt.at,
+            wanted: attempt.wanted,
+            found,
+        })
+    }
+
     // An event of an actor's call, and the word that it changed.
     fn advance(&mut self, place: Place) -> Result<(Stepped, Option<Change>), ReplayFault>
         ensures left { self.new.left ≡ self.old.left }
@@ -171,9 +190,11 @@ impl Replay {
         ensures ok { IfOk result (λ more. (deeds : List Deed) × Shows (Step place.actor) self.old.world.world_state self.new.world.world_state deeds × Writes self.old.form self.new.form (W.contents writer.old) (W.contents writer.new) (placed place.number place.actor deeds) × (more ≡ false → EndsCall deeds)) }
         ensures err { IfErr result (λ fault. (fault ≡ ReplayFault.Write) ⊎ ((why : WorldFault) × FaultsAt (Step place.actor) self.old.world.world_state why × (fault ≡ fault_of_world place.number why) × (writer.new ≡ writer.old))) }
     {
+        let miss = self.next_miss(place.actor);
         let (said, change) = self.advance(place)?;
+        let effect = Effect::of(change, miss);
         self.form
-            .show_event(writer, place, change, self.world.words())
+            .show_event(writer, place, effect, self.world.words())
             .map_err(|_| ReplayFault::Write)?;
         match said {
             Stepped::More => Ok(true),

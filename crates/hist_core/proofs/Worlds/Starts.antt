@@ -1,11 +1,10 @@
 -- What a world starts with, and the states that are reached from there.
-use Rattle.std.proofs.Common.{◌≡◌, ◌⊎◌, ◌≤◌, ℕ, true, List, inl, inr, refl, sym, ap, subst, ◌∙◌}
+use Rattle.std.proofs.Common.{◌≡◌, ◌⊎◌, ℕ, true, List, inl, inr, refl, sym, ap, subst, ◌∙◌}
 use Rattle.segment_image.specs.Head.{head_of}
 use Rattle.segment_image.specs.Shape.{Dimensions}
 use Rattle.alloc_core.specs.Layout.{IsShape}
 use Rattle.segment_machine.specs.declared.actor.Actor.{Actor}
 use Rattle.segment_machine.specs.declared.actor.Role.TheVariants.{Opener}
-use Rattle.segment_machine.specs.declared.place.Place.TheVariants.{Idle}
 use Rattle.segment_machine.specs.Actor.{is_opener}
 use Rattle.segment_machine.specs.Event.{Event}
 use Rattle.segment_machine.specs.Reached as machine

@@ -1,4 +1,4 @@
-use Rattle.std.proofs.Common.{rules, refl, sym, subst, ◌∙◌, ◌-◌, ℕ, List}
+use Rattle.std.proofs.Common.{rules, refl, sym, subst, ◌∙◌, ℕ, List}
 use Rattle.bucket_ranges.specs.Ranges.{clamped, IsBucketOf}
 use Rattle.segment_promises.proofs.Calls.SpecBuckets.{below, count_is, found_is, is_bucketed, key_is}
 use Rattle.hist_core.proofs.add.Add.start.Goals as goal

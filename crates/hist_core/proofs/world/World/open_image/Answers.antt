@@ -1,4 +1,4 @@
-use Rattle.std.proofs.Common.{◌^◌, ◌<◌, ℕ, All, arith}
+use Rattle.std.proofs.Common.{◌^◌, ◌<◌, All, arith}
 use Rattle.std.proofs.lemmas.Grind.{get_or_default_zero}
 use Rattle.hist_core.proofs.Worlds.NewWorldStates.{image_is_reached}
 use Rattle.hist_core.proofs.world.World.open_image.Goals as goal

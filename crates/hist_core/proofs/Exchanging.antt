@@ -1,0 +1,13 @@
+-- Where nobody stands, nothing is exchanged.
+use Rattle.std.proofs.Common.{◌≡◌, ◌≤◌, arith, length, List, refl, ℕ}
+use mathlib.Core.Option.{Option, some, none}
+use lib.ListN.{get_elem?}
+use Rattle.hist_core.proofs.HistCall.Asking.{place_below}
+
+-- what is said of nothing is said of what stands beyond a list
+pub beyond : {A X : Type 0} (said : Option A → X) (l : List A) (i : ℕ) → length l ≤ i → said none ≡ said (get_elem? l i)
+beyond {A} said l i far = by (get_elem? l i) refl
+  where
+    by : (found : Option A) → get_elem? l i ≡ found → said none ≡ said found
+    by none at = refl
+    by (some x) at = absurd (let below = place_below l i x at in omega (arith, below, far))

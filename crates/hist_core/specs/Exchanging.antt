@@ -1,0 +1,72 @@
+-- The exchange that the next event of an actor is, where it is one.
+use Rattle.std.specs.Prelude.{ℕ, ◌+◌, Option, Some, None}
+use mathlib.Core.Option as maybe
+use mathlib.Core.Option.{some, none}
+use lib.ListN.{get_elem?}
+use Rattle.segment_image.specs.declared.layout.TheConstants.{HISTOGRAM_COUNTS, HISTOGRAM_SINGLE}
+use Rattle.alloc_core.specs.declared.attempt.Attempt.{Attempt}
+use Rattle.alloc_core.specs.Event.Event.{exchange}
+use Rattle.alloc_core.specs.Attempt.{attempt_of}
+use Rattle.alloc_core.specs.Alloc as alloc
+use Rattle.list_core.specs.Publish as publish
+use Rattle.segment_machine.specs.Form.{off_word}
+use Rattle.hist_core.specs.declared.making.Stage.{Stage as MakingStage}
+use Rattle.hist_core.specs.declared.making.Stage.TheVariants as making
+use Rattle.hist_core.specs.declared.sampling.Stage.{Stage as SamplingStage}
+use Rattle.hist_core.specs.declared.sampling.Stage.TheVariants as sampling
+use Rattle.hist_core.specs.declared.add.Add.{Add}
+use Rattle.hist_core.specs.declared.add.Stage.{Stage as AddStage}
+use Rattle.hist_core.specs.declared.add.Stage.TheVariants as adding
+use Rattle.hist_core.specs.declared.hist.Stage.{Stage as HistStage}
+use Rattle.hist_core.specs.declared.hist.Stage.TheVariants as asking
+use Rattle.hist_core.specs.declared.actor_run.Running.{Running}
+use Rattle.hist_core.specs.declared.actor_run.Running.TheVariants as runs
+use Rattle.hist_core.specs.declared.actor_run.ActorRun.{ActorRun}
+use Rattle.hist_core.specs.declared.world_state.WorldState.{WorldState}
+
+-- Of a record that is being made: of the free pointer, where it claims its words; of a next or of the tail, where it goes on the list
+abbrev pub making_attempt : MakingStage → Option Attempt
+making_attempt (making.Allocating allocation) = attempt_of (alloc.next_event allocation)
+making_attempt (making.Filling at index) = None
+making_attempt (making.Publishing publishing) = attempt_of (publish.next_event publishing)
+
+-- a search for a sample: where it makes one
+abbrev pub sampling_attempt : SamplingStage → Option Attempt
+sampling_attempt (sampling.Making m) = making_attempt m.stage
+sampling_attempt _ = None
+
+-- an `add`: of the single word, where it packs its units there or disables it; of the counts reference, where it mounts counts; or where it
+-- claims words
+abbrev pub add_attempt : Add → AddStage → Option Attempt
+add_attempt add (adding.Packing old new) = attempt_of (Some (exchange (add.histogram + HISTOGRAM_SINGLE) old new))
+add_attempt add (adding.Mounting at) = attempt_of (Some (exchange (add.histogram + HISTOGRAM_COUNTS) 0 at))
+add_attempt add (adding.Disabling counts old) = attempt_of (Some (exchange (add.histogram + HISTOGRAM_SINGLE) old (off_word add.version old)))
+add_attempt add (adding.Allocating allocation) = attempt_of (alloc.next_event allocation)
+add_attempt add (adding.Sampling s) = sampling_attempt s.stage
+add_attempt add _ = None
+
+-- a `hist`: where it makes its record
+abbrev pub hist_attempt : HistStage → Option Attempt
+hist_attempt (asking.Making m) = making_attempt m.stage
+hist_attempt _ = None
+
+-- a `batch`: that of the item which it counts next
+abbrev pub item_attempt : maybe.Option Add → Option Attempt
+item_attempt none = None
+item_attempt (some add) = add_attempt add add.stage
+
+-- a running call
+abbrev pub running_attempt : Option Running → Option Attempt
+running_attempt (Some (runs.Hist hist)) = hist_attempt hist.stage
+running_attempt (Some (runs.Add add)) = add_attempt add add.stage
+running_attempt (Some (runs.Batch batch)) = item_attempt (get_elem? batch.items.items batch.added)
+running_attempt _ = None
+
+-- an actor; one that is not there does nothing
+abbrev pub run_attempt : maybe.Option ActorRun → Option Attempt
+run_attempt none = None
+run_attempt (some actor_run) = running_attempt actor_run.running
+
+-- of an actor of a world: the word, and what is wanted there
+abbrev pub next_attempt : WorldState → ℕ → Option Attempt
+next_attempt world_state actor = run_attempt (get_elem? world_state.actor_runs.items actor)

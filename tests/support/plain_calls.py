@@ -1,0 +1,284 @@
+"""The calls of the stepped world in plain Python, an event at a time, to know which events are exchanges and what those want.
+
+It is written after docs/FORMAT.md and shares nothing with the program. A call is a generator of what its events do. It is sent what each
+event found. The events of a delta or a snapshot are not told here: no event of theirs is an exchange.
+"""
+
+from support.plain_reader import TOP
+from support.plain_tally import Histogram, boundaries_of
+
+FLAGS, FREE, TAIL, QUEUE = 6, 7, 8, 12
+SIZE, COOKIE, TYPE, NEXT, HEADER = 0, 1, 2, 3, 4
+COUNTS, SINGLE, SUM, REDUNDANT, LENGTH, NAME = 8, 9, 11, 13, 14, 15
+CLAIMED, WASTED = 0xC8799269, 2**64 - 1
+HISTOGRAM, OF_COUNTS, SAMPLE = 1, 2, 3
+KINDS = {"linear": 1, "boolean": 2, "custom": 3, "sparse": 4}
+CORRUPT, FULL = 1, 2
+WORD = 2**64
+
+
+def load(at):
+    return "load", at, None, None
+
+
+def store(at, value):
+    return "store", at, None, value
+
+
+def exchange(at, wanted, new):
+    return "exchange", at, wanted, new
+
+
+def add(at, amount):
+    return "add", at, None, amount
+
+
+def made_of(event, found):
+    """What an event makes of the word that it found."""
+    kind, _, wanted, value = event
+    if kind == "exchange":
+        return value if found == wanted else found
+    return {"load": found, "store": value, "add": (found + (value or 0)) % WORD, "set": found | (value or 0)}[kind]
+
+
+def allocate(world, payload, tag):
+    """Claims a block, and gives its reference, or None where it is refused."""
+    size = payload + HEADER
+    while True:
+        if (yield load(FLAGS)) & CORRUPT:
+            return None
+        free = yield load(FREE)
+        room = world.page - free % world.page
+        if free + size > world.size:
+            yield "set", FLAGS, None, FULL
+            return None
+        waste = size > room
+        taken = room if waste or room - size < HEADER + 1 else size
+        if (yield exchange(FREE, free, free + taken)) != free:
+            continue
+        yield store(free + SIZE, taken)
+        yield store(free + COOKIE, WASTED if waste else CLAIMED)
+        if not waste:
+            yield store(free + TYPE, tag)
+            return free
+
+
+def publish(reference):
+    yield store(reference + NEXT, QUEUE)
+    while True:
+        tail = yield load(TAIL)
+        behind = yield exchange(tail + NEXT, QUEUE, reference)
+        yield exchange(TAIL, tail, reference if behind == QUEUE else behind)
+        if behind == QUEUE:
+            return
+
+
+def make(world, payload, tag):
+    """Makes a record, and gives its reference, or None where it is refused."""
+    reference = yield from allocate(world, len(payload), tag)
+    if reference is not None:
+        for index, word in enumerate(payload):
+            if word:
+                yield store(reference + HEADER + index, word)
+        yield from publish(reference)
+    return reference
+
+
+def letters_of(name):
+    data = name.encode("latin-1")
+    return [int.from_bytes(data[at : at + 8], "little") for at in range(0, len(data), 8)]
+
+
+def spec_words(spec):
+    """The kind, the least value, the greatest, the number of buckets, and the ranges of a custom histogram."""
+    kind, *numbers = spec
+    buckets = max(len(boundaries_of(spec)) - 1, 0)
+    low, high = {"linear": numbers[:2], "boolean": [1, 2], "sparse": [0, 0]}.get(kind) or [min(n for n in numbers if n), max(numbers)]
+    ranges = boundaries_of(spec)[1:-1] if kind == "custom" else []
+    return [KINDS[kind], low, high, buckets], ranges
+
+
+def hist(world, name, spec):
+    (numbers, ranges), letters = spec_words(spec), letters_of(name)
+    payload = numbers + [0] * 6 + [len(name)] + letters + ranges
+    named = [(TYPE, HISTOGRAM), (LENGTH, len(name)), *((NAME + at, word) for at, word in enumerate(letters))]
+    shaped = [(HEADER + at, word) for at, word in enumerate(numbers)]
+    shaped += [(NAME + len(letters) + at, word) for at, word in enumerate(ranges)]
+    at = QUEUE
+    while True:
+        reference = yield load(at + NEXT)
+        if reference == QUEUE:
+            if (yield from make(world, payload, HISTOGRAM)) is None:
+                return
+            continue
+        at = reference
+        if (yield from are(at, named)):
+            yield from are(at, shaped)
+            return
+
+
+def are(block, words):
+    """Loads words of a block up to the first that is another."""
+    for place, word in words:
+        if (yield load(block + place)) != word:
+            return False
+    return True
+
+
+def sample(world, histogram, value):
+    """The first sample of a value, or None where it is refused."""
+    at, word = histogram, value % WORD
+    while True:
+        reference = yield load(at + NEXT)
+        if reference == QUEUE:
+            if (yield from make(world, [histogram, word, 0, 0], SAMPLE)) is None:
+                return None
+            continue
+        at = reference
+        if (yield load(at + TYPE)) != SAMPLE:
+            continue
+        of = yield load(at + HEADER)
+        if (yield load(at + HEADER + 1)) == word and of == histogram:
+            return at
+
+
+def packed(word, bucket, count):
+    """The word with so many units of a bucket more, or None."""
+    if word == 0 and count <= 65_535:
+        return bucket * 2**32 + count
+    if word and word >> 32 == bucket and word % 2**32 + count <= 65_535:
+        return word + count
+    return None
+
+
+def mount(world, histogram, buckets):
+    """The reference of the counts of a histogram, or None where they are refused."""
+    counts = yield load(histogram + COUNTS)
+    if counts:
+        return counts
+    mine = yield from allocate(world, 2 * buckets, OF_COUNTS)
+    if mine is None:
+        return None
+    counts = yield exchange(histogram + COUNTS, 0, mine)
+    if counts:
+        yield store(mine + TYPE, 0)
+    return counts or mine
+
+
+def disable(world, histogram, counts):
+    while True:
+        word = yield load(histogram + SINGLE)
+        if word >= TOP:
+            return
+        off = TOP + word if world.version == 2 else TOP + (word >> 32 if word else 65_535)
+        if (yield exchange(histogram + SINGLE, word, off)) == word:
+            if world.version == 1 and word:
+                yield add(counts + HEADER + (word >> 32), word % 2**32)
+            return
+
+
+def count_bucket(world, histogram, buckets, bucket, count):
+    """Counts units of a bucket. Whether they are counted."""
+    while True:
+        word = yield load(histogram + SINGLE)
+        if word >= TOP:
+            counts = yield load(histogram + COUNTS)
+            break
+        new = packed(word, bucket, count)
+        if new is None:
+            counts = yield from mount(world, histogram, buckets)
+            if counts is None:
+                return False
+            yield from disable(world, histogram, counts)
+            break
+        if (yield exchange(histogram + SINGLE, word, new)) == word:
+            return True
+    yield add(counts + HEADER + bucket, count)
+    return True
+
+
+def count(world, known, value, units):
+    """Counts units of a value. Whether they are counted."""
+    reference, spec = known
+    if spec[0] == "sparse":
+        at = yield from sample(world, reference, value)
+        if at is not None:
+            yield add(at + 6, units)
+        return at is not None
+    tally, buckets = Histogram.of(spec), len(boundaries_of(spec)) - 1
+    bucket = tally.boundaries.index(tally.key(value))
+    return (yield from count_bucket(world, reference, buckets, bucket, units))
+
+
+def batch(world, known, items, amount, note_last):
+    """Counts items, each with what it adds to the sum where that is told, and then an amount."""
+    for value, units in items:
+        if not (yield from count(world, known, value, units)):
+            return
+        if note_last and amount:
+            yield add(known[0] + SUM, amount % WORD)
+        yield add(known[0] + REDUNDANT, units)
+    if amount and not note_last:
+        yield add(known[0] + SUM, amount % WORD)
+
+
+def call(world, known, record):
+    """The events of the call of a record, whose actor knows these histograms, or None where they are not told."""
+    kind, _, *rest = record
+    if kind == "hist":
+        return hist(world, rest[0], spec_of(rest[1:]))
+    if kind in ("add", "batch"):
+        name, *numbers = rest[0], *map(int, rest[1:])
+        if kind == "batch":
+            return batch(world, known[name], list(zip(numbers[1::2], numbers[2::2])), numbers[0], False)
+        amount = Histogram.of(known[name][1]).clamped(numbers[0]) * numbers[1]
+        return batch(world, known[name], [tuple(numbers)], amount, True)
+    return None
+
+
+def spec_of(fields):
+    return fields[0], *map(int, fields[1:])
+
+
+def has_ended(events, found):
+    """Whether no event comes behind one that found this."""
+    try:
+        events.send(found)
+    except StopIteration:
+        return True
+    return False
+
+
+class Calls:
+    """The calls that run in a world, beside its lines."""
+
+    def __init__(self, world, records):
+        self.world, self.records = world, records
+        self.known = {}
+        self.running = {}
+        self.number = {}
+
+    def begin(self, number, actor):
+        self.number[actor] = number
+        self.running[actor] = call(self.world, self.known.get(actor, {}), self.records[number - 1]), None
+
+    def step(self, actor, words, change):
+        """What an actor's call does by its next event, or None where it is not told. The event changed this, and is to have changed no more."""
+        events, found = self.running[actor]
+        if events is None:
+            return None
+        event = events.send(found)
+        at, found = event[1], words[event[1]]
+        new = made_of(event, found)
+        assert change == ([at, found, new] if new != found else []), f"{event} found {found} and changed {change}"
+        self.running[actor] = events, found
+        return event
+
+    def answer(self, number, actor, said):
+        record = self.records[number - 1]
+        if actor in self.running:
+            record = self.records[self.number[actor] - 1]
+            events, found = self.running.pop(actor)
+            assert events is None or has_ended(events, found), f"the call of record {number} goes on"
+        if said[0] == "hist":
+            self.known.setdefault(actor, {})[record[2]] = int(said[1]), spec_of(record[3:])

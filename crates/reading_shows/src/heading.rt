@@ -5,12 +5,36 @@ ghost use Rattle.std.specs.List.{find};
 ghost use Rattle.image_reader.specs.Views.{histogram_view};
 ghost use Rattle.image_reader.specs.Readable.{IsReadable};
 ghost use Rattle.reading_texts.specs.Rows.{rows_of as rows_of_histogram};
+ghost use Rattle.reading_shows.specs.Columns.{at_right};
 ghost use Rattle.reading_shows.specs.Showing.{range_text as range_text_of, reaches as reaches_of, quantile as quantile_of, range_of_found as range_of_found_of, quantile_line, number_line, number_lines, left_of, left_text, left_line};
 
+use crate::columns::{put_at_right, put_bytes};
 use crate::shares::mean;
 use image_reader::HistReading;
+use itoa::Buffer;
 use reading_texts::{HistRow, is_sparse, kind_word, put_parts, units};
 use std::alloc::{AllocError, Global};
+
+// Puts the values of a row at the right end of a column behind a text.
+pub(crate) fn put_range(
+    text: &mut Vec<u8>,
+    width: usize,
+    is_sparse: bool,
+    row: &HistRow,
+) -> Result<(), AllocError>
+    ensures { OnOk result (text.new.items ≡ text.old.items ++ at_right width (range_text_of is_sparse row.now)) }
+{
+    let mut low = Buffer::new();
+    let low = low.format(row.low).as_bytes();
+    if is_sparse {
+        return put_at_right(text, width, low);
+    }
+    let mut high = Buffer::new();
+    let high = high.format(row.high).as_bytes();
+    let len = low.len() + high.len() + 4;
+    put_bytes(text, width.saturating_sub(len), b' ')?;
+    put_parts(text, &[b"[", low, b", ", high, b")"])
+}
 
 // The values of a row.
 pub(crate) fn range_text(
@@ -20,17 +44,8 @@ pub(crate) fn range_text(
 ) -> Result<Vec<u8>, AllocError>
     ensures { IfOk result (λ text. text.items ≡ range_text_of is_sparse row.now) }
 {
-    let low = row.low.to_string(alloc)?;
     let mut text = Vec::new(alloc);
-    if is_sparse {
-        text.extend_from_slice(low.as_bytes())?;
-        return Ok(text);
-    }
-    let high = row.high.to_string(alloc)?;
-    put_parts(
-        &mut text,
-        &[b"[", low.as_bytes(), b", ", high.as_bytes(), b")"],
-    )?;
+    put_range(&mut text, 0, is_sparse, row)?;
     Ok(text)
 }
 

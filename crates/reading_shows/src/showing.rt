@@ -33,7 +33,6 @@ fn put_histogram(
     put_numbers(alloc, text, hist, rows)?;
     let picked = pick(alloc, shows_all_of(style.shows_all, hist), rows)?;
     put_rows(
-        alloc,
         text,
         style,
         frame_of(hist, rows),

@@ -19,18 +19,15 @@ pub(crate) fn put_times(text: &mut Vec<u8>, count: usize, piece: &[u8]) -> Resul
 pub(crate) fn put_bytes(text: &mut Vec<u8>, count: usize, byte: u8) -> Result<(), AllocError>
     ensures { OnOk result (text.new.items ≡ text.old.items ++ times count (byte ∷ [])) }
 {
-    match text.len().checked_add(count) {
-        Some(len) => text.resize(len, byte),
-        None => Err(AllocError),
-    }
+    let Some(len) = text.len().checked_add(count) else {
+        return Err(AllocError);
+    };
+    text.resize(len, byte)?;
+    Ok(())
 }
 
 // Puts a piece at the right end of a column behind a text.
-pub(crate) fn put_at_right(
-    text: &mut Vec<u8>,
-    width: usize,
-    piece: &[u8],
-) -> Result<(), AllocError>
+pub(crate) fn put_at_right(text: &mut Vec<u8>, width: usize, piece: &[u8]) -> Result<(), AllocError>
     ensures { OnOk result (text.new.items ≡ text.old.items ++ at_right width piece.now) }
 {
     put_bytes(text, width.saturating_sub(piece.len()), b' ')?;

@@ -10,7 +10,7 @@ use crate::shares::put_percent;
 use crate::style::{Frame, Style};
 use itoa::Buffer;
 use reading_texts::{HistRow, put_parts};
-use std::alloc::{AllocError, Global};
+use std::alloc::AllocError;
 
 // The most units that a row has.
 pub(crate) fn most(rows: &[HistRow]) -> u64
@@ -96,26 +96,22 @@ fn units_together(rows: &[HistRow]) -> u64
 }
 
 // Puts the line of the rows that are left out.
-pub(crate) fn put_left_out(
-    alloc: Global,
-    text: &mut Vec<u8>,
-    rows: &[HistRow],
-) -> Result<(), AllocError>
+pub(crate) fn put_left_out(text: &mut Vec<u8>, rows: &[HistRow]) -> Result<(), AllocError>
     requires { sum_by (λ row. row.units) rows.now < 2 ^ 64 }
     ensures { OnOk result (text.new.items ≡ text.old.items ++ left_out_line rows.now) }
 {
     if rows.is_empty() {
         return Ok(());
     }
-    let count = rows.len().to_string(alloc)?;
-    let units = units_together(rows).to_string(alloc)?;
+    let mut count = Buffer::new();
+    let mut units = Buffer::new();
     put_parts(
         text,
         &[
             b"  The values that are left out number ",
-            count.as_bytes(),
+            count.format(rows.len()).as_bytes(),
             b", and have ",
-            units.as_bytes(),
+            units.format(units_together(rows)).as_bytes(),
             b" units together.\n",
         ],
     )

@@ -94,16 +94,12 @@ fn put_row(text: &mut Vec<u8>, start: &[u8], number: i64, units: u64) -> Result<
 {
     let mut digits = Buffer::new();
     let mut unit_digits = Buffer::new();
-    put_parts(
-        text,
-        &[
-            start,
-            digits.format(number).as_bytes(),
-            b"\"} ",
-            unit_digits.format(units).as_bytes(),
-            b"\n",
-        ],
-    )
+    text.extend_from_slice(start)?;
+    text.extend_from_slice(digits.format(number).as_bytes())?;
+    text.extend_from_slice(b"\"} ")?;
+    text.extend_from_slice(unit_digits.format(units).as_bytes())?;
+    text.push(b'\n')?;
+    Ok(())
 }
 
 // Puts the line of a bucket, which begins so: the units up to its greatest value.

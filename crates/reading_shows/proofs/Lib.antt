@@ -1,4 +1,5 @@
 pub mod Answering
+pub mod Cells
 pub mod Inert
 pub mod Numbered
 pub mod Steps

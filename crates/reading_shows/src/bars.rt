@@ -1,12 +1,16 @@
 //! The bar of a bucket.
 
-ghost use Rattle.std.specs.Prelude.{◌≡◌, ◌≤◌, ◌<◌, ◌++◌, IfOk, OnOk};
-ghost use Rattle.reading_shows.specs.Bars.{marks_of, part_of_cell, block_bar as block_bar_of, sign_bar as sign_bar_of, bar as bar_of};
+ghost use Rattle.std.specs.Prelude.{◌≡◌, ◌≤◌, ◌<◌, ◌++◌, OnOk};
+ghost use Rattle.reading_shows.specs.Columns.{times};
+ghost use Rattle.reading_shows.specs.Bars.{marks_of, block, part_of_cell, block_bar, sign_bar, bar};
 
-use crate::columns::put_times;
+use crate::columns::{put_bytes, put_times};
 use crate::shares::share;
 use crate::style::Style;
-use std::alloc::{AllocError, Global};
+use std::alloc::AllocError;
+
+// Full cells, as many as the longest bar of a terminal has.
+static FULL_CELLS: [[u8; 3]; 200] = [[226, 150, 136]; 200];
 
 // How many of `marks` marks the bar of so many units has.
 pub(crate) fn marks(units: u64, most: u64, marks: u32) -> u32
@@ -27,37 +31,46 @@ fn put_part_of_cell(text: &mut Vec<u8>, eighths: u8) -> Result<(), AllocError>
     Ok(())
 }
 
-// A bar of blocks, and blanks up to its width.
-fn block_bar(alloc: Global, width: u32, eighths: u32) -> Result<Vec<u8>, AllocError>
+// Puts so many full cells behind a text.
+fn put_full_cells(text: &mut Vec<u8>, count: usize) -> Result<(), AllocError>
+    ensures { OnOk result (text.new.items ≡ text.old.items ++ times count (block 8)) }
+{
+    put_times(text, count / 200, FULL_CELLS.as_flattened())?;
+    text.extend_from_slice(FULL_CELLS[..count % 200].as_flattened())?;
+    Ok(())
+}
+
+// Puts a bar of blocks, and blanks up to its width.
+fn put_block_bar(text: &mut Vec<u8>, width: u32, eighths: u32) -> Result<(), AllocError>
     requires { eighths ≤ 4294967288 }
-    ensures { IfOk result (λ text. text.items ≡ block_bar_of width eighths) }
+    ensures { OnOk result (text.new.items ≡ text.old.items ++ block_bar width eighths) }
 {
-    let mut text = Vec::new(alloc);
-    put_times(&mut text, (eighths / 8) as usize, &[226, 150, 136])?;
-    put_part_of_cell(&mut text, (eighths % 8) as u8)?;
-    let blanks = width.saturating_sub((eighths + 7) / 8) as usize;
-    put_times(&mut text, blanks, b" ")?;
-    Ok(text)
+    put_full_cells(text, (eighths / 8) as usize)?;
+    put_part_of_cell(text, (eighths % 8) as u8)?;
+    put_bytes(text, width.saturating_sub((eighths + 7) / 8) as usize, b' ')
 }
 
-// A bar of plain signs, and blanks up to its width.
-fn sign_bar(alloc: Global, width: u32, signs: u32) -> Result<Vec<u8>, AllocError>
-    ensures { IfOk result (λ text. text.items ≡ sign_bar_of width signs) }
+// Puts a bar of plain signs, and blanks up to its width.
+fn put_sign_bar(text: &mut Vec<u8>, width: u32, signs: u32) -> Result<(), AllocError>
+    ensures { OnOk result (text.new.items ≡ text.old.items ++ sign_bar width signs) }
 {
-    let mut text = Vec::new(alloc);
-    put_times(&mut text, signs as usize, b"#")?;
-    put_times(&mut text, width.saturating_sub(signs) as usize, b" ")?;
-    Ok(text)
+    put_bytes(text, signs as usize, b'#')?;
+    put_bytes(text, width.saturating_sub(signs) as usize, b' ')
 }
 
-// The bar of so many units where the most are these.
-pub(crate) fn bar(alloc: Global, style: Style, units: u64, most: u64) -> Result<Vec<u8>, AllocError>
-    ensures { IfOk result (λ text. text.items ≡ bar_of style units most) }
+// Puts the bar of so many units where the most are these.
+pub(crate) fn put_bar(
+    text: &mut Vec<u8>,
+    style: Style,
+    units: u64,
+    most: u64,
+) -> Result<(), AllocError>
+    ensures { OnOk result (text.new.items ≡ text.old.items ++ bar style units most) }
 {
     let width = u32::from(style.width);
     if style.is_ascii {
-        sign_bar(alloc, width, marks(units, most, width))
+        put_sign_bar(text, width, marks(units, most, width))
     } else {
-        block_bar(alloc, width, marks(units, most, width * 8))
+        put_block_bar(text, width, marks(units, most, width * 8))
     }
 }

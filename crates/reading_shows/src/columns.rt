@@ -1,9 +1,9 @@
 //! Texts that stand in columns.
 
-ghost use Rattle.std.specs.Prelude.{◌≡◌, ◌++◌, IfOk, OnOk};
-ghost use Rattle.reading_shows.specs.Columns.{times, at_right as at_right_of};
+ghost use Rattle.std.specs.Prelude.{◌≡◌, [], ◌∷◌, ◌++◌, OnOk};
+ghost use Rattle.reading_shows.specs.Columns.{times, at_right};
 
-use std::alloc::{AllocError, Global};
+use std::alloc::AllocError;
 
 // Puts a piece behind a text so many times.
 pub(crate) fn put_times(text: &mut Vec<u8>, count: usize, piece: &[u8]) -> Result<(), AllocError>
@@ -15,12 +15,22 @@ pub(crate) fn put_times(text: &mut Vec<u8>, count: usize, piece: &[u8]) -> Resul
     Ok(())
 }
 
-// A text at the right end of a column.
-pub(crate) fn at_right(alloc: Global, width: usize, piece: &[u8]) -> Result<Vec<u8>, AllocError>
-    ensures { IfOk result (λ text. text.items ≡ at_right_of width piece.now) }
+// Puts a byte behind a text so many times.
+pub(crate) fn put_bytes(text: &mut Vec<u8>, count: usize, byte: u8) -> Result<(), AllocError>
+    ensures { OnOk result (text.new.items ≡ text.old.items ++ times count (byte ∷ [])) }
 {
-    let mut text = Vec::new(alloc);
-    put_times(&mut text, width.saturating_sub(piece.len()), b" ")?;
+    let Some(len) = text.len().checked_add(count) else {
+        return Err(AllocError);
+    };
+    text.resize(len, byte)?;
+    Ok(())
+}
+
+// Puts a piece at the right end of a column behind a text.
+pub(crate) fn put_at_right(text: &mut Vec<u8>, width: usize, piece: &[u8]) -> Result<(), AllocError>
+    ensures { OnOk result (text.new.items ≡ text.old.items ++ at_right width piece.now) }
+{
+    put_bytes(text, width.saturating_sub(piece.len()), b' ')?;
     text.extend_from_slice(piece)?;
-    Ok(text)
+    Ok(())
 }

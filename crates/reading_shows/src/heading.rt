@@ -1,37 +1,39 @@
 //! What stands above the rows of a histogram: its numbers and its quantiles.
 
-ghost use Rattle.std.specs.Prelude.{◌≡◌, ◌<◌, ◌++◌, ◌-◌, ◌-ℤ◌, get_or, IfOk, OnOk};
+ghost use Rattle.std.specs.Prelude.{◌≡◌, ◌<◌, ◌++◌, ◌-◌, ◌-ℤ◌, get_or, OnOk};
 ghost use Rattle.std.specs.List.{find};
 ghost use Rattle.image_reader.specs.Views.{histogram_view};
 ghost use Rattle.image_reader.specs.Readable.{IsReadable};
 ghost use Rattle.reading_texts.specs.Rows.{rows_of as rows_of_histogram};
-ghost use Rattle.reading_shows.specs.Showing.{range_text as range_text_of, reaches as reaches_of, quantile as quantile_of, range_of_found as range_of_found_of, quantile_line, number_line, number_lines, left_of, left_text, left_line};
+ghost use Rattle.reading_shows.specs.Columns.{at_right};
+ghost use Rattle.reading_shows.specs.Showing.{range_text, reaches as reaches_of, quantile as quantile_of, range_of_found, quantile_line, number_line, number_lines, left_of, left_text, left_line};
 
-use crate::shares::mean;
+use crate::columns::{put_at_right, put_bytes};
+use crate::shares::put_mean;
 use image_reader::HistReading;
+use itoa::Buffer;
 use reading_texts::{HistRow, is_sparse, kind_word, put_parts, units};
-use std::alloc::{AllocError, Global};
+use std::alloc::AllocError;
 
-// The values of a row.
-pub(crate) fn range_text(
-    alloc: Global,
+// Puts the values of a row at the right end of a column behind a text.
+pub(crate) fn put_range(
+    text: &mut Vec<u8>,
+    width: usize,
     is_sparse: bool,
     row: &HistRow,
-) -> Result<Vec<u8>, AllocError>
-    ensures { IfOk result (λ text. text.items ≡ range_text_of is_sparse row.now) }
+) -> Result<(), AllocError>
+    ensures { OnOk result (text.new.items ≡ text.old.items ++ at_right width (range_text is_sparse row.now)) }
 {
-    let low = row.low.to_string(alloc)?;
-    let mut text = Vec::new(alloc);
+    let mut low = Buffer::new();
+    let low = low.format(row.low).as_bytes();
     if is_sparse {
-        text.extend_from_slice(low.as_bytes())?;
-        return Ok(text);
+        return put_at_right(text, width, low);
     }
-    let high = row.high.to_string(alloc)?;
-    put_parts(
-        &mut text,
-        &[b"[", low.as_bytes(), b", ", high.as_bytes(), b")"],
-    )?;
-    Ok(text)
+    let mut high = Buffer::new();
+    let high = high.format(row.high).as_bytes();
+    let len = low.len() + high.len() + 4;
+    put_bytes(text, width.saturating_sub(len), b' ')?;
+    put_parts(text, &[b"[", low, b", ", high, b")"])
 }
 
 // Whether the units up to a row are so many percent of all, or more.
@@ -64,25 +66,24 @@ fn quantile(total: u64, rows: &[HistRow], hundredths: u32) -> Option<HistRow>
     first_reaching(total, rows, hundredths)
 }
 
-// The values of the row that holds a quantile.
-fn quantile_range(
-    alloc: Global,
+// Puts the values of the row that holds a quantile.
+fn put_quantile(
+    text: &mut Vec<u8>,
     is_sparse: bool,
     total: u64,
     rows: &[HistRow],
     hundredths: u32,
-) -> Result<Vec<u8>, AllocError>
-    ensures { IfOk result (λ text. text.items ≡ range_of_found_of is_sparse (quantile_of total rows.now hundredths)) }
+) -> Result<(), AllocError>
+    ensures { OnOk result (text.new.items ≡ text.old.items ++ range_of_found is_sparse (quantile_of total rows.now hundredths)) }
 {
     match quantile(total, rows, hundredths) {
-        Some(row) => range_text(alloc, is_sparse, &row),
-        None => Vec::from_slice(alloc, b"none"),
+        Some(row) => put_range(text, 0, is_sparse, &row),
+        None => text.extend_from_slice(b"none"),
     }
 }
 
 // Puts the line of the quantiles.
 fn put_quantiles(
-    alloc: Global,
     text: &mut Vec<u8>,
     is_sparse: bool,
     total: u64,
@@ -90,46 +91,39 @@ fn put_quantiles(
 ) -> Result<(), AllocError>
     ensures { OnOk result (text.new.items ≡ text.old.items ++ quantile_line is_sparse total rows.now) }
 {
-    let half = quantile_range(alloc, is_sparse, total, rows, 50)?;
-    let most = quantile_range(alloc, is_sparse, total, rows, 90)?;
-    let nearly_all = quantile_range(alloc, is_sparse, total, rows, 99)?;
-    put_parts(
-        text,
-        &[
-            b"  50%: ",
-            half.as_slice(),
-            b", 90%: ",
-            most.as_slice(),
-            b", 99%: ",
-            nearly_all.as_slice(),
-            b"\n",
-        ],
-    )
+    text.extend_from_slice(b"  50%: ")?;
+    put_quantile(text, is_sparse, total, rows, 50)?;
+    text.extend_from_slice(b", 90%: ")?;
+    put_quantile(text, is_sparse, total, rows, 90)?;
+    text.extend_from_slice(b", 99%: ")?;
+    put_quantile(text, is_sparse, total, rows, 99)?;
+    text.extend_from_slice(b"\n")?;
+    Ok(())
 }
 
 // Puts the line of the kind, the units, the sum and the mean.
-fn put_number_line(alloc: Global, text: &mut Vec<u8>, hist: &HistReading) -> Result<(), AllocError>
+fn put_number_line(text: &mut Vec<u8>, hist: &HistReading) -> Result<(), AllocError>
     requires { IsReadable (histogram_view hist.now) }
     ensures { OnOk result (text.new.items ≡ text.old.items ++ number_line (histogram_view hist.now)) }
 {
     let units = units(hist);
-    let mean = mean(alloc, hist.sum, units)?;
-    let units = units.to_string(alloc)?;
-    let sum = hist.sum.to_string(alloc)?;
+    let mut unit_digits = Buffer::new();
+    let mut sum_digits = Buffer::new();
     put_parts(
         text,
         &[
             b"  ",
             kind_word(&hist.spec),
             b", units ",
-            units.as_bytes(),
+            unit_digits.format(units).as_bytes(),
             b", sum ",
-            sum.as_bytes(),
+            sum_digits.format(hist.sum).as_bytes(),
             b", mean ",
-            mean.as_slice(),
-            b"\n",
         ],
-    )
+    )?;
+    put_mean(text, hist.sum, units)?;
+    text.extend_from_slice(b"\n")?;
+    Ok(())
 }
 
 // The units that no delta has taken of a bucket with this mark, where it has one.
@@ -162,35 +156,33 @@ fn sum_left(sum: i64, mark: i64) -> i128
 }
 
 // Puts the line of these units and this sum, which no delta has taken.
-fn put_left_text(alloc: Global, text: &mut Vec<u8>, units: u64, sum: i128) -> Result<(), AllocError>
+fn put_left_text(text: &mut Vec<u8>, units: u64, sum: i128) -> Result<(), AllocError>
     ensures { OnOk result (text.new.items ≡ text.old.items ++ left_text units sum) }
 {
-    let units = units.to_string(alloc)?;
-    let sum = sum.to_string(alloc)?;
+    let mut unit_digits = Buffer::new();
+    let mut sum_digits = Buffer::new();
     put_parts(
         text,
         &[
             b"  not yet taken by deltas: units ",
-            units.as_bytes(),
+            unit_digits.format(units).as_bytes(),
             b", sum ",
-            sum.as_bytes(),
+            sum_digits.format(sum).as_bytes(),
             b"\n",
         ],
-    )?;
-    Ok(())
+    )
 }
 
 // Puts the line of what no delta has taken.
-fn put_left(alloc: Global, text: &mut Vec<u8>, hist: &HistReading) -> Result<(), AllocError>
+fn put_left(text: &mut Vec<u8>, hist: &HistReading) -> Result<(), AllocError>
     requires { IsReadable (histogram_view hist.now) }
     ensures { OnOk result (text.new.items ≡ text.old.items ++ left_line (histogram_view hist.now)) }
 {
-    put_left_text(alloc, text, left(hist), sum_left(hist.sum, hist.sum_mark))
+    put_left_text(text, left(hist), sum_left(hist.sum, hist.sum_mark))
 }
 
 // Puts the lines of all numbers of a histogram, which has these rows.
 pub(crate) fn put_numbers(
-    alloc: Global,
     text: &mut Vec<u8>,
     hist: &HistReading,
     rows: &[HistRow],
@@ -199,7 +191,7 @@ pub(crate) fn put_numbers(
     requires rows { rows.now ≡ rows_of_histogram (histogram_view hist.now) }
     ensures { OnOk result (text.new.items ≡ text.old.items ++ number_lines (histogram_view hist.now)) }
 {
-    put_number_line(alloc, text, hist)?;
-    put_quantiles(alloc, text, is_sparse(&hist.spec), units(hist), rows)?;
-    put_left(alloc, text, hist)
+    put_number_line(text, hist)?;
+    put_quantiles(text, is_sparse(&hist.spec), units(hist), rows)?;
+    put_left(text, hist)
 }

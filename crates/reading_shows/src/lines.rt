@@ -3,13 +3,14 @@
 ghost use Rattle.std.specs.Prelude.{◌≡◌, ◌<◌, ◌^◌, ◌++◌, length, sum_by, OnOk};
 ghost use Rattle.reading_shows.specs.Showing.{most_of, begins_run as begins_run_of, unit_line, line_at, row_lines, left_out_line};
 
-use crate::bars::bar;
-use crate::columns::at_right;
-use crate::heading::range_text;
-use crate::shares::percent;
+use crate::bars::put_bar;
+use crate::columns::put_at_right;
+use crate::heading::put_range;
+use crate::shares::put_percent;
 use crate::style::{Frame, Style};
+use itoa::Buffer;
 use reading_texts::{HistRow, put_parts};
-use std::alloc::{AllocError, Global};
+use std::alloc::AllocError;
 
 // The most units that a row has.
 pub(crate) fn most(rows: &[HistRow]) -> u64
@@ -32,7 +33,6 @@ pub(crate) fn begins_run(rows: &[HistRow], i: usize) -> bool
 
 // Puts the line of a row that has units.
 fn put_units(
-    alloc: Global,
     text: &mut Vec<u8>,
     style: Style,
     frame: Frame,
@@ -40,32 +40,19 @@ fn put_units(
 ) -> Result<(), AllocError>
     ensures { OnOk result (text.new.items ≡ text.old.items ++ unit_line style frame row.now) }
 {
-    let range = range_text(alloc, frame.is_sparse, row)?;
-    let range = at_right(alloc, 24, range.as_slice())?;
-    let bar = bar(alloc, style, row.units, frame.most)?;
-    let units = row.units.to_string(alloc)?;
-    let units = at_right(alloc, 11, units.as_bytes())?;
-    let share = percent(alloc, row.units, frame.total)?;
-    let share = at_right(alloc, 8, share.as_slice())?;
-    let up_to = percent(alloc, row.up_to, frame.total)?;
-    let up_to = at_right(alloc, 8, up_to.as_slice())?;
-    put_parts(
-        text,
-        &[
-            range.as_slice(),
-            b" ",
-            bar.as_slice(),
-            units.as_slice(),
-            share.as_slice(),
-            up_to.as_slice(),
-            b"\n",
-        ],
-    )
+    put_range(text, 24, frame.is_sparse, row)?;
+    text.push(b' ')?;
+    put_bar(text, style, row.units, frame.most)?;
+    let mut units = Buffer::new();
+    put_at_right(text, 11, units.format(row.units).as_bytes())?;
+    put_percent(text, 8, row.units, frame.total)?;
+    put_percent(text, 8, row.up_to, frame.total)?;
+    text.push(b'\n')?;
+    Ok(())
 }
 
 // Puts the line of row `i`; only the first row of a run without units has one.
 fn put_row(
-    alloc: Global,
     text: &mut Vec<u8>,
     style: Style,
     frame: Frame,
@@ -76,18 +63,17 @@ fn put_row(
     ensures { OnOk result (text.new.items ≡ text.old.items ++ line_at style frame rows.now i) }
 {
     if rows[i].units != 0 {
-        return put_units(alloc, text, style, frame, &rows[i]);
+        return put_units(text, style, frame, &rows[i]);
     }
     if begins_run(rows, i) {
-        let dots = at_right(alloc, 24, b"...")?;
-        put_parts(text, &[dots.as_slice(), b"\n"])?;
+        put_at_right(text, 24, b"...")?;
+        text.push(b'\n')?;
     }
     Ok(())
 }
 
 // Puts the lines of rows.
 pub(crate) fn put_rows(
-    alloc: Global,
     text: &mut Vec<u8>,
     style: Style,
     frame: Frame,
@@ -96,7 +82,7 @@ pub(crate) fn put_rows(
     ensures { OnOk result (text.new.items ≡ text.old.items ++ row_lines style frame rows.now) }
 {
     for i in 0..rows.len() {
-        put_row(alloc, text, style, frame, rows, i)?;
+        put_row(text, style, frame, rows, i)?;
     }
     Ok(())
 }
@@ -110,26 +96,22 @@ fn units_together(rows: &[HistRow]) -> u64
 }
 
 // Puts the line of the rows that are left out.
-pub(crate) fn put_left_out(
-    alloc: Global,
-    text: &mut Vec<u8>,
-    rows: &[HistRow],
-) -> Result<(), AllocError>
+pub(crate) fn put_left_out(text: &mut Vec<u8>, rows: &[HistRow]) -> Result<(), AllocError>
     requires { sum_by (λ row. row.units) rows.now < 2 ^ 64 }
     ensures { OnOk result (text.new.items ≡ text.old.items ++ left_out_line rows.now) }
 {
     if rows.is_empty() {
         return Ok(());
     }
-    let count = rows.len().to_string(alloc)?;
-    let units = units_together(rows).to_string(alloc)?;
+    let mut count = Buffer::new();
+    let mut units = Buffer::new();
     put_parts(
         text,
         &[
             b"  The values that are left out number ",
-            count.as_bytes(),
+            count.format(rows.len()).as_bytes(),
             b", and have ",
-            units.as_bytes(),
+            units.format(units_together(rows)).as_bytes(),
             b" units together.\n",
         ],
     )

@@ -69,9 +69,9 @@ fn put_table(
     text.extend_from_slice(
         b"<table>\n<tr><th>values</th><th></th><th>units</th><th>percent</th><th>up to here</th></tr>\n",
     )?;
-    put_page_rows(alloc, text, frame_of(hist, rows), picked.shown.as_slice())?;
+    put_page_rows(text, frame_of(hist, rows), picked.shown.as_slice())?;
     text.extend_from_slice(b"</table>\n<p>")?;
-    put_left_out(alloc, text, picked.left_out.as_slice())?;
+    put_left_out(text, picked.left_out.as_slice())?;
     text.extend_from_slice(b"</p>\n</section>\n")?;
     Ok(())
 }
@@ -113,7 +113,7 @@ fn put_section(
     let rows = rows_of(alloc, hist)?;
     let rows = rows.as_slice();
     put_title(alloc, text, number, hist)?;
-    put_numbers(alloc, text, hist, rows)?;
+    put_numbers(text, hist, rows)?;
     text.extend_from_slice(b"</p>\n")?;
     put_table(alloc, text, shows_all, hist, rows)?;
     Ok(())

@@ -1,10 +1,20 @@
 //! Shares, percents and means, in whole numbers.
 
-ghost use Rattle.std.specs.Prelude.{◌≡◌, ◌<◌, IfOk};
-ghost use Rattle.reading_shows.specs.Shares.{share_of, size_of_mean as size_of_mean_of, mean as mean_of, percent as percent_of};
+ghost use Rattle.std.specs.Prelude.{◌≡◌, ◌<◌, ◌+◌, ◌*◌, ◌++◌, IfSome, OnOk};
+ghost use Rattle.reading_shows.specs.Columns.{at_right};
+ghost use Rattle.reading_shows.specs.Shares.{share_of, size_of_mean, mean, percent};
 
+use crate::columns::put_bytes;
+use itoa::Buffer;
 use reading_texts::put_parts;
-use std::alloc::{AllocError, Global};
+use std::alloc::AllocError;
+
+// A part times so many shares and what is added, where that fits in a word.
+fn small_sum(part: u64, shares: u32, added: u64) -> Option<u64>
+    ensures { IfSome result (λ sum. sum ≡ part * shares + added) }
+{
+    part.checked_mul(u64::from(shares))?.checked_add(added)
+}
 
 // How many of `shares` equal shares of a whole a part is, where `added` says how it is rounded; 0 of nothing.
 pub(crate) fn share(part: u64, whole: u64, shares: u32, added: u64) -> u128
@@ -13,49 +23,52 @@ pub(crate) fn share(part: u64, whole: u64, shares: u32, added: u64) -> u128
     if whole == 0 {
         return 0;
     }
-    (u128::from(part) * u128::from(shares) + u128::from(added)) / u128::from(whole)
+    match small_sum(part, shares, added) {
+        Some(sum) => u128::from(sum / whole),
+        None => (u128::from(part) * u128::from(shares) + u128::from(added)) / u128::from(whole),
+    }
 }
 
-// A part in percent, to the nearest tenth.
-pub(crate) fn percent(alloc: Global, part: u64, whole: u64) -> Result<Vec<u8>, AllocError>
-    ensures { IfOk result (λ text. text.items ≡ percent_of part whole) }
+// Puts a part in percent, to the nearest tenth, at the right end of a column behind a text.
+pub(crate) fn put_percent(
+    text: &mut Vec<u8>,
+    width: usize,
+    part: u64,
+    whole: u64,
+) -> Result<(), AllocError>
+    ensures { OnOk result (text.new.items ≡ text.old.items ++ at_right width (percent part whole)) }
 {
     let tenths = share(part, whole, 1000, whole / 2);
-    let before = (tenths / 10).to_string(alloc)?;
-    let behind = (tenths % 10).to_string(alloc)?;
-    let mut text = Vec::new(alloc);
-    put_parts(
-        &mut text,
-        &[before.as_bytes(), b".", behind.as_bytes(), b"%"],
-    )?;
-    Ok(text)
+    let mut before = Buffer::new();
+    let mut behind = Buffer::new();
+    let before = before.format(tenths / 10).as_bytes();
+    let behind = behind.format(tenths % 10).as_bytes();
+    let len = before.len() + behind.len() + 2;
+    put_bytes(text, width.saturating_sub(len), b' ')?;
+    put_parts(text, &[before, b".", behind, b"%"])
 }
 
-// The size of a sum over so many units, to the tenth below.
-fn size_of_mean(alloc: Global, size: u64, units: u64) -> Result<Vec<u8>, AllocError>
+// Puts the size of a sum over so many units, to the tenth below.
+fn put_size_of_mean(text: &mut Vec<u8>, size: u64, units: u64) -> Result<(), AllocError>
     requires { 0 < units }
-    ensures { IfOk result (λ text. text.items ≡ size_of_mean_of size units) }
+    ensures { OnOk result (text.new.items ≡ text.old.items ++ size_of_mean size units) }
 {
-    let before = (size / units).to_string(alloc)?;
-    let behind = share(size % units, units, 10, 0).to_string(alloc)?;
-    let mut text = Vec::new(alloc);
-    put_parts(&mut text, &[before.as_bytes(), b".", behind.as_bytes()])?;
-    Ok(text)
+    let mut before = Buffer::new();
+    let mut behind = Buffer::new();
+    let before = before.format(size / units).as_bytes();
+    let behind = behind.format(share(size % units, units, 10, 0)).as_bytes();
+    put_parts(text, &[before, b".", behind])
 }
 
-// A sum over so many units, cut to a tenth toward 0; none of no units.
-pub(crate) fn mean(alloc: Global, sum: i64, units: u64) -> Result<Vec<u8>, AllocError>
-    ensures { IfOk result (λ text. text.items ≡ mean_of sum units) }
+// Puts a sum over so many units, cut to a tenth toward 0; none of no units.
+pub(crate) fn put_mean(text: &mut Vec<u8>, sum: i64, units: u64) -> Result<(), AllocError>
+    ensures { OnOk result (text.new.items ≡ text.old.items ++ mean sum units) }
 {
-    let mut text = Vec::new(alloc);
     if units == 0 {
-        text.extend_from_slice(b"none")?;
-        return Ok(text);
+        return text.extend_from_slice(b"none");
     }
     if sum < 0 {
         text.push(b'-')?;
     }
-    let size = size_of_mean(alloc, sum.unsigned_abs(), units)?;
-    text.extend_from_slice(size.as_slice())?;
-    Ok(text)
+    put_size_of_mean(text, sum.unsigned_abs(), units)
 }

@@ -5,6 +5,7 @@ use Rattle.std.proofs.lemmas.List.{append-nil, get_or-map, length-map, take_more
 use Rattle.std.proofs.lemmas.List.Folds.{flat_map-map}
 use Rattle.std.proofs.lemmas.List.Concat.{flat_map-append}
 use Rattle.reading_texts.specs.Text.{line}
+use Rattle.reading_texts.specs.Exporting.{joined}
 
 -- the text of one element more
 flat_map-take : {X Y : Type 0} (f : X → List Y) (xs : List X) (i : ℕ) (d : X) → i < length xs
@@ -19,6 +20,17 @@ written-both first a b before after = after ∙ (ap (λ s. s ++ b) before ∙ ap
 -- one text more behind a text that is known
 pub written-behind : (a b : List ℕ) {second third : List ℕ} → second ≡ a → third ≡ second ++ b → third ≡ a ++ b
 written-behind a b before after = after ∙ ap (λ s. s ++ b) before
+
+-- parts that are joined, of which the first ones are joined already
+pub joined-both : (some others : List (List ℕ)) → joined (joined some ∷ others) ≡ joined (some ++ others)
+joined-both some others = sym (flat_map-append (λ part. part) some others)
+
+-- one part more behind joined ones
+pub joined-more : (first : List ℕ) (parts : List (List ℕ)) (part : List ℕ) {second third : List ℕ} → second ≡ first ++ joined parts → third ≡ second ++ part
+    → third ≡ first ++ joined (parts ++ part ∷ [])
+joined-more first parts part before after =
+    written-both first (joined parts) part before after
+    ∙ ap (λ s. first ++ s) (sym (flat_map-append (λ part. part) parts (part ∷ []) ∙ ap (λ s. joined parts ++ s) (append-nil part)))
 
 -- the step of a loop that writes the text of each element
 pub written-more : {X : Type 0} (f : X → List ℕ) (xs : List X) (i : ℕ) (d : X) (first : List ℕ) {second third : List ℕ} → i < length xs

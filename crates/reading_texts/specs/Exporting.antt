@@ -1,5 +1,5 @@
 -- The text of a reading for what scrapes metrics: lines of the Prometheus text format, version 0.0.4.
-use Rattle.std.specs.Prelude.{◌≡◌, Bool, true, false, ◌==◌, nat_lt, ◌||◌, ◌&&◌, if◌then◌else◌, ℕ, ◌+◌, pos, ◌-ℤ◌, List, [], ◌∷◌, ◌++◌, length, codes, Option, Some, None}
+use Rattle.std.specs.Prelude.{◌≡◌, Bool, true, false, ◌==◌, nat_lt, ◌||◌, ◌&&◌, if◌then◌else◌, ℕ, ◌+◌, ℤ, pos, ◌-ℤ◌, List, [], ◌∷◌, ◌++◌, length, codes, Option, Some, None}
 use Rattle.std.specs.Char.{is_ascii_alphabetic, is_ascii_digit}
 use Rattle.std.specs.Fmt.{decimal, signed_decimal}
 use Rattle.std.specs.List.{flat_map, list_all}
@@ -80,6 +80,10 @@ value_line prefix label row =
     joined (
     prefix ∷ codes "_sparse_total{histogram=\"" ∷ label ∷ codes "\",value=\"" ∷ signed_decimal row.low
     ∷ codes "\"} " ∷ decimal row.units ∷ codes "\n" ∷ [])
+
+-- the line of a row that begins so: a number, and units
+abbrev pub row_line : List ℕ → ℤ → ℕ → List ℕ
+row_line start number units = joined (start ∷ signed_decimal number ∷ codes "\"} " ∷ decimal units ∷ codes "\n" ∷ [])
 
 -- the value of a flag: 1 where it is set, else 0
 abbrev pub flag_value : Bool → List ℕ

@@ -5,7 +5,7 @@ ghost use Rattle.std.specs.List.{flat_map, list_all};
 ghost use Rattle.image_reader.specs.Views.{histogram_view, reading_view};
 ghost use Rattle.image_reader.specs.Readable.{IsReadable};
 ghost use Rattle.reading_texts.specs.Rows.{rows_of as rows_of_histogram};
-ghost use Rattle.reading_texts.specs.Exporting.{family, bucket_line, value_line, ranged_lines, sparse_lines, flag_line, bad_line, is_metric_prefix, is_first_byte, is_later_byte, all_line, sum_line, count_line, total_lines, flag_value as value_of_flag, label_value as label_value_of, IsExportOf};
+ghost use Rattle.reading_texts.specs.Exporting.{family, bucket_line, value_line, row_line, ranged_lines, sparse_lines, flag_line, bad_line, is_metric_prefix, is_first_byte, is_later_byte, all_line, sum_line, count_line, total_lines, flag_value as value_of_flag, label_value as label_value_of, IsExportOf};
 
 use crate::labels::label_value;
 use crate::order::in_order;
@@ -13,6 +13,7 @@ use crate::parts::put_parts;
 use crate::rows::{HistRow, rows_of, units};
 use crate::words::is_sparse;
 use image_reader::{HistReading, Reading};
+use itoa::Buffer;
 use std::alloc::{AllocError, Global};
 
 // Whether a metric's name may begin with a byte.
@@ -87,32 +88,26 @@ fn before(high: i64) -> i64
     high - 1
 }
 
-// The line of a bucket: the units up to its greatest value.
-fn put_bucket(
-    alloc: Global,
-    text: &mut Vec<u8>,
-    prefix: &[u8],
-    label: &[u8],
-    row: &HistRow,
-) -> Result<(), AllocError>
-    requires { pos 0 ≤ℤ row.now.high }
-    ensures { OnOk result (text.new.items ≡ text.old.items ++ bucket_line prefix.now label.now row.now) }
+// Puts the line of a row, which begins so, and then has a number and units.
+fn put_row(text: &mut Vec<u8>, start: &[u8], number: i64, units: u64) -> Result<(), AllocError>
+    ensures { OnOk result (text.new.items ≡ text.old.items ++ row_line start.now number units) }
 {
-    let bound = before(row.high).to_string(alloc)?;
-    let units = row.up_to.to_string(alloc)?;
-    put_parts(
-        text,
-        &[
-            prefix,
-            b"_histogram_bucket{histogram=\"",
-            label,
-            b"\",le=\"",
-            bound.as_bytes(),
-            b"\"} ",
-            units.as_bytes(),
-            b"\n",
-        ],
-    )
+    let mut digits = Buffer::new();
+    let mut unit_digits = Buffer::new();
+    text.extend_from_slice(start)?;
+    text.extend_from_slice(digits.format(number).as_bytes())?;
+    text.extend_from_slice(b"\"} ")?;
+    text.extend_from_slice(unit_digits.format(units).as_bytes())?;
+    text.push(b'\n')?;
+    Ok(())
+}
+
+// Puts the line of a bucket, which begins so: the units up to its greatest value.
+fn put_bucket(text: &mut Vec<u8>, start: &[u8], row: &HistRow) -> Result<(), AllocError>
+    requires { pos 0 ≤ℤ row.now.high }
+    ensures { OnOk result (text.new.items ≡ text.old.items ++ row_line start.now (row.now.high -ℤ pos 1) row.now.up_to) }
+{
+    put_row(text, start, before(row.high), row.up_to)
 }
 
 // The lines of all buckets.
@@ -126,8 +121,18 @@ fn put_buckets(
     requires { All (λ row. pos 0 ≤ℤ row.high) rows.now }
     ensures { OnOk result (text.new.items ≡ text.old.items ++ flat_map (bucket_line prefix.now label.now) rows.now) }
 {
+    let mut start = Vec::new(alloc);
+    put_parts(
+        &mut start,
+        &[
+            prefix,
+            b"_histogram_bucket{histogram=\"",
+            label,
+            b"\",le=\"",
+        ],
+    )?;
     for row in rows {
-        put_bucket(alloc, text, prefix, label, row)?;
+        put_bucket(text, &start, row)?;
     }
     Ok(())
 }
@@ -259,31 +264,11 @@ fn put_all_ranged(
     Ok(())
 }
 
-// The line of a value of a sparse histogram.
-fn put_value(
-    alloc: Global,
-    text: &mut Vec<u8>,
-    prefix: &[u8],
-    label: &[u8],
-    row: &HistRow,
-) -> Result<(), AllocError>
-    ensures { OnOk result (text.new.items ≡ text.old.items ++ value_line prefix.now label.now row.now) }
+// Puts the line of a value of a sparse histogram, which begins so: its units.
+fn put_value(text: &mut Vec<u8>, start: &[u8], row: &HistRow) -> Result<(), AllocError>
+    ensures { OnOk result (text.new.items ≡ text.old.items ++ row_line start.now row.now.low row.now.units) }
 {
-    let value = row.low.to_string(alloc)?;
-    let units = row.units.to_string(alloc)?;
-    put_parts(
-        text,
-        &[
-            prefix,
-            b"_sparse_total{histogram=\"",
-            label,
-            b"\",value=\"",
-            value.as_bytes(),
-            b"\"} ",
-            units.as_bytes(),
-            b"\n",
-        ],
-    )
+    put_row(text, start, i64::from(row.low), row.units)
 }
 
 // The lines of all values.
@@ -296,8 +281,13 @@ fn put_values(
 ) -> Result<(), AllocError>
     ensures { OnOk result (text.new.items ≡ text.old.items ++ flat_map (value_line prefix.now label.now) rows.now) }
 {
+    let mut start = Vec::new(alloc);
+    put_parts(
+        &mut start,
+        &[prefix, b"_sparse_total{histogram=\"", label, b"\",value=\""],
+    )?;
     for row in rows {
-        put_value(alloc, text, prefix, label, row)?;
+        put_value(text, &start, row)?;
     }
     Ok(())
 }

@@ -9,8 +9,8 @@ returns c =
     let fits : SFits w128 c.args.sum = search rules in
     rw (
       c.as_bytes.ensures.value,
-      c.in_ok-units.ensures.ok,
+      c.format.ensures.text,
       c.as_bytes-2.ensures.value,
-      c.in_ok-sum.ensures.ok,
+      c.format-2.ensures.text,
       to_z-of_z w128 c.args.sum fits,
-    ) at c.in_ok-put_parts.ensures
+    ) at c.put_parts.ensures

@@ -1,16 +1,28 @@
+use Rattle.std.proofs.Common.{[], ◌∷◌, ◌++◌}
+use Rattle.std.specs.Prelude.{codes}
+use Rattle.std.specs.Fmt.{decimal}
+use Rattle.reading_texts.proofs.Adding.{joined-more}
+use Rattle.reading_shows.specs.PageRows.{drawn_bar}
+use Rattle.reading_shows.specs.Shares.{percent}
+use Rattle.reading_shows.specs.Showing.{range_text}
+use Rattle.reading_shows.proofs.Cells.{joined-begun, joined-narrow, joined-parts}
 use Rattle.reading_shows.proofs.page_rows.put_units.Goals as goal
 
 pub returns : goal.returns
 returns c =
-    rw (
-      c.as_slice.ensures.value,
-      c.in_ok-range.ensures,
-      c.as_slice-2.ensures.value,
-      c.in_ok-bar.ensures,
-      c.as_bytes.ensures.value,
-      c.in_ok-units.ensures.ok,
-      c.as_slice-3.ensures.value,
-      c.in_ok-share.ensures,
-      c.as_slice-4.ensures.value,
-      c.in_ok-up_to.ensures,
-    ) at c.put_parts.ensures
+    let first = c.args.text.now.items in
+    let row = c.args.row.now in
+    let frame = c.args.frame in
+    let begun = codes "<tr><td>" ∷ [] in
+    let ranged = begun ++ range_text frame.is_sparse row ∷ [] in
+    let barred = ranged ++ codes "</td><td>" ∷ [] ++ drawn_bar row.units frame.most ∷ [] in
+    let counted = barred ++ (codes "</td><td>" ∷ decimal row.units ∷ codes "</td><td>" ∷ []) in
+    let shared = counted ++ percent row.units frame.total ∷ [] in
+    let cumulated = shared ++ codes "</td><td>" ∷ [] ++ percent row.up_to frame.total ∷ [] in
+    let a = joined-narrow first begun (range_text frame.is_sparse row) (joined-begun first (codes "<tr><td>") c.in_ok-extend_from_slice.ensures.items) c.in_ok-put_range.ensures in
+    let b = joined-more first (ranged ++ codes "</td><td>" ∷ []) (drawn_bar row.units frame.most) (joined-more first ranged (codes "</td><td>") a c.in_ok-extend_from_slice-2.ensures.items) c.in_ok-put_drawn_bar.ensures in
+    let units = rw (c.as_bytes.ensures.value, c.format.ensures.text) at c.in_ok-put_parts.ensures in
+    let d = joined-parts first barred (codes "</td><td>" ∷ decimal row.units ∷ codes "</td><td>" ∷ []) b units in
+    let e = joined-narrow first counted (percent row.units frame.total) d c.in_ok-put_percent.ensures in
+    let f = joined-narrow first (shared ++ codes "</td><td>" ∷ []) (percent row.up_to frame.total) (joined-more first shared (codes "</td><td>") e c.in_ok-extend_from_slice-3.ensures.items) c.in_ok-put_percent-2.ensures in
+    joined-more first cumulated (codes "</td></tr>\n") f c.in_ok-extend_from_slice-4.ensures.items

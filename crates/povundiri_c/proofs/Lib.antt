@@ -1,0 +1,4 @@
+pub mod AsBox
+pub mod Holding
+pub mod Present
+pub mod Trays

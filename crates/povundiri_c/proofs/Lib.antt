@@ -1,0 +1,5 @@
+pub mod AsBox
+pub mod Holding
+pub mod Present
+pub mod Reporting
+pub mod Trays

@@ -1,0 +1,38 @@
+-- What was read of words is what their report is of.
+use Rattle.std.proofs.Common.{◌≡◌, ℕ, List, length, drop, ◌++◌, sym, ap, ◌∙◌, subst, Result, Ok, Err, MatchResult, IfErr}
+use Rattle.std.proofs.lemmas.Result.{MatchResult-at_ok}
+use Rattle.bucket_ranges.specs.Reading.{IsReading}
+use Rattle.segment_image.specs.Head.{header_of}
+use Rattle.segment_image.specs.declared.head.SegmentHead.{SegmentHead}
+use Rattle.segment_image.specs.declared.fault.ImageFault.{ImageFault}
+use Rattle.image_reader.specs.declared.reading.Reading.{Reading}
+use Rattle.image_reader.specs.Views.{reading_view}
+use Rattle.reading_texts.specs.Text.{IsTextOf}
+use Rattle.povundiri_c.specs.Reports.{IsReportOfWords}
+use Rattle.povundiri_c.specs.Status.{status_of_image_fault}
+
+-- words without a reading, for whose header's fault the reader answered another
+pub fault_of : (outer : Result SegmentHead ImageFault) (result : Result Reading ImageFault) (why : ImageFault) (status : ℕ) (P : SegmentHead → Reading → Type 0) (Q : ImageFault → Type 0)
+    → MatchResult outer (λ head. MatchResult result (P head) Q) (λ fault. result ≡ Err fault) → result ≡ Err why → status ≡ status_of_image_fault why
+    → IfErr outer (λ fault. status ≡ status_of_image_fault fault)
+fault_of (Ok head) result why status P Q held is says = tt
+fault_of (Err fault) result why status P Q held is says = search (is, held, says)
+
+-- the text of what was read is the report of the words
+pub report_of : (words : List ℕ) (outer : Result SegmentHead ImageFault) (result : Result Reading ImageFault) (reading : Reading) (text : List ℕ) (Q : ImageFault → Type 0)
+    → header_of words ≡ outer
+    → MatchResult outer (λ head. MatchResult result (λ read. IsReading words head (reading_view read)) Q) (λ fault. result ≡ Err fault)
+    → result ≡ Ok reading → IsTextOf (reading_view reading) text → IsReportOfWords words text
+report_of words (Ok head) result reading text Q same held is of = record {
+  head = head;
+  head_is = same;
+  reading = reading_view reading;
+  reading_is = MatchResult-at_ok (λ read. IsReading words head (reading_view read)) Q reading is held;
+  text_is = of;
+}
+report_of words (Err fault) result reading text Q same held is of = absurd (subst (λ (read : Result Reading ImageFault). MatchResult read (λ _. Unit {0}) (λ _. ⊥)) (sym is ∙ held) tt)
+
+-- bytes that were written in front of others
+pub in_front : (text bytes old : List ℕ) (count : ℕ) → bytes ≡ text → count ≡ length text → bytes ++ drop count old ≡ text ++ drop (length text) old
+in_front text bytes old count same long =
+    ap (λ (front : List ℕ). front ++ drop count old) same ∙ ap (λ (n : ℕ). text ++ drop n old) long

@@ -1,0 +1,33 @@
+use Rattle.std.proofs.Common.{arith, refl, ◌≡◌, ◌∙◌}
+use Rattle.bucket_ranges.specs.Reading.{IsReading}
+use Rattle.segment_image.specs.Head.{header_of}
+use Rattle.segment_image.specs.declared.head.SegmentHead.{SegmentHead}
+use Rattle.segment_image.specs.declared.fault.ImageFault.TheVariants.{NoMemory}
+use Rattle.image_reader.specs.declared.reading.Reading.{Reading}
+use Rattle.image_reader.specs.Views.{reading_view}
+use Rattle.povundiri_c.proofs.Reporting.{fault_of, in_front, report_of}
+use Rattle.povundiri_c.proofs.exports.reporting.povundiri_proved_report.Goals as goal
+
+pub returns-in-Err-clause-fault : goal.returns-in-Err-clause-fault
+returns-in-Err-clause-fault c =
+    fault_of (header_of c.args.words.now) c.read.result c.in-Err.fault c.of_image_fault.result
+    (λ (head : SegmentHead) (reading : Reading). IsReading c.args.words.now head (reading_view reading)) (λ fault. fault ≡ NoMemory)
+    c.read.ensures.answer c.in-Err.is c.of_image_fault.ensures
+
+pub returns-then-text-len-clause-short : goal.returns-then-text-len-clause-short
+returns-then-text-len-clause-short c = λ _. (
+  c.in-Ok-text_of.found.items,
+  report_of c.args.words.now (header_of c.args.words.now) c.read.result c.in-Ok.reading c.in-Ok-text_of.found.items (λ fault. fault ≡ NoMemory)
+  refl c.read.ensures.answer c.in-Ok.is c.in-Ok-text_of.ensures,
+  c.len.ensures ∙ c.in-Ok-text_of.found.ok.0,
+  omega (arith, c.len.ensures, c.len-2.ensures, c.in-Ok-text_of.found.ok.0, c.if-text-len.true),
+)
+
+pub returns-clause-done : goal.returns-clause-done
+returns-clause-done c = λ _. (
+  c.in-Ok-text_of.found.items,
+  report_of c.args.words.now (header_of c.args.words.now) c.read.result c.in-Ok.reading c.in-Ok-text_of.found.items (λ fault. fault ≡ NoMemory)
+  refl c.read.ensures.answer c.in-Ok.is c.in-Ok-text_of.ensures,
+  c.len.ensures ∙ c.in-Ok-text_of.found.ok.0,
+  in_front _ _ c.args.text.now _ (c.copy_from_slice.ensures.after ∙ c.deref.ensures.value) (c.len-3.ensures ∙ c.in-Ok-text_of.found.ok.0),
+)

@@ -1,0 +1,4 @@
+pub mod Reports
+pub mod Sealed
+pub mod Status
+pub mod Tray

@@ -1,0 +1,22 @@
+-- The report that C is given.
+use Rattle.std.specs.Prelude.{◌≡◌, ◌<◌, ℕ, List, length, drop, ◌++◌, Ok}
+use Rattle.bucket_ranges.specs.Reading.{Reading, IsReading}
+use Rattle.segment_image.specs.Head.{header_of}
+use Rattle.segment_image.specs.declared.head.SegmentHead.{SegmentHead}
+use Rattle.reading_texts.specs.Text.{IsTextOf}
+
+-- the text is the report of what the words read as
+pub record IsReportOfWords (words text : List ℕ) : Type 0 where
+  pub head : SegmentHead
+  pub head_is : header_of words ≡ Ok head
+  pub reading : Reading
+  pub reading_is : IsReading words head reading
+  pub text_is : IsTextOf reading text
+
+-- the report of the words stands at the front of the array, which had room for it; the bytes behind it are the same
+abbrev pub IsReportWritten : List ℕ → List ℕ → List ℕ → ℕ → Type 0
+IsReportWritten words old new needed = (text : List ℕ) × IsReportOfWords words text × (needed ≡ length text) × (new ≡ text ++ drop (length text) old)
+
+-- the array has no room for the report of the words, which has so many bytes
+abbrev pub IsReportTooLong : List ℕ → List ℕ → ℕ → Type 0
+IsReportTooLong words old needed = (text : List ℕ) × IsReportOfWords words text × (needed ≡ length text) × (length old < length text)

@@ -1,0 +1,6 @@
+//! The functions that C calls.
+
+mod reading;
+mod recording;
+mod reporting;
+mod segments;

@@ -1,0 +1,98 @@
+//! What a recorder reads.
+
+use crate::handle::Handle;
+use crate::status::{DONE, SHORT};
+use crate::types::{Count, Totals};
+
+// Writes counts as far as there is room for them.
+fn write_counts(counts: &[(i32, u64)], out: &mut [Count]) {
+    for i in 0..counts.len().min(out.len()) {
+        let (key, count) = counts[i];
+        out[i] = Count { key, count };
+    }
+}
+
+/// Takes a delta, where there is room for all keys of the histogram.
+#[unsafe(no_mangle)]
+pub extern "C" fn povundiri_proved_delta(
+    recorder: &mut Handle,
+    hist: usize,
+    counts: &mut [Count],
+    totals: &mut Totals,
+) -> u32 {
+    match recorder.delta(hist, counts.len()) {
+        Ok(delta) => {
+            write_counts(&delta.counts, counts);
+            *totals = Totals {
+                length: delta.counts.len(),
+                sum: delta.sum,
+                redundant: 0,
+            };
+            DONE
+        }
+        Err(refused) => {
+            totals.length = refused.length;
+            refused.status
+        }
+    }
+}
+
+/// What a histogram has, where there is room for all of its keys.
+#[unsafe(no_mangle)]
+pub extern "C" fn povundiri_proved_snapshot(
+    recorder: &mut Handle,
+    hist: usize,
+    counts: &mut [Count],
+    totals: &mut Totals,
+) -> u32 {
+    match recorder.snapshot(hist, counts.len()) {
+        Ok(snapshot) => {
+            write_counts(&snapshot.counts, counts);
+            *totals = Totals {
+                length: snapshot.counts.len(),
+                sum: snapshot.sum,
+                redundant: snapshot.redundant,
+            };
+            DONE
+        }
+        Err(refused) => {
+            totals.length = refused.length;
+            refused.status
+        }
+    }
+}
+
+/// The references of all records of the list, where there is room for them; and how many they are.
+#[unsafe(no_mangle)]
+pub extern "C" fn povundiri_proved_records(
+    recorder: &mut Handle,
+    records: &mut [u64],
+    needed: &mut usize,
+) -> u32 {
+    let found = match recorder.records() {
+        Ok(found) => found,
+        Err(status) => return status,
+    };
+    *needed = found.len();
+    if records.len() < found.len() {
+        return SHORT;
+    }
+    records[..found.len()].copy_from_slice(&found);
+    DONE
+}
+
+/// The next record of a cursor that all recorders share.
+#[unsafe(no_mangle)]
+pub extern "C" fn povundiri_proved_next_shared(
+    recorder: &mut Handle,
+    cursor: usize,
+    record: &mut u64,
+) -> u32 {
+    match recorder.next_shared(cursor) {
+        Ok(next) => {
+            *record = next;
+            DONE
+        }
+        Err(status) => status,
+    }
+}

@@ -1,0 +1,105 @@
+//! What a recorder counts.
+
+use crate::handle::Handle;
+use crate::status::{BAD_KIND, DONE, EMPTY, NO_MEMORY};
+use crate::types::{HistSpec, Item};
+use live_segment::{CustomValues, Spec};
+use std::alloc::{AllocError, Global};
+
+// The spec that C asks for.
+fn spec_of(alloc: Global, spec: HistSpec, values: &[u32]) -> Result<Spec, u32> {
+    match spec.kind {
+        1 => Ok(Spec::Linear {
+            min: spec.minimum,
+            max: spec.maximum,
+            n: spec.buckets,
+        }),
+        2 => Ok(Spec::Boolean),
+        3 => match Vec::from_slice(alloc, values) {
+            Ok(values) => Ok(Spec::Custom(CustomValues::from(values))),
+            Err(_) => Err(NO_MEMORY),
+        },
+        4 => Ok(Spec::Sparse),
+        _ => Err(BAD_KIND),
+    }
+}
+
+// The items as the library takes them.
+fn pairs_of(alloc: Global, items: &[Item]) -> Result<Vec<(i32, u32)>, AllocError> {
+    let mut pairs = Vec::with_capacity(alloc, items.len())?;
+    for item in items {
+        pairs.push((item.value, item.count))?;
+    }
+    Ok(pairs)
+}
+
+/// The place of the histogram of a name among those that the recorder knows.
+#[unsafe(no_mangle)]
+pub extern "C" fn povundiri_proved_hist(
+    alloc: Global,
+    recorder: &mut Handle,
+    name: &[u8],
+    spec: HistSpec,
+    values: &[u32],
+    hist: &mut usize,
+) -> u32 {
+    if !recorder.is_full() {
+        return EMPTY;
+    }
+    let spec = match spec_of(alloc, spec, values) {
+        Ok(spec) => spec,
+        Err(status) => return status,
+    };
+    match recorder.hist(name, &spec) {
+        Ok(place) => {
+            *hist = place;
+            DONE
+        }
+        Err(status) => status,
+    }
+}
+
+/// Adds a sample.
+#[unsafe(no_mangle)]
+pub extern "C" fn povundiri_proved_add(
+    recorder: &mut Handle,
+    hist: usize,
+    value: i32,
+    count: u32,
+) -> u32 {
+    recorder.add(hist, value, count)
+}
+
+/// Counts a batch; and how many of its items are counted, also where it is refused.
+#[unsafe(no_mangle)]
+pub extern "C" fn povundiri_proved_batch(
+    alloc: Global,
+    recorder: &mut Handle,
+    hist: usize,
+    items: &[Item],
+    sum: i64,
+    added: &mut usize,
+) -> u32 {
+    if !recorder.is_full() {
+        return EMPTY;
+    }
+    let Ok(pairs) = pairs_of(alloc, items) else {
+        return NO_MEMORY;
+    };
+    match recorder.batch(hist, &pairs, sum) {
+        Ok(()) => {
+            *added = items.len();
+            DONE
+        }
+        Err(refused) => {
+            *added = refused.length;
+            refused.status
+        }
+    }
+}
+
+/// Marks the segment as corrupt.
+#[unsafe(no_mangle)]
+pub extern "C" fn povundiri_proved_set_corrupt(recorder: &mut Handle) -> u32 {
+    recorder.set_corrupt()
+}

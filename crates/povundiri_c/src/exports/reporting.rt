@@ -1,0 +1,40 @@
+//! The report of an image.
+
+ghost use Rattle.std.specs.Prelude.{◌≡◌, ◌≢◌, IfErr};
+ghost use Rattle.segment_image.specs.Head.{header_of};
+ghost use Rattle.povundiri_c.specs.Reports.{IsReportTooLong, IsReportWritten};
+ghost use Rattle.povundiri_c.specs.Status.{status_of_image_fault};
+
+use crate::status::{DONE, NO_MEMORY, SHORT, of_image_fault};
+use image_reader::read;
+use reading_texts::text_of;
+use std::alloc::Global;
+
+/// The report of an image as CSV, where there is room for it; and how many bytes it has.
+#[unsafe(no_mangle)]
+pub extern "C" fn povundiri_proved_report(
+    alloc: Global,
+    words: &[u64],
+    text: &mut [u8],
+    needed: &mut usize,
+) -> u32
+    ensures fault { IfErr (header_of words.now) (λ fault. result ≡ status_of_image_fault fault) }
+    ensures done { result ≡ 0 → IsReportWritten words.now text.old text.new needed.new }
+    ensures short { result ≡ 7 → IsReportTooLong words.now text.old needed.new }
+    ensures untouched { result ≢ 0 → text.new ≡ text.old }
+    ensures alone { result ≢ 0 → result ≢ 7 → needed.new ≡ needed.old }
+{
+    let reading = match read(alloc, words) {
+        Ok(reading) => reading,
+        Err(fault) => return of_image_fault(fault),
+    };
+    let Ok(found) = text_of(alloc, &reading) else {
+        return NO_MEMORY;
+    };
+    *needed = found.len();
+    if text.len() < found.len() {
+        return SHORT;
+    }
+    text[..found.len()].copy_from_slice(&found);
+    DONE
+}

@@ -1,0 +1,222 @@
+//! Segments and their recorders.
+
+use crate::handle::Handle;
+use crate::held::Held;
+use crate::owner::Owner;
+use crate::status::{DONE, NO_MEMORY, NOT_EMPTY, of_adopt_fault, of_open_fault};
+use crate::types::SegmentShape;
+use live_segment::{Lender, Memory, Opener, Room, Segment};
+use std::alloc::Global;
+
+// Fills a handle, which is empty.
+fn fill(alloc: Global, out: &mut Handle, held: Held) -> u32 {
+    match Box::new(alloc, held) {
+        Ok(boxed) => {
+            out.put(boxed);
+            DONE
+        }
+        Err(_) => NO_MEMORY,
+    }
+}
+
+ghost use Rattle.std.specs.Prelude.{◌≡◌};
+ghost use Rattle.live_segment.specs.Holders.{IsMadeWith};
+
+// Fills a handle, which is empty, with a segment.
+fn fill_with_segment(alloc: Global, out: &mut Handle, segment: Segment, opener: Opener, cursors: usize) -> u32
+    requires made { IsMadeWith segment opener }
+    requires counted { cursors ≡ segment.setting.cursors }
+{
+    match Owner::new(alloc, segment, opener, cursors) {
+        Ok(owner) => fill(alloc, out, Held::Owner(owner)),
+        Err(_) => NO_MEMORY,
+    }
+}
+
+// A new segment in a memory.
+fn create_in(alloc: Global, memory: Memory, shape: SegmentShape, out: &mut Handle) -> u32 {
+    let made = Segment::create_in(
+        alloc,
+        memory,
+        shape.size,
+        shape.page,
+        shape.id,
+        shape.cursors,
+        shape.version,
+    );
+    match made {
+        Ok((segment, opener)) => fill_with_segment(alloc, out, segment, opener, shape.cursors),
+        Err(fault) => of_open_fault(fault),
+    }
+}
+
+// A segment in a memory that goes on with an image.
+fn adopt_in(alloc: Global, memory: Memory, words: &[u64], cursors: usize, out: &mut Handle) -> u32 {
+    match Segment::adopt_in(alloc, memory, words, cursors) {
+        Ok((segment, opener)) => fill_with_segment(alloc, out, segment, opener, cursors),
+        Err(fault) => of_adopt_fault(fault),
+    }
+}
+
+/// A new segment in the heap, into a handle that is empty.
+#[unsafe(no_mangle)]
+pub extern "C" fn povundiri_proved_create(
+    alloc: Global,
+    shape: SegmentShape,
+    out: &mut Handle,
+) -> u32 {
+    if out.is_full() {
+        return NOT_EMPTY;
+    }
+    create_in(alloc, Memory::of_heap(alloc), shape, out)
+}
+
+/// A new segment in a room, into a handle that is empty.
+#[unsafe(no_mangle)]
+pub extern "C" fn povundiri_proved_create_in(
+    alloc: Global,
+    room: Room,
+    shape: SegmentShape,
+    out: &mut Handle,
+) -> u32 {
+    if out.is_full() {
+        return NOT_EMPTY;
+    }
+    match Lender::lend(alloc, room) {
+        Ok((memory, _lender)) => create_in(alloc, memory, shape, out),
+        Err(_room) => NO_MEMORY,
+    }
+}
+
+/// A segment in the heap that goes on with an image, into a handle that is empty.
+#[unsafe(no_mangle)]
+pub extern "C" fn povundiri_proved_adopt(
+    alloc: Global,
+    words: &[u64],
+    cursors: usize,
+    out: &mut Handle,
+) -> u32 {
+    if out.is_full() {
+        return NOT_EMPTY;
+    }
+    adopt_in(alloc, Memory::of_heap(alloc), words, cursors, out)
+}
+
+/// A segment in a room that goes on with an image, into a handle that is empty.
+#[unsafe(no_mangle)]
+pub extern "C" fn povundiri_proved_adopt_in(
+    alloc: Global,
+    room: Room,
+    words: &[u64],
+    cursors: usize,
+    out: &mut Handle,
+) -> u32 {
+    if out.is_full() {
+        return NOT_EMPTY;
+    }
+    match Lender::lend(alloc, room) {
+        Ok((memory, _lender)) => adopt_in(alloc, memory, words, cursors, out),
+        Err(_room) => NO_MEMORY,
+    }
+}
+
+/// Ends a segment without recorders, and writes its image: its handle is empty then, and `none` stands in its place.
+#[unsafe(no_mangle)]
+pub extern "C" fn povundiri_proved_close(
+    segment: &mut Handle,
+    none: Handle,
+    words: &mut [u64],
+    needed: &mut usize,
+) -> u32 {
+    let mut boxed = match segment.take(none) {
+        Ok(boxed) => boxed,
+        Err(status) => return status,
+    };
+    match boxed.close(words.len()) {
+        Ok(image) => {
+            let found = image.words();
+            let length = found.len().min(words.len());
+            words[..length].copy_from_slice(&found[..length]);
+            *needed = length;
+            DONE
+        }
+        Err(refused) => {
+            segment.put(boxed);
+            *needed = refused.length;
+            refused.status
+        }
+    }
+}
+
+/// Lets a segment or a recorder go: its handle is empty then, and `none` stands in its place.
+#[unsafe(no_mangle)]
+pub extern "C" fn povundiri_proved_drop(handle: &mut Handle, none: Handle) -> u32 {
+    match handle.take(none) {
+        Ok(boxed) => {
+            drop(boxed);
+            DONE
+        }
+        Err(status) => status,
+    }
+}
+
+/// A recorder of a segment with so many units, into a handle that is empty.
+#[unsafe(no_mangle)]
+pub extern "C" fn povundiri_proved_recorder(
+    alloc: Global,
+    segment: &mut Handle,
+    units: u32,
+    out: &mut Handle,
+) -> u32 {
+    if out.is_full() {
+        return NOT_EMPTY;
+    }
+    match segment.recorder(units) {
+        Ok(held) => fill(alloc, out, held),
+        Err(status) => status,
+    }
+}
+
+/// Takes a recorder back: its handle is empty then, and `none` stands in its place.
+#[unsafe(no_mangle)]
+pub extern "C" fn povundiri_proved_join(
+    segment: &mut Handle,
+    recorder: &mut Handle,
+    none: Handle,
+) -> u32 {
+    let guest = match recorder.take(none) {
+        Ok(guest) => guest,
+        Err(status) => return status,
+    };
+    match segment.join(guest) {
+        Ok(()) => DONE,
+        Err(unjoined) => {
+            recorder.put(unjoined.guest);
+            unjoined.status
+        }
+    }
+}
+
+/// The units that no recorder has; or those that a recorder may still spend.
+#[unsafe(no_mangle)]
+pub extern "C" fn povundiri_proved_units(handle: &mut Handle, units: &mut u32) -> u32 {
+    match handle.units() {
+        Ok(found) => {
+            *units = found;
+            DONE
+        }
+        Err(status) => status,
+    }
+}
+
+/// How many recorders were made and are not joined.
+#[unsafe(no_mangle)]
+pub extern "C" fn povundiri_proved_outstanding(segment: &mut Handle, outstanding: &mut u32) -> u32 {
+    match segment.outstanding() {
+        Ok(found) => {
+            *outstanding = found;
+            DONE
+        }
+        Err(status) => status,
+    }
+}

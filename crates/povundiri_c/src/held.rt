@@ -1,0 +1,177 @@
+//! What a handle holds.
+
+use crate::owner::Owner;
+use crate::status::{DONE, IN_USE, OTHER_KIND, OTHER_SEGMENT, Refused, SHORT};
+use crate::worker::Worker;
+use core::mem::replace_with;
+use live_segment::{Delta, Image, Snapshot, Spec};
+
+/// A segment, or a recorder; or none, while it is let go.
+#[derive(Drop)]
+pub enum Held {
+    Owner(Owner),
+    Worker(Worker),
+    Nothing,
+}
+
+/// Who was not joined, and why.
+#[derive(Drop)]
+pub(crate) struct Unjoined {
+    pub(crate) guest: Box<Held>,
+    pub(crate) status: u32,
+}
+
+impl Held {
+    // Its image, where it is a segment without recorders.
+    fn closed(self, _nothing: ()) -> (Held, Result<Image, u32>) {
+        match self {
+            Held::Owner(owner) => match owner.close() {
+                Ok(image) => (Held::Nothing, Ok(image)),
+                Err(owner) => (Held::Owner(owner), Err(IN_USE)),
+            },
+            other => (other, Err(OTHER_KIND)),
+        }
+    }
+
+    // Its recorder, where it is one.
+    fn parted(self, _nothing: ()) -> (Held, Option<Worker>) {
+        match self {
+            Held::Worker(worker) => (Held::Nothing, Some(worker)),
+            other => (other, None),
+        }
+    }
+
+    pub(crate) fn recorder(&mut self, units: u32) -> Result<Held, u32> {
+        match self {
+            Held::Owner(owner) => match owner.recorder(units) {
+                Ok(worker) => Ok(Held::Worker(worker)),
+                Err(status) => Err(status),
+            },
+            _ => Err(OTHER_KIND),
+        }
+    }
+
+    /// Takes back the recorder that the guest is.
+    pub(crate) fn join(&mut self, mut guest: Box<Held>) -> Result<(), Unjoined> {
+        let Held::Owner(owner) = self else {
+            return Err(Unjoined {
+                guest,
+                status: OTHER_KIND,
+            });
+        };
+        let Some(worker) = replace_with(guest.as_mut(), (), Held::parted) else {
+            return Err(Unjoined {
+                guest,
+                status: OTHER_KIND,
+            });
+        };
+        match owner.join(worker) {
+            Ok(()) => Ok(()),
+            Err(None) => Ok(()),
+            Err(Some(worker)) => {
+                *guest = Held::Worker(worker);
+                Err(Unjoined {
+                    guest,
+                    status: OTHER_SEGMENT,
+                })
+            }
+        }
+    }
+
+    /// Ends the segment, whose image has to fit so many words.
+    pub(crate) fn close(&mut self, room: usize) -> Result<Image, Refused> {
+        let size = match self {
+            Held::Owner(owner) => owner.size() as usize,
+            _ => return Err(Refused::of(OTHER_KIND)),
+        };
+        if room < size {
+            return Err(Refused {
+                status: SHORT,
+                length: size,
+            });
+        }
+        match replace_with(self, (), Held::closed) {
+            Ok(image) => Ok(image),
+            Err(status) => Err(Refused::of(status)),
+        }
+    }
+
+    pub(crate) fn units(&mut self) -> Result<u32, u32> {
+        match self {
+            Held::Owner(owner) => Ok(owner.units()),
+            Held::Worker(worker) => Ok(worker.recorder.units()),
+            Held::Nothing => Err(OTHER_KIND),
+        }
+    }
+
+    pub(crate) fn outstanding(&mut self) -> Result<u32, u32> {
+        match self {
+            Held::Owner(owner) => Ok(owner.outstanding()),
+            _ => Err(OTHER_KIND),
+        }
+    }
+
+    pub(crate) fn hist(&mut self, name: &[u8], spec: &Spec) -> Result<usize, u32> {
+        match self {
+            Held::Worker(worker) => worker.hist(name, spec),
+            _ => Err(OTHER_KIND),
+        }
+    }
+
+    pub(crate) fn add(&mut self, place: usize, value: i32, count: u32) -> u32 {
+        match self {
+            Held::Worker(worker) => worker.add(place, value, count),
+            _ => OTHER_KIND,
+        }
+    }
+
+    pub(crate) fn batch(
+        &mut self,
+        place: usize,
+        items: &[(i32, u32)],
+        sum: i64,
+    ) -> Result<(), Refused> {
+        match self {
+            Held::Worker(worker) => worker.batch(place, items, sum),
+            _ => Err(Refused::of(OTHER_KIND)),
+        }
+    }
+
+    pub(crate) fn delta(&mut self, place: usize, room: usize) -> Result<Delta, Refused> {
+        match self {
+            Held::Worker(worker) => worker.delta(place, room),
+            _ => Err(Refused::of(OTHER_KIND)),
+        }
+    }
+
+    pub(crate) fn snapshot(&mut self, place: usize, room: usize) -> Result<Snapshot, Refused> {
+        match self {
+            Held::Worker(worker) => worker.snapshot(place, room),
+            _ => Err(Refused::of(OTHER_KIND)),
+        }
+    }
+
+    pub(crate) fn set_corrupt(&mut self) -> u32 {
+        match self {
+            Held::Worker(worker) => {
+                worker.recorder.set_corrupt();
+                DONE
+            }
+            _ => OTHER_KIND,
+        }
+    }
+
+    pub(crate) fn records(&mut self) -> Result<Vec<u64>, u32> {
+        match self {
+            Held::Worker(worker) => worker.records(),
+            _ => Err(OTHER_KIND),
+        }
+    }
+
+    pub(crate) fn next_shared(&mut self, cursor: usize) -> Result<u64, u32> {
+        match self {
+            Held::Worker(worker) => worker.next_shared(cursor),
+            _ => Err(OTHER_KIND),
+        }
+    }
+}

@@ -1,0 +1,125 @@
+//! A segment that C holds.
+
+ghost use Rattle.std.specs.Arc.{arc_value};
+ghost use Rattle.std.specs.Prelude.{◌≡◌};
+ghost use Rattle.live_segment.specs.Holders.{IsMadeWith};
+ghost use Rattle.povundiri_c.specs.Tray.{cursors_of};
+
+use crate::status::{NO_MEMORY, of_refusal};
+use crate::tray::Tray;
+use crate::worker::Worker;
+use live_segment::{Image, Opener, Segment};
+use owned_recorder::{join, owned_recorder};
+use std::alloc::{AllocError, Global};
+use std::sync::Arc;
+
+/// A segment, who makes its recorders, and its tray.
+#[derive(Drop)]
+pub struct Owner {
+    segment: Arc<Segment, Global>,
+    opener: Opener,
+    tray: Arc<Tray, Global>,
+    // How many the recorders share.
+    cursors: usize,
+    ghost made: { IsMadeWith (arc_value segment) opener },
+    ghost first: { IsMadeWith (arc_value segment) (arc_value tray).table.shared.key },
+    ghost counted: { cursors ≡ cursors_of (arc_value tray).table.shared.key },
+}
+
+impl Owner {
+    /// The owner of a segment and the opener that was made with it.
+    #[tactic(auto, using(crate::proofs::Holding::counts))]
+    pub(crate) fn new(alloc: Global, segment: Segment, opener: Opener, cursors: usize) -> Result<Owner, AllocError>
+        requires made { IsMadeWith segment opener }
+        requires counted { cursors ≡ segment.setting.cursors }
+    {
+        let tray = Arc::new(alloc, Tray::new(alloc, &opener)?)?;
+        let segment = Arc::new(alloc, segment)?;
+        Ok(Owner {
+            segment,
+            opener,
+            tray,
+            cursors,
+        })
+    }
+
+    /// How many words its image has.
+    pub(crate) fn size(&self) -> u64 {
+        self.segment.size()
+    }
+
+    pub(crate) fn units(&self) -> u32 {
+        self.opener.units()
+    }
+
+    pub(crate) fn outstanding(&self) -> u32 {
+        self.opener.outstanding()
+    }
+
+    /// A recorder with so many units; or why there is none.
+    pub(crate) fn recorder(&mut self, units: u32) -> Result<Worker, u32> {
+        let Ok(segment) = Arc::try_clone(&self.segment) else {
+            return Err(NO_MEMORY);
+        };
+        let Ok(tray) = Arc::try_clone(&self.tray) else {
+            return Err(NO_MEMORY);
+        };
+        match owned_recorder(&mut self.opener, segment, units) {
+            Ok(recorder) => Ok(Worker {
+                recorder,
+                tray,
+                cursors: self.cursors,
+            }),
+            Err(why) => Err(of_refusal(why)),
+        }
+    }
+
+    /// Takes a recorder back. One that is not of this segment comes back; unless another thread, which joined one of this segment
+    /// elsewhere, has met it there.
+    #[tactic(auto, using(crate::proofs::Holding::of_opener))]
+    pub(crate) fn join(&mut self, worker: Worker) -> Result<(), Option<Worker>> {
+        let Worker {
+            recorder,
+            tray,
+            cursors,
+        } = worker;
+        if let Some(recorder) = tray.replace(Some(recorder)) {
+            return Err(Some(Worker {
+                recorder,
+                tray,
+                cursors,
+            }));
+        }
+        if let Some(recorder) = self.tray.replace(None) {
+            join(&mut self.opener, recorder);
+            return Ok(());
+        }
+        match tray.replace(None) {
+            Some(recorder) => Err(Some(Worker {
+                recorder,
+                tray,
+                cursors,
+            })),
+            None => Err(None),
+        }
+    }
+
+    /// Ends the segment, where no recorder is left.
+    pub(crate) fn close(self) -> Result<Image, Owner> {
+        let Owner {
+            segment,
+            opener,
+            tray,
+            cursors,
+        } = self;
+        match Arc::try_unwrap(segment) {
+            Ok(segment) => Ok(segment.close(opener)),
+            Err(segment) => Err(Owner {
+                segment,
+                opener,
+                tray,
+                cursors,
+            }),
+        }
+    }
+}

@@ -1,0 +1,91 @@
+//! What each export answers: 0, or the number of what went wrong.
+
+use live_segment::{AdoptFault, OpenFault, Refusal};
+use segment_image::ImageFault;
+
+/// All went well.
+pub(crate) const DONE: u32 = 0;
+
+/// The handle holds nothing.
+pub(crate) const EMPTY: u32 = 3;
+
+/// The handle that is to be filled, or that is to stand in, holds something.
+pub(crate) const NOT_EMPTY: u32 = 4;
+
+/// A segment's handle where a recorder's is asked for, or the other way round.
+pub(crate) const OTHER_KIND: u32 = 5;
+
+/// The recorder is one of another segment.
+pub(crate) const OTHER_SEGMENT: u32 = 6;
+
+/// The caller's array is too small.
+pub(crate) const SHORT: u32 = 7;
+
+/// The recorder has no histogram of that number.
+pub(crate) const UNKNOWN: u32 = 8;
+
+/// The segment has no shared cursor of that number.
+pub(crate) const NO_CURSOR: u32 = 9;
+
+/// No kind of histogram has that number.
+pub(crate) const BAD_KIND: u32 = 10;
+
+/// A recorder of the segment is left.
+pub(crate) const IN_USE: u32 = 11;
+
+/// No record is behind the cursor.
+pub(crate) const LIST_ENDS: u32 = 12;
+
+/// There was no memory for what C's side needs.
+pub(crate) const NO_MEMORY: u32 = 13;
+
+/// Why a call is refused: its status, and the length that goes with it: what is needed where it is `SHORT`, and 0 or what was done
+/// else.
+#[derive(Clone, Copy)]
+pub(crate) struct Refused {
+    pub(crate) status: u32,
+    pub(crate) length: usize,
+}
+
+impl Refused {
+    pub(crate) fn of(status: u32) -> Refused {
+        Refused { status, length: 0 }
+    }
+}
+
+ghost use Rattle.std.specs.Prelude.{◌≡◌};
+ghost use Rattle.povundiri_c.specs.Status.{status_of_refusal, status_of_open_fault, status_of_adopt_fault, status_of_image_fault};
+
+/// That of a refusal.
+pub(crate) fn of_refusal(why: Refusal) -> u32
+    ensures { result ≡ status_of_refusal why }
+{
+    match why {
+        Refusal::BadSpec(fault) => 400 + fault.number(),
+        other => 100 + other.number(),
+    }
+}
+
+/// That of a segment that was not made.
+pub(crate) fn of_open_fault(fault: OpenFault) -> u32
+    ensures { result ≡ status_of_open_fault fault }
+{
+    200 + fault.number()
+}
+
+/// That of an image that was not adopted.
+pub(crate) fn of_adopt_fault(fault: AdoptFault) -> u32
+    ensures { result ≡ status_of_adopt_fault fault }
+{
+    match fault {
+        AdoptFault::Image(fault) => of_image_fault(fault),
+        other => 300 + other.number(),
+    }
+}
+
+/// That of a header that is not lawful.
+pub(crate) fn of_image_fault(fault: ImageFault) -> u32
+    ensures { result ≡ status_of_image_fault fault }
+{
+    500 + fault.number()
+}

@@ -1,0 +1,63 @@
+//! What C passes beside handles.
+
+/// What a segment is made as.
+#[repr(C)]
+#[derive(Clone, Copy)]
+pub struct SegmentShape {
+    /// How many words it has.
+    pub size: u64,
+    /// How many words a page has.
+    pub page: u64,
+    /// Any number.
+    pub id: u64,
+    /// How many cursors the recorders share.
+    pub cursors: usize,
+    /// The version of the format.
+    pub version: u64,
+}
+
+/// How a histogram splits the values. What its kind does not ask for is not looked at.
+#[repr(C)]
+#[derive(Clone, Copy)]
+pub struct HistSpec {
+    /// 1 linear, 2 boolean, 3 custom, 4 sparse.
+    pub kind: u32,
+    /// Of a linear one.
+    pub minimum: u32,
+    /// Of a linear one.
+    pub maximum: u32,
+    /// Of a linear one.
+    pub buckets: u32,
+}
+
+/// Units of a value.
+#[repr(C)]
+#[derive(Clone, Copy)]
+pub struct Item {
+    /// The value.
+    pub value: i32,
+    /// How many units.
+    pub count: u32,
+}
+
+/// Units of a key.
+#[repr(C)]
+#[derive(Clone, Copy)]
+pub struct Count {
+    /// The least value of a bucket, or a value of a sparse histogram.
+    pub key: i32,
+    /// How many units.
+    pub count: u64,
+}
+
+/// What a delta or a snapshot answers beside its counts.
+#[repr(C)]
+#[derive(Clone, Copy)]
+pub struct Totals {
+    /// How many counts were written, or are needed.
+    pub length: usize,
+    /// The sum.
+    pub sum: i64,
+    /// The redundant count of a snapshot.
+    pub redundant: u64,
+}

@@ -1,8 +1,7 @@
 -- What was met along a list, the first of each key, and all of each group of keys.
-use Rattle.std.specs.Prelude.{◌≡◌, ◌==◌, Bool, true, ℕ, List, [], ◌∷◌, Option, Some, None, is_some, if◌then◌else◌, nat_eq}
+use Rattle.std.specs.Prelude.{◌≡◌, ◌==◌, Bool, true, ℕ, List, [], ◌∷◌, Option, Some, None, if◌then◌else◌, nat_eq}
 use Rattle.std.specs.HashMap as hash
 use Rattle.list_index.specs.declared.firsts.Firsts.{Firsts}
-use Rattle.list_index.specs.declared.groups.Groups.{Groups}
 use Rattle.list_index.specs.Groups.{group_of, numbers_of}
 
 -- the first number that was entered with a key
@@ -11,16 +10,11 @@ first_of firsts key = hash.get nat_eq firsts.map key
 
 -- whether it has the numbers of groups too
 abbrev pub is_grouping : Firsts → Bool
-is_grouping firsts = is_some firsts.groups
-
--- the numbers of a group, where there are groups
-abbrev pub numbers_in : Option Groups → ℕ → List ℕ
-numbers_in (Some groups) group = numbers_of groups group
-numbers_in None group = []
+is_grouping firsts = firsts.has_groups
 
 -- the numbers that were entered with keys of a group, in their order
 abbrev pub all_of : Firsts → ℕ → List ℕ
-all_of firsts group = numbers_in firsts.groups group
+all_of firsts group = numbers_of firsts.groups group
 
 -- a number that was met, with its key where it has one
 abbrev pub Met : Type 0

@@ -14,7 +14,8 @@ use std::collections::HashMap;
 #[derive(Drop)]
 pub struct Firsts {
     map: HashMap<u64, u64>,
-    groups: Option<Groups>,
+    has_groups: bool,
+    groups: Groups,
 }
 
 impl Firsts {
@@ -26,7 +27,8 @@ impl Firsts {
     {
         Firsts {
             map: HashMap::new(alloc),
-            groups: None,
+            has_groups: false,
+            groups: Groups::new(alloc),
         }
     }
 
@@ -38,7 +40,8 @@ impl Firsts {
     {
         Firsts {
             map: HashMap::new(alloc),
-            groups: Some(Groups::new(alloc)),
+            has_groups: true,
+            groups: Groups::new(alloc),
         }
     }
 
@@ -54,10 +57,7 @@ impl Firsts {
     pub fn all(&self, group: u64) -> &[u64]
         ensures { result.now ≡ all_of self.now group }
     {
-        match &self.groups {
-            Some(groups) => groups.numbers(group),
-            None => &[],
-        }
+        self.groups.numbers(group)
     }
 
     /// Enters a number with a key. Where the key was entered before, the first number stays.
@@ -92,10 +92,7 @@ impl Firsts {
         ensures kept { result ≡ false → (other : ℕ) → all_of self.new other ≡ all_of self.old other }
         ensures grouping { is_grouping self.new ≡ is_grouping self.old }
     {
-        match &mut self.groups {
-            Some(groups) => groups.enter(group, number),
-            None => true,
-        }
+        !self.has_groups || self.groups.enter(group, number)
     }
 
     // Enters the first number of a key, for which there is room.
@@ -103,6 +100,7 @@ impl Firsts {
         requires { first_of self.old key ≡ None → 0 < spare self.old.map }
         ensures entered { (other : ℕ) → first_of self.new other ≡ option_or (first_of self.old other) (if key == other then Some number else None) }
         ensures groups { self.new.groups ≡ self.old.groups }
+        ensures grouping { is_grouping self.new ≡ is_grouping self.old }
     {
         if self.map.contains_key(&key) {
             return;

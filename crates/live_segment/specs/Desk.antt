@@ -47,6 +47,13 @@ desk_of recorder = record {
 abbrev pub view_of_desk : Desk → Actor
 view_of_desk desk = desk.seat.me.0
 
+-- it records into the same segment as before, knows the same histograms, and was given no fresh records
+pub record IsSameDesk (old new : Desk) : Type 0 where
+  pub table : new.seat.table_id ≡ old.seat.table_id
+  pub known : new.known ≡ old.known
+  pub names : (view_of_desk new).answers.names ≡ (view_of_desk old).answers.names
+  pub fresh : new.fresh ≡ old.fresh
+
 -- a histogram is one that it knows
 abbrev pub Knows : Desk → Hist → Type 0
 Knows desk histogram = histogram.index < length (view_of_desk desk).answers.names

@@ -7,7 +7,7 @@ use Rattle.segment_promises.specs.Onward.{Grows}
 use Rattle.live_segment.specs.declared.recorder.Hist.{Hist}
 use Rattle.live_segment.specs.declared.recorder.desk.Desk.{Desk}
 use Rattle.live_segment.specs.Lists.Records.{HasWalked}
-pub use Rattle.live_segment.specs.Desk.{view_of_desk, Knows, Means}
+pub use Rattle.live_segment.specs.Desk.{view_of_desk, IsSameDesk, Knows, Means}
 
 -- it knows a histogram, which is of the name and has the same spec
 abbrev pub IsNamed : List ℕ → Spec → Desk → Hist → Type 0
@@ -17,13 +17,6 @@ IsNamed name spec desk histogram =
 -- how many records of the list it was given as fresh ones
 abbrev pub given_fresh : Desk → ℕ
 given_fresh desk = desk.fresh.given
-
--- it records into the same segment as before, knows the same histograms, and was given no fresh records
-pub record IsSameDesk (old new : Desk) : Type 0 where
-  pub table : new.seat.table_id ≡ old.seat.table_id
-  pub known : new.known ≡ old.known
-  pub names : (view_of_desk new).answers.names ≡ (view_of_desk old).answers.names
-  pub fresh : new.fresh ≡ old.fresh
 
 -- It records into the same segment as before and was given no fresh records. Each histogram that it knew it knows still, at the same place.
 pub record KnowsOn (old new : Desk) : Type 0 where

@@ -21,7 +21,7 @@ use std::sync::Arc;
 /// Records for one thread, as a [`Recorder`] does, and keeps its segment alive. It may move to another thread.
 ///
 /// Each call is that of [`Recorder`] of the same name, with the same clauses and faults. It takes up the recorder of its desk, calls that,
-/// and lets it go again; those that only ask what it has ask the desk.
+/// and lets it go again; `add` and those that only ask what it has go to the desk, which stays where it is.
 #[derive(Drop)]
 pub struct OwnedRecorder {
     segment: Arc<Segment, Global>,
@@ -100,21 +100,6 @@ impl OwnedRecorder {
         replace_with(self, (name, spec), OwnedRecorder::hist_within)
     }
 
-    #[inline(always)]
-    fn add_within(self, asked: (Hist, i32, u32)) -> (OwnedRecorder, Result<(), Refusal>)
-        requires { Knows self.desk asked.0 }
-        ensures kept { result.0.segment ≡ self.segment }
-        ensures same { IsSameDesk self.desk result.0.desk }
-        ensures answer { AnswersAdd asked.0 asked.1 asked.2 self.desk result.1 result.0.desk }
-        ensures claims { ClaimsAdd asked.0 asked.1 self.desk result.1 result.0.desk }
-    {
-        let OwnedRecorder { segment, desk } = self;
-        let mut recorder = Recorder::at_desk(&segment, desk);
-        let answer = recorder.add(asked.0, asked.1, asked.2);
-        let desk = recorder.into_desk();
-        (OwnedRecorder { segment, desk }, answer)
-    }
-
     /// Adds a sample, as [`Recorder::add`] does.
     #[inline(always)]
     pub fn add(&mut self, histogram: Hist, value: i32, count: u32) -> Result<(), Refusal>
@@ -124,7 +109,7 @@ impl OwnedRecorder {
         ensures answer { AnswersAdd histogram value count self.old.desk result self.new.desk }
         ensures claims { ClaimsAdd histogram value self.old.desk result self.new.desk }
     {
-        replace_with(self, (histogram, value, count), OwnedRecorder::add_within)
+        self.desk.add(&self.segment, histogram, value, count)
     }
 
     fn batch_within(

@@ -10,6 +10,7 @@ use crate::naming::KnownNames;
 use crate::records::WalkPlace;
 use crate::rule::Pass;
 use crate::segment::Segment;
+use segment_calls::Refusal;
 use std::alloc::Global;
 
 /// What a recorder has beside the borrow of its segment: its seat, its units, and what it knows and met. Whoever keeps the segment alive
@@ -27,8 +28,11 @@ pub struct Desk {
 }
 
 impl Desk {
-    ghost use Rattle.std.specs.Prelude.{◌↔◌, ◌≤◌, IsTrue, MatchOption, length};
-    ghost use Rattle.live_segment.specs.Desk.{Knows, Means, view_of_desk};
+    ghost use Rattle.std.specs.Prelude.{◌↔◌, ◌≤◌, IsTrue, IfOk, Err, MatchOption, length};
+    ghost use Rattle.segment_image.specs.Checks.{first_fault};
+    ghost use Rattle.live_segment.specs.Claims.{ClaimsFor};
+    ghost use Rattle.live_segment.specs.Counts.Adding.{add_checks, AnswersSample};
+    ghost use Rattle.live_segment.specs.Desk.{IsSameDesk, Knows, Means, view_of_desk};
     ghost use Rattle.live_segment.specs.Readings.Values.{AreMostKeys};
     ghost use Rattle.segment_machine.specs.declared.actor.Known.{Known};
 
@@ -67,6 +71,35 @@ impl Desk {
         ensures { (known : Known) → Means self.now histogram known → AreMostKeys segment.now known result }
     {
         segment.keys_of(&self.known[histogram.index])
+    }
+
+    /// Adds a sample where it stands, as [`Recorder::add`] does. The segment is the one that it is of.
+    // Inlined as that is. A recorder would be moved in and out, which takes longer than the sample.
+    #[inline(always)]
+    pub fn add(
+        &mut self,
+        segment: &Segment,
+        histogram: Hist,
+        value: i32,
+        count: u32,
+    ) -> Result<(), Refusal>
+        requires at { IsDeskAt segment.now self.old }
+        requires knows { Knows self.old histogram }
+        ensures at { IsDeskAt segment.now self.new }
+        ensures same { IsSameDesk self.old self.new }
+        ensures answer { MatchOption (first_fault (add_checks (view_of_desk self.old) count)) ((known : Known) → Means self.old histogram known → AnswersSample known value count (view_of_desk self.old) result (view_of_desk self.new)) (λ why. (result ≡ Err why) × (self.new ≡ self.old)) }
+        ensures claims { IfOk result (λ _. (known : Known) → Means self.old histogram known → ClaimsFor known value (view_of_desk self.old) (view_of_desk self.new)) }
+    {
+        if count == 0 {
+            return Err(Refusal::ZeroCount);
+        }
+        if count > self.units {
+            return Err(Refusal::NoUnits);
+        }
+        let known = &self.known[histogram.index];
+        segment.add_sample(&mut self.seat, &mut self.samples, known, value, count)?;
+        self.units -= count;
+        Ok(())
     }
 }
 

@@ -96,11 +96,19 @@ def record_example(installed, program, folder):
     return difference(Answer(RECORDED.encode()), report_in(program, file))
 
 
-def killed_service(service, file):
-    """What the service prints until it is killed."""
+def requests_of(report):
+    """How many requests a report of the service tells of."""
+    total = re.search(rb"^latency_us,total,(\d+),", report.output, re.MULTILINE)
+    return 0 if total is None else int(total[1])
+
+
+def killed_service(service, program, file, before):
+    """What the service prints until it is killed, once it has answered more requests than there were before."""
+    ends = time.monotonic() + MOST_SECONDS
     with subprocess.Popen([service, file], stdout=subprocess.PIPE) as running:
         try:
-            time.sleep(0.5)
+            while running.poll() is None and requests_of(report_in(program, file)) <= before and time.monotonic() < ends:
+                time.sleep(0.05)
         finally:
             running.kill()
         return running.stdout.read()
@@ -109,14 +117,13 @@ def killed_service(service, file):
 def service_example(installed, program, folder):
     """`examples/cpp/service.cpp`, killed three times: each time it first prints what the one before had left."""
     service, file = installed.program(EXAMPLES / "cpp" / "service.cpp"), folder / "service.seg"
-    left, units = Answer(), 0
+    left, before = Answer(), 0
     for _ in range(3):
-        wrong = difference(left, Answer(killed_service(service, file)))
+        wrong = difference(left, Answer(killed_service(service, program, file, before)))
         left = report_in(program, file)
-        total = re.search(rb"^latency_us,total,(\d+),", left.output, re.MULTILINE)
-        if wrong is not None or total is None or int(total[1]) <= units:
-            return wrong or f"behind {units} units came {left}"
-        units = int(total[1])
+        if wrong is not None or requests_of(left) <= before:
+            return wrong or f"behind {before} requests came {left}"
+        before = requests_of(left)
     return None
 
 

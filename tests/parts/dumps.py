@@ -7,10 +7,8 @@ In the memory stand other segments too: what the segment was made of, and the im
 """
 
 import collections
-import pathlib
 import random
 import subprocess
-import tempfile
 import time
 
 from parts.kills import LIVES, SHAPES
@@ -85,16 +83,13 @@ class Chain:
         return wrong
 
 
+def stopped(killed, folder, program, options):
+    for number in range(CHAINS):
+        version = 1 if number % 4 == 3 else 2
+        chain = Chain(killed, program, folder, random.Random(f"{options.seed} dump {number}"), version)
+        for run in range(RUNS):
+            yield f"chain {number} of seed {options.seed}, version {version}, run {run}, {chain.shape[0]} words", chain.run()
+
+
 def cases(program, options):
-    with tempfile.TemporaryDirectory() as scratch:
-        folder = pathlib.Path(scratch)
-        try:
-            killed = native.Installed(folder).program(native.PROGRAMS / "killed.cpp")
-        except native.Failed as why:
-            yield "the program", str(why)
-            return
-        for number in range(CHAINS):
-            version = 1 if number % 4 == 3 else 2
-            chain = Chain(killed, program, folder, random.Random(f"{options.seed} dump {number}"), version)
-            for run in range(RUNS):
-                yield f"chain {number} of seed {options.seed}, version {version}, run {run}, {chain.shape[0]} words", chain.run()
+    return native.cases_of("killed.cpp", lambda killed, folder: stopped(killed, folder, program, options))

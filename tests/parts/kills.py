@@ -5,10 +5,8 @@ An image of version 2 is adopted by the next run in the same file, which goes on
 """
 
 import collections
-import pathlib
 import random
 import subprocess
-import tempfile
 import time
 
 from support import bounds, native
@@ -88,20 +86,17 @@ def chains(kills):
                 yield version, length
 
 
-def cases(program, options):
+def killed_often(killed, folder, program, options):
     met = collections.Counter()
-    with tempfile.TemporaryDirectory() as scratch:
-        folder = pathlib.Path(scratch)
-        try:
-            killed = native.Installed(folder).program(native.PROGRAMS / "killed.cpp")
-        except native.Failed as why:
-            yield "the program", str(why)
-            return
-        for number, (version, length) in enumerate(chains(options.kills)):
-            chain = Chain(killed, program, folder, random.Random(f"{options.seed} kill {number}"), version)
-            yield f"chain {number} of seed {options.seed}, version {version}, {length} kills", chain.run(length)
-            met += chain.met
+    for number, (version, length) in enumerate(chains(options.kills)):
+        chain = Chain(killed, program, folder, random.Random(f"{options.seed} kill {number}"), version)
+        yield f"chain {number} of seed {options.seed}, version {version}, {length} kills", chain.run(length)
+        met += chain.met
     print(f"kills: {options.kills}, of which {met['in the midst of a call']} in the midst of a call, {met['full']} in a full segment and "
           f"{met['nothing was made']} before it was made; {met['units']} units", flush=True)
     if options.kills >= 200:
         yield "each kind of kill", None if met["in the midst of a call"] and met["full"] else f"met were {dict(met)}"
+
+
+def cases(program, options):
+    return native.cases_of("killed.cpp", lambda killed, folder: killed_often(killed, folder, program, options))

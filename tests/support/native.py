@@ -5,6 +5,7 @@ import pathlib
 import shlex
 import shutil
 import subprocess
+import tempfile
 
 from support.program import ROOT
 
@@ -62,3 +63,15 @@ class Installed:
         built = self.folder / f"{source.stem}{source.suffix.replace('.', '_')}{'_sanitized' if SANITIZED[0] in flags else ''}"
         run([*compiler(source.suffix), *STRICT, *flags, *self.words("--cflags"), "-o", built, source, *self.words("--libs")])
         return built
+
+
+def cases_of(source, test):
+    """The cases of a test that is given a program of `tests/c` and a folder to work in; or that there is no such program, and why."""
+    with tempfile.TemporaryDirectory() as scratch:
+        folder = pathlib.Path(scratch)
+        try:
+            program = Installed(folder).program(PROGRAMS / source)
+        except Failed as why:
+            yield source, str(why)
+            return
+        yield from test(program, folder)

@@ -19,6 +19,7 @@ PROGRAM = "persist_report"
 CHAINS = 8
 RUNS = 5
 STOPS = 2
+MOST_SECONDS = 60
 
 
 class Chain:
@@ -53,10 +54,19 @@ class Chain:
             wrong = f"{wrong}; of one: {this}"
         return wrong, None, None
 
+    def await_first(self, running):
+        """Waits until the process has begun to count."""
+        ends = time.monotonic() + MOST_SECONDS
+        while not any(self.tally.read_bytes()):
+            if running.poll() is not None or time.monotonic() > ends:
+                raise ChildProcessError(f"it began to count nothing; its status is {running.returncode}")
+            time.sleep(0.001)
+
     def stops(self, running):
         """Stops a process several times: what is wrong after one of them; or None, and then what the last one left."""
+        self.await_first(running)
         for _ in range(STOPS):
-            time.sleep(self.chance.uniform(0.005, 0.01 + self.chance.choice(LIVES)))
+            time.sleep(self.chance.uniform(0, self.chance.choice(LIVES)))
             memory_dump.stop(running)
             memory_dump.write(running, self.dump)
             wrong, units, image = self.wrong()

@@ -25,7 +25,7 @@ class Chain:
     def __init__(self, killed, program, folder, chance, version):
         self.killed, self.program, self.folder, self.chance, self.version = killed, program, folder, chance, version
         self.shape = chance.choice(SHAPES)
-        self.before = collections.Counter()
+        self.before, self.is_made = collections.Counter(), False
         self.met = collections.Counter()
         self.file, self.tally, self.image = (folder / name for name in ("file", "tally", "image"))
         self.file.unlink(missing_ok=True)
@@ -46,7 +46,8 @@ class Chain:
         """What is wrong with what the killed program left, or None."""
         data = self.tally.read_bytes()
         found = answer(self.program, ["extract", self.file, self.image])
-        if found.status == 3 and not self.before and not any(data):
+        is_none = found.status == 3 or not self.file.exists()
+        if is_none and not self.is_made and not any(data):
             self.met["nothing was made"] += 1
             return None
         if (found.output, found.status) != (b"8\n", 0):
@@ -54,6 +55,7 @@ class Chain:
         report = answer(self.program, ["report", self.image])
         if report.status != 0:
             return f"report: {report}"
+        self.is_made = True
         units, faults = bounds.units_of(report.output)
         wrong = bounds.wrong_of(units, faults, self.before, data, self.version)
         self.count(units, data, report.output)

@@ -250,7 +250,7 @@ inline uint32_t povundiri_adopt_in(struct povundiri_room room, const uint64_t *w
 
 /* Ends a segment and writes its image into the array; the handle is empty then, and a room is the caller's again, with the image in it.
  * `needed`, which may be null, is how many words the image has, also on SHORT: then the segment goes on.
- * Statuses: NULL, EMPTY, OTHER_KIND, IN_USE, SHORT.
+ * Statuses: NULL, EMPTY, OTHER_KIND, SHORT, IN_USE.
  * Keep: pointers, `words` does not lie in the segment's room; handles; turns; process. */
 inline uint32_t povundiri_close(struct povundiri_handle *segment, uint64_t *words, size_t length, size_t *needed) {
     const struct povundiri_handle none = {false, NULL};

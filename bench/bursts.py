@@ -1,0 +1,29 @@
+"""Programs that record bursts of samples: built, and run by turns. Each takes FORM SHARING THREADS BURSTS (record.cpp) and prints picoseconds."""
+
+import pathlib
+import subprocess
+
+HERE = pathlib.Path(__file__).resolve().parent
+RUNS = [(form, sharing, threads) for form in ("packed", "mounted")
+        for sharing, threads in (("shared", 1), ("shared", 2), ("shared", 4), ("own", 4))]
+MOST_THREADS = max(threads for _, _, threads in RUNS)
+
+
+def compiled(folder, name, *words):
+    """The program of a source here, which lies in the folder then."""
+    program = pathlib.Path(folder) / name
+    subprocess.run(["c++", "-std=c++17", "-O2", "-pthread", "-o", program, HERE / f"{name}.cpp", *words], check=True)
+    return [program]
+
+
+def nanoseconds(program, run, bursts):
+    words = [*program, *map(str, run), str(bursts)]
+    return int(subprocess.run(words, check=True, capture_output=True, text=True).stdout.splitlines()[-1]) / 1000
+
+
+def least_by_turns(programs, run, options):
+    """The least nanoseconds a sample of each program."""
+    least = [float("inf")] * len(programs)
+    for _ in range(options.turns):
+        least = [min(before, nanoseconds(program, run, options.bursts)) for before, program in zip(least, programs)]
+    return least

@@ -1,0 +1,103 @@
+/* The functions of povundiri.h that are inline there, for whoever calls them by name; and the names of the statuses. */
+
+#include "povundiri.h"
+
+extern inline bool povundiri_is_array(const void *at, size_t length);
+extern inline void *povundiri_address(const void *at);
+extern inline bool povundiri_is_room(struct povundiri_room room);
+extern inline uint32_t povundiri_create(struct povundiri_shape shape, struct povundiri_handle *out);
+extern inline uint32_t povundiri_create_in(struct povundiri_room room, struct povundiri_shape shape, struct povundiri_handle *out);
+extern inline uint32_t povundiri_adopt(const uint64_t *words, size_t length, size_t cursors, struct povundiri_handle *out);
+extern inline uint32_t povundiri_adopt_in(struct povundiri_room room, const uint64_t *words, size_t length, size_t cursors,
+                                          struct povundiri_handle *out);
+extern inline uint32_t povundiri_close(struct povundiri_handle *segment, uint64_t *words, size_t length, size_t *needed);
+extern inline uint32_t povundiri_drop(struct povundiri_handle *handle);
+extern inline uint32_t povundiri_recorder(struct povundiri_handle *segment, uint32_t units, struct povundiri_handle *out);
+extern inline uint32_t povundiri_join(struct povundiri_handle *segment, struct povundiri_handle *recorder);
+extern inline uint32_t povundiri_units(struct povundiri_handle *handle, uint32_t *units);
+extern inline uint32_t povundiri_outstanding(struct povundiri_handle *segment, uint32_t *outstanding);
+extern inline uint32_t povundiri_hist(struct povundiri_handle *recorder, const char *name, size_t name_length, struct povundiri_spec spec,
+                                      const uint32_t *values, size_t values_length, size_t *hist);
+extern inline uint32_t povundiri_hist_linear(struct povundiri_handle *recorder, const char *name, uint32_t minimum, uint32_t maximum,
+                                             uint32_t buckets, size_t *hist);
+extern inline uint32_t povundiri_hist_boolean(struct povundiri_handle *recorder, const char *name, size_t *hist);
+extern inline uint32_t povundiri_hist_custom(struct povundiri_handle *recorder, const char *name, const uint32_t *values, size_t length,
+                                             size_t *hist);
+extern inline uint32_t povundiri_hist_sparse(struct povundiri_handle *recorder, const char *name, size_t *hist);
+extern inline uint32_t povundiri_add(struct povundiri_handle *recorder, size_t hist, int32_t value, uint32_t count);
+extern inline uint32_t povundiri_batch(struct povundiri_handle *recorder, size_t hist, const struct povundiri_item *items, size_t length,
+                                       int64_t sum, size_t *added);
+extern inline uint32_t povundiri_delta(struct povundiri_handle *recorder, size_t hist, struct povundiri_count *counts, size_t length,
+                                       struct povundiri_totals *totals);
+extern inline uint32_t povundiri_snapshot(struct povundiri_handle *recorder, size_t hist, struct povundiri_count *counts, size_t length,
+                                          struct povundiri_totals *totals);
+extern inline uint32_t povundiri_set_corrupt(struct povundiri_handle *recorder);
+extern inline uint32_t povundiri_records(struct povundiri_handle *recorder, uint64_t *records, size_t length, size_t *needed);
+extern inline uint32_t povundiri_next_shared(struct povundiri_handle *recorder, size_t cursor, uint64_t *record);
+extern inline uint32_t povundiri_report(const uint64_t *words, size_t length, char *text, size_t text_length, size_t *needed);
+
+struct named {
+    uint32_t status;
+    const char *name;
+};
+
+static const struct named NAMES[] = {
+    {POVUNDIRI_DONE, "Done"},
+    {POVUNDIRI_NULL, "Null"},
+    {POVUNDIRI_BAD_ROOM, "BadRoom"},
+    {POVUNDIRI_EMPTY, "EmptyHandle"},
+    {POVUNDIRI_NOT_EMPTY, "FullHandle"},
+    {POVUNDIRI_OTHER_KIND, "OtherKind"},
+    {POVUNDIRI_OTHER_SEGMENT, "OtherSegment"},
+    {POVUNDIRI_SHORT, "Short"},
+    {POVUNDIRI_UNKNOWN, "UnknownHistogram"},
+    {POVUNDIRI_NO_CURSOR, "NoCursor"},
+    {POVUNDIRI_BAD_KIND, "NoSuchKind"},
+    {POVUNDIRI_IN_USE, "InUse"},
+    {POVUNDIRI_LIST_ENDS, "ListEnds"},
+    {POVUNDIRI_NO_MEMORY, "NoMemory"},
+    {POVUNDIRI_REFUSED_BAD_NAME, "BadName"},
+    {POVUNDIRI_REFUSED_BAD_SPEC, "BadSpec"},
+    {POVUNDIRI_REFUSED_ZERO_COUNT, "ZeroCount"},
+    {POVUNDIRI_REFUSED_NO_UNITS, "NoUnits"},
+    {POVUNDIRI_REFUSED_TOO_MANY, "TooMany"},
+    {POVUNDIRI_REFUSED_NO_MEMORY, "NoMemory"},
+    {POVUNDIRI_REFUSED_TOO_LARGE, "TooLarge"},
+    {POVUNDIRI_REFUSED_CORRUPT, "Corrupt"},
+    {POVUNDIRI_REFUSED_FULL, "Full"},
+    {POVUNDIRI_REFUSED_OTHER_SPEC, "OtherSpec"},
+    {POVUNDIRI_OPEN_BAD_SHAPE, "BadShape"},
+    {POVUNDIRI_OPEN_BAD_CURSORS, "BadCursors"},
+    {POVUNDIRI_OPEN_NO_MEMORY, "NoMemory"},
+    {POVUNDIRI_ADOPT_BAD_IMAGE, "Image"},
+    {POVUNDIRI_ADOPT_OLD_VERSION, "OldVersion"},
+    {POVUNDIRI_ADOPT_CORRUPT, "Corrupt"},
+    {POVUNDIRI_ADOPT_DAMAGED, "Damaged"},
+    {POVUNDIRI_ADOPT_NO_UNITS, "NoUnits"},
+    {POVUNDIRI_ADOPT_BAD_CURSORS, "BadCursors"},
+    {POVUNDIRI_ADOPT_NO_MEMORY, "NoMemory"},
+    {POVUNDIRI_SPEC_BAD_MIN, "BadMin"},
+    {POVUNDIRI_SPEC_BAD_MAX, "BadMax"},
+    {POVUNDIRI_SPEC_TOO_FEW, "TooFew"},
+    {POVUNDIRI_SPEC_TOO_MANY, "TooMany"},
+    {POVUNDIRI_SPEC_BAD_RANGE, "BadRange"},
+    {POVUNDIRI_SPEC_EMPTY, "Empty"},
+    {POVUNDIRI_IMAGE_TOO_SHORT, "TooShort"},
+    {POVUNDIRI_IMAGE_BAD_COOKIE, "BadCookie"},
+    {POVUNDIRI_IMAGE_BAD_VERSION, "BadVersion"},
+    {POVUNDIRI_IMAGE_BAD_PAGE, "BadPage"},
+    {POVUNDIRI_IMAGE_BAD_SIZE, "BadSize"},
+    {POVUNDIRI_IMAGE_NOT_READY, "NotReady"},
+    {POVUNDIRI_IMAGE_DELETED, "Deleted"},
+    {POVUNDIRI_IMAGE_BAD_FREE, "BadFree"},
+    {POVUNDIRI_IMAGE_BAD_QUEUE, "BadQueue"},
+    {POVUNDIRI_IMAGE_NO_MEMORY, "NoMemory"},
+};
+
+const char *povundiri_status_text(uint32_t status) {
+    size_t i;
+    for (i = 0; i < sizeof NAMES / sizeof NAMES[0]; i += 1) {
+        if (NAMES[i].status == status) return NAMES[i].name;
+    }
+    return "NoSuchStatus";
+}

@@ -1,0 +1,424 @@
+/* Povundiri for C99: threads record samples into histograms of one segment, without locks. A segment lies in the heap, or in memory that
+ * the caller gives, as a mapped file (povundiri_file.h): what was recorded there stands there also after the process was killed.
+ *
+ *     struct povundiri_handle segment = {0}, recorder = {0};
+ *     struct povundiri_shape shape = {65536, 4096, 7, 0, 2};
+ *     size_t latency;
+ *     povundiri_create(shape, &segment);                                      one for all threads
+ *     povundiri_recorder(&segment, 1000, &recorder);                          one for each thread, with 1,000 units
+ *     povundiri_hist_linear(&recorder, "latency", 1, 1000, 50, &latency);     in the thread
+ *     povundiri_add(&recorder, latency, 17, 1);                               a value, once
+ *     povundiri_join(&segment, &recorder);                                    when the thread is done
+ *     povundiri_close(&segment, words, length, &needed);                      the image
+ *
+ * Each call answers a status: POVUNDIRI_DONE, or why nothing was done. A null, an array that is too short, a handle that is closed or of
+ * another kind are statuses. No call waits or takes a lock.
+ *
+ * WHAT THE CALLER KEEPS. No call can test this; where it is not kept, anything may happen. Behind each call stands which of these it asks.
+ *
+ *   pointers    Each is null or leads to memory for what its type says (an array: for as many elements as its length says), aligned
+ *               for that type. During the call no other thread touches it, or writes what is const. No two lead to the same memory.
+ *   handles     A handle begins as zeros. Only these calls change it. It is not copied: to move it, copy it and zero the old one.
+ *   turns       A handle is given to one call at a time. It goes to another thread in order: by a lock, the start or the join of a
+ *               thread, or an atomic of sequential consistency. So each thread has a recorder of its own, and the handle of the
+ *               segment is with one thread at a time, which makes recorders and joins them.
+ *   room        It is aligned to 16, and a multiple of 16 bytes that is not 0. From the call on it is the segment's: nobody writes
+ *               there or unmaps it until the segment is closed or dropped and each of its recorders is joined or dropped. Another
+ *               process may read it, word by word.
+ *   process     No call comes from a signal handler, or from a forked child of a process with threads. malloc, realloc and free are
+ *               of one allocator, and blocks are aligned to 16 where their size is a multiple of 16.
+ */
+#ifndef POVUNDIRI_H
+#define POVUNDIRI_H
+
+#include <stdbool.h>
+#include <stddef.h>
+#include <stdint.h>
+#include <string.h>
+
+#ifdef __cplusplus
+extern "C" {
+#endif
+
+/* A segment, a recorder, or nothing. It begins as zeros, and is so again when it is closed, joined or dropped. */
+struct povundiri_handle {
+    bool full;
+    void *at;
+};
+
+/* Memory of the caller. A segment of SIZE words with CURSORS shared cursors wants (SIZE + 1 + CURSORS) * 8 bytes, rounded up to a
+ * multiple of 16. Its image begins at byte 8. All zeros: no room. */
+struct povundiri_room {
+    void *at;
+    size_t bytes;
+};
+
+/* What a segment is made as.
+ *   size      how many words of 64 bits it has: whole pages, 1,048,576 words at most. It does not grow.
+ *   page      how many words a page has: a multiple of 16, from 64 to 65,536. The record of a histogram and its counts, 4 words and
+ *             two for each bucket, fit in a page.
+ *   id        any number
+ *   cursors   how many cursors along the list of records the recorders share: 0 to 8. No part of the image.
+ *   version   2; or 1, for readers that know no other. An image of version 1 cannot be adopted. */
+struct povundiri_shape {
+    uint64_t size;
+    uint64_t page;
+    uint64_t id;
+    size_t cursors;
+    uint64_t version;
+};
+
+enum povundiri_kind {
+    POVUNDIRI_LINEAR = 1,
+    POVUNDIRI_BOOLEAN = 2,
+    POVUNDIRI_CUSTOM = 3,
+    POVUNDIRI_SPARSE = 4
+};
+
+/* How a histogram splits the values. The last three are of a linear one: so many buckets, one of them below the minimum and one
+ * from the maximum on. Of the other kinds they are not looked at. */
+struct povundiri_spec {
+    uint32_t kind;
+    uint32_t minimum;
+    uint32_t maximum;
+    uint32_t buckets;
+};
+
+/* Units of a value. */
+struct povundiri_item {
+    int32_t value;
+    uint32_t count;
+};
+
+/* Units of a key: the least value of a bucket, or a value of a sparse histogram. */
+struct povundiri_count {
+    int32_t key;
+    uint64_t count;
+};
+
+/* What a delta or a snapshot answers beside its counts. */
+struct povundiri_totals {
+    size_t length;      /* how many counts it wrote; on POVUNDIRI_SHORT, how many the array has to have room for */
+    int64_t sum;
+    uint64_t redundant; /* of a snapshot: the units, counted once more; of a delta 0 */
+};
+
+/* The statuses. From 100 on they are numbers of the library's faults; povundiri_status_text has their names. */
+enum povundiri_status {
+    POVUNDIRI_DONE = 0,
+    POVUNDIRI_NULL = 1,          /* a pointer is null that may not be */
+    POVUNDIRI_BAD_ROOM = 2,      /* the room is not aligned to 16, or no multiple of 16 bytes, or has none */
+    POVUNDIRI_EMPTY = 3,         /* the handle holds nothing: it was never filled, or is closed, joined or dropped */
+    POVUNDIRI_NOT_EMPTY = 4,     /* the handle that is to be filled holds something */
+    POVUNDIRI_OTHER_KIND = 5,    /* the handle is a recorder's where a segment's is asked for, or the other way round */
+    POVUNDIRI_OTHER_SEGMENT = 6, /* the recorder is of another segment */
+    POVUNDIRI_SHORT = 7,         /* the array is too short: what it needs is answered, and nothing was taken */
+    POVUNDIRI_UNKNOWN = 8,       /* the recorder was answered with no such histogram */
+    POVUNDIRI_NO_CURSOR = 9,     /* the segment has no such shared cursor */
+    POVUNDIRI_BAD_KIND = 10,     /* there is no such kind of histogram */
+    POVUNDIRI_IN_USE = 11,       /* the segment has recorders */
+    POVUNDIRI_LIST_ENDS = 12,    /* behind the cursor there is no record as yet */
+    POVUNDIRI_NO_MEMORY = 13,    /* there was no memory for a handle, a name, or a text */
+
+    /* Why a call is refused. */
+    POVUNDIRI_REFUSED_BAD_NAME = 101,
+    POVUNDIRI_REFUSED_BAD_SPEC = 102, /* never answered: 401 to 406 say what is wrong with it */
+    POVUNDIRI_REFUSED_ZERO_COUNT = 103,
+    POVUNDIRI_REFUSED_NO_UNITS = 104,
+    POVUNDIRI_REFUSED_TOO_MANY = 105,
+    POVUNDIRI_REFUSED_NO_MEMORY = 106,
+    POVUNDIRI_REFUSED_TOO_LARGE = 107,
+    POVUNDIRI_REFUSED_CORRUPT = 108,
+    POVUNDIRI_REFUSED_FULL = 109,
+    POVUNDIRI_REFUSED_OTHER_SPEC = 110,
+
+    /* Why no segment was made. */
+    POVUNDIRI_OPEN_BAD_SHAPE = 201,
+    POVUNDIRI_OPEN_BAD_CURSORS = 202,
+    POVUNDIRI_OPEN_NO_MEMORY = 203, /* also: the room is too small */
+
+    /* Why an image was not adopted. */
+    POVUNDIRI_ADOPT_BAD_IMAGE = 301, /* never answered: 501 to 509 say what is wrong with its header */
+    POVUNDIRI_ADOPT_OLD_VERSION = 302,
+    POVUNDIRI_ADOPT_CORRUPT = 303,
+    POVUNDIRI_ADOPT_DAMAGED = 304,
+    POVUNDIRI_ADOPT_NO_UNITS = 305,
+    POVUNDIRI_ADOPT_BAD_CURSORS = 306,
+    POVUNDIRI_ADOPT_NO_MEMORY = 307, /* also: the room is too small */
+
+    /* What is wrong with a spec. */
+    POVUNDIRI_SPEC_BAD_MIN = 401,
+    POVUNDIRI_SPEC_BAD_MAX = 402,
+    POVUNDIRI_SPEC_TOO_FEW = 403,
+    POVUNDIRI_SPEC_TOO_MANY = 404,
+    POVUNDIRI_SPEC_BAD_RANGE = 405,
+    POVUNDIRI_SPEC_EMPTY = 406,
+
+    /* What is wrong with the header of an image. */
+    POVUNDIRI_IMAGE_TOO_SHORT = 501,
+    POVUNDIRI_IMAGE_BAD_COOKIE = 502,
+    POVUNDIRI_IMAGE_BAD_VERSION = 503,
+    POVUNDIRI_IMAGE_BAD_PAGE = 504,
+    POVUNDIRI_IMAGE_BAD_SIZE = 505,
+    POVUNDIRI_IMAGE_NOT_READY = 506,
+    POVUNDIRI_IMAGE_DELETED = 507,
+    POVUNDIRI_IMAGE_BAD_FREE = 508,
+    POVUNDIRI_IMAGE_BAD_QUEUE = 509,
+    POVUNDIRI_IMAGE_NO_MEMORY = 513 /* of a report: there was none to read the image */
+};
+
+/* The proved functions. They test no pointer: not even an empty array may be null. `none` is a handle of zeros, which takes the place of
+ * what is let go. Call the functions below instead. */
+uint32_t povundiri_proved_create(struct povundiri_shape shape, struct povundiri_handle *out);
+uint32_t povundiri_proved_create_in(struct povundiri_room room, struct povundiri_shape shape, struct povundiri_handle *out);
+uint32_t povundiri_proved_adopt(const uint64_t *words, size_t length, size_t cursors, struct povundiri_handle *out);
+uint32_t povundiri_proved_adopt_in(struct povundiri_room room, const uint64_t *words, size_t length, size_t cursors,
+                                   struct povundiri_handle *out);
+uint32_t povundiri_proved_close(struct povundiri_handle *segment, struct povundiri_handle none, uint64_t *words, size_t length,
+                                size_t *needed);
+uint32_t povundiri_proved_drop(struct povundiri_handle *handle, struct povundiri_handle none);
+uint32_t povundiri_proved_recorder(struct povundiri_handle *segment, uint32_t units, struct povundiri_handle *out);
+uint32_t povundiri_proved_join(struct povundiri_handle *segment, struct povundiri_handle *recorder, struct povundiri_handle none);
+uint32_t povundiri_proved_units(struct povundiri_handle *handle, uint32_t *units);
+uint32_t povundiri_proved_outstanding(struct povundiri_handle *segment, uint32_t *outstanding);
+uint32_t povundiri_proved_hist(struct povundiri_handle *recorder, const uint8_t *name, size_t name_length, struct povundiri_spec spec,
+                               const uint32_t *values, size_t values_length, size_t *hist);
+uint32_t povundiri_proved_add(struct povundiri_handle *recorder, size_t hist, int32_t value, uint32_t count);
+uint32_t povundiri_proved_batch(struct povundiri_handle *recorder, size_t hist, const struct povundiri_item *items, size_t length,
+                                int64_t sum, size_t *added);
+uint32_t povundiri_proved_delta(struct povundiri_handle *recorder, size_t hist, struct povundiri_count *counts, size_t length,
+                                struct povundiri_totals *totals);
+uint32_t povundiri_proved_snapshot(struct povundiri_handle *recorder, size_t hist, struct povundiri_count *counts, size_t length,
+                                   struct povundiri_totals *totals);
+uint32_t povundiri_proved_set_corrupt(struct povundiri_handle *recorder);
+uint32_t povundiri_proved_records(struct povundiri_handle *recorder, uint64_t *records, size_t length, size_t *needed);
+uint32_t povundiri_proved_next_shared(struct povundiri_handle *recorder, size_t cursor, uint64_t *record);
+uint32_t povundiri_proved_report(const uint64_t *words, size_t words_length, uint8_t *text, size_t text_length, size_t *needed);
+
+/* Whether an array is one: only an empty one may be null. */
+inline bool povundiri_is_array(const void *at, size_t length) {
+    return at != NULL || length == 0;
+}
+
+/* An address for an array: where it has none, any that is aligned. */
+inline void *povundiri_address(const void *at) {
+    return at != NULL ? (void *)(uintptr_t)at : (void *)(uintptr_t)16;
+}
+
+/* Whether a room is one, as far as it can be told. */
+inline bool povundiri_is_room(struct povundiri_room room) {
+    return room.at != NULL && (uintptr_t)room.at % 16 == 0 && room.bytes % 16 == 0 && room.bytes != 0;
+}
+
+/* ---- Segments ---- */
+
+/* A new segment without records, in the heap. It has 4,294,967,295 units: a sample takes as many as it counts.
+ * Statuses: NULL, NOT_EMPTY; OPEN_BAD_SHAPE, OPEN_BAD_CURSORS, OPEN_NO_MEMORY; NO_MEMORY.
+ * Keep: pointers; handles: `out` begins as zeros; process. */
+inline uint32_t povundiri_create(struct povundiri_shape shape, struct povundiri_handle *out) {
+    return out == NULL ? (uint32_t)POVUNDIRI_NULL : povundiri_proved_create(shape, out);
+}
+
+/* The same in a room. What stands there is overwritten; where the process is killed during this call, and the room was not zeros, some
+ * of both may stand there.
+ * Statuses: NULL, BAD_ROOM, then as above; OPEN_NO_MEMORY also where the room is too small. On any but DONE the room is the caller's still.
+ * Keep: room; pointers, `out` does not lie in the room; handles: `out` begins as zeros; process. */
+inline uint32_t povundiri_create_in(struct povundiri_room room, struct povundiri_shape shape, struct povundiri_handle *out) {
+    if (out == NULL) return POVUNDIRI_NULL;
+    return povundiri_is_room(room) ? povundiri_proved_create_in(room, shape, out) : (uint32_t)POVUNDIRI_BAD_ROOM;
+}
+
+/* A segment in the heap that goes on with the words of an image of version 2: with its names, counts, sums and free space, and all units
+ * that it has not used. Any words may be given: they are checked first.
+ * Statuses: NULL, NOT_EMPTY; IMAGE_.. and ADOPT_.., the first that holds; NO_MEMORY.
+ * Keep: pointers; handles: `out` begins as zeros; process. */
+inline uint32_t povundiri_adopt(const uint64_t *words, size_t length, size_t cursors, struct povundiri_handle *out) {
+    if (out == NULL || !povundiri_is_array(words, length)) return POVUNDIRI_NULL;
+    return povundiri_proved_adopt((const uint64_t *)povundiri_address(words), length, cursors, out);
+}
+
+/* The same in a room. Where the image was read out of the same room, each word is written as it stands: a process that is killed
+ * during this call leaves the image as it was.
+ * Statuses: NULL, BAD_ROOM, then as above; ADOPT_NO_MEMORY also where the room is too small. On any but DONE the room is the caller's still.
+ * Keep: room; pointers, neither `words` nor `out` lies in the room; handles: `out` begins as zeros; process. */
+inline uint32_t povundiri_adopt_in(struct povundiri_room room, const uint64_t *words, size_t length, size_t cursors,
+                                   struct povundiri_handle *out) {
+    if (out == NULL || !povundiri_is_array(words, length)) return POVUNDIRI_NULL;
+    if (!povundiri_is_room(room)) return POVUNDIRI_BAD_ROOM;
+    return povundiri_proved_adopt_in(room, (const uint64_t *)povundiri_address(words), length, cursors, out);
+}
+
+/* Ends a segment and writes its image into the array; the handle is empty then, and a room is the caller's again, with the image in it.
+ * `needed`, which may be null, is how many words the image has, also on SHORT: then the segment goes on.
+ * Statuses: NULL, EMPTY, OTHER_KIND, SHORT, IN_USE.
+ * Keep: pointers, `words` does not lie in the segment's room; handles; turns; process. */
+inline uint32_t povundiri_close(struct povundiri_handle *segment, uint64_t *words, size_t length, size_t *needed) {
+    const struct povundiri_handle none = {false, NULL};
+    size_t own = 0;
+    if (segment == NULL || !povundiri_is_array(words, length)) return POVUNDIRI_NULL;
+    return povundiri_proved_close(segment, none, (uint64_t *)povundiri_address(words), length, needed != NULL ? needed : &own);
+}
+
+/* Lets a segment or a recorder go, whose handle is empty then. What a recorder counted stays in the segment, which does not get its
+ * other units back. A segment ends, without an image, when it and all its recorders are gone; then a room is the caller's again.
+ * Statuses: NULL, EMPTY.
+ * Keep: pointers; handles; turns; process. */
+inline uint32_t povundiri_drop(struct povundiri_handle *handle) {
+    const struct povundiri_handle none = {false, NULL};
+    return handle == NULL ? (uint32_t)POVUNDIRI_NULL : povundiri_proved_drop(handle, none);
+}
+
+/* A recorder for one thread, with so many of the segment's units.
+ * Statuses: NULL, NOT_EMPTY, EMPTY, OTHER_KIND; REFUSED_NO_UNITS: the segment has fewer; REFUSED_TOO_MANY: it has 256 recorders; NO_MEMORY.
+ * Keep: pointers; handles: `out` begins as zeros; turns: that of the segment; process. */
+inline uint32_t povundiri_recorder(struct povundiri_handle *segment, uint32_t units, struct povundiri_handle *out) {
+    if (segment == NULL || out == NULL) return POVUNDIRI_NULL;
+    return segment == out ? (uint32_t)POVUNDIRI_NOT_EMPTY : povundiri_proved_recorder(segment, units, out);
+}
+
+/* Takes a recorder back: its handle is empty then, and the units that it has left are the segment's.
+ * Statuses: NULL, EMPTY, OTHER_KIND, OTHER_SEGMENT.
+ * Keep: pointers; handles; turns: those of both; process. */
+inline uint32_t povundiri_join(struct povundiri_handle *segment, struct povundiri_handle *recorder) {
+    const struct povundiri_handle none = {false, NULL};
+    if (segment == NULL || recorder == NULL) return POVUNDIRI_NULL;
+    return segment == recorder ? (uint32_t)POVUNDIRI_OTHER_KIND : povundiri_proved_join(segment, recorder, none);
+}
+
+/* Of a segment the units that no recorder was given, of a recorder those that it may still spend.
+ * Statuses: NULL, EMPTY.
+ * Keep: pointers; handles; turns; process. */
+inline uint32_t povundiri_units(struct povundiri_handle *handle, uint32_t *units) {
+    return handle == NULL || units == NULL ? (uint32_t)POVUNDIRI_NULL : povundiri_proved_units(handle, units);
+}
+
+/* How many recorders of a segment were made and not joined.
+ * Statuses: NULL, EMPTY, OTHER_KIND.
+ * Keep: pointers; handles; turns; process. */
+inline uint32_t povundiri_outstanding(struct povundiri_handle *segment, uint32_t *outstanding) {
+    return segment == NULL || outstanding == NULL ? (uint32_t)POVUNDIRI_NULL : povundiri_proved_outstanding(segment, outstanding);
+}
+
+/* ---- Recorders ---- */
+
+/* The number of the histogram of a name, for the calls of this recorder alone: of the first record of the name in the segment, which is
+ * made where there is none. A name has 1 to 128 bytes from 0x21 to 0x7E without comma and quotation mark, and no '!' in front. `values`
+ * are those of a custom spec, from which its buckets begin, in any order; for the other kinds they are not looked at.
+ * Statuses: NULL, EMPTY, BAD_KIND, NO_MEMORY, OTHER_KIND; REFUSED_BAD_NAME; SPEC_..; REFUSED_TOO_LARGE, REFUSED_NO_MEMORY,
+ * REFUSED_OTHER_SPEC, REFUSED_CORRUPT, REFUSED_FULL.
+ * Keep: pointers; handles; turns; process. */
+inline uint32_t povundiri_hist(struct povundiri_handle *recorder, const char *name, size_t name_length, struct povundiri_spec spec,
+                               const uint32_t *values, size_t values_length, size_t *hist) {
+    if (recorder == NULL || hist == NULL) return POVUNDIRI_NULL;
+    if (!povundiri_is_array(name, name_length) || !povundiri_is_array(values, values_length)) return POVUNDIRI_NULL;
+    return povundiri_proved_hist(recorder, (const uint8_t *)povundiri_address(name), name_length, spec,
+                                 (const uint32_t *)povundiri_address(values), values_length, hist);
+}
+
+/* The same of a name that ends at its first zero byte, for each kind.
+ * Statuses and what to keep: as above. */
+inline uint32_t povundiri_hist_linear(struct povundiri_handle *recorder, const char *name, uint32_t minimum, uint32_t maximum,
+                                      uint32_t buckets, size_t *hist) {
+    struct povundiri_spec spec = {POVUNDIRI_LINEAR, minimum, maximum, buckets};
+    return name == NULL ? (uint32_t)POVUNDIRI_NULL : povundiri_hist(recorder, name, strlen(name), spec, NULL, 0, hist);
+}
+
+inline uint32_t povundiri_hist_boolean(struct povundiri_handle *recorder, const char *name, size_t *hist) {
+    struct povundiri_spec spec = {POVUNDIRI_BOOLEAN, 0, 0, 0};
+    return name == NULL ? (uint32_t)POVUNDIRI_NULL : povundiri_hist(recorder, name, strlen(name), spec, NULL, 0, hist);
+}
+
+inline uint32_t povundiri_hist_custom(struct povundiri_handle *recorder, const char *name, const uint32_t *values, size_t length,
+                                      size_t *hist) {
+    struct povundiri_spec spec = {POVUNDIRI_CUSTOM, 0, 0, 0};
+    return name == NULL ? (uint32_t)POVUNDIRI_NULL : povundiri_hist(recorder, name, strlen(name), spec, values, length, hist);
+}
+
+inline uint32_t povundiri_hist_sparse(struct povundiri_handle *recorder, const char *name, size_t *hist) {
+    struct povundiri_spec spec = {POVUNDIRI_SPARSE, 0, 0, 0};
+    return name == NULL ? (uint32_t)POVUNDIRI_NULL : povundiri_hist(recorder, name, strlen(name), spec, NULL, 0, hist);
+}
+
+/* Adds a sample: so many units of a value. On any but DONE nothing was counted.
+ * Statuses: NULL, EMPTY, OTHER_KIND, UNKNOWN; REFUSED_ZERO_COUNT, REFUSED_NO_UNITS, REFUSED_CORRUPT, REFUSED_FULL.
+ * Keep: pointers; handles; turns; process. */
+inline uint32_t povundiri_add(struct povundiri_handle *recorder, size_t hist, int32_t value, uint32_t count) {
+    return recorder == NULL ? (uint32_t)POVUNDIRI_NULL : povundiri_proved_add(recorder, hist, value, count);
+}
+
+/* Adds units of values, in order, and then an amount to the sum. It takes as many units as the items have, and no fewer than the size of
+ * the sum divided by 2^31. `added`, which may be null, is how many items were counted: all on DONE, and on REFUSED_FULL and
+ * REFUSED_CORRUPT those before the one for which no block was found. The sum is added on DONE alone.
+ * Statuses: NULL, EMPTY, NO_MEMORY; then as of povundiri_add. It asks for 8 bytes for each item.
+ * Keep: pointers; handles; turns; process. */
+inline uint32_t povundiri_batch(struct povundiri_handle *recorder, size_t hist, const struct povundiri_item *items, size_t length,
+                                int64_t sum, size_t *added) {
+    size_t own = 0;
+    if (recorder == NULL || !povundiri_is_array(items, length)) return POVUNDIRI_NULL;
+    return povundiri_proved_batch(recorder, hist, (const struct povundiri_item *)povundiri_address(items), length, sum,
+                                  added != NULL ? added : &own);
+}
+
+/* Takes what no delta took before: the keys that have such units, ascending, and what is new of the sum.
+ * Statuses: NULL, EMPTY, OTHER_KIND, UNKNOWN; SHORT: the array wants room for as many keys as the histogram may have, and nothing is
+ * taken (its buckets; of a sparse one as many samples as fit in the segment); REFUSED_NO_MEMORY.
+ * Keep: pointers; handles; turns; process. */
+inline uint32_t povundiri_delta(struct povundiri_handle *recorder, size_t hist, struct povundiri_count *counts, size_t length,
+                                struct povundiri_totals *totals) {
+    if (recorder == NULL || totals == NULL || !povundiri_is_array(counts, length)) return POVUNDIRI_NULL;
+    return povundiri_proved_delta(recorder, hist, (struct povundiri_count *)povundiri_address(counts), length, totals);
+}
+
+/* What a histogram has: the units of each of its buckets, or of each value that has some; its sum; and its units, counted once more.
+ * Statuses and what to keep: as of povundiri_delta. */
+inline uint32_t povundiri_snapshot(struct povundiri_handle *recorder, size_t hist, struct povundiri_count *counts, size_t length,
+                                   struct povundiri_totals *totals) {
+    if (recorder == NULL || totals == NULL || !povundiri_is_array(counts, length)) return POVUNDIRI_NULL;
+    return povundiri_proved_snapshot(recorder, hist, (struct povundiri_count *)povundiri_address(counts), length, totals);
+}
+
+/* Marks the segment as corrupt for good: no block is claimed in it any more, and its image cannot be adopted.
+ * Statuses: NULL, EMPTY, OTHER_KIND.
+ * Keep: pointers; handles; turns; process. */
+inline uint32_t povundiri_set_corrupt(struct povundiri_handle *recorder) {
+    return recorder == NULL ? (uint32_t)POVUNDIRI_NULL : povundiri_proved_set_corrupt(recorder);
+}
+
+/* The references of all records of the list, in its order: the words of the image at which they begin. `needed`, which may be null, is
+ * how many there are, also on SHORT.
+ * Statuses: NULL, EMPTY, OTHER_KIND, SHORT, REFUSED_NO_MEMORY.
+ * Keep: pointers; handles; turns; process. */
+inline uint32_t povundiri_records(struct povundiri_handle *recorder, uint64_t *records, size_t length, size_t *needed) {
+    size_t own = 0;
+    if (recorder == NULL || !povundiri_is_array(records, length)) return POVUNDIRI_NULL;
+    return povundiri_proved_records(recorder, (uint64_t *)povundiri_address(records), length, needed != NULL ? needed : &own);
+}
+
+/* The next record of a cursor that all recorders share: each record goes to one recorder alone.
+ * Statuses: NULL, EMPTY, OTHER_KIND, NO_CURSOR; LIST_ENDS: there is none as yet.
+ * Keep: pointers; handles; turns; process. */
+inline uint32_t povundiri_next_shared(struct povundiri_handle *recorder, size_t cursor, uint64_t *record) {
+    return recorder == NULL || record == NULL ? (uint32_t)POVUNDIRI_NULL : povundiri_proved_next_shared(recorder, cursor, record);
+}
+
+/* ---- Readers ---- */
+
+/* The report of an image as CSV, without a zero byte behind. Any words may be given. `needed`, which may be null, is how many bytes it
+ * has, also on SHORT.
+ * Statuses: NULL; IMAGE_..: its header has this fault; IMAGE_NO_MEMORY, NO_MEMORY; SHORT.
+ * Keep: pointers; process. */
+inline uint32_t povundiri_report(const uint64_t *words, size_t length, char *text, size_t text_length, size_t *needed) {
+    size_t own = 0;
+    if (!povundiri_is_array(words, length) || !povundiri_is_array(text, text_length)) return POVUNDIRI_NULL;
+    return povundiri_proved_report((const uint64_t *)povundiri_address(words), length, (uint8_t *)povundiri_address(text), text_length,
+                                   needed != NULL ? needed : &own);
+}
+
+/* The name of a status, of any number. For what most names from 101 on mean, ask persist_report explain NAME. */
+const char *povundiri_status_text(uint32_t status);
+
+#ifdef __cplusplus
+}
+#endif
+
+#endif

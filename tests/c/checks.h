@@ -1,0 +1,38 @@
+/* What a test checks: a line for each that fails, and behind each group of them a line with its name. */
+#ifndef CHECKS_H
+#define CHECKS_H
+
+#include <stdio.h>
+#include <string.h>
+
+#include "povundiri.h"
+
+static int failed_here;
+
+static void check(int line, const char *what, int holds) {
+    if (holds) return;
+    printf("line %d: %s\n", line, what);
+    failed_here += 1;
+}
+
+static void check_status(int line, const char *call, uint32_t wanted, uint32_t came) {
+    if (wanted == came) return;
+    printf("line %d: %s: wanted %u (%s), came %u (%s)\n", line, call, (unsigned)wanted, povundiri_status_text(wanted), (unsigned)came,
+           povundiri_status_text(came));
+    failed_here += 1;
+}
+
+#define HOLDS(condition) check(__LINE__, #condition, (condition))
+#define ANSWERS(status, call) check_status(__LINE__, #call, POVUNDIRI_##status, (call))
+#define DONE(call) ANSWERS(DONE, call)
+
+/* Runs a group of checks; 1 where one failed. */
+static int group(const char *name, void (*checks)(void)) {
+    failed_here = 0;
+    checks();
+    printf("%s: %s\n", name, failed_here == 0 ? "passed" : "failed");
+    fflush(stdout);
+    return failed_here != 0;
+}
+
+#endif

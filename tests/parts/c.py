@@ -1,0 +1,170 @@
+"""The interface for C and C++: every call of the headers, and each of its statuses, under the address sanitizer; the examples; and the
+program that docs/C.md shows.
+
+The programs are in `tests/c`. Each prints a line for each group of its checks.
+"""
+
+import pathlib
+import re
+import subprocess
+import tempfile
+import time
+
+from support import native
+from support.program import ROOT, Answer, answer, difference
+
+PROGRAM = "persist_report"
+NO_EXCEPTIONS = "-fno-exceptions"
+MOST_SECONDS = 120
+# A source, more flags, and whether it is told a folder to work in.
+CHECKS = (
+    ("every_call.c", [], False),
+    ("every_call.cpp", [], False),
+    ("every_call.cpp", [NO_EXCEPTIONS], False),
+    ("refused_memory.c", [], False),
+    ("mapped_file.c", [], True),
+)
+
+
+EXAMPLES = ROOT / "examples"
+PAGES = ("README.md", "docs/C.md")
+# What examples/c/record.c records when it is run twice: where each bucket begins and the last one ends, and the units of each.
+ENDS = (0, 1, 126, 251, 376, 501, 625, 750, 875, 1000)
+UNITS = (2, 250, 250, 250, 250, 248, 250, 250, 250)
+RECORDED = "".join(f"latency,linear,{low},{high},{units}\n" for low, high, units in zip(ENDS, ENDS[1:], UNITS)) + "latency,total,2000,999000\n"
+
+
+def groups(said):
+    """The name of each group of checks that a program tells of, and what failed in it or None."""
+    failed = []
+    for line in said.splitlines():
+        name, _, how = line.rpartition(": ")
+        if how == "passed":
+            yield name, None
+        elif how == "failed":
+            yield name, "; ".join(failed)
+            failed = []
+        else:
+            failed.append(line)
+
+
+def checked(installed, name, flags, folder):
+    """The cases of one program."""
+    title = " ".join([name, *flags])
+    try:
+        program = installed.program(native.PROGRAMS / name, *native.SANITIZED, *flags)
+        words = [program] if folder is None else [program, folder]
+        done = subprocess.run(words, capture_output=True, text=True, timeout=MOST_SECONDS, env={"ASAN_OPTIONS": "detect_leaks=1"})
+    except native.Failed as why:
+        yield title, str(why)
+        return
+    for group, wrong in groups(done.stdout):
+        yield f"{title}, {group}", wrong
+    yield f"{title}, its end", None if done.returncode == 0 else f"status {done.returncode}: {done.stderr[-1500:]}"
+
+
+def exported(installed):
+    """Each function that the headers declare is in the archive, by its name."""
+    text = "".join((native.LIBRARY / name).read_text() for name in ("povundiri.h", "povundiri_file.h"))
+    declared = set(re.findall(r"^(?:inline )?[a-z][\w ]*[ *](povundiri_\w+)\(", text, re.MULTILINE))
+    defined = set(re.findall(r" T (povundiri_\w+)$", native.run(["nm", "-g", installed.prefix / "lib" / "libpovundiri.a"]), re.MULTILINE))
+    yield "each function is in the archive", None if declared and declared <= defined else f"missing are {sorted(declared - defined)}"
+
+
+def text_of_statuses():
+    """Each status has a name."""
+    header, names = ((native.LIBRARY / name).read_text() for name in ("povundiri.h", "povundiri.c"))
+    listed = re.findall(r"^    \{(POVUNDIRI_\w+), \"\w+\"\},$", names, re.MULTILINE)
+    statuses = re.findall(r"^    (POVUNDIRI_\w+) = \d+", header.split("enum povundiri_status")[1], re.MULTILINE)
+    yield "each status has a name", None if statuses and statuses == listed else f"they differ: {sorted(set(statuses) ^ set(listed))}"
+
+
+def report_in(program, file):
+    """The report of the segment that stands at byte 8 of a file, or what was said in its place."""
+    image = file.with_suffix(".img")
+    found = answer(program, ["extract", file, image])
+    return answer(program, ["report", image]) if found == Answer(b"8\n") else found
+
+
+def record_example(installed, program, folder):
+    """`examples/c/record.c`, run twice: the second time it goes on with what stands in the file."""
+    record, file = installed.program(EXAMPLES / "c" / "record.c"), folder / "record.seg"
+    for _ in range(2):
+        wrong = difference(Answer(), answer(record, [file]))
+        if wrong is not None:
+            return wrong
+    return difference(Answer(RECORDED.encode()), report_in(program, file))
+
+
+def requests_of(report):
+    """How many requests a report of the service tells of."""
+    total = re.search(rb"^latency_us,total,(\d+),", report.output, re.MULTILINE)
+    return 0 if total is None else int(total[1])
+
+
+def killed_service(service, program, file, before):
+    """What the service prints until it is killed, once it has answered more requests than there were before."""
+    ends = time.monotonic() + MOST_SECONDS
+    with subprocess.Popen([service, file], stdout=subprocess.PIPE) as running:
+        try:
+            while running.poll() is None and requests_of(report_in(program, file)) <= before and time.monotonic() < ends:
+                time.sleep(0.05)
+        finally:
+            running.kill()
+        return running.stdout.read()
+
+
+def service_example(installed, program, folder):
+    """`examples/cpp/service.cpp`, killed three times: each time it first prints what the one before had left."""
+    service, file = installed.program(EXAMPLES / "cpp" / "service.cpp"), folder / "service.seg"
+    left, before = Answer(), 0
+    for _ in range(3):
+        wrong = difference(left, Answer(killed_service(service, program, file, before)))
+        left = report_in(program, file)
+        if wrong is not None or requests_of(left) <= before:
+            return wrong or f"behind {before} requests came {left}"
+        before = requests_of(left)
+    return None
+
+
+def shown_programs(folder):
+    """The programs that the pages show, as files: blocks that begin with an include."""
+    for page in PAGES:
+        blocks = re.findall(r"(?:^(?: {4}.*)?\n)+", (ROOT / page).read_text(), re.MULTILINE)
+        blocks = [block for block in blocks if block.lstrip("\n").startswith("    #include")]
+        for number, block in enumerate(blocks):
+            kind = ".cpp" if "povundiri.hpp" in block else ".c"
+            source = folder / f"{pathlib.Path(page).stem}_{number}{kind}"
+            source.write_text("".join(f"{line[4:]}\n" for line in block.strip("\n").splitlines()))
+            yield f"program {number + 1} of {page}", source
+
+
+def examples(installed, program, folder):
+    """The two examples, and what the pages show."""
+    yield "record.c", lambda: record_example(installed, program, folder)
+    yield "service.cpp", lambda: service_example(installed, program, folder)
+    for name, source in shown_programs(folder):
+        yield name, lambda source=source: installed.program(source) and None
+
+
+def wrong_of(test):
+    try:
+        return test()
+    except native.Failed as why:
+        return str(why)
+
+
+def cases(program, options):
+    with tempfile.TemporaryDirectory() as scratch:
+        folder = pathlib.Path(scratch)
+        try:
+            installed = native.Installed(folder)
+        except native.Failed as why:
+            yield "the library", str(why)
+            return
+        yield from exported(installed)
+        yield from text_of_statuses()
+        for name, flags, works in CHECKS:
+            yield from checked(installed, name, flags, folder if works else None)
+        for name, test in examples(installed, program, folder):
+            yield name, wrong_of(test)

@@ -1,0 +1,105 @@
+"""Four threads of a C++ program record into a segment in the heap. It is stopped at random moments, and its memory is read out.
+
+`extract` finds the segment in that, `report` shows no bad record and no stop, and each bucket has at most what was begun and at least
+what had ended. The image of the last stop is adopted by the next run, which goes on in its own heap.
+
+In the memory stand other segments too: what the segment was made of, and the image that was adopted. These have what was there before.
+"""
+
+import collections
+import random
+import subprocess
+import time
+
+from parts.kills import LIVES, SHAPES
+from support import bounds, memory_dump, native
+from support.program import answer
+
+PROGRAM = "persist_report"
+CHAINS = 8
+RUNS = 5
+STOPS = 2
+MOST_SECONDS = 60
+
+
+class Chain:
+    """Runs of the program, each of which goes on with the image that was found in the memory of the one before."""
+
+    def __init__(self, killed, program, folder, chance, version):
+        self.killed, self.program, self.folder, self.chance, self.version = killed, program, folder, chance, version
+        self.shape = chance.choice(SHAPES)
+        self.before = collections.Counter()
+        self.image, self.tally, self.dump, self.found = (folder / name for name in ("image", "tally", "dump", "found"))
+        self.image.unlink(missing_ok=True)
+
+    def readings(self):
+        """What is read of each segment that is found in the memory, and its image."""
+        nth = 1
+        while True:
+            if answer(self.program, ["extract", self.dump, self.found, "--nth", str(nth)]).status != 0:
+                return
+            report = answer(self.program, ["report", self.found])
+            if report.status == 0:
+                yield *bounds.units_of(report.output), self.found.read_bytes()
+            nth += 1
+
+    def wrong(self):
+        """What is wrong with what the memory has; or None, and then the units and the image of what was found there."""
+        data = self.tally.read_bytes()
+        wrong = "no segment stands in the memory"
+        for units, faults, image in self.readings():
+            this = bounds.wrong_of(units, faults, self.before, data, self.version)
+            if this is None:
+                return None, units, image
+            wrong = f"{wrong}; of one: {this}"
+        return wrong, None, None
+
+    def await_first(self, running):
+        """Waits until the process has begun to count."""
+        ends = time.monotonic() + MOST_SECONDS
+        while not any(self.tally.read_bytes()):
+            if running.poll() is not None or time.monotonic() > ends:
+                raise ChildProcessError(f"it began to count nothing; its status is {running.returncode}")
+            time.sleep(0.001)
+
+    def stops(self, running):
+        """Stops a process several times: what is wrong after one of them; or None, and then what the last one left."""
+        self.await_first(running)
+        for _ in range(STOPS):
+            time.sleep(self.chance.uniform(0, self.chance.choice(LIVES)))
+            memory_dump.stop(running)
+            memory_dump.write(running, self.dump)
+            wrong, units, image = self.wrong()
+            if wrong is not None:
+                return wrong, None, None
+            memory_dump.go_on(running)
+        return None, units, image
+
+    def run(self):
+        """What is wrong with one run, or None."""
+        self.tally.write_bytes(bytes(bounds.BYTES))
+        words = [self.killed, "heap", self.image, self.tally, self.chance.getrandbits(31), self.version, *self.shape]
+        with subprocess.Popen([str(word) for word in words], stdout=subprocess.PIPE) as running:
+            try:
+                running.stdout.read(7)
+                wrong, units, image = self.stops(running)
+            except ChildProcessError as why:
+                wrong, units, image = str(why), None, None
+            finally:
+                running.kill()
+        if wrong is None and self.version == 2:
+            self.before = units
+            self.image.write_bytes(image)
+        return wrong
+
+
+def stopped(killed, folder, program, options):
+    for number in range(CHAINS):
+        version = 1 if number % 4 == 3 else 2
+        chain = Chain(killed, program, folder, random.Random(f"{options.seed} dump {number}"), version)
+        for run in range(RUNS):
+            yield f"chain {number} of seed {options.seed}, version {version}, run {run}, {chain.shape[0]} words", chain.run()
+
+
+def cases(program, options):
+    return native.cases_of("killed.cpp", lambda killed, folder: stopped(killed, folder, program, options))

@@ -1,0 +1,104 @@
+"""Four threads of a C++ program record into a mapped file until it is killed, at a random moment.
+
+`extract` and `report` then show no bad record and no stop, and each bucket has at most what was begun and at least what had ended.
+An image of version 2 is adopted by the next run in the same file, which goes on recording and is killed again, twenty times over.
+"""
+
+import collections
+import random
+import subprocess
+import time
+
+from support import bounds, native
+from support.program import answer
+
+PROGRAM = "persist_report"
+CHAIN = 20
+# How long a program lives at most, in seconds.
+LIVES = (0.001, 0.005, 0.02, 0.06)
+SHAPES = ((65_536, 4096), (8192, 1024), (4096, 512), (2048, 512))
+
+
+class Chain:
+    """Runs of the program in one file, each of which is killed."""
+
+    def __init__(self, killed, program, folder, chance, version):
+        self.killed, self.program, self.folder, self.chance, self.version = killed, program, folder, chance, version
+        self.shape = chance.choice(SHAPES)
+        self.before, self.is_made = collections.Counter(), False
+        self.met = collections.Counter()
+        self.file, self.tally, self.image = (folder / name for name in ("file", "tally", "image"))
+        self.file.unlink(missing_ok=True)
+
+    def kill(self):
+        """Runs it and kills it: what it said on its error stream, or nothing."""
+        self.tally.write_bytes(bytes(bounds.BYTES))
+        words = [self.killed, "file", self.file, self.tally, self.chance.getrandbits(31), self.version, *self.shape]
+        with subprocess.Popen([str(word) for word in words], stdout=subprocess.PIPE, stderr=subprocess.PIPE) as running:
+            try:
+                running.stdout.read(7)
+                time.sleep(self.chance.uniform(0, self.chance.choice(LIVES)))
+            finally:
+                running.kill()
+            return running.stderr.read().decode()
+
+    def wrong(self):
+        """What is wrong with what the killed program left, or None."""
+        data = self.tally.read_bytes()
+        found = answer(self.program, ["extract", self.file, self.image])
+        is_none = found.status == 3 or not self.file.exists()
+        if is_none and not self.is_made and not any(data):
+            self.met["nothing was made"] += 1
+            return None
+        if (found.output, found.status) != (b"8\n", 0):
+            return f"extract: {found}"
+        report = answer(self.program, ["report", self.image])
+        if report.status != 0:
+            return f"report: {report}"
+        self.is_made = True
+        units, faults = bounds.units_of(report.output)
+        wrong = bounds.wrong_of(units, faults, self.before, data, self.version)
+        self.count(units, data, report.output)
+        self.before = units
+        return wrong
+
+    def count(self, units, data, report):
+        begun, ended = bounds.numbers(data)
+        self.met["in the midst of a call"] += begun != ended
+        self.met["full"] += b"!flag,full\n" in report
+        self.met["units"] += sum(units.values()) - sum(self.before.values())
+
+    def run(self, kills):
+        """What is wrong after one of so many kills, or None."""
+        for number in range(kills):
+            said = self.kill()
+            wrong = f"it said {said}" if said else self.wrong()
+            if wrong is not None:
+                return f"kill {number + 1} of {kills}, {self.shape[0]} words: {wrong}"
+        return None
+
+
+def chains(kills):
+    """The version of each chain and how often its program is killed: of version 1 once, five such behind each twenty of version 2."""
+    while kills > 0:
+        for version, length in ((2, CHAIN), *(((1, 1),) * 5)):
+            length = min(length, kills)
+            kills -= length
+            if length > 0:
+                yield version, length
+
+
+def killed_often(killed, folder, program, options):
+    met = collections.Counter()
+    for number, (version, length) in enumerate(chains(options.kills)):
+        chain = Chain(killed, program, folder, random.Random(f"{options.seed} kill {number}"), version)
+        yield f"chain {number} of seed {options.seed}, version {version}, {length} kills", chain.run(length)
+        met += chain.met
+    print(f"kills: {options.kills}, of which {met['in the midst of a call']} in the midst of a call, {met['full']} in a full segment and "
+          f"{met['nothing was made']} before it was made; {met['units']} units", flush=True)
+    if options.kills >= 200:
+        yield "each kind of kill", None if met["in the midst of a call"] and met["full"] else f"met were {dict(met)}"
+
+
+def cases(program, options):
+    return native.cases_of("killed.cpp", lambda killed, folder: killed_often(killed, folder, program, options))

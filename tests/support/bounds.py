@@ -1,0 +1,63 @@
+"""What a killed program may have left: of each bucket at least the units that it had ended, and at most those that it had begun.
+
+The program is `tests/c/killed.cpp`, and the file in which it tells both is that of `tests/c/tally.hpp`.
+"""
+
+import collections
+import struct
+
+THREADS = 4
+LINEAR_LOWS = (0, 1, 126, 251, 376, 501, 625, 750, 875, 1000)
+CELLS = [
+    *(("boolean", low) for low in (0, 1, 2)),
+    *(("linear", low) for low in LINEAR_LOWS),
+    *(("custom", low) for low in (0, 10, 100, 1000)),
+    *(("sparse", low) for low in range(-64, 64)),
+    *((f"made_{number}", 1) for number in range(111)),
+]
+BYTES = THREADS * len(CELLS) * 16
+MOST_PACKED = 65_535
+
+
+def numbers(data):
+    """Of each cell what all threads began, and what they ended."""
+    begun, ended = collections.Counter(), collections.Counter()
+    for place, (more, fewer) in enumerate(struct.iter_unpack("<QQ", data)):
+        cell = CELLS[place % len(CELLS)]
+        begun[cell] += more
+        ended[cell] += fewer
+    return begun, ended
+
+
+def units_of(report):
+    """The units of each bucket that a report has, and its lines of faults."""
+    units, faults = collections.Counter(), []
+    for line in report.decode().splitlines():
+        fields = line.split(",")
+        if fields[0] in ("!bad", "!stopped") or line == "!flag,corrupt":
+            faults.append(line)
+        elif fields[0][0] != "!" and fields[1] != "total":
+            units[(fields[0], int(fields[2]))] = int(fields[4])
+    return units, faults
+
+
+def short_of(units, least, version):
+    """The buckets that have too few units. In version 1 one of each histogram with buckets may lack those that were being moved."""
+    short = [cell for cell in least if units[cell] < least[cell]]
+    if version == 2:
+        return short
+    names = collections.Counter(name for name, _ in short)
+    return [cell for cell in short if cell[0] == "sparse" or names[cell[0]] > 1 or least[cell] - units[cell] > MOST_PACKED]
+
+
+def wrong_of(units, faults, before, data, version):
+    """What is wrong with the units of a report, beside those that were there before and what the threads told; or None."""
+    if faults:
+        return f"the report has {faults[:3]}"
+    begun, ended = numbers(data)
+    for cell in units:
+        if units[cell] > before[cell] + begun[cell]:
+            return f"{cell} has {units[cell]} units, and {before[cell]} + {begun[cell]} were begun"
+    for cell in short_of(units, before + ended, version):
+        return f"{cell} has {units[cell]} units, and {before[cell]} + {ended[cell]} had ended"
+    return None

@@ -1,0 +1,77 @@
+"""C and C++ programs: the library as `make -C c` builds it, installed for one run, and what is compiled against it by pkg-config."""
+
+import os
+import pathlib
+import shlex
+import shutil
+import subprocess
+import tempfile
+
+from support.program import ROOT
+
+LIBRARY = ROOT / "c"
+PROGRAMS = ROOT / "tests" / "c"
+COMPILERS = {".c": ("CC", "cc", "-std=c99"), ".cpp": ("CXX", "c++", "-std=c++17")}
+STRICT = ["-O1", "-g", "-Wall", "-Wextra", "-Wpedantic", "-Werror", "-pthread"]
+SANITIZED = ["-fsanitize=address,undefined", "-fno-sanitize-recover=all"]
+MOST_SECONDS = 300
+
+
+class Failed(Exception):
+    """What was not there, or what a tool said that failed."""
+
+
+def run(words, **settings):
+    """What a tool prints; it has to end well."""
+    try:
+        done = subprocess.run([str(word) for word in words], capture_output=True, text=True, timeout=MOST_SECONDS, **settings)
+    except FileNotFoundError:
+        raise Failed(f"there is no {words[0]}, which this part needs") from None
+    except subprocess.TimeoutExpired:
+        raise Failed(f"{words[0]}: no end within {MOST_SECONDS} seconds") from None
+    if done.returncode != 0:
+        raise Failed(f"{words[0]}: status {done.returncode}, {(done.stderr or done.stdout)[-1500:]}")
+    return done.stdout
+
+
+def compiler(suffix):
+    """The words with which sources of this kind are compiled."""
+    variable, usual, standard = COMPILERS[suffix]
+    words = shlex.split(os.environ.get(variable, usual))
+    if shutil.which(words[0]) is None:
+        raise Failed(f"there is no {words[0]}: this part needs a compiler of C and of C++")
+    return [*words, standard]
+
+
+class Installed:
+    """The library, built and installed in a folder."""
+
+    def __init__(self, folder):
+        for suffix in COMPILERS:
+            compiler(suffix)
+        self.folder = pathlib.Path(folder)
+        self.prefix = self.folder / "prefix"
+        run(["make", "-s", "-C", LIBRARY, "install", f"PREFIX={self.prefix}"])
+
+    def words(self, what):
+        """What pkg-config answers for the library."""
+        path = str(self.prefix / "lib" / "pkgconfig")
+        return shlex.split(run(["pkg-config", what, "povundiri"], env={**os.environ, "PKG_CONFIG_PATH": path}))
+
+    def program(self, source, *flags):
+        """A program, compiled and linked; `flags` are more words for the compiler."""
+        built = self.folder / f"{source.stem}{source.suffix.replace('.', '_')}{'_sanitized' if SANITIZED[0] in flags else ''}"
+        run([*compiler(source.suffix), *STRICT, *flags, *self.words("--cflags"), "-o", built, source, *self.words("--libs")])
+        return built
+
+
+def cases_of(source, test):
+    """The cases of a test that is given a program of `tests/c` and a folder to work in; or that there is no such program, and why."""
+    with tempfile.TemporaryDirectory() as scratch:
+        folder = pathlib.Path(scratch)
+        try:
+            program = Installed(folder).program(PROGRAMS / source)
+        except Failed as why:
+            yield source, str(why)
+            return
+        yield from test(program, folder)

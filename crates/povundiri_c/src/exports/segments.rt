@@ -23,7 +23,13 @@ ghost use Rattle.std.specs.Prelude.{◌≡◌};
 ghost use Rattle.live_segment.specs.Holders.{IsMadeWith};
 
 // Fills a handle, which is empty, with a segment.
-fn fill_with_segment(alloc: Global, out: &mut Handle, segment: Segment, opener: Opener, cursors: usize) -> u32
+fn fill_with_segment(
+    alloc: Global,
+    out: &mut Handle,
+    segment: Segment,
+    opener: Opener,
+    cursors: usize,
+) -> u32
     requires made { IsMadeWith segment opener }
     requires counted { cursors ≡ segment.setting.cursors }
 {

@@ -1,3 +1,4 @@
+pub mod Calls
 pub mod Reports
 pub mod Sealed
 pub mod Status

@@ -1,6 +1,7 @@
 //! What C holds.
 
-ghost use Rattle.std.specs.Prelude.{◌≡◌, Some, None, MatchResult};
+ghost use Rattle.std.specs.Prelude.{◌≡◌, false, Some, None, IfErr, MatchResult};
+ghost use Rattle.povundiri_c.specs.Calls.{asked_of, outstanding_in, units_of};
 ghost use Rattle.povundiri_c.specs.Sealed.{is_some};
 
 use crate::held::{Held, Unjoined};
@@ -55,7 +56,8 @@ impl Handle {
 
     /// What it holds. It is empty then: `none`, which is, takes its place.
     pub(crate) fn take(&mut self, none: Handle) -> Result<Box<Held>, u32>
-        ensures { MatchResult result (λ boxed. (self.old.seal.held ≡ Some boxed.value) × (self.new.seal.held ≡ None)) (λ _. self.new ≡ self.old) }
+        ensures taken { MatchResult result (λ boxed. (self.old.seal.held ≡ Some boxed.value) × (self.new.seal.held ≡ None)) (λ _. self.new ≡ self.old) }
+        ensures why { IfErr result (λ status. is_some none.seal.held ≡ false → (status ≡ 3) × (is_some self.old.seal.held ≡ false)) }
     {
         if none.full {
             return Err(NOT_EMPTY);
@@ -104,7 +106,9 @@ impl Handle {
         replace_with(self, asked, Handle::recorder_within)
     }
 
-    fn units_within(self, _nothing: ()) -> (Handle, Result<u32, u32>) {
+    fn units_within(self, _nothing: ()) -> (Handle, Result<u32, u32>)
+        ensures { (result.1 ≡ asked_of units_of self.seal.held) × (result.0.seal.held ≡ self.seal.held) }
+    {
         match self.into_box() {
             Ok(mut boxed) => {
                 let answer = boxed.units();
@@ -114,11 +118,15 @@ impl Handle {
         }
     }
 
-    pub(crate) fn units(&mut self) -> Result<u32, u32> {
+    pub(crate) fn units(&mut self) -> Result<u32, u32>
+        ensures { (result ≡ asked_of units_of self.old.seal.held) × (self.new.seal.held ≡ self.old.seal.held) }
+    {
         replace_with(self, (), Handle::units_within)
     }
 
-    fn outstanding_within(self, _nothing: ()) -> (Handle, Result<u32, u32>) {
+    fn outstanding_within(self, _nothing: ()) -> (Handle, Result<u32, u32>)
+        ensures { (result.1 ≡ asked_of outstanding_in self.seal.held) × (result.0.seal.held ≡ self.seal.held) }
+    {
         match self.into_box() {
             Ok(mut boxed) => {
                 let answer = boxed.outstanding();
@@ -128,7 +136,9 @@ impl Handle {
         }
     }
 
-    pub(crate) fn outstanding(&mut self) -> Result<u32, u32> {
+    pub(crate) fn outstanding(&mut self) -> Result<u32, u32>
+        ensures { (result ≡ asked_of outstanding_in self.old.seal.held) × (self.new.seal.held ≡ self.old.seal.held) }
+    {
         replace_with(self, (), Handle::outstanding_within)
     }
 

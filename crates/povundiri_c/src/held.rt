@@ -1,5 +1,8 @@
 //! What a handle holds.
 
+ghost use Rattle.std.specs.Prelude.{◌≡◌};
+ghost use Rattle.povundiri_c.specs.Calls.{outstanding_in, units_of};
+
 use crate::owner::Owner;
 use crate::status::{DONE, IN_USE, OTHER_KIND, OTHER_SEGMENT, Refused, SHORT};
 use crate::worker::Worker;
@@ -96,7 +99,9 @@ impl Held {
         }
     }
 
-    pub(crate) fn units(&mut self) -> Result<u32, u32> {
+    pub(crate) fn units(&mut self) -> Result<u32, u32>
+        ensures { (result ≡ units_of self.old) × (self.new ≡ self.old) }
+    {
         match self {
             Held::Owner(owner) => Ok(owner.units()),
             Held::Worker(worker) => Ok(worker.recorder.units()),
@@ -104,7 +109,9 @@ impl Held {
         }
     }
 
-    pub(crate) fn outstanding(&mut self) -> Result<u32, u32> {
+    pub(crate) fn outstanding(&mut self) -> Result<u32, u32>
+        ensures { (result ≡ outstanding_in self.old) × (self.new ≡ self.old) }
+    {
         match self {
             Held::Owner(owner) => Ok(owner.outstanding()),
             _ => Err(OTHER_KIND),

@@ -2,7 +2,8 @@
 
 ghost use Rattle.std.specs.Arc.{arc_value};
 ghost use Rattle.std.specs.Prelude.{◌≡◌};
-ghost use Rattle.live_segment.specs.Holders.{IsMadeWith};
+ghost use Rattle.live_segment.specs.Holders.{IsMadeWith, view_of_opener};
+ghost use Rattle.segment_machine.specs.Actor.{outstanding_of};
 ghost use Rattle.povundiri_c.specs.Tray.{cursors_of};
 
 use crate::status::{NO_MEMORY, of_refusal};
@@ -53,11 +54,15 @@ impl Owner {
         self.segment.size()
     }
 
-    pub(crate) fn units(&self) -> u32 {
+    pub(crate) fn units(&self) -> u32
+        ensures { result ≡ (view_of_opener self.now.opener).units.share }
+    {
         self.opener.units()
     }
 
-    pub(crate) fn outstanding(&self) -> u32 {
+    pub(crate) fn outstanding(&self) -> u32
+        ensures { result ≡ outstanding_of (view_of_opener self.now.opener).role }
+    {
         self.opener.outstanding()
     }
 

@@ -19,8 +19,10 @@ fn fill(alloc: Global, out: &mut Handle, held: Held) -> u32 {
     }
 }
 
-ghost use Rattle.std.specs.Prelude.{◌≡◌};
+ghost use Rattle.std.specs.Prelude.{◌≡◌, true, false, None};
 ghost use Rattle.live_segment.specs.Holders.{IsMadeWith};
+ghost use Rattle.povundiri_c.specs.Calls.{asked_of, IsGiven, outstanding_in, units_of};
+ghost use Rattle.povundiri_c.specs.Sealed.{is_some};
 
 // Fills a handle, which is empty, with a segment.
 fn fill_with_segment(
@@ -156,7 +158,10 @@ pub extern "C" fn povundiri_proved_close(
 
 /// Lets a segment or a recorder go: its handle is empty then, and `none` stands in its place.
 #[unsafe(no_mangle)]
-pub extern "C" fn povundiri_proved_drop(handle: &mut Handle, none: Handle) -> u32 {
+pub extern "C" fn povundiri_proved_drop(handle: &mut Handle, none: Handle) -> u32
+    ensures empty { is_some none.seal.held ≡ false → is_some handle.old.seal.held ≡ false → (result ≡ 3) × (handle.new ≡ handle.old) }
+    ensures done { is_some none.seal.held ≡ false → is_some handle.old.seal.held ≡ true → (result ≡ 0) × (handle.new.seal.held ≡ None) }
+{
     match handle.take(none) {
         Ok(boxed) => {
             drop(boxed);
@@ -205,7 +210,10 @@ pub extern "C" fn povundiri_proved_join(
 
 /// The units that no recorder has; or those that a recorder may still spend.
 #[unsafe(no_mangle)]
-pub extern "C" fn povundiri_proved_units(handle: &mut Handle, units: &mut u32) -> u32 {
+pub extern "C" fn povundiri_proved_units(handle: &mut Handle, units: &mut u32) -> u32
+    ensures answer { IsGiven (asked_of units_of handle.old.seal.held) result units.old units.new }
+    ensures same { handle.new.seal.held ≡ handle.old.seal.held }
+{
     match handle.units() {
         Ok(found) => {
             *units = found;
@@ -217,7 +225,10 @@ pub extern "C" fn povundiri_proved_units(handle: &mut Handle, units: &mut u32) -
 
 /// How many recorders were made and are not joined.
 #[unsafe(no_mangle)]
-pub extern "C" fn povundiri_proved_outstanding(segment: &mut Handle, outstanding: &mut u32) -> u32 {
+pub extern "C" fn povundiri_proved_outstanding(segment: &mut Handle, outstanding: &mut u32) -> u32
+    ensures answer { IsGiven (asked_of outstanding_in segment.old.seal.held) result outstanding.old outstanding.new }
+    ensures same { segment.new.seal.held ≡ segment.old.seal.held }
+{
     match segment.outstanding() {
         Ok(found) => {
             *outstanding = found;

@@ -12,6 +12,7 @@
 #include <string>
 #include <string_view>
 #include <thread>
+#include <utility>
 #include <vector>
 
 #include <povundiri.hpp>
@@ -57,7 +58,8 @@ std::vector<std::int32_t> values_of(bool packed) {
     return values;
 }
 
-void record(Worker& worker, std::size_t samples, const std::vector<std::int32_t>& values) {
+// The worker is the thread's own, and so is its handle: beside the handle of another it would share a line of the cache with that.
+void record(Worker worker, std::size_t samples, const std::vector<std::int32_t>& values) {
     for (const povundiri::Hist histogram : worker.histograms) {
         for (std::size_t i = 0; i < samples; ++i) {
             if (worker.recorder.try_add(histogram, values[i % kValues]) != povundiri::kDone) std::abort();
@@ -71,13 +73,14 @@ double burst(const Options& options, const std::vector<std::int32_t>& values) {
     std::vector<Worker> workers;
     for (std::size_t i = 0; i < options.threads; ++i) workers.push_back(worker_of(segment, options, i));
     const std::size_t samples = options.packed ? kMostPacked / (options.shared ? options.threads : 1) : kMountedSamples;
+    const std::size_t recorded = workers[0].histograms.size() * samples;
     const auto start = std::chrono::steady_clock::now();
     std::vector<std::thread> running;
-    for (std::size_t i = 1; i < options.threads; ++i) running.emplace_back([&, i] { record(workers[i], samples, values); });
-    record(workers[0], samples, values);
+    for (std::size_t i = 1; i < options.threads; ++i) running.emplace_back([&, i] { record(std::move(workers[i]), samples, values); });
+    record(std::move(workers[0]), samples, values);
     for (std::thread& thread : running) thread.join();
     const std::chrono::duration<double, std::pico> took = std::chrono::steady_clock::now() - start;
-    return took.count() / static_cast<double>(workers[0].histograms.size() * samples);
+    return took.count() / static_cast<double>(recorded);
 }
 
 }  // namespace

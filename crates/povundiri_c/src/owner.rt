@@ -30,7 +30,12 @@ pub struct Owner {
 impl Owner {
     /// The owner of a segment and the opener that was made with it.
     #[tactic(auto, using(crate::proofs::Holding::counts))]
-    pub(crate) fn new(alloc: Global, segment: Segment, opener: Opener, cursors: usize) -> Result<Owner, AllocError>
+    pub(crate) fn new(
+        alloc: Global,
+        segment: Segment,
+        opener: Opener,
+        cursors: usize,
+    ) -> Result<Owner, AllocError>
         requires made { IsMadeWith segment opener }
         requires counted { cursors ≡ segment.setting.cursors }
     {

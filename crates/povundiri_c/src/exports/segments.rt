@@ -25,7 +25,13 @@ ghost use Rattle.povundiri_c.specs.Calls.{asked_of, IsGiven, outstanding_in, uni
 ghost use Rattle.povundiri_c.specs.Sealed.{is_some};
 
 // Fills a handle, which is empty, with a segment.
-fn fill_with_segment(alloc: Global, out: &mut Handle, segment: Segment, opener: Opener, cursors: usize) -> u32
+fn fill_with_segment(
+    alloc: Global,
+    out: &mut Handle,
+    segment: Segment,
+    opener: Opener,
+    cursors: usize,
+) -> u32
     requires made { IsMadeWith segment opener }
     requires counted { cursors ≡ segment.setting.cursors }
 {

@@ -1,4 +1,6 @@
+pub mod Asking
 pub mod Calls
+pub mod Recorders
 pub mod Reports
 pub mod Sealed
 pub mod Status

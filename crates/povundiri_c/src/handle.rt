@@ -1,7 +1,8 @@
 //! What C holds.
 
 ghost use Rattle.std.specs.Prelude.{◌≡◌, false, Some, None, IfErr, MatchResult};
-ghost use Rattle.povundiri_c.specs.Calls.{asked_of, outstanding_in, units_of};
+ghost use Rattle.povundiri_c.specs.Calls.{asked_of, GivesOfRecorder, OfRecorder, outstanding_in, units_of};
+ghost use Rattle.povundiri_c.specs.Recorders.{Adds, AtPlace, FindsHist, Marks, TakesNext, WalksAll};
 ghost use Rattle.povundiri_c.specs.Sealed.{is_some};
 
 use crate::held::{Held, Unjoined};
@@ -142,7 +143,9 @@ impl Handle {
         replace_with(self, (), Handle::outstanding_within)
     }
 
-    fn hist_within(self, asked: (&[u8], &Spec)) -> (Handle, Result<usize, u32>) {
+    fn hist_within(self, asked: (&[u8], &Spec)) -> (Handle, Result<usize, u32>)
+        ensures { GivesOfRecorder (FindsHist asked.entry.0.now asked.entry.1.now) self.seal.held result.1 result.0.seal.held }
+    {
         match self.into_box() {
             Ok(mut boxed) => {
                 let answer = boxed.hist(asked.0, asked.1);
@@ -152,11 +155,15 @@ impl Handle {
         }
     }
 
-    pub(crate) fn hist(&mut self, name: &[u8], spec: &Spec) -> Result<usize, u32> {
+    pub(crate) fn hist(&mut self, name: &[u8], spec: &Spec) -> Result<usize, u32>
+        ensures { GivesOfRecorder (FindsHist name.now spec.now) self.old.seal.held result self.new.seal.held }
+    {
         replace_with(self, (name, spec), Handle::hist_within)
     }
 
-    fn add_within(self, asked: (usize, i32, u32)) -> (Handle, u32) {
+    fn add_within(self, asked: (usize, i32, u32)) -> (Handle, u32)
+        ensures { OfRecorder (AtPlace 8 (Adds asked.1 asked.2) asked.0) self.seal.held result.1 result.0.seal.held }
+    {
         match self.into_box() {
             Ok(mut boxed) => {
                 let answer = boxed.add(asked.0, asked.1, asked.2);
@@ -166,7 +173,9 @@ impl Handle {
         }
     }
 
-    pub(crate) fn add(&mut self, place: usize, value: i32, count: u32) -> u32 {
+    pub(crate) fn add(&mut self, place: usize, value: i32, count: u32) -> u32
+        ensures { OfRecorder (AtPlace 8 (Adds value count) place) self.old.seal.held result self.new.seal.held }
+    {
         replace_with(self, (place, value, count), Handle::add_within)
     }
 
@@ -217,7 +226,9 @@ impl Handle {
         replace_with(self, (place, room), Handle::snapshot_within)
     }
 
-    fn set_corrupt_within(self, _nothing: ()) -> (Handle, u32) {
+    fn set_corrupt_within(self, _nothing: ()) -> (Handle, u32)
+        ensures { OfRecorder Marks self.seal.held result.1 result.0.seal.held }
+    {
         match self.into_box() {
             Ok(mut boxed) => {
                 let answer = boxed.set_corrupt();
@@ -227,11 +238,15 @@ impl Handle {
         }
     }
 
-    pub(crate) fn set_corrupt(&mut self) -> u32 {
+    pub(crate) fn set_corrupt(&mut self) -> u32
+        ensures { OfRecorder Marks self.old.seal.held result self.new.seal.held }
+    {
         replace_with(self, (), Handle::set_corrupt_within)
     }
 
-    fn records_within(self, _nothing: ()) -> (Handle, Result<Vec<u64>, u32>) {
+    fn records_within(self, _nothing: ()) -> (Handle, Result<Vec<u64>, u32>)
+        ensures { GivesOfRecorder WalksAll self.seal.held result.1 result.0.seal.held }
+    {
         match self.into_box() {
             Ok(mut boxed) => {
                 let answer = boxed.records();
@@ -241,11 +256,15 @@ impl Handle {
         }
     }
 
-    pub(crate) fn records(&mut self) -> Result<Vec<u64>, u32> {
+    pub(crate) fn records(&mut self) -> Result<Vec<u64>, u32>
+        ensures { GivesOfRecorder WalksAll self.old.seal.held result self.new.seal.held }
+    {
         replace_with(self, (), Handle::records_within)
     }
 
-    fn next_shared_within(self, asked: usize) -> (Handle, Result<u64, u32>) {
+    fn next_shared_within(self, asked: usize) -> (Handle, Result<u64, u32>)
+        ensures { GivesOfRecorder (TakesNext asked) self.seal.held result.1 result.0.seal.held }
+    {
         match self.into_box() {
             Ok(mut boxed) => {
                 let answer = boxed.next_shared(asked);
@@ -255,7 +274,9 @@ impl Handle {
         }
     }
 
-    pub(crate) fn next_shared(&mut self, asked: usize) -> Result<u64, u32> {
+    pub(crate) fn next_shared(&mut self, asked: usize) -> Result<u64, u32>
+        ensures { GivesOfRecorder (TakesNext asked) self.old.seal.held result self.new.seal.held }
+    {
         replace_with(self, asked, Handle::next_shared_within)
     }
 }

@@ -1,7 +1,8 @@
 //! What a handle holds.
 
-ghost use Rattle.std.specs.Prelude.{◌≡◌};
-ghost use Rattle.povundiri_c.specs.Calls.{outstanding_in, units_of};
+ghost use Rattle.std.specs.Prelude.{◌≡◌, Err};
+ghost use Rattle.povundiri_c.specs.Calls.{ByRecorder, outstanding_in, units_of};
+ghost use Rattle.povundiri_c.specs.Recorders.{Adds, AtPlace, FindsHist, Marks, TakesNext, WalksAll};
 
 use crate::owner::Owner;
 use crate::status::{DONE, IN_USE, OTHER_KIND, OTHER_SEGMENT, Refused, SHORT};
@@ -118,14 +119,18 @@ impl Held {
         }
     }
 
-    pub(crate) fn hist(&mut self, name: &[u8], spec: &Spec) -> Result<usize, u32> {
+    pub(crate) fn hist(&mut self, name: &[u8], spec: &Spec) -> Result<usize, u32>
+        ensures { ByRecorder (Err 5) (FindsHist name.now spec.now) self.old result self.new }
+    {
         match self {
             Held::Worker(worker) => worker.hist(name, spec),
             _ => Err(OTHER_KIND),
         }
     }
 
-    pub(crate) fn add(&mut self, place: usize, value: i32, count: u32) -> u32 {
+    pub(crate) fn add(&mut self, place: usize, value: i32, count: u32) -> u32
+        ensures { ByRecorder 5 (AtPlace 8 (Adds value count) place) self.old result self.new }
+    {
         match self {
             Held::Worker(worker) => worker.add(place, value, count),
             _ => OTHER_KIND,
@@ -158,7 +163,9 @@ impl Held {
         }
     }
 
-    pub(crate) fn set_corrupt(&mut self) -> u32 {
+    pub(crate) fn set_corrupt(&mut self) -> u32
+        ensures { ByRecorder 5 Marks self.old result self.new }
+    {
         match self {
             Held::Worker(worker) => {
                 worker.recorder.set_corrupt();
@@ -168,14 +175,18 @@ impl Held {
         }
     }
 
-    pub(crate) fn records(&mut self) -> Result<Vec<u64>, u32> {
+    pub(crate) fn records(&mut self) -> Result<Vec<u64>, u32>
+        ensures { ByRecorder (Err 5) WalksAll self.old result self.new }
+    {
         match self {
             Held::Worker(worker) => worker.records(),
             _ => Err(OTHER_KIND),
         }
     }
 
-    pub(crate) fn next_shared(&mut self, cursor: usize) -> Result<u64, u32> {
+    pub(crate) fn next_shared(&mut self, cursor: usize) -> Result<u64, u32>
+        ensures { ByRecorder (Err 5) (TakesNext cursor) self.old result self.new }
+    {
         match self {
             Held::Worker(worker) => worker.next_shared(cursor),
             _ => Err(OTHER_KIND),

@@ -3,6 +3,7 @@
 ghost use Rattle.std.specs.Arc.{arc_value};
 ghost use Rattle.std.specs.Prelude.{◌≡◌, IfOk};
 ghost use Rattle.owned_recorder.specs.Desks.{Knows};
+ghost use Rattle.povundiri_c.specs.Recorders.{Adds, AtPlace, FindsHist, TakesNext, WalksAll};
 ghost use Rattle.povundiri_c.specs.Tray.{IsGuestOf, cursors_of};
 
 use crate::status::{DONE, LIST_ENDS, NO_CURSOR, Refused, SHORT, UNKNOWN, of_refusal};
@@ -25,14 +26,20 @@ pub struct Worker {
 
 impl Worker {
     /// The place of the histogram of a name.
-    pub(crate) fn hist(&mut self, name: &[u8], spec: &Spec) -> Result<usize, u32> {
+    pub(crate) fn hist(&mut self, name: &[u8], spec: &Spec) -> Result<usize, u32>
+        ensures kept { self.new.tray ≡ self.old.tray }
+        ensures answer { FindsHist name.now spec.now self.old.recorder result self.new.recorder }
+    {
         match self.recorder.hist(name, spec) {
             Ok(histogram) => Ok(histogram.place()),
             Err(why) => Err(of_refusal(why)),
         }
     }
 
-    pub(crate) fn add(&mut self, place: usize, value: i32, count: u32) -> u32 {
+    pub(crate) fn add(&mut self, place: usize, value: i32, count: u32) -> u32
+        ensures kept { self.new.tray ≡ self.old.tray }
+        ensures answer { AtPlace 8 (Adds value count) place self.old.recorder result self.new.recorder }
+    {
         let Some(histogram) = self.recorder.hist_at(place) else {
             return UNKNOWN;
         };
@@ -96,7 +103,10 @@ impl Worker {
         }
     }
 
-    pub(crate) fn records(&mut self) -> Result<Vec<u64>, u32> {
+    pub(crate) fn records(&mut self) -> Result<Vec<u64>, u32>
+        ensures kept { self.new.tray ≡ self.old.tray }
+        ensures answer { WalksAll self.old.recorder result self.new.recorder }
+    {
         match self.recorder.records() {
             Ok(records) => Ok(records),
             Err(why) => Err(of_refusal(why)),
@@ -104,7 +114,10 @@ impl Worker {
     }
 
     #[tactic(auto, using(crate::proofs::Holding::has_cursor))]
-    pub(crate) fn next_shared(&mut self, cursor: usize) -> Result<u64, u32> {
+    pub(crate) fn next_shared(&mut self, cursor: usize) -> Result<u64, u32>
+        ensures kept { self.new.tray ≡ self.old.tray }
+        ensures answer { TakesNext cursor self.old.recorder result self.new.recorder }
+    {
         if cursor >= self.cursors {
             return Err(NO_CURSOR);
         }

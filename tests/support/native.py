@@ -5,13 +5,11 @@ import pathlib
 import shlex
 import shutil
 import subprocess
-import sys
 import tempfile
 
 from support.program import ROOT
 
 LIBRARY = ROOT / "c"
-ARCHIVE = ROOT / "crates" / "povundiri_c" / "out" / "libpovundiri_c.a"
 PROGRAMS = ROOT / "tests" / "c"
 COMPILERS = {".c": ("CC", "cc", "-std=c99"), ".cpp": ("CXX", "c++", "-std=c++17")}
 STRICT = ["-O1", "-g", "-Wall", "-Wextra", "-Wpedantic", "-Werror", "-pthread"]
@@ -47,14 +45,6 @@ def compiler(suffix):
     return [*words, standard]
 
 
-def mark_libraries():
-    """Has the proved part built over the libraries that `rt ci` left. Where that cannot be, all of them are built anew, which takes longer."""
-    rt = shutil.which("rt")
-    if rt is not None and not ARCHIVE.exists():
-        script = pathlib.Path(__file__).with_name("mark_libraries.py")
-        subprocess.run([sys.executable, script, pathlib.Path(rt).resolve().parent, ROOT / "crates"], capture_output=True)
-
-
 class Installed:
     """The library, built and installed in a folder."""
 
@@ -63,7 +53,6 @@ class Installed:
             compiler(suffix)
         self.folder = pathlib.Path(folder)
         self.prefix = self.folder / "prefix"
-        mark_libraries()
         run(["make", "-s", "-C", LIBRARY, "install", f"PREFIX={self.prefix}"], seconds=MOST_SECONDS_TO_BUILD)
 
     def words(self, what):

@@ -1,4 +1,5 @@
 pub mod AsBox
+pub mod Calling
 pub mod Holding
 pub mod Present
 pub mod Reporting

@@ -1,6 +1,8 @@
 //! What C holds.
 
-ghost use Rattle.std.specs.Prelude.{◌≡◌, Some, None, MatchResult};
+ghost use Rattle.std.specs.Prelude.{◌≡◌, false, Some, None, Err, IfErr, MatchResult};
+ghost use Rattle.povundiri_c.specs.Calls.{asked_of, GivesOfRecorder, OfRecorder, outstanding_in, SizesOfRecorder, units_of};
+ghost use Rattle.povundiri_c.specs.Recorders.{Adds, AtPlace, Batches, FindsHist, InRoom, Marks, refused_with, TakesDelta, TakesNext, TakesSnapshot, WalksAll};
 ghost use Rattle.povundiri_c.specs.Sealed.{is_some};
 
 use crate::held::{Held, Unjoined};
@@ -55,7 +57,8 @@ impl Handle {
 
     /// What it holds. It is empty then: `none`, which is, takes its place.
     pub(crate) fn take(&mut self, none: Handle) -> Result<Box<Held>, u32>
-        ensures { MatchResult result (λ boxed. (self.old.seal.held ≡ Some boxed.value) × (self.new.seal.held ≡ None)) (λ _. self.new ≡ self.old) }
+        ensures taken { MatchResult result (λ boxed. (self.old.seal.held ≡ Some boxed.value) × (self.new.seal.held ≡ None)) (λ _. self.new ≡ self.old) }
+        ensures why { IfErr result (λ status. is_some none.seal.held ≡ false → (status ≡ 3) × (is_some self.old.seal.held ≡ false)) }
     {
         if none.full {
             return Err(NOT_EMPTY);
@@ -104,7 +107,9 @@ impl Handle {
         replace_with(self, asked, Handle::recorder_within)
     }
 
-    fn units_within(self, _nothing: ()) -> (Handle, Result<u32, u32>) {
+    fn units_within(self, _nothing: ()) -> (Handle, Result<u32, u32>)
+        ensures { (result.1 ≡ asked_of units_of self.seal.held) × (result.0.seal.held ≡ self.seal.held) }
+    {
         match self.into_box() {
             Ok(mut boxed) => {
                 let answer = boxed.units();
@@ -114,11 +119,15 @@ impl Handle {
         }
     }
 
-    pub(crate) fn units(&mut self) -> Result<u32, u32> {
+    pub(crate) fn units(&mut self) -> Result<u32, u32>
+        ensures { (result ≡ asked_of units_of self.old.seal.held) × (self.new.seal.held ≡ self.old.seal.held) }
+    {
         replace_with(self, (), Handle::units_within)
     }
 
-    fn outstanding_within(self, _nothing: ()) -> (Handle, Result<u32, u32>) {
+    fn outstanding_within(self, _nothing: ()) -> (Handle, Result<u32, u32>)
+        ensures { (result.1 ≡ asked_of outstanding_in self.seal.held) × (result.0.seal.held ≡ self.seal.held) }
+    {
         match self.into_box() {
             Ok(mut boxed) => {
                 let answer = boxed.outstanding();
@@ -128,11 +137,15 @@ impl Handle {
         }
     }
 
-    pub(crate) fn outstanding(&mut self) -> Result<u32, u32> {
+    pub(crate) fn outstanding(&mut self) -> Result<u32, u32>
+        ensures { (result ≡ asked_of outstanding_in self.old.seal.held) × (self.new.seal.held ≡ self.old.seal.held) }
+    {
         replace_with(self, (), Handle::outstanding_within)
     }
 
-    fn hist_within(self, asked: (&[u8], &Spec)) -> (Handle, Result<usize, u32>) {
+    fn hist_within(self, asked: (&[u8], &Spec)) -> (Handle, Result<usize, u32>)
+        ensures { GivesOfRecorder (FindsHist asked.entry.0.now asked.entry.1.now) self.seal.held result.1 result.0.seal.held }
+    {
         match self.into_box() {
             Ok(mut boxed) => {
                 let answer = boxed.hist(asked.0, asked.1);
@@ -142,11 +155,15 @@ impl Handle {
         }
     }
 
-    pub(crate) fn hist(&mut self, name: &[u8], spec: &Spec) -> Result<usize, u32> {
+    pub(crate) fn hist(&mut self, name: &[u8], spec: &Spec) -> Result<usize, u32>
+        ensures { GivesOfRecorder (FindsHist name.now spec.now) self.old.seal.held result self.new.seal.held }
+    {
         replace_with(self, (name, spec), Handle::hist_within)
     }
 
-    fn add_within(self, asked: (usize, i32, u32)) -> (Handle, u32) {
+    fn add_within(self, asked: (usize, i32, u32)) -> (Handle, u32)
+        ensures { OfRecorder (AtPlace 8 (Adds asked.1 asked.2) asked.0) self.seal.held result.1 result.0.seal.held }
+    {
         match self.into_box() {
             Ok(mut boxed) => {
                 let answer = boxed.add(asked.0, asked.1, asked.2);
@@ -156,11 +173,15 @@ impl Handle {
         }
     }
 
-    pub(crate) fn add(&mut self, place: usize, value: i32, count: u32) -> u32 {
+    pub(crate) fn add(&mut self, place: usize, value: i32, count: u32) -> u32
+        ensures { OfRecorder (AtPlace 8 (Adds value count) place) self.old.seal.held result self.new.seal.held }
+    {
         replace_with(self, (place, value, count), Handle::add_within)
     }
 
-    fn batch_within(self, asked: (usize, &[(i32, u32)], i64)) -> (Handle, Result<(), Refused>) {
+    fn batch_within(self, asked: (usize, &[(i32, u32)], i64)) -> (Handle, Result<(), Refused>)
+        ensures { SizesOfRecorder (AtPlace (Err (refused_with 8)) (Batches asked.entry.1.now asked.entry.2) asked.entry.0) self.seal.held result.1 result.0.seal.held }
+    {
         match self.into_box() {
             Ok(mut boxed) => {
                 let answer = boxed.batch(asked.0, asked.1, asked.2);
@@ -175,11 +196,15 @@ impl Handle {
         place: usize,
         items: &[(i32, u32)],
         sum: i64,
-    ) -> Result<(), Refused> {
+    ) -> Result<(), Refused>
+        ensures { SizesOfRecorder (AtPlace (Err (refused_with 8)) (Batches items.now sum) place) self.old.seal.held result self.new.seal.held }
+    {
         replace_with(self, (place, items, sum), Handle::batch_within)
     }
 
-    fn delta_within(self, asked: (usize, usize)) -> (Handle, Result<Delta, Refused>) {
+    fn delta_within(self, asked: (usize, usize)) -> (Handle, Result<Delta, Refused>)
+        ensures { SizesOfRecorder (AtPlace (Err (refused_with 8)) (InRoom asked.1 TakesDelta) asked.0) self.seal.held result.1 result.0.seal.held }
+    {
         match self.into_box() {
             Ok(mut boxed) => {
                 let answer = boxed.delta(asked.0, asked.1);
@@ -189,11 +214,15 @@ impl Handle {
         }
     }
 
-    pub(crate) fn delta(&mut self, place: usize, room: usize) -> Result<Delta, Refused> {
+    pub(crate) fn delta(&mut self, place: usize, room: usize) -> Result<Delta, Refused>
+        ensures { SizesOfRecorder (AtPlace (Err (refused_with 8)) (InRoom room TakesDelta) place) self.old.seal.held result self.new.seal.held }
+    {
         replace_with(self, (place, room), Handle::delta_within)
     }
 
-    fn snapshot_within(self, asked: (usize, usize)) -> (Handle, Result<Snapshot, Refused>) {
+    fn snapshot_within(self, asked: (usize, usize)) -> (Handle, Result<Snapshot, Refused>)
+        ensures { SizesOfRecorder (AtPlace (Err (refused_with 8)) (InRoom asked.1 TakesSnapshot) asked.0) self.seal.held result.1 result.0.seal.held }
+    {
         match self.into_box() {
             Ok(mut boxed) => {
                 let answer = boxed.snapshot(asked.0, asked.1);
@@ -203,11 +232,15 @@ impl Handle {
         }
     }
 
-    pub(crate) fn snapshot(&mut self, place: usize, room: usize) -> Result<Snapshot, Refused> {
+    pub(crate) fn snapshot(&mut self, place: usize, room: usize) -> Result<Snapshot, Refused>
+        ensures { SizesOfRecorder (AtPlace (Err (refused_with 8)) (InRoom room TakesSnapshot) place) self.old.seal.held result self.new.seal.held }
+    {
         replace_with(self, (place, room), Handle::snapshot_within)
     }
 
-    fn set_corrupt_within(self, _nothing: ()) -> (Handle, u32) {
+    fn set_corrupt_within(self, _nothing: ()) -> (Handle, u32)
+        ensures { OfRecorder Marks self.seal.held result.1 result.0.seal.held }
+    {
         match self.into_box() {
             Ok(mut boxed) => {
                 let answer = boxed.set_corrupt();
@@ -217,11 +250,15 @@ impl Handle {
         }
     }
 
-    pub(crate) fn set_corrupt(&mut self) -> u32 {
+    pub(crate) fn set_corrupt(&mut self) -> u32
+        ensures { OfRecorder Marks self.old.seal.held result self.new.seal.held }
+    {
         replace_with(self, (), Handle::set_corrupt_within)
     }
 
-    fn records_within(self, _nothing: ()) -> (Handle, Result<Vec<u64>, u32>) {
+    fn records_within(self, _nothing: ()) -> (Handle, Result<Vec<u64>, u32>)
+        ensures { GivesOfRecorder WalksAll self.seal.held result.1 result.0.seal.held }
+    {
         match self.into_box() {
             Ok(mut boxed) => {
                 let answer = boxed.records();
@@ -231,11 +268,15 @@ impl Handle {
         }
     }
 
-    pub(crate) fn records(&mut self) -> Result<Vec<u64>, u32> {
+    pub(crate) fn records(&mut self) -> Result<Vec<u64>, u32>
+        ensures { GivesOfRecorder WalksAll self.old.seal.held result self.new.seal.held }
+    {
         replace_with(self, (), Handle::records_within)
     }
 
-    fn next_shared_within(self, asked: usize) -> (Handle, Result<u64, u32>) {
+    fn next_shared_within(self, asked: usize) -> (Handle, Result<u64, u32>)
+        ensures { GivesOfRecorder (TakesNext asked) self.seal.held result.1 result.0.seal.held }
+    {
         match self.into_box() {
             Ok(mut boxed) => {
                 let answer = boxed.next_shared(asked);
@@ -245,7 +286,9 @@ impl Handle {
         }
     }
 
-    pub(crate) fn next_shared(&mut self, asked: usize) -> Result<u64, u32> {
+    pub(crate) fn next_shared(&mut self, asked: usize) -> Result<u64, u32>
+        ensures { GivesOfRecorder (TakesNext asked) self.old.seal.held result self.new.seal.held }
+    {
         replace_with(self, asked, Handle::next_shared_within)
     }
 }

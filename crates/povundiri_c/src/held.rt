@@ -1,5 +1,9 @@
 //! What a handle holds.
 
+ghost use Rattle.std.specs.Prelude.{◌≡◌, Err};
+ghost use Rattle.povundiri_c.specs.Calls.{ByRecorder, outstanding_in, units_of};
+ghost use Rattle.povundiri_c.specs.Recorders.{Adds, AtPlace, Batches, FindsHist, InRoom, Marks, refused_with, TakesDelta, TakesNext, TakesSnapshot, WalksAll};
+
 use crate::owner::Owner;
 use crate::status::{DONE, IN_USE, OTHER_KIND, OTHER_SEGMENT, Refused, SHORT};
 use crate::worker::Worker;
@@ -96,7 +100,9 @@ impl Held {
         }
     }
 
-    pub(crate) fn units(&mut self) -> Result<u32, u32> {
+    pub(crate) fn units(&mut self) -> Result<u32, u32>
+        ensures { (result ≡ units_of self.old) × (self.new ≡ self.old) }
+    {
         match self {
             Held::Owner(owner) => Ok(owner.units()),
             Held::Worker(worker) => Ok(worker.recorder.units()),
@@ -104,21 +110,27 @@ impl Held {
         }
     }
 
-    pub(crate) fn outstanding(&mut self) -> Result<u32, u32> {
+    pub(crate) fn outstanding(&mut self) -> Result<u32, u32>
+        ensures { (result ≡ outstanding_in self.old) × (self.new ≡ self.old) }
+    {
         match self {
             Held::Owner(owner) => Ok(owner.outstanding()),
             _ => Err(OTHER_KIND),
         }
     }
 
-    pub(crate) fn hist(&mut self, name: &[u8], spec: &Spec) -> Result<usize, u32> {
+    pub(crate) fn hist(&mut self, name: &[u8], spec: &Spec) -> Result<usize, u32>
+        ensures { ByRecorder (Err 5) (FindsHist name.now spec.now) self.old result self.new }
+    {
         match self {
             Held::Worker(worker) => worker.hist(name, spec),
             _ => Err(OTHER_KIND),
         }
     }
 
-    pub(crate) fn add(&mut self, place: usize, value: i32, count: u32) -> u32 {
+    pub(crate) fn add(&mut self, place: usize, value: i32, count: u32) -> u32
+        ensures { ByRecorder 5 (AtPlace 8 (Adds value count) place) self.old result self.new }
+    {
         match self {
             Held::Worker(worker) => worker.add(place, value, count),
             _ => OTHER_KIND,
@@ -130,28 +142,36 @@ impl Held {
         place: usize,
         items: &[(i32, u32)],
         sum: i64,
-    ) -> Result<(), Refused> {
+    ) -> Result<(), Refused>
+        ensures { ByRecorder (Err (refused_with 5)) (AtPlace (Err (refused_with 8)) (Batches items.now sum) place) self.old result self.new }
+    {
         match self {
             Held::Worker(worker) => worker.batch(place, items, sum),
             _ => Err(Refused::of(OTHER_KIND)),
         }
     }
 
-    pub(crate) fn delta(&mut self, place: usize, room: usize) -> Result<Delta, Refused> {
+    pub(crate) fn delta(&mut self, place: usize, room: usize) -> Result<Delta, Refused>
+        ensures { ByRecorder (Err (refused_with 5)) (AtPlace (Err (refused_with 8)) (InRoom room TakesDelta) place) self.old result self.new }
+    {
         match self {
             Held::Worker(worker) => worker.delta(place, room),
             _ => Err(Refused::of(OTHER_KIND)),
         }
     }
 
-    pub(crate) fn snapshot(&mut self, place: usize, room: usize) -> Result<Snapshot, Refused> {
+    pub(crate) fn snapshot(&mut self, place: usize, room: usize) -> Result<Snapshot, Refused>
+        ensures { ByRecorder (Err (refused_with 5)) (AtPlace (Err (refused_with 8)) (InRoom room TakesSnapshot) place) self.old result self.new }
+    {
         match self {
             Held::Worker(worker) => worker.snapshot(place, room),
             _ => Err(Refused::of(OTHER_KIND)),
         }
     }
 
-    pub(crate) fn set_corrupt(&mut self) -> u32 {
+    pub(crate) fn set_corrupt(&mut self) -> u32
+        ensures { ByRecorder 5 Marks self.old result self.new }
+    {
         match self {
             Held::Worker(worker) => {
                 worker.recorder.set_corrupt();
@@ -161,14 +181,18 @@ impl Held {
         }
     }
 
-    pub(crate) fn records(&mut self) -> Result<Vec<u64>, u32> {
+    pub(crate) fn records(&mut self) -> Result<Vec<u64>, u32>
+        ensures { ByRecorder (Err 5) WalksAll self.old result self.new }
+    {
         match self {
             Held::Worker(worker) => worker.records(),
             _ => Err(OTHER_KIND),
         }
     }
 
-    pub(crate) fn next_shared(&mut self, cursor: usize) -> Result<u64, u32> {
+    pub(crate) fn next_shared(&mut self, cursor: usize) -> Result<u64, u32>
+        ensures { ByRecorder (Err 5) (TakesNext cursor) self.old result self.new }
+    {
         match self {
             Held::Worker(worker) => worker.next_shared(cursor),
             _ => Err(OTHER_KIND),

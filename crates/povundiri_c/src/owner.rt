@@ -1,8 +1,9 @@
 //! A segment that C holds.
 
 ghost use Rattle.std.specs.Arc.{arc_value};
-ghost use Rattle.std.specs.Prelude.{◌≡◌};
-ghost use Rattle.live_segment.specs.Holders.{IsMadeWith};
+ghost use Rattle.std.specs.Prelude.{◌≡◌, IfOk};
+ghost use Rattle.live_segment.specs.Holders.{IsMadeWith, view_of_opener};
+ghost use Rattle.segment_machine.specs.Actor.{outstanding_of};
 ghost use Rattle.povundiri_c.specs.Tray.{cursors_of};
 
 use crate::status::{NO_MEMORY, of_refusal};
@@ -32,6 +33,7 @@ impl Owner {
     pub(crate) fn new(alloc: Global, segment: Segment, opener: Opener, cursors: usize) -> Result<Owner, AllocError>
         requires made { IsMadeWith segment opener }
         requires counted { cursors ≡ segment.setting.cursors }
+        ensures { IfOk result (λ owner. (arc_value owner.segment ≡ segment) × (owner.opener ≡ opener)) }
     {
         let tray = Arc::new(alloc, Tray::new(alloc, &opener)?)?;
         let segment = Arc::new(alloc, segment)?;
@@ -48,11 +50,15 @@ impl Owner {
         self.segment.size()
     }
 
-    pub(crate) fn units(&self) -> u32 {
+    pub(crate) fn units(&self) -> u32
+        ensures { result ≡ (view_of_opener self.now.opener).units.share }
+    {
         self.opener.units()
     }
 
-    pub(crate) fn outstanding(&self) -> u32 {
+    pub(crate) fn outstanding(&self) -> u32
+        ensures { result ≡ outstanding_of (view_of_opener self.now.opener).role }
+    {
         self.opener.outstanding()
     }
 

@@ -1,8 +1,8 @@
 //! A recorder that C holds.
 
 ghost use Rattle.std.specs.Arc.{arc_value};
-ghost use Rattle.std.specs.Prelude.{◌≡◌, IfOk};
-ghost use Rattle.owned_recorder.specs.Desks.{Knows};
+ghost use Rattle.std.specs.Prelude.{◌≡◌, Err};
+ghost use Rattle.povundiri_c.specs.Recorders.{Adds, AtPlace, Batches, FindsHist, InRoom, IsFoundWithin, refused_with, TakesDelta, TakesNext, TakesSnapshot, WalksAll};
 ghost use Rattle.povundiri_c.specs.Tray.{IsGuestOf, cursors_of};
 
 use crate::status::{DONE, LIST_ENDS, NO_CURSOR, Refused, SHORT, UNKNOWN, of_refusal};
@@ -25,14 +25,20 @@ pub struct Worker {
 
 impl Worker {
     /// The place of the histogram of a name.
-    pub(crate) fn hist(&mut self, name: &[u8], spec: &Spec) -> Result<usize, u32> {
+    pub(crate) fn hist(&mut self, name: &[u8], spec: &Spec) -> Result<usize, u32>
+        ensures kept { self.new.tray ≡ self.old.tray }
+        ensures answer { FindsHist name.now spec.now self.old.recorder result self.new.recorder }
+    {
         match self.recorder.hist(name, spec) {
             Ok(histogram) => Ok(histogram.place()),
             Err(why) => Err(of_refusal(why)),
         }
     }
 
-    pub(crate) fn add(&mut self, place: usize, value: i32, count: u32) -> u32 {
+    pub(crate) fn add(&mut self, place: usize, value: i32, count: u32) -> u32
+        ensures kept { self.new.tray ≡ self.old.tray }
+        ensures answer { AtPlace 8 (Adds value count) place self.old.recorder result self.new.recorder }
+    {
         let Some(histogram) = self.recorder.hist_at(place) else {
             return UNKNOWN;
         };
@@ -48,7 +54,10 @@ impl Worker {
         place: usize,
         items: &[(i32, u32)],
         sum: i64,
-    ) -> Result<(), Refused> {
+    ) -> Result<(), Refused>
+        ensures kept { self.new.tray ≡ self.old.tray }
+        ensures answer { AtPlace (Err (refused_with 8)) (Batches items.now sum) place self.old.recorder result self.new.recorder }
+    {
         let Some(histogram) = self.recorder.hist_at(place) else {
             return Err(Refused::of(UNKNOWN));
         };
@@ -63,7 +72,7 @@ impl Worker {
 
     // The histogram at a place, where there is room for all of its keys.
     fn hist_within(&self, place: usize, room: usize) -> Result<Hist, Refused>
-        ensures { IfOk result (Knows self.now.recorder.desk) }
+        ensures { IsFoundWithin place room self.now.recorder result }
     {
         let Some(histogram) = self.recorder.hist_at(place) else {
             return Err(Refused::of(UNKNOWN));
@@ -79,7 +88,10 @@ impl Worker {
     }
 
     /// A delta, where there is room for all keys of the histogram.
-    pub(crate) fn delta(&mut self, place: usize, room: usize) -> Result<Delta, Refused> {
+    pub(crate) fn delta(&mut self, place: usize, room: usize) -> Result<Delta, Refused>
+        ensures kept { self.new.tray ≡ self.old.tray }
+        ensures answer { AtPlace (Err (refused_with 8)) (InRoom room TakesDelta) place self.old.recorder result self.new.recorder }
+    {
         let histogram = self.hist_within(place, room)?;
         match self.recorder.delta(histogram) {
             Ok(delta) => Ok(delta),
@@ -88,7 +100,10 @@ impl Worker {
     }
 
     /// A snapshot, where there is room for all keys of the histogram.
-    pub(crate) fn snapshot(&mut self, place: usize, room: usize) -> Result<Snapshot, Refused> {
+    pub(crate) fn snapshot(&mut self, place: usize, room: usize) -> Result<Snapshot, Refused>
+        ensures kept { self.new.tray ≡ self.old.tray }
+        ensures answer { AtPlace (Err (refused_with 8)) (InRoom room TakesSnapshot) place self.old.recorder result self.new.recorder }
+    {
         let histogram = self.hist_within(place, room)?;
         match self.recorder.snapshot(histogram) {
             Ok(snapshot) => Ok(snapshot),
@@ -96,7 +111,10 @@ impl Worker {
         }
     }
 
-    pub(crate) fn records(&mut self) -> Result<Vec<u64>, u32> {
+    pub(crate) fn records(&mut self) -> Result<Vec<u64>, u32>
+        ensures kept { self.new.tray ≡ self.old.tray }
+        ensures answer { WalksAll self.old.recorder result self.new.recorder }
+    {
         match self.recorder.records() {
             Ok(records) => Ok(records),
             Err(why) => Err(of_refusal(why)),
@@ -104,7 +122,10 @@ impl Worker {
     }
 
     #[tactic(auto, using(crate::proofs::Holding::has_cursor))]
-    pub(crate) fn next_shared(&mut self, cursor: usize) -> Result<u64, u32> {
+    pub(crate) fn next_shared(&mut self, cursor: usize) -> Result<u64, u32>
+        ensures kept { self.new.tray ≡ self.old.tray }
+        ensures answer { TakesNext cursor self.old.recorder result self.new.recorder }
+    {
         if cursor >= self.cursors {
             return Err(NO_CURSOR);
         }

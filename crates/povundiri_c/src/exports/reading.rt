@@ -1,5 +1,7 @@
 //! What a recorder reads.
 
+ghost use Rattle.povundiri_c.specs.Asking.{AnswersNextCall, AnswersRecordsCall};
+
 use crate::handle::Handle;
 use crate::status::{DONE, SHORT};
 use crate::types::{Count, Totals};
@@ -68,7 +70,9 @@ pub extern "C" fn povundiri_proved_records(
     recorder: &mut Handle,
     records: &mut [u64],
     needed: &mut usize,
-) -> u32 {
+) -> u32
+    ensures { AnswersRecordsCall recorder.old.seal.held result needed.old needed.new records.old records.new recorder.new.seal.held }
+{
     let found = match recorder.records() {
         Ok(found) => found,
         Err(status) => return status,
@@ -87,7 +91,9 @@ pub extern "C" fn povundiri_proved_next_shared(
     recorder: &mut Handle,
     cursor: usize,
     record: &mut u64,
-) -> u32 {
+) -> u32
+    ensures { AnswersNextCall cursor recorder.old.seal.held result «record».old «record».new recorder.new.seal.held }
+{
     match recorder.next_shared(cursor) {
         Ok(next) => {
             *record = next;

@@ -1,5 +1,10 @@
 //! What a recorder counts.
 
+ghost use Rattle.std.specs.Prelude.{◌≡◌, ◌⊎◌, Some, None, MatchResult};
+ghost use Rattle.povundiri_c.specs.Asking.{AnswersHistCall, spec_asked};
+ghost use Rattle.povundiri_c.specs.Calls.{OfRecorder};
+ghost use Rattle.povundiri_c.specs.Recorders.{Adds, AtPlace, Marks};
+
 use crate::handle::Handle;
 use crate::status::{BAD_KIND, DONE, EMPTY, NO_MEMORY};
 use crate::types::{HistSpec, Item};
@@ -7,7 +12,9 @@ use live_segment::{CustomValues, Spec};
 use std::alloc::{AllocError, Global};
 
 // The spec that C asks for.
-fn spec_of(alloc: Global, spec: HistSpec, values: &[u32]) -> Result<Spec, u32> {
+fn spec_of(alloc: Global, spec: HistSpec, values: &[u32]) -> Result<Spec, u32>
+    ensures { MatchResult result (λ made. spec_asked spec values.now ≡ Some made) (λ status. ((spec_asked spec values.now ≡ None) × (status ≡ 10)) ⊎ (status ≡ 13)) }
+{
     match spec.kind {
         1 => Ok(Spec::Linear {
             min: spec.minimum,
@@ -42,7 +49,9 @@ pub extern "C" fn povundiri_proved_hist(
     spec: HistSpec,
     values: &[u32],
     hist: &mut usize,
-) -> u32 {
+) -> u32
+    ensures { AnswersHistCall name.now (spec_asked spec values.now) recorder.old.seal.held result hist.old hist.new recorder.new.seal.held }
+{
     if !recorder.is_full() {
         return EMPTY;
     }
@@ -66,7 +75,9 @@ pub extern "C" fn povundiri_proved_add(
     hist: usize,
     value: i32,
     count: u32,
-) -> u32 {
+) -> u32
+    ensures { OfRecorder (AtPlace 8 (Adds value count) hist) recorder.old.seal.held result recorder.new.seal.held }
+{
     recorder.add(hist, value, count)
 }
 
@@ -100,6 +111,8 @@ pub extern "C" fn povundiri_proved_batch(
 
 /// Marks the segment as corrupt.
 #[unsafe(no_mangle)]
-pub extern "C" fn povundiri_proved_set_corrupt(recorder: &mut Handle) -> u32 {
+pub extern "C" fn povundiri_proved_set_corrupt(recorder: &mut Handle) -> u32
+    ensures { OfRecorder Marks recorder.old.seal.held result recorder.new.seal.held }
+{
     recorder.set_corrupt()
 }

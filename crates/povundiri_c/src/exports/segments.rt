@@ -1,5 +1,11 @@
 //! Segments and their recorders.
 
+ghost use Rattle.std.specs.Prelude.{◌≡◌, ◌⊎◌, true, false, Some, None};
+ghost use Rattle.live_segment.specs.Holders.{IsMadeWith};
+ghost use Rattle.povundiri_c.specs.Calls.{asked_of, IsGiven, outstanding_in, units_of};
+ghost use Rattle.povundiri_c.specs.Sealed.{is_some};
+ghost use Rattle.povundiri_c.specs.Segments.{HoldsSegment, IsCreated, IsTakenUp};
+
 use crate::handle::Handle;
 use crate::held::Held;
 use crate::owner::Owner;
@@ -9,7 +15,9 @@ use live_segment::{Lender, Memory, Opener, Room, Segment};
 use std::alloc::Global;
 
 // Fills a handle, which is empty.
-fn fill(alloc: Global, out: &mut Handle, held: Held) -> u32 {
+fn fill(alloc: Global, out: &mut Handle, held: Held) -> u32
+    ensures { ((result ≡ 0) × (out.new.seal.held ≡ Some held)) ⊎ ((result ≡ 13) × (out.new.seal.held ≡ out.old.seal.held)) }
+{
     match Box::new(alloc, held) {
         Ok(boxed) => {
             out.put(boxed);
@@ -19,13 +27,11 @@ fn fill(alloc: Global, out: &mut Handle, held: Held) -> u32 {
     }
 }
 
-ghost use Rattle.std.specs.Prelude.{◌≡◌};
-ghost use Rattle.live_segment.specs.Holders.{IsMadeWith};
-
 // Fills a handle, which is empty, with a segment.
 fn fill_with_segment(alloc: Global, out: &mut Handle, segment: Segment, opener: Opener, cursors: usize) -> u32
     requires made { IsMadeWith segment opener }
     requires counted { cursors ≡ segment.setting.cursors }
+    ensures { ((result ≡ 0) × HoldsSegment (λ one its. (one ≡ segment) × (its ≡ opener)) out.new.seal.held) ⊎ ((result ≡ 13) × (out.new.seal.held ≡ out.old.seal.held)) }
 {
     match Owner::new(alloc, segment, opener, cursors) {
         Ok(owner) => fill(alloc, out, Held::Owner(owner)),
@@ -34,7 +40,9 @@ fn fill_with_segment(alloc: Global, out: &mut Handle, segment: Segment, opener: 
 }
 
 // A new segment in a memory.
-fn create_in(alloc: Global, memory: Memory, shape: SegmentShape, out: &mut Handle) -> u32 {
+fn create_in(alloc: Global, memory: Memory, shape: SegmentShape, out: &mut Handle) -> u32
+    ensures { IsCreated shape result out.old.seal.held out.new.seal.held }
+{
     let made = Segment::create_in(
         alloc,
         memory,
@@ -51,7 +59,9 @@ fn create_in(alloc: Global, memory: Memory, shape: SegmentShape, out: &mut Handl
 }
 
 // A segment in a memory that goes on with an image.
-fn adopt_in(alloc: Global, memory: Memory, words: &[u64], cursors: usize, out: &mut Handle) -> u32 {
+fn adopt_in(alloc: Global, memory: Memory, words: &[u64], cursors: usize, out: &mut Handle) -> u32
+    ensures { IsTakenUp words.now cursors result out.old.seal.held out.new.seal.held }
+{
     match Segment::adopt_in(alloc, memory, words, cursors) {
         Ok((segment, opener)) => fill_with_segment(alloc, out, segment, opener, cursors),
         Err(fault) => of_adopt_fault(fault),
@@ -64,7 +74,10 @@ pub extern "C" fn povundiri_proved_create(
     alloc: Global,
     shape: SegmentShape,
     out: &mut Handle,
-) -> u32 {
+) -> u32
+    ensures full { is_some out.old.seal.held ≡ true → (result ≡ 4) × (out.new ≡ out.old) }
+    ensures made { out.old.seal.held ≡ None → IsCreated shape result out.old.seal.held out.new.seal.held }
+{
     if out.is_full() {
         return NOT_EMPTY;
     }
@@ -78,7 +91,10 @@ pub extern "C" fn povundiri_proved_create_in(
     room: Room,
     shape: SegmentShape,
     out: &mut Handle,
-) -> u32 {
+) -> u32
+    ensures full { is_some out.old.seal.held ≡ true → (result ≡ 4) × (out.new ≡ out.old) }
+    ensures made { out.old.seal.held ≡ None → IsCreated shape result out.old.seal.held out.new.seal.held ⊎ ((result ≡ 13) × (out.new ≡ out.old)) }
+{
     if out.is_full() {
         return NOT_EMPTY;
     }
@@ -95,7 +111,10 @@ pub extern "C" fn povundiri_proved_adopt(
     words: &[u64],
     cursors: usize,
     out: &mut Handle,
-) -> u32 {
+) -> u32
+    ensures full { is_some out.old.seal.held ≡ true → (result ≡ 4) × (out.new ≡ out.old) }
+    ensures made { out.old.seal.held ≡ None → IsTakenUp words.now cursors result out.old.seal.held out.new.seal.held }
+{
     if out.is_full() {
         return NOT_EMPTY;
     }
@@ -110,7 +129,10 @@ pub extern "C" fn povundiri_proved_adopt_in(
     words: &[u64],
     cursors: usize,
     out: &mut Handle,
-) -> u32 {
+) -> u32
+    ensures full { is_some out.old.seal.held ≡ true → (result ≡ 4) × (out.new ≡ out.old) }
+    ensures made { out.old.seal.held ≡ None → IsTakenUp words.now cursors result out.old.seal.held out.new.seal.held ⊎ ((result ≡ 13) × (out.new ≡ out.old)) }
+{
     if out.is_full() {
         return NOT_EMPTY;
     }
@@ -150,7 +172,10 @@ pub extern "C" fn povundiri_proved_close(
 
 /// Lets a segment or a recorder go: its handle is empty then, and `none` stands in its place.
 #[unsafe(no_mangle)]
-pub extern "C" fn povundiri_proved_drop(handle: &mut Handle, none: Handle) -> u32 {
+pub extern "C" fn povundiri_proved_drop(handle: &mut Handle, none: Handle) -> u32
+    ensures empty { is_some none.seal.held ≡ false → is_some handle.old.seal.held ≡ false → (result ≡ 3) × (handle.new ≡ handle.old) }
+    ensures done { is_some none.seal.held ≡ false → is_some handle.old.seal.held ≡ true → (result ≡ 0) × (handle.new.seal.held ≡ None) }
+{
     match handle.take(none) {
         Ok(boxed) => {
             drop(boxed);
@@ -199,7 +224,10 @@ pub extern "C" fn povundiri_proved_join(
 
 /// The units that no recorder has; or those that a recorder may still spend.
 #[unsafe(no_mangle)]
-pub extern "C" fn povundiri_proved_units(handle: &mut Handle, units: &mut u32) -> u32 {
+pub extern "C" fn povundiri_proved_units(handle: &mut Handle, units: &mut u32) -> u32
+    ensures answer { IsGiven (asked_of units_of handle.old.seal.held) result units.old units.new }
+    ensures same { handle.new.seal.held ≡ handle.old.seal.held }
+{
     match handle.units() {
         Ok(found) => {
             *units = found;
@@ -211,7 +239,10 @@ pub extern "C" fn povundiri_proved_units(handle: &mut Handle, units: &mut u32) -
 
 /// How many recorders were made and are not joined.
 #[unsafe(no_mangle)]
-pub extern "C" fn povundiri_proved_outstanding(segment: &mut Handle, outstanding: &mut u32) -> u32 {
+pub extern "C" fn povundiri_proved_outstanding(segment: &mut Handle, outstanding: &mut u32) -> u32
+    ensures answer { IsGiven (asked_of outstanding_in segment.old.seal.held) result outstanding.old outstanding.new }
+    ensures same { segment.new.seal.held ≡ segment.old.seal.held }
+{
     match segment.outstanding() {
         Ok(found) => {
             *outstanding = found;

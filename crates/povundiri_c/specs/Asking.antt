@@ -1,0 +1,115 @@
+-- What C asks beside a handle, and how it is answered.
+use Rattle.std.specs.Prelude.{◌≡◌, ◌<◌, ◌≤◌, ◌⊎◌, ◌==◌, ◌++◌, if◌then◌else◌, min, ℕ, ℤ, List, length, map, drop, take, Option, Some, None, Result, Ok, Err}
+use Rattle.std.specs.declared.vec.Vec.{Vec}
+use Rattle.std.specs.declared.alloc.Global.{Global}
+use Rattle.bucket_ranges.specs.declared.spec.Spec.{Spec}
+use Rattle.segment_calls.specs.declared.answer.Delta.{Delta}
+use Rattle.segment_calls.specs.declared.answer.Snapshot.{Snapshot}
+use Rattle.bucket_ranges.specs.declared.spec.Spec.TheVariants.{Linear, Boolean, Custom, Sparse}
+use Rattle.povundiri_c.specs.declared.held.Held.{Held}
+use Rattle.povundiri_c.specs.declared.status.Refused.{Refused}
+use Rattle.povundiri_c.specs.declared.types.HistSpec.{HistSpec}
+use Rattle.povundiri_c.specs.declared.types.Count.{Count}
+use Rattle.povundiri_c.specs.declared.types.Item.{Item}
+use Rattle.povundiri_c.specs.declared.types.Totals.{Totals}
+use Rattle.povundiri_c.specs.Calls.{GivesOfRecorder, IsGiven, SizesOfRecorder}
+use Rattle.povundiri_c.specs.Recorders.{AtPlace, Batches, FindsHist, InRoom, refused_with, TakesDelta, TakesNext, TakesSnapshot, WalksAll}
+
+-- ---- `hist`
+
+-- the spec that C asks for, if its kind is one
+abbrev pub spec_asked : HistSpec → List ℕ → Option Spec
+spec_asked asked values =
+    if asked.kind == 1 then Some (Linear asked.minimum asked.maximum asked.buckets)
+    else (if asked.kind == 2 then Some Boolean else (if asked.kind == 3 then Some (Custom values) else (if asked.kind == 4 then Some Sparse else None)))
+
+-- The handle is empty, there is no such kind, or there was no memory for the values.
+abbrev pub IsNoHist : Option Held → Option Spec → ℕ → Type 0
+IsNoHist held spec status = ((held ≡ None) × (status ≡ 3)) ⊎ (((spec ≡ None) × (status ≡ 10)) ⊎ (status ≡ 13))
+
+-- The place of a histogram of that spec is answered, or the status says why not. Or nothing was asked, and all is as before.
+abbrev pub AnswersHistCall : List ℕ → Option Spec → Option Held → ℕ → ℕ → ℕ → Option Held → Type 0
+AnswersHistCall name asked held status place place' held' =
+    ((spec : Spec) × (asked ≡ Some spec) × (answer : Result ℕ ℕ) × GivesOfRecorder (FindsHist name spec) held answer held' × IsGiven answer status place place')
+    ⊎ ((held' ≡ held) × (place' ≡ place) × IsNoHist held asked status)
+
+-- ---- `batch`
+
+-- an item as the library has it
+abbrev pub pair_of : Item → ℤ × ℕ
+pair_of item = (item.value, item.count)
+
+-- all items were counted; or the status says why not, and how many were counted all the same stands beside it
+abbrev pub IsCounted : Result (Unit {0}) Refused → ℕ → ℕ → ℕ → Type 0
+IsCounted (Ok _) all status added = (status ≡ 0) × (added ≡ all)
+IsCounted (Err refused) all status added = (status ≡ refused.status) × (added ≡ refused.length)
+
+-- The items are counted, or the status says why not. Or the handle is empty, or there was no memory for the items, and all is as before.
+abbrev pub AnswersBatchCall : ℕ → List Item → ℤ → Option Held → ℕ → ℕ → ℕ → Option Held → Type 0
+AnswersBatchCall place items sum held status added added' held' =
+    ((answer : Result (Unit {0}) Refused) × SizesOfRecorder (AtPlace (Err (refused_with 8)) (Batches (map pair_of items) sum) place) held answer held'
+    × IsCounted answer (length items) status added')
+    ⊎ ((held' ≡ held) × (added' ≡ added) × (((held ≡ None) × (status ≡ 3)) ⊎ (status ≡ 13)))
+
+-- ---- `records`
+
+-- How many there are is answered. Where there is room for all, they stand at the front of the array; else the array is as before. Where there
+-- are none for another reason, the status says why, and all is as before.
+abbrev pub AreListed : Result (Vec ℕ Global) ℕ → ℕ → ℕ → ℕ → List ℕ → List ℕ → Type 0
+AreListed (Ok found) status needed needed' old new =
+    (needed' ≡ length found.items)
+    × (length found.items ≤ length old → (status ≡ 0) × (new ≡ found.items ++ drop (length found.items) old))
+    × (length old < length found.items → (status ≡ 7) × (new ≡ old))
+AreListed (Err why) status needed needed' old new = (status ≡ why) × (needed' ≡ needed) × (new ≡ old)
+
+-- the records of the list are answered so
+abbrev pub AnswersRecordsCall : Option Held → ℕ → ℕ → ℕ → List ℕ → List ℕ → Option Held → Type 0
+AnswersRecordsCall held status needed needed' old new held' =
+    (answer : Result (Vec ℕ Global) ℕ) × GivesOfRecorder WalksAll held answer held' × AreListed answer status needed needed' old new
+
+-- ---- `next_shared`
+
+-- the next record of the cursor is answered, or the status says why not
+abbrev pub AnswersNextCall : ℕ → Option Held → ℕ → ℕ → ℕ → Option Held → Type 0
+AnswersNextCall cursor held status next next' held' =
+    (answer : Result ℕ ℕ) × GivesOfRecorder (TakesNext cursor) held answer held' × IsGiven answer status next next'
+
+-- ---- `delta` and `snapshot`
+
+-- a count as C has it
+abbrev pub count_of : ℤ × ℕ → Count
+count_of given = record { key = given.0; count = given.1 }
+
+-- counts stand at the front of the array, as far as there is room for them; what stands behind them is as before
+abbrev pub with_counts : List (ℤ × ℕ) → List Count → List Count
+with_counts counts old = take (min (length counts) (length old)) (map count_of counts) ++ drop (min (length counts) (length old)) old
+
+-- why a call is refused, with the length that goes with it; all else is as before
+abbrev pub IsRefused : Refused → ℕ → Totals → Totals → List Count → List Count → Type 0
+IsRefused refused status totals totals' old new =
+    (status ≡ refused.status) × (totals' ≡ record { length = refused.length; sum = totals.sum; redundant = totals.redundant }) × (new ≡ old)
+
+-- the delta is answered, or the status says why not
+abbrev pub IsDeltaGiven : Result Delta Refused → ℕ → Totals → Totals → List Count → List Count → Type 0
+IsDeltaGiven (Ok delta) status totals totals' old new =
+    (status ≡ 0) × (totals' ≡ record { length = length delta.counts.items; sum = delta.sum; redundant = 0 }) × (new ≡ with_counts delta.counts.items old)
+IsDeltaGiven (Err refused) status totals totals' old new = IsRefused refused status totals totals' old new
+
+-- the snapshot is answered, or the status says why not
+abbrev pub IsSnapshotGiven : Result Snapshot Refused → ℕ → Totals → Totals → List Count → List Count → Type 0
+IsSnapshotGiven (Ok snapshot) status totals totals' old new =
+    (status ≡ 0) × (totals' ≡ record { length = length snapshot.counts.items; sum = snapshot.sum; redundant = snapshot.redundant })
+    × (new ≡ with_counts snapshot.counts.items old)
+IsSnapshotGiven (Err refused) status totals totals' old new = IsRefused refused status totals totals' old new
+
+-- a delta of the histogram at that place, in the caller's array
+abbrev pub AnswersDeltaCall : ℕ → Option Held → ℕ → Totals → Totals → List Count → List Count → Option Held → Type 0
+AnswersDeltaCall place held status totals totals' old new held' =
+    (answer : Result Delta Refused) × SizesOfRecorder (AtPlace (Err (refused_with 8)) (InRoom (length old) TakesDelta) place) held answer held'
+    × IsDeltaGiven answer status totals totals' old new
+
+-- a snapshot of it
+abbrev pub AnswersSnapshotCall : ℕ → Option Held → ℕ → Totals → Totals → List Count → List Count → Option Held → Type 0
+AnswersSnapshotCall place held status totals totals' old new held' =
+    (answer : Result Snapshot Refused) × SizesOfRecorder (AtPlace (Err (refused_with 8)) (InRoom (length old) TakesSnapshot) place) held answer held'
+    × IsSnapshotGiven answer status totals totals' old new

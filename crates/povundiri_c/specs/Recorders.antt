@@ -1,0 +1,152 @@
+-- What a call of a recorder that C holds answers, and what it makes of the recorder: the clauses of `OwnedRecorder`, with a status in the
+-- place of a refusal.
+use Rattle.std.specs.Prelude.{◌≡◌, ◌≤◌, ◌<◌, ℕ, ℤ, List, length, Option, Some, None, Result, Ok, Err, ◌++◌, IfOk}
+use Rattle.std.specs.declared.vec.Vec.{Vec}
+use Rattle.std.specs.declared.alloc.Global.{Global}
+use Rattle.std.specs.Arc.{arc_value}
+use Rattle.bucket_ranges.specs.declared.spec.Spec.{Spec}
+use Rattle.segment_calls.specs.declared.refusal.Refusal.{Refusal}
+use Rattle.segment_calls.specs.declared.refusal.BatchRefusal.{BatchRefusal}
+use Rattle.segment_calls.specs.declared.answer.Delta.{Delta}
+use Rattle.segment_calls.specs.declared.answer.Snapshot.{Snapshot}
+use Rattle.segment_machine.specs.declared.actor.Known.{Known}
+use Rattle.live_segment.specs.Lists.Allocation.{spoiled}
+use Rattle.live_segment.specs.Lists.Cursors.{AnswersNext, gift}
+use Rattle.live_segment.specs.Readings.Values.{AreMostKeys}
+use Rattle.live_segment.specs.declared.recorder.Hist.{Hist}
+use Rattle.owned_recorder.specs.Answers.{AnswersAdd, AnswersBatch, AnswersDelta, AnswersHist, AnswersRecords, AnswersSnapshot, ClaimsAdd, ClaimsBatch, ClaimsHist, ShowsEnough, ShowsUnits, TakesEnough}
+use Rattle.owned_recorder.specs.Desks.{IsNamed, IsSameDesk, Knows, KnowsOn, Means, view_of_desk}
+use Rattle.owned_recorder.specs.declared.owned.OwnedRecorder.{OwnedRecorder}
+use Rattle.povundiri_c.specs.declared.status.Refused.{Refused}
+use Rattle.povundiri_c.specs.Status.{status_of_refusal}
+
+-- ---- what is the same behind a call
+
+-- it keeps its segment, knows the same histograms, and was given no fresh records
+abbrev pub GoesOn : OwnedRecorder → OwnedRecorder → Type 0
+GoesOn old new = (new.segment ≡ old.segment) × IsSameDesk old.desk new.desk
+
+-- how many histograms it knows
+abbrev pub known_by : OwnedRecorder → ℕ
+known_by owned = length (view_of_desk owned.desk).answers.names
+
+-- how many shared cursors its segment has
+abbrev pub cursors_by : OwnedRecorder → ℕ
+cursors_by owned = (view_of_desk owned.desk).segment.cursors
+
+-- ---- answers as C has them
+
+-- the status of an answer: 0, or that of the refusal
+abbrev pub status_of_answer : Result (Unit {0}) Refusal → ℕ
+status_of_answer (Ok _) = 0
+status_of_answer (Err why) = status_of_refusal why
+
+-- an answer with a status in the place of a refusal
+abbrev pub with_status : {A : Type 0} → Result A Refusal → Result A ℕ
+with_status (Ok value) = Ok value
+with_status (Err why) = Err (status_of_refusal why)
+
+-- the place of the histogram that is answered
+abbrev pub place_of_answer : Result Hist Refusal → Result ℕ ℕ
+place_of_answer (Ok histogram) = Ok histogram.index
+place_of_answer (Err why) = Err (status_of_refusal why)
+
+-- a status with no length
+abbrev pub refused_with : ℕ → Refused
+refused_with number = record { status = number; length = 0 }
+
+-- an answer with such a status
+abbrev pub with_refused : {A : Type 0} → Result A Refusal → Result A Refused
+with_refused (Ok value) = Ok value
+with_refused (Err why) = Err (refused_with (status_of_refusal why))
+
+-- that of a batch, with how many items are counted all the same
+abbrev pub with_refused_batch : Result (Unit {0}) BatchRefusal → Result (Unit {0}) Refused
+with_refused_batch (Ok value) = Ok value
+with_refused_batch (Err refusal) = Err (record { status = status_of_refusal refusal.why; length = refusal.added })
+
+-- a record, or the status that the list ends
+abbrev pub next_of : Option ℕ → Result ℕ ℕ
+next_of (Some next) = Ok next
+next_of None = Err 12
+
+-- ---- calls that name a histogram by its place
+
+-- Where it knows none there, that is answered, and it is the same; else the call is of the histogram there.
+abbrev pub AtPlace : {A : Type 0} → A → (Hist → OwnedRecorder → A → OwnedRecorder → Type 0) → ℕ → OwnedRecorder → A → OwnedRecorder → Type 0
+AtPlace unknown Calls place old answer new =
+    (known_by old ≤ place → (answer ≡ unknown) × (new ≡ old))
+    × (place < known_by old → (histogram : Hist) × (histogram.index ≡ place) × Calls histogram old answer new)
+
+-- a sample is added as `OwnedRecorder::add` says
+abbrev pub Adds : ℤ → ℕ → Hist → OwnedRecorder → ℕ → OwnedRecorder → Type 0
+Adds value count histogram old status new =
+    (answer : Result (Unit {0}) Refusal) × (status ≡ status_of_answer answer) × GoesOn old new
+    × AnswersAdd histogram value count old.desk answer new.desk × ClaimsAdd histogram value old.desk answer new.desk
+
+-- a batch is counted as `OwnedRecorder::batch` says
+abbrev pub Batches : List (ℤ × ℕ) → ℤ → Hist → OwnedRecorder → Result (Unit {0}) Refused → OwnedRecorder → Type 0
+Batches items sum histogram old given new =
+    (answer : Result (Unit {0}) BatchRefusal) × (given ≡ with_refused_batch answer) × GoesOn old new
+    × AnswersBatch histogram items sum old.desk answer new.desk × ClaimsBatch histogram items old.desk answer new.desk
+
+-- ---- other calls
+
+-- the histogram of a name is found or made as `OwnedRecorder::hist` says
+abbrev pub FindsHist : List ℕ → Spec → OwnedRecorder → Result ℕ ℕ → OwnedRecorder → Type 0
+FindsHist name spec old place new =
+    (answer : Result Hist Refusal) × (place ≡ place_of_answer answer) × (new.segment ≡ old.segment) × KnowsOn old.desk new.desk
+    × IfOk answer (IsNamed name spec new.desk) × AnswersHist name spec old.desk answer new.desk × ClaimsHist name spec old.desk answer new.desk
+
+-- the segment is marked as corrupt
+abbrev pub Marks : OwnedRecorder → ℕ → OwnedRecorder → Type 0
+Marks old status new = (status ≡ 0) × GoesOn old new × (view_of_desk new.desk ≡ spoiled (view_of_desk old.desk))
+
+-- the references of all records of the list
+abbrev pub WalksAll : OwnedRecorder → Result (Vec ℕ Global) ℕ → OwnedRecorder → Type 0
+WalksAll old given new =
+    (answer : Result (Vec ℕ Global) Refusal) × (given ≡ with_status answer) × GoesOn old new × AnswersRecords old.desk answer new.desk
+
+-- the next record of a shared cursor, where the segment has that
+abbrev pub TakesNext : ℕ → OwnedRecorder → Result ℕ ℕ → OwnedRecorder → Type 0
+TakesNext cursor old given new =
+    (cursors_by old ≤ cursor → (given ≡ Err 9) × (new ≡ old))
+    × (cursor < cursors_by old → (answer : Option ℕ) × (given ≡ next_of answer) × GoesOn old new
+    × AnswersNext cursor (view_of_desk old.desk) answer (view_of_desk new.desk)
+    × ((view_of_desk new.desk).done.given ≡ (view_of_desk old.desk).done.given ++ gift cursor answer))
+
+-- ---- calls that want room for all keys of a histogram
+
+-- so many keys a histogram may have
+abbrev pub AreMost : Hist → OwnedRecorder → ℕ → Type 0
+AreMost histogram owned most = (known : Known) → Means owned.desk histogram known → AreMostKeys (arc_value owned.segment) known most
+
+-- the histogram at a place, whose keys have room; or the length that they need, or that it knows none there
+abbrev pub IsFoundWithin : ℕ → ℕ → OwnedRecorder → Result Hist Refused → Type 0
+IsFoundWithin place room owned (Ok histogram) =
+    (histogram.index ≡ place) × Knows owned.desk histogram × ((most : ℕ) × AreMost histogram owned most × (most ≤ room))
+IsFoundWithin place room owned (Err refused) =
+    (place < known_by owned
+    → (histogram : Hist) × (histogram.index ≡ place) × AreMost histogram owned refused.length × (room < refused.length) × (refused.status ≡ 7))
+    × (known_by owned ≤ place → refused ≡ refused_with 8)
+
+-- Where the room is too small, the length that is needed is answered, and the recorder is the same.
+abbrev pub InRoom : {A : Type 0} → ℕ → (Hist → OwnedRecorder → Result A Refused → OwnedRecorder → Type 0)
+    → Hist → OwnedRecorder → Result A Refused → OwnedRecorder → Type 0
+InRoom room Calls histogram old given new =
+    (most : ℕ) × AreMost histogram old most
+    × (room < most → (given ≡ Err (record { status = 7; length = most })) × (new ≡ old))
+    × (most ≤ room → Calls histogram old given new)
+
+-- a delta is taken as `OwnedRecorder::delta` says
+abbrev pub TakesDelta : Hist → OwnedRecorder → Result Delta Refused → OwnedRecorder → Type 0
+TakesDelta histogram old given new =
+    (answer : Result Delta Refusal) × (given ≡ with_refused answer) × GoesOn old new
+    × AnswersDelta histogram old.desk answer new.desk × TakesEnough histogram old.desk answer new.desk
+
+-- a snapshot is answered as `OwnedRecorder::snapshot` says
+abbrev pub TakesSnapshot : Hist → OwnedRecorder → Result Snapshot Refused → OwnedRecorder → Type 0
+TakesSnapshot histogram old given new =
+    (answer : Result Snapshot Refusal) × (given ≡ with_refused answer) × GoesOn old new
+    × AnswersSnapshot histogram old.desk answer new.desk × ShowsEnough histogram old.desk answer new.desk
+    × ShowsUnits histogram old.desk answer

@@ -29,7 +29,7 @@ in the order of the file, each with the first sentence of its comment. Left out 
 another crate: the parts of those that are listed. The comment in the file says each in full.
 
 A definition says what is meant, and never how the code finds it. The machine has a page of its own to read first: `MACHINE.md`.
-What is proved of the definitions: `PROVED.md`.
+What is proved of the definitions: `PROVED.md` and `PROVED_MACHINE.md`.
 """
 
 # The head of a definition that others may name.

@@ -1,8 +1,8 @@
--- What stands before all else in a page: its title, and how it looks on a screen, light or dark, and on paper.
+-- What stands before all else in a page: its title, and how it looks on a screen, light or dark, and in print.
 use Rattle.std.specs.Prelude.{ℕ, List, [], ◌∷◌, ◌++◌, codes}
 use Rattle.reading_texts.specs.Exporting.{joined}
 
--- the colours: light ones, dark ones where the reader wants them, and those of paper
+-- the colours: light ones, dark ones where the reader wants them, and those for print
 abbrev pub colours : List ℕ
 colours =
     joined (

@@ -6,7 +6,7 @@ ghost use Rattle.reading_shows.specs.Sheet.{colours, shapes, page_head};
 use reading_texts::put_parts;
 use std::alloc::AllocError;
 
-// Puts the colours: light ones, dark ones where the reader wants them, and those of paper.
+// Puts the colours: light ones, dark ones where the reader wants them, and those for print.
 fn put_colours(text: &mut Vec<u8>) -> Result<(), AllocError>
     ensures { OnOk result (text.new.items ≡ text.old.items ++ colours) }
 {

@@ -1,0 +1,46 @@
+"""Lets 'rt lib' use the libraries that the gate has proved: 'rt ci' leaves each in out/ of its crate without the mark that tells what it
+was made of, and without that 'rt lib' proves all of them once more, one by one.
+
+    marks.py note FILE     before the gate: writes down the sum of what each library is made of
+    marks.py keep FILE     after it has passed: marks each library of which that sum is the same
+
+The sums and marks are those of `rt` on the PATH. 'rt ci' begins with empty folders out/, so what stands there was made in between.
+"""
+
+import functools
+import json
+import os
+import pathlib
+import shutil
+import sys
+
+sys.dont_write_bytecode = True
+sys.path.insert(0, os.path.dirname(os.path.realpath(shutil.which("rt") or "rt")))
+import rtlib
+
+CRATES = pathlib.Path(__file__).resolve().parents[2] / "crates"
+rtlib.Crate.stamp = functools.cache(rtlib.Crate.stamp)
+
+
+def sums():
+    """The sum of what each crate is made of, by its name."""
+    return {crate.name: crate.stamp() for crate in rtlib.crates_below(str(CRATES))}
+
+
+def keep(noted):
+    """Marks the libraries whose sums are as they were noted."""
+    for crate in rtlib.crates_below(str(CRATES)):
+        if pathlib.Path(crate.rlib, "format").is_file() and noted.get(crate.name) == crate.stamp():
+            pathlib.Path(crate.folder, "out", "rlib", "stamp").write_text(crate.stamp(), encoding="utf-8")
+
+
+def main(verb, file):
+    path = pathlib.Path(file)
+    if verb == "note":
+        path.write_text(json.dumps(sums()), encoding="utf-8")
+    else:
+        keep(json.loads(path.read_text(encoding="utf-8")))
+
+
+if __name__ == "__main__":
+    main(*sys.argv[1:])

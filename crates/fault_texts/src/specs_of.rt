@@ -4,11 +4,9 @@ use crate::lines::Source;
 use crate::shown::{Shown, ShownSpec};
 use bucket_ranges::Spec;
 use image_reader::Reading;
+use persist_report_core::MAX_WORDS;
 use segment_image::{Watched, read_words};
 use std::alloc::{AllocError, Global};
-
-// An image has at most so many words.
-const MAX_WORDS: usize = 1_048_576;
 
 /// The words of an image, which was read before.
 pub(crate) fn words_of(alloc: Global, bytes: &[u8]) -> Option<Vec<u64>> {

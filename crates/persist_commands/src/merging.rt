@@ -15,16 +15,13 @@ ghost use Rattle.segment_merge.specs.Merge.{IsMerged};
 use crate::outputs::write_image;
 use image_reader::Reading;
 use live_segment::{Recorder, Segment};
-use persist_report_core::CliFault;
+use persist_report_core::{CliFault, MAX_WORDS};
 use segment_calls::Refusal;
 use segment_image::layout::VERSION_FROZEN;
 use segment_image::{Image, SegmentHead, Watched, header, read_words};
 use segment_merge::{MergeReport, MergeStop, merge};
 use std::alloc::Global;
 use std::io::{Read, Write};
-
-// An image has at most so many words.
-const MAX_WORDS: usize = 1_048_576;
 
 // An image that is merged: its header, and what it reads as.
 #[derive(Drop)]

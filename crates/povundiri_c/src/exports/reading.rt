@@ -3,7 +3,7 @@
 ghost use Rattle.povundiri_c.specs.Asking.{AnswersNextCall, AnswersRecordsCall};
 
 use crate::handle::Handle;
-use crate::status::{DONE, SHORT};
+use crate::status::{DONE, EMPTY, Refused, SHORT};
 use crate::types::{Count, Totals};
 
 // Writes counts as far as there is room for them.
@@ -22,7 +22,8 @@ pub extern "C" fn povundiri_proved_delta(
     counts: &mut [Count],
     totals: &mut Totals,
 ) -> u32 {
-    match recorder.delta(hist, counts.len()) {
+    let room = counts.len();
+    match recorder.call(Err(Refused::of(EMPTY)), |held| held.delta(hist, room)) {
         Ok(delta) => {
             write_counts(&delta.counts, counts);
             *totals = Totals {
@@ -47,7 +48,8 @@ pub extern "C" fn povundiri_proved_snapshot(
     counts: &mut [Count],
     totals: &mut Totals,
 ) -> u32 {
-    match recorder.snapshot(hist, counts.len()) {
+    let room = counts.len();
+    match recorder.call(Err(Refused::of(EMPTY)), |held| held.snapshot(hist, room)) {
         Ok(snapshot) => {
             write_counts(&snapshot.counts, counts);
             *totals = Totals {
@@ -73,7 +75,7 @@ pub extern "C" fn povundiri_proved_records(
 ) -> u32
     ensures { AnswersRecordsCall recorder.old.seal.held result needed.old needed.new records.old records.new recorder.new.seal.held }
 {
-    let found = match recorder.records() {
+    let found = match recorder.call(Err(EMPTY), |held| held.records()) {
         Ok(found) => found,
         Err(status) => return status,
     };
@@ -94,7 +96,7 @@ pub extern "C" fn povundiri_proved_next_shared(
 ) -> u32
     ensures { AnswersNextCall cursor recorder.old.seal.held result «record».old «record».new recorder.new.seal.held }
 {
-    match recorder.next_shared(cursor) {
+    match recorder.call(Err(EMPTY), |held| held.next_shared(cursor)) {
         Ok(next) => {
             *record = next;
             DONE

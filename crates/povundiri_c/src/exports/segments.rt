@@ -3,7 +3,7 @@
 use crate::handle::Handle;
 use crate::held::Held;
 use crate::owner::Owner;
-use crate::status::{DONE, NO_MEMORY, NOT_EMPTY, of_adopt_fault, of_open_fault};
+use crate::status::{DONE, EMPTY, NO_MEMORY, NOT_EMPTY, of_adopt_fault, of_open_fault};
 use crate::types::SegmentShape;
 use live_segment::{Lender, Memory, Opener, Room, Segment};
 use std::alloc::Global;
@@ -182,7 +182,7 @@ pub extern "C" fn povundiri_proved_recorder(
     if out.is_full() {
         return NOT_EMPTY;
     }
-    match segment.recorder(units) {
+    match segment.call(Err(EMPTY), |held| held.recorder(units)) {
         Ok(held) => fill(alloc, out, held),
         Err(status) => status,
     }
@@ -214,7 +214,7 @@ pub extern "C" fn povundiri_proved_units(handle: &mut Handle, units: &mut u32) -
     ensures answer { IsGiven (asked_of units_of handle.old.seal.held) result units.old units.new }
     ensures same { handle.new.seal.held ≡ handle.old.seal.held }
 {
-    match handle.units() {
+    match handle.call(Err(EMPTY), |held| held.units()) {
         Ok(found) => {
             *units = found;
             DONE
@@ -229,7 +229,7 @@ pub extern "C" fn povundiri_proved_outstanding(segment: &mut Handle, outstanding
     ensures answer { IsGiven (asked_of outstanding_in segment.old.seal.held) result outstanding.old outstanding.new }
     ensures same { segment.new.seal.held ≡ segment.old.seal.held }
 {
-    match segment.outstanding() {
+    match segment.call(Err(EMPTY), |held| held.outstanding()) {
         Ok(found) => {
             *outstanding = found;
             DONE

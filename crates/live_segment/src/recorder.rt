@@ -296,17 +296,15 @@ impl<'a> Recorder<'a> {
         ensures answer { MatchOption (first_fault (add_checks (view_of_recorder self.old) count)) ((known : Known) → Means self.old histogram known → AnswersSample known value count (view_of_recorder self.old) result (view_of_recorder self.new)) (λ why. (result ≡ Err why) × (self.new ≡ self.old)) }
         ensures claims { IfOk result (λ _. (known : Known) → Means self.old histogram known → ClaimsFor known value (view_of_recorder self.old) (view_of_recorder self.new)) }
     {
-        if count == 0 {
-            return Err(Refusal::ZeroCount);
-        }
-        if count > self.units {
-            return Err(Refusal::NoUnits);
-        }
-        let known = &self.known[histogram.index];
-        self.segment
-            .add_sample(&mut self.seat, &mut self.samples, known, value, count)?;
-        self.units -= count;
-        Ok(())
+        self.segment.add_known(
+            &mut self.seat,
+            &mut self.units,
+            &mut self.samples,
+            self.known.as_slice(),
+            histogram.index,
+            value,
+            count,
+        )
     }
 
     /// Counts a batch: units of values, in order, of a histogram that it knows, and then an amount that is added to the sum. Where all

@@ -1,5 +1,5 @@
 -- The steps on a tray keep its rule.
-use Rattle.std.proofs.Common.{◌≡◌, ℕ, List, ◌∷◌, [], Option, length, get_or, refl, sym, subst, ◌∙◌, arith, length-set, get_or-set_same}
+use Rattle.std.proofs.Common.{◌≡◌, ℕ, List, Option, length, get_or, refl, sym, subst, ◌∙◌, arith, length-set, get_or-set_same}
 use mathlib.Core.Logic.{dite}
 use mathlib.Core.Option.{some, none}
 use native.Mathlib.Decide.{ℕ_discrete}

@@ -1,13 +1,19 @@
 -- What C asks beside a handle, and how it is answered.
-use Rattle.std.specs.Prelude.{◌≡◌, ◌<◌, ◌≤◌, ◌⊎◌, ◌==◌, ◌++◌, if◌then◌else◌, ℕ, List, length, drop, Option, Some, None, Result, Ok, Err}
+use Rattle.std.specs.Prelude.{◌≡◌, ◌≢◌, ◌<◌, ◌≤◌, ◌⊎◌, ◌==◌, ◌++◌, if◌then◌else◌, ℕ, ℤ, List, length, map, take, drop, Option, Some, None, Result, Ok, Err}
 use Rattle.std.specs.declared.vec.Vec.{Vec}
 use Rattle.std.specs.declared.alloc.Global.{Global}
 use Rattle.bucket_ranges.specs.declared.spec.Spec.{Spec}
 use Rattle.bucket_ranges.specs.declared.spec.Spec.TheVariants.{Linear, Boolean, Custom, Sparse}
+use Rattle.segment_calls.specs.declared.answer.Delta.{Delta}
+use Rattle.segment_calls.specs.declared.answer.Snapshot.{Snapshot}
 use Rattle.povundiri_c.specs.declared.held.Held.{Held}
+use Rattle.povundiri_c.specs.declared.status.Refused.{Refused}
+use Rattle.povundiri_c.specs.declared.types.Count.{Count}
 use Rattle.povundiri_c.specs.declared.types.HistSpec.{HistSpec}
-use Rattle.povundiri_c.specs.Calls.{GivesOfRecorder, IsGiven}
-use Rattle.povundiri_c.specs.Recorders.{FindsHist, TakesNext, WalksAll}
+use Rattle.povundiri_c.specs.declared.types.Item.{Item}
+use Rattle.povundiri_c.specs.declared.types.Totals.{Totals}
+use Rattle.povundiri_c.specs.Calls.{GivesOfRecorder, IsGiven, SizesOfRecorder}
+use Rattle.povundiri_c.specs.Recorders.{AtPlace, AtPlaceInRoom, Batches, FindsHist, refused_with, TakesDelta, TakesNext, TakesSnapshot, WalksAll}
 
 -- ---- `hist`
 
@@ -26,6 +32,67 @@ abbrev pub AnswersHistCall : List ℕ → Option Spec → Option Held → ℕ �
 AnswersHistCall name asked held status place place' held' =
     ((spec : Spec) × (asked ≡ Some spec) × (answer : Result ℕ ℕ) × GivesOfRecorder (FindsHist name spec) held answer held' × IsGiven answer status place place')
     ⊎ ((held' ≡ held) × (place' ≡ place) × IsNoHist held asked status)
+
+-- ---- `batch`
+
+-- an item as the library has it
+abbrev pub pair_of : Item → ℤ × ℕ
+pair_of item = (item.value, item.count)
+
+-- All items are counted; or the status says why not, and beside it stands how many are counted all the same.
+abbrev pub IsCounted : ℕ → Result (Unit {0}) Refused → ℕ → ℕ → Type 0
+IsCounted all (Ok _) status added = (status ≡ 0) × (added ≡ all)
+IsCounted all (Err refused) status added = (status ≡ refused.status) × (added ≡ refused.length)
+
+-- The batch is counted, or the status says why not. Or nothing was asked, since the handle is empty or there was no memory for the items, and
+-- all is as before.
+abbrev pub AnswersBatchCall : ℕ → List Item → ℤ → Option Held → ℕ → ℕ → ℕ → Option Held → Type 0
+AnswersBatchCall place items sum held status added added' held' =
+    ((answer : Result (Unit {0}) Refused) × (held ≢ None)
+    × SizesOfRecorder (AtPlace (Err (refused_with 8)) (Batches (map pair_of items) sum) place) held answer held'
+    × IsCounted (length items) answer status added')
+    ⊎ ((held' ≡ held) × (added' ≡ added) × (((held ≡ None) × (status ≡ 3)) ⊎ ((held ≢ None) × (status ≡ 13))))
+
+-- ---- `delta` and `snapshot`
+
+-- a count as C has it
+abbrev pub count_of : ℤ × ℕ → Count
+count_of given = record { key = given.0; count = given.1 }
+
+-- counts stand at the front of the array, as many as it has room for; what stands behind them is as before
+abbrev pub with_counts : List (ℤ × ℕ) → List Count → List Count
+with_counts counts old = map count_of (take (length old) counts) ++ drop (length counts) old
+
+-- The status says why a call is refused, and the length that goes with it is told; all else is as before.
+abbrev pub IsRefused : Refused → ℕ → Totals → Totals → List Count → List Count → Type 0
+IsRefused refused status totals totals' old new =
+    (status ≡ refused.status) × (totals' ≡ record totals { length = refused.length }) × (new ≡ old)
+
+-- the counts of a delta and how many they are, and its sum; or why there is none
+abbrev pub IsDeltaGiven : Result Delta Refused → ℕ → Totals → Totals → List Count → List Count → Type 0
+IsDeltaGiven (Ok delta) status totals totals' old new =
+    (status ≡ 0) × (totals' ≡ record { length = length delta.counts.items; sum = delta.sum; redundant = 0 })
+    × (new ≡ with_counts delta.counts.items old)
+IsDeltaGiven (Err refused) status totals totals' old new = IsRefused refused status totals totals' old new
+
+-- the counts of a snapshot and how many they are, its sum, and its redundant count; or why there is none
+abbrev pub IsSnapshotGiven : Result Snapshot Refused → ℕ → Totals → Totals → List Count → List Count → Type 0
+IsSnapshotGiven (Ok snapshot) status totals totals' old new =
+    (status ≡ 0) × (totals' ≡ record { length = length snapshot.counts.items; sum = snapshot.sum; redundant = snapshot.redundant })
+    × (new ≡ with_counts snapshot.counts.items old)
+IsSnapshotGiven (Err refused) status totals totals' old new = IsRefused refused status totals totals' old new
+
+-- a delta of the histogram at a place is answered, where the array has room for all of its keys, or the status says why not
+abbrev pub AnswersDeltaCall : ℕ → Option Held → ℕ → Totals → Totals → List Count → List Count → Option Held → Type 0
+AnswersDeltaCall place held status totals totals' old new held' =
+    (answer : Result Delta Refused) × SizesOfRecorder (AtPlaceInRoom place (length old) TakesDelta) held answer held'
+    × IsDeltaGiven answer status totals totals' old new
+
+-- a snapshot of it is answered in the same way
+abbrev pub AnswersSnapshotCall : ℕ → Option Held → ℕ → Totals → Totals → List Count → List Count → Option Held → Type 0
+AnswersSnapshotCall place held status totals totals' old new held' =
+    (answer : Result Snapshot Refused) × SizesOfRecorder (AtPlaceInRoom place (length old) TakesSnapshot) held answer held'
+    × IsSnapshotGiven answer status totals totals' old new
 
 -- ---- `records`
 

@@ -6,7 +6,9 @@ use Rattle.owned_recorder.specs.Desks.{view_of_desk}
 use Rattle.owned_recorder.specs.declared.owned.OwnedRecorder.{OwnedRecorder}
 use Rattle.povundiri_c.specs.declared.held.Held.{Held}
 use Rattle.povundiri_c.specs.declared.held.Held.TheVariants as held
+use Rattle.povundiri_c.specs.declared.status.Refused.{Refused}
 use Rattle.povundiri_c.specs.declared.worker.Worker.{Worker}
+use Rattle.povundiri_c.specs.Recorders.{refused_with}
 
 -- ---- what a call only asks
 
@@ -53,3 +55,7 @@ OfRecorder Calls = ByHandle 3 (ByRecorder 5 Calls)
 -- one that answers a value or a status
 abbrev pub GivesOfRecorder : {A : Type 0} → (OwnedRecorder → Result A ℕ → OwnedRecorder → Type 0) → Option Held → Result A ℕ → Option Held → Type 0
 GivesOfRecorder Calls = ByHandle (Err 3) (ByRecorder (Err 5) Calls)
+
+-- one that answers a value, or a status with a length
+abbrev pub SizesOfRecorder : {A : Type 0} → (OwnedRecorder → Result A Refused → OwnedRecorder → Type 0) → Option Held → Result A Refused → Option Held → Type 0
+SizesOfRecorder Calls = ByHandle (Err (refused_with 3)) (ByRecorder (Err (refused_with 5)) Calls)

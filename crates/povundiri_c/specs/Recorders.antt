@@ -3,14 +3,21 @@
 use Rattle.std.specs.Prelude.{◌≡◌, ◌≤◌, ◌<◌, ℕ, ℤ, List, length, Option, Some, None, Result, Ok, Err, ◌++◌, IfOk}
 use Rattle.std.specs.declared.vec.Vec.{Vec}
 use Rattle.std.specs.declared.alloc.Global.{Global}
+use Rattle.std.specs.Arc.{arc_value}
 use Rattle.bucket_ranges.specs.declared.spec.Spec.{Spec}
+use Rattle.segment_calls.specs.declared.answer.Delta.{Delta}
+use Rattle.segment_calls.specs.declared.answer.Snapshot.{Snapshot}
+use Rattle.segment_calls.specs.declared.refusal.BatchRefusal.{BatchRefusal}
 use Rattle.segment_calls.specs.declared.refusal.Refusal.{Refusal}
+use Rattle.segment_machine.specs.declared.actor.Known.{Known}
 use Rattle.live_segment.specs.Lists.Allocation.{spoiled}
 use Rattle.live_segment.specs.Lists.Cursors.{AnswersNext, gift}
+use Rattle.live_segment.specs.Readings.Values.{AreMostKeys}
 use Rattle.live_segment.specs.declared.recorder.Hist.{Hist}
-use Rattle.owned_recorder.specs.Answers.{AnswersAdd, AnswersHist, AnswersRecords, ClaimsAdd, ClaimsHist}
-use Rattle.owned_recorder.specs.Desks.{IsNamed, IsSameDesk, KnowsOn, view_of_desk}
+use Rattle.owned_recorder.specs.Answers.{AnswersAdd, AnswersBatch, AnswersDelta, AnswersHist, AnswersRecords, AnswersSnapshot, ClaimsAdd, ClaimsBatch, ClaimsHist, ShowsEnough, ShowsUnits, TakesEnough}
+use Rattle.owned_recorder.specs.Desks.{IsNamed, IsSameDesk, KnowsOn, Means, view_of_desk}
 use Rattle.owned_recorder.specs.declared.owned.OwnedRecorder.{OwnedRecorder}
+use Rattle.povundiri_c.specs.declared.status.Refused.{Refused}
 use Rattle.povundiri_c.specs.Status.{status_of_refusal}
 
 -- ---- what is the same behind a call
@@ -44,6 +51,20 @@ abbrev pub place_of_answer : Result Hist Refusal → Result ℕ ℕ
 place_of_answer (Ok histogram) = Ok histogram.index
 place_of_answer (Err why) = Err (status_of_refusal why)
 
+-- a status that no length goes with
+abbrev pub refused_with : ℕ → Refused
+refused_with status = record { status = status; length = 0 }
+
+-- an answer with such a status in the place of a refusal
+abbrev pub with_refused : {A : Type 0} → Result A Refusal → Result A Refused
+with_refused (Ok value) = Ok value
+with_refused (Err why) = Err (refused_with (status_of_refusal why))
+
+-- that of a batch, where the length is how many items are counted all the same
+abbrev pub with_refused_batch : Result (Unit {0}) BatchRefusal → Result (Unit {0}) Refused
+with_refused_batch (Ok value) = Ok value
+with_refused_batch (Err refusal) = Err (record { status = status_of_refusal refusal.why; length = refusal.added })
+
 -- a record, or the status that the list ends
 abbrev pub next_of : Option ℕ → Result ℕ ℕ
 next_of (Some next) = Ok next
@@ -62,6 +83,48 @@ abbrev pub Adds : ℤ → ℕ → Hist → OwnedRecorder → ℕ → OwnedRecord
 Adds value count histogram old status new =
     (answer : Result (Unit {0}) Refusal) × (status ≡ status_of_answer answer) × GoesOn old new
     × AnswersAdd histogram value count old.desk answer new.desk × ClaimsAdd histogram value old.desk answer new.desk
+
+-- a batch is counted as `OwnedRecorder::batch` says
+abbrev pub Batches : List (ℤ × ℕ) → ℤ → Hist → OwnedRecorder → Result (Unit {0}) Refused → OwnedRecorder → Type 0
+Batches items sum histogram old given new =
+    (answer : Result (Unit {0}) BatchRefusal) × (given ≡ with_refused_batch answer) × GoesOn old new
+    × AnswersBatch histogram items sum old.desk answer new.desk × ClaimsBatch histogram items old.desk answer new.desk
+
+-- ---- those that want room for all keys of the histogram
+
+-- so many keys the histogram may have
+abbrev pub AreMost : Hist → OwnedRecorder → ℕ → Type 0
+AreMost histogram owned most = (known : Known) → Means owned.desk histogram known → AreMostKeys (arc_value owned.segment) known most
+
+-- Where there is too little room, it answers how much is needed, and is the same; else the call is made.
+abbrev pub InRoom : {A : Type 0} → ℕ → (Hist → OwnedRecorder → Result A Refused → OwnedRecorder → Type 0)
+    → Hist → OwnedRecorder → Result A Refused → OwnedRecorder → Type 0
+InRoom room Calls histogram old given new =
+    (most : ℕ) × AreMost histogram old most
+    × (room < most → (given ≡ Err (record { status = 7; length = most })) × (new ≡ old))
+    × (most ≤ room → Calls histogram old given new)
+
+-- a call of the histogram at a place, where there is room for all of its keys
+abbrev pub AtPlaceInRoom : {A : Type 0} → ℕ → ℕ → (Hist → OwnedRecorder → Result A Refused → OwnedRecorder → Type 0)
+    → OwnedRecorder → Result A Refused → OwnedRecorder → Type 0
+AtPlaceInRoom place room Calls = AtPlace (Err (refused_with 8)) (InRoom room Calls) place
+
+-- the histogram itself is answered, and nothing else happens
+abbrev pub Finds : Hist → OwnedRecorder → Result Hist Refused → OwnedRecorder → Type 0
+Finds histogram old given new = (given ≡ Ok histogram) × (new ≡ old)
+
+-- a delta is taken as `OwnedRecorder::delta` says
+abbrev pub TakesDelta : Hist → OwnedRecorder → Result Delta Refused → OwnedRecorder → Type 0
+TakesDelta histogram old given new =
+    (answer : Result Delta Refusal) × (given ≡ with_refused answer) × GoesOn old new
+    × AnswersDelta histogram old.desk answer new.desk × TakesEnough histogram old.desk answer new.desk
+
+-- a snapshot is answered as `OwnedRecorder::snapshot` says
+abbrev pub TakesSnapshot : Hist → OwnedRecorder → Result Snapshot Refused → OwnedRecorder → Type 0
+TakesSnapshot histogram old given new =
+    (answer : Result Snapshot Refusal) × (given ≡ with_refused answer) × GoesOn old new
+    × AnswersSnapshot histogram old.desk answer new.desk × ShowsEnough histogram old.desk answer new.desk
+    × ShowsUnits histogram old.desk answer
 
 -- ---- other calls
 

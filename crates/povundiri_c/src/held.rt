@@ -2,7 +2,7 @@
 
 ghost use Rattle.std.specs.Prelude.{◌≡◌, Err};
 ghost use Rattle.povundiri_c.specs.Calls.{ByRecorder, outstanding_in, units_of};
-ghost use Rattle.povundiri_c.specs.Recorders.{Adds, AtPlace, FindsHist, Marks, TakesNext, WalksAll};
+ghost use Rattle.povundiri_c.specs.Recorders.{Adds, AtPlace, AtPlaceInRoom, Batches, FindsHist, Marks, refused_with, TakesDelta, TakesNext, TakesSnapshot, WalksAll};
 
 use crate::owner::Owner;
 use crate::status::{DONE, IN_USE, OTHER_KIND, OTHER_SEGMENT, Refused, SHORT};
@@ -142,21 +142,27 @@ impl Held {
         place: usize,
         items: &[(i32, u32)],
         sum: i64,
-    ) -> Result<(), Refused> {
+    ) -> Result<(), Refused>
+        ensures { ByRecorder (Err (refused_with 5)) (AtPlace (Err (refused_with 8)) (Batches items.now sum) place) self.old result self.new }
+    {
         match self {
             Held::Worker(worker) => worker.batch(place, items, sum),
             _ => Err(Refused::of(OTHER_KIND)),
         }
     }
 
-    pub(crate) fn delta(&mut self, place: usize, room: usize) -> Result<Delta, Refused> {
+    pub(crate) fn delta(&mut self, place: usize, room: usize) -> Result<Delta, Refused>
+        ensures { ByRecorder (Err (refused_with 5)) (AtPlaceInRoom place room TakesDelta) self.old result self.new }
+    {
         match self {
             Held::Worker(worker) => worker.delta(place, room),
             _ => Err(Refused::of(OTHER_KIND)),
         }
     }
 
-    pub(crate) fn snapshot(&mut self, place: usize, room: usize) -> Result<Snapshot, Refused> {
+    pub(crate) fn snapshot(&mut self, place: usize, room: usize) -> Result<Snapshot, Refused>
+        ensures { ByRecorder (Err (refused_with 5)) (AtPlaceInRoom place room TakesSnapshot) self.old result self.new }
+    {
         match self {
             Held::Worker(worker) => worker.snapshot(place, room),
             _ => Err(Refused::of(OTHER_KIND)),

@@ -1,5 +1,9 @@
 //! What each export answers: 0, or the number of what went wrong.
 
+ghost use Rattle.std.specs.Prelude.{◌≡◌};
+ghost use Rattle.povundiri_c.specs.Recorders.{refused_with};
+ghost use Rattle.povundiri_c.specs.Status.{status_of_refusal, status_of_open_fault, status_of_adopt_fault, status_of_image_fault};
+
 use live_segment::{AdoptFault, OpenFault, Refusal};
 use segment_image::ImageFault;
 
@@ -48,13 +52,12 @@ pub(crate) struct Refused {
 }
 
 impl Refused {
-    pub(crate) fn of(status: u32) -> Refused {
+    pub(crate) fn of(status: u32) -> Refused
+        ensures { result ≡ refused_with status }
+    {
         Refused { status, length: 0 }
     }
 }
-
-ghost use Rattle.std.specs.Prelude.{◌≡◌};
-ghost use Rattle.povundiri_c.specs.Status.{status_of_refusal, status_of_open_fault, status_of_adopt_fault, status_of_image_fault};
 
 /// That of a refusal.
 pub(crate) fn of_refusal(why: Refusal) -> u32

@@ -1,9 +1,9 @@
 //! A recorder that C holds.
 
 ghost use Rattle.std.specs.Arc.{arc_value};
-ghost use Rattle.std.specs.Prelude.{◌≡◌, IfOk};
+ghost use Rattle.std.specs.Prelude.{◌≡◌, Err, IfOk};
 ghost use Rattle.owned_recorder.specs.Desks.{Knows};
-ghost use Rattle.povundiri_c.specs.Recorders.{Adds, AtPlace, FindsHist, TakesNext, WalksAll};
+ghost use Rattle.povundiri_c.specs.Recorders.{Adds, AtPlace, AtPlaceInRoom, Batches, Finds, FindsHist, refused_with, TakesDelta, TakesNext, TakesSnapshot, WalksAll};
 ghost use Rattle.povundiri_c.specs.Tray.{IsGuestOf, cursors_of};
 
 use crate::status::{DONE, LIST_ENDS, NO_CURSOR, Refused, SHORT, UNKNOWN, of_refusal};
@@ -55,7 +55,10 @@ impl Worker {
         place: usize,
         items: &[(i32, u32)],
         sum: i64,
-    ) -> Result<(), Refused> {
+    ) -> Result<(), Refused>
+        ensures kept { self.new.tray ≡ self.old.tray }
+        ensures answer { AtPlace (Err (refused_with 8)) (Batches items.now sum) place self.old.recorder result self.new.recorder }
+    {
         let Some(histogram) = self.recorder.hist_at(place) else {
             return Err(Refused::of(UNKNOWN));
         };
@@ -70,7 +73,8 @@ impl Worker {
 
     // The histogram at a place, where there is room for all of its keys.
     fn hist_within(&self, place: usize, room: usize) -> Result<Hist, Refused>
-        ensures { IfOk result (Knows self.now.recorder.desk) }
+        ensures known { IfOk result (Knows self.now.recorder.desk) }
+        ensures answer { AtPlaceInRoom place room Finds self.now.recorder result self.now.recorder }
     {
         let Some(histogram) = self.recorder.hist_at(place) else {
             return Err(Refused::of(UNKNOWN));
@@ -86,7 +90,10 @@ impl Worker {
     }
 
     /// A delta, where there is room for all keys of the histogram.
-    pub(crate) fn delta(&mut self, place: usize, room: usize) -> Result<Delta, Refused> {
+    pub(crate) fn delta(&mut self, place: usize, room: usize) -> Result<Delta, Refused>
+        ensures kept { self.new.tray ≡ self.old.tray }
+        ensures answer { AtPlaceInRoom place room TakesDelta self.old.recorder result self.new.recorder }
+    {
         let histogram = self.hist_within(place, room)?;
         match self.recorder.delta(histogram) {
             Ok(delta) => Ok(delta),
@@ -95,7 +102,10 @@ impl Worker {
     }
 
     /// A snapshot, where there is room for all keys of the histogram.
-    pub(crate) fn snapshot(&mut self, place: usize, room: usize) -> Result<Snapshot, Refused> {
+    pub(crate) fn snapshot(&mut self, place: usize, room: usize) -> Result<Snapshot, Refused>
+        ensures kept { self.new.tray ≡ self.old.tray }
+        ensures answer { AtPlaceInRoom place room TakesSnapshot self.old.recorder result self.new.recorder }
+    {
         let histogram = self.hist_within(place, room)?;
         match self.recorder.snapshot(histogram) {
             Ok(snapshot) => Ok(snapshot),

@@ -1,13 +1,16 @@
 //! What a recorder reads.
 
-ghost use Rattle.povundiri_c.specs.Asking.{AnswersNextCall, AnswersRecordsCall};
+ghost use Rattle.std.specs.Prelude.{◌≡◌};
+ghost use Rattle.povundiri_c.specs.Asking.{AnswersDeltaCall, AnswersNextCall, AnswersRecordsCall, AnswersSnapshotCall, with_counts};
 
 use crate::handle::Handle;
 use crate::status::{DONE, EMPTY, Refused, SHORT};
 use crate::types::{Count, Totals};
 
 // Writes counts as far as there is room for them.
-fn write_counts(counts: &[(i32, u64)], out: &mut [Count]) {
+fn write_counts(counts: &[(i32, u64)], out: &mut [Count])
+    ensures { out.new ≡ with_counts counts.now out.old }
+{
     for i in 0..counts.len().min(out.len()) {
         let (key, count) = counts[i];
         out[i] = Count { key, count };
@@ -21,7 +24,9 @@ pub extern "C" fn povundiri_proved_delta(
     hist: usize,
     counts: &mut [Count],
     totals: &mut Totals,
-) -> u32 {
+) -> u32
+    ensures { AnswersDeltaCall hist recorder.old.seal.held result totals.old totals.new counts.old counts.new recorder.new.seal.held }
+{
     let room = counts.len();
     match recorder.call(Err(Refused::of(EMPTY)), |held| held.delta(hist, room)) {
         Ok(delta) => {
@@ -47,7 +52,9 @@ pub extern "C" fn povundiri_proved_snapshot(
     hist: usize,
     counts: &mut [Count],
     totals: &mut Totals,
-) -> u32 {
+) -> u32
+    ensures { AnswersSnapshotCall hist recorder.old.seal.held result totals.old totals.new counts.old counts.new recorder.new.seal.held }
+{
     let room = counts.len();
     match recorder.call(Err(Refused::of(EMPTY)), |held| held.snapshot(hist, room)) {
         Ok(snapshot) => {

@@ -1,7 +1,7 @@
 //! What a recorder counts.
 
-ghost use Rattle.std.specs.Prelude.{◌≡◌, ◌⊎◌, Some, None, MatchResult};
-ghost use Rattle.povundiri_c.specs.Asking.{AnswersHistCall, spec_asked};
+ghost use Rattle.std.specs.Prelude.{◌≡◌, ◌⊎◌, Some, None, IfOk, MatchResult, map};
+ghost use Rattle.povundiri_c.specs.Asking.{AnswersBatchCall, AnswersHistCall, pair_of, spec_asked};
 ghost use Rattle.povundiri_c.specs.Calls.{OfRecorder};
 ghost use Rattle.povundiri_c.specs.Recorders.{Adds, AtPlace, Marks};
 
@@ -32,7 +32,9 @@ fn spec_of(alloc: Global, spec: HistSpec, values: &[u32]) -> Result<Spec, u32>
 }
 
 // The items as the library takes them.
-fn pairs_of(alloc: Global, items: &[Item]) -> Result<Vec<(i32, u32)>, AllocError> {
+fn pairs_of(alloc: Global, items: &[Item]) -> Result<Vec<(i32, u32)>, AllocError>
+    ensures { IfOk result (λ pairs. pairs.items ≡ map pair_of items.now) }
+{
     let mut pairs = Vec::with_capacity(alloc, items.len())?;
     for item in items {
         pairs.push((item.value, item.count))?;
@@ -90,7 +92,9 @@ pub extern "C" fn povundiri_proved_batch(
     items: &[Item],
     sum: i64,
     added: &mut usize,
-) -> u32 {
+) -> u32
+    ensures { AnswersBatchCall hist items.now sum recorder.old.seal.held result added.old added.new recorder.new.seal.held }
+{
     if !recorder.is_full() {
         return EMPTY;
     }

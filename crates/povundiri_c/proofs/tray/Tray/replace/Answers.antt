@@ -1,8 +1,7 @@
-use Rattle.std.proofs.Common.{rules, ℕ, List, ◌∷◌, Option, ap, sym, subst, ◌∙◌}
+use Rattle.std.proofs.Common.{rules, ℕ, List, ◌∷◌, Option, ap, ◌∙◌}
 use Rattle.atomic_table.specs.Table.{Me, rest}
 use Rattle.live_segment.specs.declared.opener.Opener.{Opener}
 use Rattle.owned_recorder.specs.declared.owned.OwnedRecorder.{OwnedRecorder}
-use Rattle.povundiri_c.specs.Tray.{IsOfOpener}
 use Rattle.povundiri_c.proofs.Trays.{reaches, places}
 use Rattle.povundiri_c.proofs.tray.Tray.replace.Goals as goal
 

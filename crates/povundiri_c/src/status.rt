@@ -48,7 +48,9 @@ pub(crate) struct Refused {
 }
 
 impl Refused {
-    pub(crate) fn of(status: u32) -> Refused {
+    pub(crate) fn of(status: u32) -> Refused
+        ensures { (result.status ≡ status) × (result.length ≡ 0) }
+    {
         Refused { status, length: 0 }
     }
 }

@@ -27,19 +27,19 @@ abbrev pub HoldsSegment : Segment → Opener → Option Held → Type 0
 HoldsSegment segment opener new =
     (owner : Owner) × (new ≡ Some (held.Owner owner)) × (arc_value owner.segment ≡ segment) × (owner.opener ≡ opener)
 
--- it holds these two then; or there was no memory for what C's side needs, and it is as before
+-- a handle is filled with these two; or there was no memory for what C's side needs, and it is as before
 abbrev pub IsFilledWith : Segment → Opener → ℕ → Option Held → Option Held → Type 0
 IsFilledWith segment opener status old new = ((status ≡ 0) × HoldsSegment segment opener new) ⊎ ((status ≡ 13) × (new ≡ old))
 
--- a segment and an opener of this sort were made, and the handle holds them, or there was no memory for that
+-- a segment and an opener of this sort were made, and a handle is filled with them, or there was no memory for that
 abbrev pub IsFilled : (Segment → Opener → Type 0) → ℕ → Option Held → Option Held → Type 0
 IsFilled Is status old new = (segment : Segment) × (opener : Opener) × Is segment opener × IsFilledWith segment opener status old new
 
--- that happens in a room; or there was no memory for what lends the room, and the handle is as before
+-- a handle is filled so, by a segment in a room; or there was no memory for what lends the room, and it is as before
 abbrev pub InRoom : (ℕ → Option Held → Option Held → Type 0) → ℕ → Option Held → Option Held → Type 0
 InRoom Fills status old new = Fills status old new ⊎ ((status ≡ 13) × (new ≡ old))
 
--- That happens to a handle that is empty. One that holds something keeps it, and that is answered.
+-- An empty handle is filled so. One that holds something holds it still, and that is answered.
 abbrev pub IntoEmpty : (ℕ → Option Held → Option Held → Type 0) → Option Held → ℕ → Option Held → Type 0
 IntoEmpty Fills None status new = Fills status None new
 IntoEmpty Fills (Some it) status new = (status ≡ 4) × (new ≡ Some it)
@@ -71,7 +71,7 @@ IsTakenUp words cursors status old new =
 abbrev pub size_of : Owner → ℕ
 size_of owner = (arc_value owner.segment).setting.shape.size
 
--- the image of a segment that has ended, for the opener that was made with it: what `Segment::close` says of it, and it is all words
+-- the image of a segment that has ended, for the opener that was made with it: what `Segment::close` says of it; and it is whole
 pub record IsImageFrom (segment : Segment) (opener : Opener) (image : List ℕ) : Type 0 where
   pub image_of : IsImageOf segment.setting image
   pub joined : outstanding_of (view_of_opener opener).role ≡ 0 → ReadsJoined segment.setting (view_of_opener opener) image

@@ -1,6 +1,6 @@
 //! What C holds.
 
-ghost use Rattle.std.specs.Prelude.{◌≡◌, false, Some, None, IfErr, MatchResult};
+ghost use Rattle.std.specs.Prelude.{◌≡◌, false, true, Some, None, Err, IfErr, MatchResult};
 ghost use Rattle.std.specs.Fn.{FnOnceReturnsAtMut};
 ghost use Rattle.povundiri_c.specs.Calls.{ByHandle};
 ghost use Rattle.povundiri_c.specs.Sealed.{is_some};
@@ -57,6 +57,7 @@ impl Handle {
     /// What it holds. It is empty then: `none`, which is, takes its place.
     pub(crate) fn take(&mut self, none: Handle) -> Result<Box<Held>, u32>
         ensures taken { MatchResult result (λ boxed. (self.old.seal.held ≡ Some boxed.value) × (self.new.seal.held ≡ None)) (λ _. self.new ≡ self.old) }
+        ensures full { is_some none.seal.held ≡ true → result ≡ Err 4 }
         ensures why { IfErr result (λ status. is_some none.seal.held ≡ false → (status ≡ 3) × (is_some self.old.seal.held ≡ false)) }
     {
         if none.full {

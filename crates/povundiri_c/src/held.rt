@@ -1,8 +1,13 @@
 //! What a handle holds.
 
-ghost use Rattle.std.specs.Prelude.{◌≡◌, Err};
+ghost use Rattle.std.specs.Prelude.{◌≡◌, Err, MatchResult};
 ghost use Rattle.povundiri_c.specs.Calls.{ByRecorder, outstanding_in, units_of};
+<<<<<<< HEAD
 ghost use Rattle.povundiri_c.specs.Recorders.{Adds, AtPlace, AtPlaceInRoom, Batches, FindsHist, Marks, refused_with, TakesDelta, TakesNext, TakesSnapshot, WalksAll};
+=======
+ghost use Rattle.povundiri_c.specs.Recorders.{Adds, AtPlace, FindsHist, Marks, TakesNext, WalksAll};
+ghost use Rattle.povundiri_c.specs.Segments.{AnswersClose};
+>>>>>>> from-c_segments
 
 use crate::owner::Owner;
 use crate::status::{DONE, IN_USE, OTHER_KIND, OTHER_SEGMENT, Refused, SHORT};
@@ -26,14 +31,29 @@ pub(crate) struct Unjoined {
 }
 
 impl Held {
-    // Its image, where it is a segment without recorders.
-    fn closed(self, _nothing: ()) -> (Held, Result<Image, u32>) {
+    // Its image, where it is a segment without recorders whose words fit so many.
+    fn closed(self, room: usize) -> (Held, Result<Image, Refused>)
+        ensures answer { AnswersClose room self result.1 }
+        ensures after { MatchResult result.1 (λ _. result.0 ≡ Held.Nothing) (λ _. result.0 ≡ self) }
+    {
         match self {
-            Held::Owner(owner) => match owner.close() {
-                Ok(image) => (Held::Nothing, Ok(image)),
-                Err(owner) => (Held::Owner(owner), Err(IN_USE)),
-            },
-            other => (other, Err(OTHER_KIND)),
+            Held::Owner(owner) => {
+                let size = owner.size() as usize;
+                if room < size {
+                    return (
+                        Held::Owner(owner),
+                        Err(Refused {
+                            status: SHORT,
+                            length: size,
+                        }),
+                    );
+                }
+                match owner.close() {
+                    Ok(image) => (Held::Nothing, Ok(image)),
+                    Err(owner) => (Held::Owner(owner), Err(Refused::of(IN_USE))),
+                }
+            }
+            other => (other, Err(Refused::of(OTHER_KIND))),
         }
     }
 
@@ -83,21 +103,11 @@ impl Held {
     }
 
     /// Ends the segment, whose image has to fit so many words.
-    pub(crate) fn close(&mut self, room: usize) -> Result<Image, Refused> {
-        let size = match self {
-            Held::Owner(owner) => owner.size() as usize,
-            _ => return Err(Refused::of(OTHER_KIND)),
-        };
-        if room < size {
-            return Err(Refused {
-                status: SHORT,
-                length: size,
-            });
-        }
-        match replace_with(self, (), Held::closed) {
-            Ok(image) => Ok(image),
-            Err(status) => Err(Refused::of(status)),
-        }
+    pub(crate) fn close(&mut self, room: usize) -> Result<Image, Refused>
+        ensures answer { AnswersClose room self.old result }
+        ensures after { MatchResult result (λ _. self.new ≡ Held.Nothing) (λ _. self.new ≡ self.old) }
+    {
+        replace_with(self, room, Held::closed)
     }
 
     pub(crate) fn units(&mut self) -> Result<u32, u32>

@@ -28,6 +28,9 @@ pub struct Owner {
 }
 
 impl Owner {
+    ghost use Rattle.std.specs.Prelude.{IfOk, MatchResult};
+    ghost use Rattle.povundiri_c.specs.Segments.{IsImageFrom, size_of};
+
     /// The owner of a segment and the opener that was made with it.
     #[tactic(auto, using(crate::proofs::Holding::counts))]
     pub(crate) fn new(
@@ -38,6 +41,7 @@ impl Owner {
     ) -> Result<Owner, AllocError>
         requires made { IsMadeWith segment opener }
         requires counted { cursors ≡ segment.setting.cursors }
+        ensures { IfOk result (λ owner. (arc_value owner.segment ≡ segment) × (owner.opener ≡ opener)) }
     {
         let tray = Arc::new(alloc, Tray::new(alloc, &opener)?)?;
         let segment = Arc::new(alloc, segment)?;
@@ -50,7 +54,9 @@ impl Owner {
     }
 
     /// How many words its image has.
-    pub(crate) fn size(&self) -> u64 {
+    pub(crate) fn size(&self) -> u64
+        ensures { result ≡ size_of self.now }
+    {
         self.segment.size()
     }
 
@@ -115,7 +121,9 @@ impl Owner {
     }
 
     /// Ends the segment, where no recorder is left.
-    pub(crate) fn close(self) -> Result<Image, Owner> {
+    pub(crate) fn close(self) -> Result<Image, Owner>
+        ensures { MatchResult result (IsImageFrom (arc_value self.segment) self.opener) (λ owner. owner ≡ self) }
+    {
         let Owner {
             segment,
             opener,

@@ -53,7 +53,11 @@ pub(crate) struct Refused {
 
 impl Refused {
     pub(crate) fn of(status: u32) -> Refused
+<<<<<<< HEAD
         ensures { result ≡ refused_with status }
+=======
+        ensures { (result.status ≡ status) × (result.length ≡ 0) }
+>>>>>>> from-c_segments
     {
         Refused { status, length: 0 }
     }

@@ -1,5 +1,11 @@
 //! Segments and their recorders.
 
+ghost use Rattle.std.specs.Prelude.{◌≡◌, ◌⊎◌, true, false, Some, None};
+ghost use Rattle.live_segment.specs.Holders.{IsMadeWith};
+ghost use Rattle.povundiri_c.specs.Calls.{asked_of, IsGiven, outstanding_in, units_of};
+ghost use Rattle.povundiri_c.specs.Sealed.{is_some};
+ghost use Rattle.povundiri_c.specs.Segments.{AnswersCloseCall, InRoom, IntoEmpty, IsCreated, IsFilledWith, IsTakenUp};
+
 use crate::handle::Handle;
 use crate::held::Held;
 use crate::owner::Owner;
@@ -9,7 +15,9 @@ use live_segment::{Lender, Memory, Opener, Room, Segment};
 use std::alloc::Global;
 
 // Fills a handle, which is empty.
-fn fill(alloc: Global, out: &mut Handle, held: Held) -> u32 {
+fn fill(alloc: Global, out: &mut Handle, held: Held) -> u32
+    ensures { ((result ≡ 0) × (out.new.seal.held ≡ Some held)) ⊎ ((result ≡ 13) × (out.new.seal.held ≡ out.old.seal.held)) }
+{
     match Box::new(alloc, held) {
         Ok(boxed) => {
             out.put(boxed);
@@ -18,11 +26,6 @@ fn fill(alloc: Global, out: &mut Handle, held: Held) -> u32 {
         Err(_) => NO_MEMORY,
     }
 }
-
-ghost use Rattle.std.specs.Prelude.{◌≡◌, true, false, None};
-ghost use Rattle.live_segment.specs.Holders.{IsMadeWith};
-ghost use Rattle.povundiri_c.specs.Calls.{asked_of, IsGiven, outstanding_in, units_of};
-ghost use Rattle.povundiri_c.specs.Sealed.{is_some};
 
 // Fills a handle, which is empty, with a segment.
 fn fill_with_segment(
@@ -34,6 +37,7 @@ fn fill_with_segment(
 ) -> u32
     requires made { IsMadeWith segment opener }
     requires counted { cursors ≡ segment.setting.cursors }
+    ensures { IsFilledWith segment opener result out.old.seal.held out.new.seal.held }
 {
     match Owner::new(alloc, segment, opener, cursors) {
         Ok(owner) => fill(alloc, out, Held::Owner(owner)),
@@ -42,7 +46,9 @@ fn fill_with_segment(
 }
 
 // A new segment in a memory.
-fn create_in(alloc: Global, memory: Memory, shape: SegmentShape, out: &mut Handle) -> u32 {
+fn create_in(alloc: Global, memory: Memory, shape: SegmentShape, out: &mut Handle) -> u32
+    ensures { IsCreated shape result out.old.seal.held out.new.seal.held }
+{
     let made = Segment::create_in(
         alloc,
         memory,
@@ -59,7 +65,9 @@ fn create_in(alloc: Global, memory: Memory, shape: SegmentShape, out: &mut Handl
 }
 
 // A segment in a memory that goes on with an image.
-fn adopt_in(alloc: Global, memory: Memory, words: &[u64], cursors: usize, out: &mut Handle) -> u32 {
+fn adopt_in(alloc: Global, memory: Memory, words: &[u64], cursors: usize, out: &mut Handle) -> u32
+    ensures { IsTakenUp words.now cursors result out.old.seal.held out.new.seal.held }
+{
     match Segment::adopt_in(alloc, memory, words, cursors) {
         Ok((segment, opener)) => fill_with_segment(alloc, out, segment, opener, cursors),
         Err(fault) => of_adopt_fault(fault),
@@ -72,7 +80,9 @@ pub extern "C" fn povundiri_proved_create(
     alloc: Global,
     shape: SegmentShape,
     out: &mut Handle,
-) -> u32 {
+) -> u32
+    ensures { IntoEmpty (IsCreated shape) out.old.seal.held result out.new.seal.held }
+{
     if out.is_full() {
         return NOT_EMPTY;
     }
@@ -86,7 +96,9 @@ pub extern "C" fn povundiri_proved_create_in(
     room: Room,
     shape: SegmentShape,
     out: &mut Handle,
-) -> u32 {
+) -> u32
+    ensures { IntoEmpty (InRoom (IsCreated shape)) out.old.seal.held result out.new.seal.held }
+{
     if out.is_full() {
         return NOT_EMPTY;
     }
@@ -103,7 +115,9 @@ pub extern "C" fn povundiri_proved_adopt(
     words: &[u64],
     cursors: usize,
     out: &mut Handle,
-) -> u32 {
+) -> u32
+    ensures { IntoEmpty (IsTakenUp words.now cursors) out.old.seal.held result out.new.seal.held }
+{
     if out.is_full() {
         return NOT_EMPTY;
     }
@@ -118,7 +132,9 @@ pub extern "C" fn povundiri_proved_adopt_in(
     words: &[u64],
     cursors: usize,
     out: &mut Handle,
-) -> u32 {
+) -> u32
+    ensures { IntoEmpty (InRoom (IsTakenUp words.now cursors)) out.old.seal.held result out.new.seal.held }
+{
     if out.is_full() {
         return NOT_EMPTY;
     }
@@ -135,7 +151,10 @@ pub extern "C" fn povundiri_proved_close(
     none: Handle,
     words: &mut [u64],
     needed: &mut usize,
-) -> u32 {
+) -> u32
+    ensures full { is_some none.seal.held ≡ true → (result ≡ 4) × (needed.new ≡ needed.old) × (words.new ≡ words.old) × (segment.new ≡ segment.old) }
+    ensures answer { is_some none.seal.held ≡ false → AnswersCloseCall segment.old.seal.held result needed.old needed.new words.old words.new segment.new.seal.held }
+{
     let mut boxed = match segment.take(none) {
         Ok(boxed) => boxed,
         Err(status) => return status,
@@ -143,9 +162,8 @@ pub extern "C" fn povundiri_proved_close(
     match boxed.close(words.len()) {
         Ok(image) => {
             let found = image.words();
-            let length = found.len().min(words.len());
-            words[..length].copy_from_slice(&found[..length]);
-            *needed = length;
+            words[..found.len()].copy_from_slice(found);
+            *needed = found.len();
             DONE
         }
         Err(refused) => {

@@ -56,6 +56,8 @@ static const struct named NAMES[] = {
     {POVUNDIRI_IN_USE, "InUse"},
     {POVUNDIRI_LIST_ENDS, "ListEnds"},
     {POVUNDIRI_NO_MEMORY, "NoMemory"},
+    {POVUNDIRI_ELSEWHERE, "Elsewhere"},
+    {POVUNDIRI_BUSY, "Busy"},
     {POVUNDIRI_REFUSED_BAD_NAME, "BadName"},
     {POVUNDIRI_REFUSED_BAD_SPEC, "BadSpec"},
     {POVUNDIRI_REFUSED_ZERO_COUNT, "ZeroCount"},

@@ -119,6 +119,8 @@ enum povundiri_status {
     POVUNDIRI_IN_USE = 11,       /* the segment has recorders */
     POVUNDIRI_LIST_ENDS = 12,    /* behind the cursor there is no record as yet */
     POVUNDIRI_NO_MEMORY = 13,    /* there was no memory for a handle, a name, or a text */
+    POVUNDIRI_ELSEWHERE = 14,    /* the recorder's own segment has met it, as another thread joined one there: its handle is empty */
+    POVUNDIRI_BUSY = 15,         /* another thread joins a recorder of the same segment at this moment: nothing has happened, try again */
 
     /* Why a call is refused. */
     POVUNDIRI_REFUSED_BAD_NAME = 101,
@@ -269,7 +271,7 @@ inline uint32_t povundiri_drop(struct povundiri_handle *handle) {
 }
 
 /* A recorder for one thread, with so many of the segment's units.
- * Statuses: NULL, NOT_EMPTY, EMPTY, OTHER_KIND; REFUSED_NO_UNITS: the segment has fewer; REFUSED_TOO_MANY: it has 256 recorders; NO_MEMORY.
+ * Statuses: NULL, NOT_EMPTY, NO_MEMORY, EMPTY, OTHER_KIND; REFUSED_NO_UNITS: the segment has fewer; REFUSED_TOO_MANY: it has 256 recorders.
  * Keep: pointers; handles: `out` begins as zeros; turns: that of the segment; process. */
 inline uint32_t povundiri_recorder(struct povundiri_handle *segment, uint32_t units, struct povundiri_handle *out) {
     if (segment == NULL || out == NULL) return POVUNDIRI_NULL;
@@ -277,7 +279,9 @@ inline uint32_t povundiri_recorder(struct povundiri_handle *segment, uint32_t un
 }
 
 /* Takes a recorder back: its handle is empty then, and the units that it has left are the segment's.
- * Statuses: NULL, EMPTY, OTHER_KIND, OTHER_SEGMENT.
+ * Statuses: NULL, EMPTY, OTHER_KIND, OTHER_SEGMENT. Where one thread joins a recorder to a segment that is not its own while another
+ * joins one of the recorder's segment: the first may be answered ELSEWHERE, and the recorder is joined to its own segment; either may be
+ * answered BUSY. A program that joins each recorder to its own segment is answered neither.
  * Keep: pointers; handles; turns: those of both; process. */
 inline uint32_t povundiri_join(struct povundiri_handle *segment, struct povundiri_handle *recorder) {
     const struct povundiri_handle none = {false, NULL};

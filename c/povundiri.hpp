@@ -276,7 +276,7 @@ public:
     // 'recorder' is empty.
     Status try_recorder(std::uint32_t units, Recorder& recorder) { return povundiri_recorder(get(), units, recorder.get()); }
 
-    // On DONE the recorder is empty.
+    // On DONE the recorder is empty, and on ELSEWHERE.
     Status try_join(Recorder& recorder) { return povundiri_join(get(), recorder.get()); }
     Status try_outstanding(std::uint32_t& outstanding) { return povundiri_outstanding(get(), &outstanding); }
 

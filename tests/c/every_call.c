@@ -566,6 +566,8 @@ static void texts(void) {
     HOLDS(strcmp(povundiri_status_text(POVUNDIRI_DONE), "Done") == 0);
     HOLDS(strcmp(povundiri_status_text(POVUNDIRI_REFUSED_NO_UNITS), "NoUnits") == 0);
     HOLDS(strcmp(povundiri_status_text(POVUNDIRI_IMAGE_BAD_QUEUE), "BadQueue") == 0);
+    HOLDS(strcmp(povundiri_status_text(POVUNDIRI_ELSEWHERE), "Elsewhere") == 0);
+    HOLDS(strcmp(povundiri_status_text(POVUNDIRI_BUSY), "Busy") == 0);
     HOLDS(strcmp(povundiri_status_text(99), "NoSuchStatus") == 0);
     HOLDS(strcmp(povundiri_status_text(UINT32_MAX), "NoSuchStatus") == 0);
 }

@@ -1,15 +1,15 @@
 -- What a segment's owner and its tray have is of that segment.
-use Rattle.std.proofs.Common.{◌≡◌, ◌<◌, ℕ, sym, ap, ◌∙◌, subst, Option, Some, None, Result, Ok, Err, MatchOption, MatchResult}
+use Rattle.std.proofs.Common.{◌≡◌, ◌<◌, ℕ, refl, sym, ap, ◌∙◌, subst, Option, Some, None, Result, Ok, Err, MatchOption, MatchResult}
+use Rattle.std.proofs.Props.{props}
 use Rattle.std.proofs.lemmas.Result.{MatchResult-at_ok}
 use Rattle.std.specs.Arc.{arc_value}
-use Rattle.std.specs.declared.sync.Arc.{Arc}
-use Rattle.std.specs.declared.alloc.Global.{Global}
 use Rattle.live_segment.specs.declared.opener.Opener.{Opener}
 use Rattle.owned_recorder.specs.declared.owned.OwnedRecorder.{OwnedRecorder}
 use Rattle.live_segment.specs.declared.segment.Segment.{Segment}
 use Rattle.live_segment.specs.Holders.{IsMadeWith}
-use Rattle.owned_recorder.specs.Desks.{IsSameDesk, KnowsOn, view_of_desk}
+use Rattle.owned_recorder.specs.Desks.{view_of_desk}
 use Rattle.owned_recorder.specs.Holders.{IsRecorderOf, RecordsInto}
+use Rattle.povundiri_c.specs.declared.worker.Worker.{Worker}
 use Rattle.povundiri_c.specs.Tray.{IsGuestOf, cursors_of}
 
 -- ---- a segment's owner
@@ -31,20 +31,23 @@ pub of_opener : (segment : Segment) (key opener : Opener) (owned : OwnedRecorder
     → IsRecorderOf owned opener
 of_opener segment key opener owned first made of = of.0 ∙ first.table ∙ sym made.table
 
--- one that was made of a segment keeps that alive
-pub keeps : {T : Type 0} (fault : Option T) (result : Result OwnedRecorder T) (made : OwnedRecorder) (segment : Arc Segment Global) (Q F : OwnedRecorder → Type 0)
-    → MatchOption fault (MatchResult result (λ owned. (owned.segment ≡ segment) × Q owned × F owned) (λ _. ⊥)) (λ why. result ≡ Err why)
-    → result ≡ Ok made → made.segment ≡ segment
-keeps None result made segment Q F held is =
-    (MatchResult-at_ok (λ owned. (owned.segment ≡ segment) × Q owned × F owned) (λ _. ⊥) made is held).0
-keeps (Some why) result made segment Q F held is = search (is, held)
+-- where one was made, nothing was at fault
+pub unrefused : {T : Type 0} (fault : Option T) (result : Result OwnedRecorder T) (owned : OwnedRecorder) (P : OwnedRecorder → Type 0)
+    → MatchOption fault (MatchResult result P (λ _. ⊥)) (λ why. result ≡ Err why) → result ≡ Ok owned → (fault ≡ None) × P owned
+unrefused {T} None result owned P held is = (refl, MatchResult-at_ok P (λ _. ⊥) owned is held)
+unrefused {T} (Some why) result owned P held is = absurd (subst (λ (one : Result OwnedRecorder T). MatchResult one (λ _. Unit {0}) (λ _. ⊥)) (sym is ∙ held) tt)
 
--- it is that still behind its calls
-pub still_of : (key : Opener) (old new : OwnedRecorder) → new.segment ≡ old.segment → IsSameDesk old.desk new.desk → IsGuestOf old key → IsGuestOf new key
-still_of key old new kept same of = (same.table ∙ of.0, ap (λ (one : Arc Segment Global). (arc_value one).setting.cursors) kept ∙ of.1)
-
-pub still_of_on : (key : Opener) (old new : OwnedRecorder) → new.segment ≡ old.segment → KnowsOn old.desk new.desk → IsGuestOf old key → IsGuestOf new key
-still_of_on key old new kept on of = (on.table ∙ of.0, ap (λ (one : Arc Segment Global). (arc_value one).setting.cursors) kept ∙ of.1)
+-- one that came back is the one that it was
+pub same_worker : (worker : Worker) (owned : OwnedRecorder) (fits : IsGuestOf owned (arc_value worker.tray).table.shared.key)
+    (counted : worker.cursors ≡ cursors_of (arc_value worker.tray).table.shared.key) → owned ≡ worker.recorder
+    → ◌≡◌ {A = Worker} (record { recorder = owned; tray = worker.tray; cursors = worker.cursors; fits = fits; counted = counted }) worker
+same_worker worker owned fits counted is =
+    let key = (arc_value worker.tray).table.shared.key in
+    let guests : IsProp (IsGuestOf worker.recorder key) = hlevel props in
+    let counts : IsProp (worker.cursors ≡ cursors_of key) = hlevel props in
+    subst (λ (one : OwnedRecorder). (of : IsGuestOf one key)
+    → ◌≡◌ {A = Worker} (record { recorder = one; tray = worker.tray; cursors = worker.cursors; fits = of; counted = counted }) worker) (sym is)
+    (λ of i. record { recorder = worker.recorder; tray = worker.tray; cursors = worker.cursors; fits = guests of worker.fits i; counted = counts counted worker.counted i }) fits
 
 -- its segment has a shared cursor of this number
 pub has_cursor : (key : Opener) (owned : OwnedRecorder) (cursor cursors : ℕ) → IsGuestOf owned key → cursors ≡ cursors_of key → cursor < cursors

@@ -1,5 +1,6 @@
 pub mod Asking
 pub mod Calls
+pub mod Joins
 pub mod Recorders
 pub mod Reports
 pub mod Sealed

@@ -1,11 +1,12 @@
 //! What C holds.
 
-ghost use Rattle.std.specs.Prelude.{◌≡◌, false, true, Some, None, Err, IfErr, MatchResult};
+ghost use Rattle.std.specs.Prelude.{◌≡◌, false, true, Err, Some, None, IfErr, MatchResult, option_map};
 ghost use Rattle.std.specs.Fn.{FnOnceReturnsAtMut};
 ghost use Rattle.povundiri_c.specs.Calls.{ByHandle};
+ghost use Rattle.povundiri_c.specs.Joins.{AnswersJoinCall};
 ghost use Rattle.povundiri_c.specs.Sealed.{is_some};
 
-use crate::held::{Held, Unjoined};
+use crate::held::Held;
 use crate::seal::Seal;
 use crate::status::{EMPTY, NOT_EMPTY};
 use core::mem::{replace, replace_with};
@@ -72,24 +73,22 @@ impl Handle {
         Ok(boxed)
     }
 
-    fn join_within(self, guest: Box<Held>) -> (Handle, Result<(), Unjoined>) {
+    fn join_within(self, guest: Box<Held>) -> (Handle, (u32, Option<Box<Held>>))
+        ensures { AnswersJoinCall guest.value self.seal.held (result.1.0, option_map (λ back. back.value) result.1.1) result.0.seal.held }
+    {
         match self.into_box() {
             Ok(mut boxed) => {
                 let answer = boxed.join(guest);
                 (Handle::of(boxed), answer)
             }
-            Err(handle) => (
-                handle,
-                Err(Unjoined {
-                    guest,
-                    status: EMPTY,
-                }),
-            ),
+            Err(handle) => (handle, (EMPTY, Some(guest))),
         }
     }
 
-    /// Takes back the recorder that the guest is.
-    pub(crate) fn join(&mut self, guest: Box<Held>) -> Result<(), Unjoined> {
+    /// Takes back the recorder that the guest is. The status, and the guest where it comes back.
+    pub(crate) fn join(&mut self, guest: Box<Held>) -> (u32, Option<Box<Held>>)
+        ensures { AnswersJoinCall guest.value self.old.seal.held (result.0, option_map (λ back. back.value) result.1) self.new.seal.held }
+    {
         replace_with(self, guest, Handle::join_within)
     }
 

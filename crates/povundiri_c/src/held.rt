@@ -1,16 +1,13 @@
 //! What a handle holds.
 
-ghost use Rattle.std.specs.Prelude.{◌≡◌, Err, MatchResult};
+ghost use Rattle.std.specs.Prelude.{◌≡◌, Err, None, MatchResult, option_map};
 ghost use Rattle.povundiri_c.specs.Calls.{ByRecorder, outstanding_in, units_of};
-<<<<<<< HEAD
+ghost use Rattle.povundiri_c.specs.Joins.{BySegment, GivesRecorder, JoinsHeld, worker_of};
 ghost use Rattle.povundiri_c.specs.Recorders.{Adds, AtPlace, AtPlaceInRoom, Batches, FindsHist, Marks, refused_with, TakesDelta, TakesNext, TakesSnapshot, WalksAll};
-=======
-ghost use Rattle.povundiri_c.specs.Recorders.{Adds, AtPlace, FindsHist, Marks, TakesNext, WalksAll};
 ghost use Rattle.povundiri_c.specs.Segments.{AnswersClose};
->>>>>>> from-c_segments
 
 use crate::owner::Owner;
-use crate::status::{DONE, IN_USE, OTHER_KIND, OTHER_SEGMENT, Refused, SHORT};
+use crate::status::{DONE, IN_USE, OTHER_KIND, Refused, SHORT};
 use crate::worker::Worker;
 use core::mem::replace_with;
 use live_segment::{Delta, Image, Snapshot, Spec};
@@ -21,13 +18,6 @@ pub enum Held {
     Owner(Owner),
     Worker(Worker),
     Nothing,
-}
-
-/// Who was not joined, and why.
-#[derive(Drop)]
-pub(crate) struct Unjoined {
-    pub(crate) guest: Box<Held>,
-    pub(crate) status: u32,
 }
 
 impl Held {
@@ -57,48 +47,47 @@ impl Held {
         }
     }
 
+    /// The box with this in it.
+    pub(crate) fn put_into(self, mut place: Box<Held>) -> Box<Held>
+        ensures { result.value ≡ self }
+    {
+        *place = self;
+        place
+    }
+
     // Its recorder, where it is one.
-    fn parted(self, _nothing: ()) -> (Held, Option<Worker>) {
+    fn parted(self, _nothing: ()) -> (Held, Option<Worker>)
+        ensures { (result.1 ≡ worker_of self) × (worker_of self ≡ None → result.0 ≡ self) }
+    {
         match self {
             Held::Worker(worker) => (Held::Nothing, Some(worker)),
             other => (other, None),
         }
     }
 
-    pub(crate) fn recorder(&mut self, units: u32) -> Result<Held, u32> {
+    pub(crate) fn recorder(&mut self, units: u32) -> Result<Worker, u32>
+        ensures { BySegment (Err 5) (GivesRecorder units) self.old result self.new }
+    {
         match self {
-            Held::Owner(owner) => match owner.recorder(units) {
-                Ok(worker) => Ok(Held::Worker(worker)),
-                Err(status) => Err(status),
-            },
+            Held::Owner(owner) => owner.recorder(units),
             _ => Err(OTHER_KIND),
         }
     }
 
-    /// Takes back the recorder that the guest is.
-    pub(crate) fn join(&mut self, mut guest: Box<Held>) -> Result<(), Unjoined> {
+    /// Takes back the recorder that the guest is. The status, and the guest where it comes back.
+    pub(crate) fn join(&mut self, mut guest: Box<Held>) -> (u32, Option<Box<Held>>)
+        ensures { JoinsHeld guest.value self.old (result.0, option_map (λ back. back.value) result.1) self.new }
+    {
         let Held::Owner(owner) = self else {
-            return Err(Unjoined {
-                guest,
-                status: OTHER_KIND,
-            });
+            return (OTHER_KIND, Some(guest));
         };
         let Some(worker) = replace_with(guest.as_mut(), (), Held::parted) else {
-            return Err(Unjoined {
-                guest,
-                status: OTHER_KIND,
-            });
+            return (OTHER_KIND, Some(guest));
         };
-        match owner.join(worker) {
-            Ok(()) => Ok(()),
-            Err(None) => Ok(()),
-            Err(Some(worker)) => {
-                *guest = Held::Worker(worker);
-                Err(Unjoined {
-                    guest,
-                    status: OTHER_SEGMENT,
-                })
-            }
+        let (status, back) = owner.join(worker);
+        match back {
+            Some(worker) => (status, Some(Held::Worker(worker).put_into(guest))),
+            None => (status, None),
         }
     }
 

@@ -6,11 +6,10 @@ ghost use Rattle.live_segment.specs.Holders.{IsMadeWith, view_of_opener};
 ghost use Rattle.segment_machine.specs.Actor.{outstanding_of};
 ghost use Rattle.povundiri_c.specs.Tray.{cursors_of};
 
-use crate::status::{NO_MEMORY, of_refusal};
+mod joins;
+
 use crate::tray::Tray;
-use crate::worker::Worker;
 use live_segment::{Image, Opener, Segment};
-use owned_recorder::{join, owned_recorder};
 use std::alloc::{AllocError, Global};
 use std::sync::Arc;
 
@@ -70,54 +69,6 @@ impl Owner {
         ensures { result ≡ outstanding_of (view_of_opener self.now.opener).role }
     {
         self.opener.outstanding()
-    }
-
-    /// A recorder with so many units; or why there is none.
-    pub(crate) fn recorder(&mut self, units: u32) -> Result<Worker, u32> {
-        let Ok(segment) = Arc::try_clone(&self.segment) else {
-            return Err(NO_MEMORY);
-        };
-        let Ok(tray) = Arc::try_clone(&self.tray) else {
-            return Err(NO_MEMORY);
-        };
-        match owned_recorder(&mut self.opener, segment, units) {
-            Ok(recorder) => Ok(Worker {
-                recorder,
-                tray,
-                cursors: self.cursors,
-            }),
-            Err(why) => Err(of_refusal(why)),
-        }
-    }
-
-    /// Takes a recorder back. One that is not of this segment comes back; unless another thread, which joined one of this segment
-    /// elsewhere, has met it there.
-    #[tactic(auto, using(crate::proofs::Holding::of_opener))]
-    pub(crate) fn join(&mut self, worker: Worker) -> Result<(), Option<Worker>> {
-        let Worker {
-            recorder,
-            tray,
-            cursors,
-        } = worker;
-        if let Some(recorder) = tray.replace(Some(recorder)) {
-            return Err(Some(Worker {
-                recorder,
-                tray,
-                cursors,
-            }));
-        }
-        if let Some(recorder) = self.tray.replace(None) {
-            join(&mut self.opener, recorder);
-            return Ok(());
-        }
-        match tray.replace(None) {
-            Some(recorder) => Err(Some(Worker {
-                recorder,
-                tray,
-                cursors,
-            })),
-            None => Err(None),
-        }
     }
 
     /// Ends the segment, where no recorder is left.

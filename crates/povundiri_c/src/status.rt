@@ -43,6 +43,12 @@ pub(crate) const LIST_ENDS: u32 = 12;
 /// There was no memory for what C's side needs.
 pub(crate) const NO_MEMORY: u32 = 13;
 
+/// The recorder's own segment has met it, by another thread, while it was to be joined to another.
+pub(crate) const ELSEWHERE: u32 = 14;
+
+/// Another thread joins a recorder of the same segment at this moment.
+pub(crate) const BUSY: u32 = 15;
+
 /// Why a call is refused: its status, and the length that goes with it: what is needed where it is `SHORT`, and 0 or what was done
 /// else.
 #[derive(Clone, Copy)]
@@ -53,11 +59,7 @@ pub(crate) struct Refused {
 
 impl Refused {
     pub(crate) fn of(status: u32) -> Refused
-<<<<<<< HEAD
         ensures { result ≡ refused_with status }
-=======
-        ensures { (result.status ≡ status) × (result.length ≡ 0) }
->>>>>>> from-c_segments
     {
         Refused { status, length: 0 }
     }

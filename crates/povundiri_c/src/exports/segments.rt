@@ -2,7 +2,9 @@
 
 ghost use Rattle.std.specs.Prelude.{◌≡◌, ◌⊎◌, true, false, Some, None};
 ghost use Rattle.live_segment.specs.Holders.{IsMadeWith};
+ghost use Rattle.povundiri_c.specs.declared.held.Held.{Held as SomeHeld};
 ghost use Rattle.povundiri_c.specs.Calls.{asked_of, IsGiven, outstanding_in, units_of};
+ghost use Rattle.povundiri_c.specs.Joins.{AnswersJoinCall, AnswersRecorderCall};
 ghost use Rattle.povundiri_c.specs.Sealed.{is_some};
 ghost use Rattle.povundiri_c.specs.Segments.{AnswersCloseCall, InRoom, IntoEmpty, IsCreated, IsFilledWith, IsTakenUp};
 
@@ -189,40 +191,55 @@ pub extern "C" fn povundiri_proved_drop(handle: &mut Handle, none: Handle) -> u3
     }
 }
 
-/// A recorder of a segment with so many units, into a handle that is empty.
+/// A recorder of a segment with so many units, into a handle that is empty. What it is put into is made first: where there is no memory
+/// for that, nothing has changed.
 #[unsafe(no_mangle)]
 pub extern "C" fn povundiri_proved_recorder(
     alloc: Global,
     segment: &mut Handle,
     units: u32,
     out: &mut Handle,
-) -> u32 {
+) -> u32
+    ensures full { is_some out.old.seal.held ≡ true → (result ≡ 4) × (segment.new ≡ segment.old) × (out.new ≡ out.old) }
+    ensures answer { is_some out.old.seal.held ≡ false → AnswersRecorderCall units segment.old.seal.held result segment.new.seal.held out.new.seal.held }
+{
     if out.is_full() {
         return NOT_EMPTY;
     }
+    let Ok(place) = Box::new(alloc, Held::Nothing) else {
+        return NO_MEMORY;
+    };
     match segment.call(Err(EMPTY), |held| held.recorder(units)) {
-        Ok(held) => fill(alloc, out, held),
+        Ok(worker) => {
+            out.put(Held::Worker(worker).put_into(place));
+            DONE
+        }
         Err(status) => status,
     }
 }
 
-/// Takes a recorder back: its handle is empty then, and `none` stands in its place.
+/// Takes a recorder back: its handle is empty then, and `none` stands in its place. Where it is not joined, it is in its handle still,
+/// unless its own segment has met it by another thread.
 #[unsafe(no_mangle)]
 pub extern "C" fn povundiri_proved_join(
     segment: &mut Handle,
     recorder: &mut Handle,
     none: Handle,
-) -> u32 {
+) -> u32
+    ensures full { is_some none.seal.held ≡ true → (result ≡ 4) × (segment.new ≡ segment.old) × (recorder.new ≡ recorder.old) }
+    ensures empty { is_some none.seal.held ≡ false → recorder.old.seal.held ≡ None → (result ≡ 3) × (segment.new ≡ segment.old) × (recorder.new ≡ recorder.old) }
+    ensures answer { is_some none.seal.held ≡ false → (guest : SomeHeld) → recorder.old.seal.held ≡ Some guest → AnswersJoinCall guest segment.old.seal.held (result, recorder.new.seal.held) segment.new.seal.held }
+{
     let guest = match recorder.take(none) {
         Ok(guest) => guest,
         Err(status) => return status,
     };
     match segment.join(guest) {
-        Ok(()) => DONE,
-        Err(unjoined) => {
-            recorder.put(unjoined.guest);
-            unjoined.status
+        (status, Some(guest)) => {
+            recorder.put(guest);
+            status
         }
+        (status, None) => status,
     }
 }
 

@@ -29,8 +29,8 @@ abbrev pub GivesOfSegment : {A : Type 0} → (Owner → Result A ℕ → Owner �
 GivesOfSegment Calls = ByHandle (Err 3) (BySegment (Err 5) Calls)
 
 -- it goes on with the same segment and the same tray
-abbrev pub GoesOn : Owner → Owner → Type 0
-GoesOn old new = (new.segment ≡ old.segment) × (new.tray ≡ old.tray) × (new.cursors ≡ old.cursors) × IsSameOpener old.opener new.opener
+abbrev pub KeepsSegment : Owner → Owner → Type 0
+KeepsSegment old new = (new.segment ≡ old.segment) × (new.tray ≡ old.tray) × (new.cursors ≡ old.cursors) × IsSameOpener old.opener new.opener
 
 -- ---- a recorder is made
 
@@ -41,7 +41,7 @@ fault_of_recorder owner units = first_fault (recorder_checks (view_of_opener own
 -- A recorder of the segment has those units of its opener, as `owned_recorder` says.
 abbrev pub HasMade : ℕ → Owner → Worker → Owner → Type 0
 HasMade units old worker new =
-    (fault_of_recorder old units ≡ None) × GoesOn old new × IsRecorderOf worker.recorder new.opener × (arc_value worker.tray ≡ arc_value new.tray)
+    (fault_of_recorder old units ≡ None) × KeepsSegment old new × IsRecorderOf worker.recorder new.opener × (arc_value worker.tray ≡ arc_value new.tray)
     × (view_of_opener new.opener ≡ parent (offering (view_of_opener old.opener) units))
     × (view_of_owned worker.recorder ≡ newcomer (offering (view_of_opener old.opener) units)) × (given_fresh worker.recorder.desk ≡ 0)
 
@@ -54,14 +54,14 @@ abbrev pub GivesRecorder : ℕ → Owner → Result Worker ℕ → Owner → Typ
 GivesRecorder units old answer new = MatchResult answer (λ worker. HasMade units old worker new) (λ status. (new ≡ old) × IsNoRecorder units old status)
 
 -- a recorder stands in the handle that was empty; or the status says why not, and it is empty still
-abbrev pub IsFilled : Result Worker ℕ → ℕ → Option Held → Type 0
-IsFilled (Ok worker) status out = (status ≡ 0) × (out ≡ Some (held.Worker worker))
-IsFilled (Err why) status out = (status ≡ why) × (out ≡ None)
+abbrev pub IsHanded : Result Worker ℕ → ℕ → Option Held → Type 0
+IsHanded (Ok worker) status out = (status ≡ 0) × (out ≡ Some (held.Worker worker))
+IsHanded (Err why) status out = (status ≡ why) × (out ≡ None)
 
 -- A recorder of the segment is answered, or the status says why not. Or there was no memory for it, and the segment is the same.
 abbrev pub AnswersRecorderCall : ℕ → Option Held → ℕ → Option Held → Option Held → Type 0
 AnswersRecorderCall units segment status segment' out =
-    ((answer : Result Worker ℕ) × GivesOfSegment (GivesRecorder units) segment answer segment' × IsFilled answer status out)
+    ((answer : Result Worker ℕ) × GivesOfSegment (GivesRecorder units) segment answer segment' × IsHanded answer status out)
     ⊎ ((status ≡ 13) × (segment' ≡ segment) × (out ≡ None))
 
 -- ---- a recorder is taken back
@@ -69,7 +69,7 @@ AnswersRecorderCall units segment status segment' out =
 -- it has taken back a recorder of its own
 abbrev pub HasJoined : Owner → Owner → Type 0
 HasJoined old new =
-    GoesOn old new
+    KeepsSegment old new
     × ((owned : OwnedRecorder) × IsRecorderOf owned old.opener × (view_of_opener new.opener ≡ joined (view_of_opener old.opener) (view_of_owned owned)))
 
 -- What is answered where a segment is given a recorder back:

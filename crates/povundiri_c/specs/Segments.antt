@@ -36,8 +36,8 @@ abbrev pub IsFilled : (Segment → Opener → Type 0) → ℕ → Option Held �
 IsFilled Is status old new = (segment : Segment) × (opener : Opener) × Is segment opener × IsFilledWith segment opener status old new
 
 -- a handle is filled so, by a segment in a room; or there was no memory for what lends the room, and it is as before
-abbrev pub InRoom : (ℕ → Option Held → Option Held → Type 0) → ℕ → Option Held → Option Held → Type 0
-InRoom Fills status old new = Fills status old new ⊎ ((status ≡ 13) × (new ≡ old))
+abbrev pub InLentRoom : (ℕ → Option Held → Option Held → Type 0) → ℕ → Option Held → Option Held → Type 0
+InLentRoom Fills status old new = Fills status old new ⊎ ((status ≡ 13) × (new ≡ old))
 
 -- An empty handle is filled so. One that holds something holds it still, and that is answered.
 abbrev pub IntoEmpty : (ℕ → Option Held → Option Held → Type 0) → Option Held → ℕ → Option Held → Type 0

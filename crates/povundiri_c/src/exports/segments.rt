@@ -6,7 +6,7 @@ ghost use Rattle.povundiri_c.specs.declared.held.Held.{Held as SomeHeld};
 ghost use Rattle.povundiri_c.specs.Calls.{asked_of, IsGiven, outstanding_in, units_of};
 ghost use Rattle.povundiri_c.specs.Joins.{AnswersJoinCall, AnswersRecorderCall};
 ghost use Rattle.povundiri_c.specs.Sealed.{is_some};
-ghost use Rattle.povundiri_c.specs.Segments.{AnswersCloseCall, InRoom, IntoEmpty, IsCreated, IsFilledWith, IsTakenUp};
+ghost use Rattle.povundiri_c.specs.Segments.{AnswersCloseCall, InLentRoom, IntoEmpty, IsCreated, IsFilledWith, IsTakenUp};
 
 use crate::handle::Handle;
 use crate::held::Held;
@@ -99,7 +99,7 @@ pub extern "C" fn povundiri_proved_create_in(
     shape: SegmentShape,
     out: &mut Handle,
 ) -> u32
-    ensures { IntoEmpty (InRoom (IsCreated shape)) out.old.seal.held result out.new.seal.held }
+    ensures { IntoEmpty (InLentRoom (IsCreated shape)) out.old.seal.held result out.new.seal.held }
 {
     if out.is_full() {
         return NOT_EMPTY;
@@ -135,7 +135,7 @@ pub extern "C" fn povundiri_proved_adopt_in(
     cursors: usize,
     out: &mut Handle,
 ) -> u32
-    ensures { IntoEmpty (InRoom (IsTakenUp words.now cursors)) out.old.seal.held result out.new.seal.held }
+    ensures { IntoEmpty (InLentRoom (IsTakenUp words.now cursors)) out.old.seal.held result out.new.seal.held }
 {
     if out.is_full() {
         return NOT_EMPTY;

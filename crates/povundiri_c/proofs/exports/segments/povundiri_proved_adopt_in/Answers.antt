@@ -1,7 +1,7 @@
 use Rattle.std.proofs.Common.{inl, sym, ◌∙◌}
-use Rattle.povundiri_c.specs.Segments.{InRoom, IsTakenUp}
+use Rattle.povundiri_c.specs.Segments.{InLentRoom, IsTakenUp}
 use Rattle.povundiri_c.proofs.Making.{into_empty}
 use Rattle.povundiri_c.proofs.exports.segments.povundiri_proved_adopt_in.Goals as goal
 
 pub returns-in-Ok : goal.returns-in-Ok
-returns-in-Ok c = into_empty (InRoom (IsTakenUp c.args.words.now c.args.cursors)) _ _ _ (sym c.is_full.ensures ∙ c.if-is_full.false) (inl c.adopt_in.ensures)
+returns-in-Ok c = into_empty (InLentRoom (IsTakenUp c.args.words.now c.args.cursors)) _ _ _ (sym c.is_full.ensures ∙ c.if-is_full.false) (inl c.adopt_in.ensures)

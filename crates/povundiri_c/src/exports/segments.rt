@@ -179,6 +179,7 @@ pub extern "C" fn povundiri_proved_close(
 /// Lets a segment or a recorder go: its handle is empty then, and `none` stands in its place.
 #[unsafe(no_mangle)]
 pub extern "C" fn povundiri_proved_drop(handle: &mut Handle, none: Handle) -> u32
+    ensures full { is_some none.seal.held ≡ true → (result ≡ 4) × (handle.new ≡ handle.old) }
     ensures empty { is_some none.seal.held ≡ false → is_some handle.old.seal.held ≡ false → (result ≡ 3) × (handle.new ≡ handle.old) }
     ensures done { is_some none.seal.held ≡ false → is_some handle.old.seal.held ≡ true → (result ≡ 0) × (handle.new.seal.held ≡ None) }
 {

@@ -280,8 +280,8 @@ inline uint32_t povundiri_recorder(struct povundiri_handle *segment, uint32_t un
 
 /* Takes a recorder back: its handle is empty then, and the units that it has left are the segment's.
  * Statuses: NULL, EMPTY, OTHER_KIND, OTHER_SEGMENT. Where one thread joins a recorder to a segment that is not its own while another
- * joins one of the recorder's segment: the first may be answered ELSEWHERE, and the recorder is joined to its own segment; either may be
- * answered BUSY. A program that joins each recorder to its own segment is not meant to see either; no proof says so.
+ * joins any to the recorder's own: the first may be answered ELSEWHERE or DONE, and the recorder is joined to its own segment; either may
+ * be answered BUSY. A program that joins each recorder to its own segment is not meant to see these; no proof says so.
  * Keep: pointers; handles; turns: those of both; process. */
 inline uint32_t povundiri_join(struct povundiri_handle *segment, struct povundiri_handle *recorder) {
     const struct povundiri_handle none = {false, NULL};

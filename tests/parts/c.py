@@ -23,6 +23,7 @@ CHECKS = (
     ("every_call.cpp", [NO_EXCEPTIONS], False),
     ("refused_memory.c", [], False),
     ("mapped_file.c", [], True),
+    ("crossing.cpp", [], False),
 )
 
 

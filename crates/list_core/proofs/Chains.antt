@@ -73,14 +73,14 @@ chain_of words chain head linked lawful = record {
 }
 
 -- the stops of a longer chain
-stops_left : (chain : List ℕ) (reference i : ℕ) → i ≤ length chain → slice_index (stops (chain ++ reference ∷ [])) i ≡ slice_index (stops chain) i
+pub stops_left : (chain : List ℕ) (reference i : ℕ) → i ≤ length chain → slice_index (stops (chain ++ reference ∷ [])) i ≡ slice_index (stops chain) i
 stops_left chain reference zero le = refl
 stops_left chain reference (suc i) le = get_or_append_left chain (reference ∷ []) 0 i (omega arith)
 
-stops_last : (chain : List ℕ) (reference : ℕ) → slice_index (stops (chain ++ reference ∷ [])) (suc (length chain)) ≡ reference
+pub stops_last : (chain : List ℕ) (reference : ℕ) → slice_index (stops (chain ++ reference ∷ [])) (suc (length chain)) ≡ reference
 stops_last chain reference = get_or_push chain reference 0 (length chain) refl
 
-length-longer : (chain : List ℕ) (reference : ℕ) → length (chain ++ reference ∷ []) ≡ suc (length chain)
+pub length-longer : (chain : List ℕ) (reference : ℕ) → length (chain ++ reference ∷ []) ≡ suc (length chain)
 length-longer chain reference = let e = length-append chain (reference ∷ []) in omega arith
 
 -- what was a stop stays one, and neighbours stay neighbours

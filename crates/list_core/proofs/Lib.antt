@@ -5,3 +5,4 @@ pub mod Keeping
 pub mod Prefixes
 pub mod Steps
 pub mod Walks
+pub mod Cursors

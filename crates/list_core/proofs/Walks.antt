@@ -30,7 +30,7 @@ pub reaches : (n next at : ℕ) → is_reference n at ≡ true → is_reference 
 reaches n next at old = reach_by n next at (next == 12) (is_reference n next) old refl
 
 -- the record behind a prefix, by what is behind it
-record_behind : (given rest chain : List ℕ) → chain ≡ given ++ rest → length given < length chain → IsPrefix (given ++ slice_index chain (length given) ∷ []) chain
+pub record_behind : (given rest chain : List ℕ) → chain ≡ given ++ rest → length given < length chain → IsPrefix (given ++ slice_index chain (length given) ∷ []) chain
 record_behind given [] chain is lt = absurd (omega (arith, ap length is, length-append given [], lt))
 record_behind given (r ∷ rs) chain is lt =
     let none : length given - length given ≡ 0 = omega arith in
@@ -39,7 +39,7 @@ record_behind given (r ∷ rs) chain is lt =
     (rs, is ∙ (sym (append_assoc given (r ∷ []) rs) ∙ ap (λ (n : ℕ). (given ++ n ∷ []) ++ rs) (sym here)))
 
 -- nothing is behind a prefix as long as the whole
-nothing_behind : (given rest chain : List ℕ) → chain ≡ given ++ rest → length given ≡ length chain → given ≡ chain
+pub nothing_behind : (given rest chain : List ℕ) → chain ≡ given ++ rest → length given ≡ length chain → given ≡ chain
 nothing_behind given [] chain is same = sym (is ∙ append-nil given)
 nothing_behind given (r ∷ rs) chain is same = absurd (omega (arith, ap length is, length-append given (r ∷ rs), same))
 

@@ -4,5 +4,6 @@ pub use Rattle.bucket_ranges.specs.Reading
 pub use Rattle.alloc_core.specs.Event
 pub use Rattle.alloc_core.specs.Alloc
 pub mod Chain
+pub mod Cursor
 pub mod Publish
 pub mod Walk

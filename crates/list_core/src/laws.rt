@@ -1,4 +1,4 @@
-//! The laws of lists, of the definitions in `specs/Chain.antt`, `Publish.antt` and `Walk.antt`.
+//! The laws of lists, of the definitions in `specs/Chain.antt`, `Publish.antt`, `Walk.antt` and `Cursor.antt`.
 //!
 //! The functions do nothing. What each promises is a law over words and a chain alone. What each event of a publish keeps
 //! is in the contract of `Publish::step`. A machine with more kinds of events has the lemmas in `proofs/EventKinds.antt`.
@@ -11,6 +11,7 @@ ghost use Rattle.segment_image.specs.Blocks.{is_block};
 ghost use Rattle.segment_image.specs.Image.{blank_words};
 ghost use Rattle.list_core.specs.Chain.{IsStop, IsChain, IsList};
 ghost use Rattle.list_core.specs.Walk.{said_of, stands_behind, IsPrefix, IsGiven};
+ghost use Rattle.list_core.specs.Cursor.{CursorsGiveFronts};
 ghost use Rattle.list_core.specs.Publish.{Publishing, started, chain_after, StandsOn};
 
 /// The words of a new segment have a list without records.
@@ -43,4 +44,10 @@ pub fn chain_only_grows()
 pub fn walks_give_prefixes()
     ensures { (words chain given : List ℕ) → IsList words chain → IsPrefix given chain
         → IsGiven given chain (said_of (length words) (word_at words (stands_behind given + BLOCK_NEXT))) }
+{}
+
+/// Cursors that share a word give a front of the chain, each record once, in whatever order they step and while the list grows.
+/// None of them strays, and one says that the list ends only when all of the chain was given.
+pub fn cursors_give_fronts()
+    ensures { CursorsGiveFronts }
 {}

@@ -1,0 +1,150 @@
+//! One call on a shared cursor, an event at a time.
+
+use crate::reference::is_reference;
+use segment_image::layout::{BLOCK_NEXT, QUEUE};
+use std::marker::Model;
+
+/// What a cursor does next.
+#[derive(Clone, Copy, Debug, PartialEq, Eq)]
+pub(crate) enum Stage {
+    /// It loads the shared word.
+    LoadCursor,
+    /// It loads the next of the block where the shared word stood.
+    LoadNext { at: u64 },
+    /// It exchanges the shared word, from that block to the record behind it.
+    MoveCursor { at: u64, next: u64 },
+}
+
+/// What a step of a cursor says.
+#[derive(Clone, Copy, Debug, PartialEq, Eq)]
+pub enum CursorStep {
+    /// The cursor goes on.
+    More,
+    /// The next record, which no other cursor of the shared word gave or gives. The cursor is at its start again.
+    Record(u64),
+    /// The list ends here for now. The cursor is at its start again.
+    End,
+    /// A word that was loaded is no reference that a list can have. The step has changed nothing.
+    Stray,
+}
+
+/// A cursor along the list (the iterator of Chromium's persistent_memory_allocator that threads share). Cursors share one
+/// word, which is 12 at first: the block where they stand together. A clause sees what it does next.
+#[derive(Debug, Drop)]
+pub struct Cursor {
+    stage: Stage,
+}
+
+impl Model for Cursor {
+    ghost use Rattle.list_core.specs.declared.cursor.Stage.{Stage};
+
+    ghost Value = { Stage };
+
+    ghost view = { λ c. c.stage };
+}
+
+impl Stage {
+    ghost use Rattle.std.specs.Prelude.{◌≡◌};
+    ghost use Rattle.list_core.specs.Cursor.{said_of, stage_after};
+
+    // What a step says that found a number.
+    fn said(self, found: u64, count: usize) -> CursorStep
+        ensures { result ≡ said_of count found self }
+    {
+        match self {
+            Stage::MoveCursor { at, next } if found == at => CursorStep::Record(next),
+            Stage::MoveCursor { .. } => CursorStep::More,
+            Stage::LoadNext { .. } if found == QUEUE => CursorStep::End,
+            _ if is_reference(found, count) => CursorStep::More,
+            _ => CursorStep::Stray,
+        }
+    }
+
+    // What comes next.
+    fn after(self, found: u64, count: usize) -> Stage
+        ensures { result ≡ stage_after count found self }
+    {
+        match self {
+            Stage::LoadCursor if is_reference(found, count) => Stage::LoadNext { at: found },
+            Stage::LoadNext { .. } if found == QUEUE => Stage::LoadCursor,
+            Stage::LoadNext { at } if is_reference(found, count) => {
+                Stage::MoveCursor { at, next: found }
+            }
+            Stage::MoveCursor { .. } => Stage::LoadCursor,
+            strayed => strayed,
+        }
+    }
+}
+
+impl Cursor {
+    ghost use Rattle.std.specs.Prelude.{◌≡◌, ℕ, List, ◌≤◌, length};
+    ghost use Rattle.segment_image.specs.declared.layout.TheConstants.{HEADER_WORDS};
+    ghost use Rattle.list_core.specs.declared.cursor.Stage.{Stage};
+    ghost use Rattle.list_core.specs.Cursor.{found_by, said_of, shared_after, IsStep, IsReach, IsRecordBy, IsEndBy, IsStrayBy, IsShared, Stands, MaySay, given_after};
+
+    /// A cursor that has not begun.
+    pub fn start() -> Cursor
+        ensures { result ≡ Stage.LoadCursor }
+    {
+        Cursor {
+            stage: Stage::LoadCursor,
+        }
+    }
+
+    /// Goes on by one event, which changes no word but the shared one. The words are at least 16, and as many at each step.
+    ///
+    /// A cursor loads the shared word, then the next of the block there, and exchanges the shared word for that next:
+    /// `Record` comes where the exchange went through, and nothing else changes the shared word. Where another cursor was
+    /// faster the step says `More`, and the cursor begins anew. `End` comes where the next is 12. `Stray` comes where the
+    /// shared word or the next is neither 12 nor from 16 to five below the number of words; this step has then changed
+    /// nothing. After `Record` and `End` the cursor is at its start, and may be stepped again.
+    ///
+    /// In words with a list, where the shared word stands behind what its cursors gave, a front of the chain, `Record` gives
+    /// the record behind it, `End` comes only where that is all of the chain, and `Stray` never. So it stays, for this
+    /// cursor and for all others of the word.
+    pub fn step(&mut self, words: &[u64], shared: &mut u64) -> CursorStep
+        requires headed { HEADER_WORDS ≤ length words.now }
+        requires reach { IsReach (length words.now) self.old }
+        ensures step { IsStep self.old words.now shared.old self.new shared.new result }
+        ensures reach { IsReach (length words.now) self.new }
+        ensures record { (reference : ℕ) → result ≡ CursorStep.Record reference → IsRecordBy self.old shared.old reference × (shared.new ≡ reference) × (self.new ≡ Stage.LoadCursor) }
+        ensures more { result ≡ CursorStep.More → shared.new ≡ shared.old }
+        ensures end { result ≡ CursorStep.End → IsEndBy self.old words.now × (shared.new ≡ shared.old) × (self.new ≡ Stage.LoadCursor) }
+        ensures stray { result ≡ CursorStep.Stray → IsStrayBy self.old words.now shared.old × (shared.new ≡ shared.old) × (self.new ≡ self.old) }
+        ensures given { (chain given : List ℕ) → IsShared words.now chain given shared.old → Stands chain given self.old → MaySay chain given result × IsShared words.now chain (given_after given result) shared.new × Stands chain (given_after given result) self.new }
+        ensures others { (chain given : List ℕ) (other : Stage) → Stands chain given other → Stands chain (given_after given result) other }
+    {
+        let found = self.act(words, shared);
+        let said = self.stage.said(found, words.len());
+        self.stage = self.stage.after(found, words.len());
+        said
+    }
+
+    // The next event: what becomes of the shared word, and the number that was found.
+    fn act(&self, words: &[u64], shared: &mut u64) -> u64
+        requires headed { HEADER_WORDS ≤ length words.now }
+        requires reach { IsReach (length words.now) self.now }
+        ensures found { result ≡ found_by words.now shared.old self.now }
+        ensures shared { shared.new ≡ shared_after shared.old (said_of (length words.now) result self.now) }
+    {
+        match self.stage {
+            Stage::LoadCursor => *shared,
+            Stage::LoadNext { at } => words[at as usize + BLOCK_NEXT],
+            Stage::MoveCursor { at, next } => exchange_word(shared, at, next),
+        }
+    }
+}
+
+ghost use Rattle.std.specs.Prelude.{◌≡◌, ◌==◌, if◌then◌else◌};
+
+// Exchanges a word for a new value where it is the old one, and gives what it was.
+fn exchange_word(word: &mut u64, old: u64, new: u64) -> u64
+    ensures found { result ≡ word.old }
+    ensures word { word.new ≡ if word.old == old then new else word.old }
+{
+    let found = *word;
+    if found == old {
+        *word = new;
+    }
+    found
+}

@@ -124,6 +124,6 @@ pub record GivesFront (state : Sharing) : Type 0 where
   pub says : (id : ℕ) → MaySay state.chain state.given
       (said_of (length state.words) (found_by state.words state.shared (state.cursors id)) (state.cursors id))
 
--- so do cursors of one word, whatever the order of their steps
+-- cursors of one word give a front of the chain, each record once, in whatever order they step and while the list grows
 abbrev pub CursorsGiveFronts : Type 0
 CursorsGiveFronts = (state : Sharing) → AreSharing state → GivesFront state

@@ -107,12 +107,12 @@ impl Opener {
         ensures filled { MatchResult result (λ filled. (filled.table_id ≡ self.old.seat.table_id) × (filled.me ≡ (purse units, []))) (λ _. Unit {0}) }
         ensures why { HasUnits units (view_of_opener self.old) result }
     {
-        if units > self.units {
+        let Some(left) = self.units.checked_sub(units) else {
             return Err(Refusal::NoUnits);
-        }
+        };
         segment.offer(&mut self.seat, units);
         let filled = segment.fill_purse(&mut self.seat);
-        self.units -= units;
+        self.units = left;
         Ok(filled)
     }
 

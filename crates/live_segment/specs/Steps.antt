@@ -1,5 +1,5 @@
 -- What steps tell whoever makes them.
-use Rattle.std.specs.Prelude.{◌≡◌, Bool, true, false, nat_lt, ◌==◌, ℕ, ◌+◌, ◌<◌, ◌≤◌, List, [], ◌∷◌, Result, MatchResult}
+use Rattle.std.specs.Prelude.{◌≡◌, Bool, true, false, nat_lt, ◌==◌, ℕ, ◌+◌, ◌≤◌, List, [], ◌∷◌}
 use mathlib.Core.Option.{some}
 use Rattle.atomic_table.specs.Table.{Me, Step}
 use Rattle.atomic_table.specs.declared.shared.Seat.{Seat}
@@ -56,10 +56,6 @@ Bounds st me found me' = (me'.0 ≡ me.0) × (me'.1 ≡ me.1) × (me.0.units.sha
 -- why there is no recorder with so many units, in order
 abbrev pub recorder_checks : Actor → ℕ → List (Bool × Refusal)
 recorder_checks opener units = (nat_lt opener.units.share units, NoUnits) ∷ (outstanding_of opener.role == 256, TooMany) ∷ []
-
--- an opener has so many units, and lends them; or it has fewer, and says so
-abbrev pub HasUnits : ℕ → Actor → Result (Unit {0}) Refusal → Type 0
-HasUnits units opener result = MatchResult result (λ _. units ≤ opener.units.share) (λ why. (why ≡ NoUnits) × (opener.units.share < units))
 
 -- no call of a recorder goes on, and it stands at no single word and no counts of a histogram
 pub record IsAtRest (a : Actor) : Type 0 where

@@ -32,7 +32,8 @@ impl Opener {
     ghost use Rattle.std.specs.Prelude.{Ok, Err, IfOk, MatchOption, MatchResult};
     ghost use Rattle.segment_image.specs.Checks.{first_fault};
     ghost use Rattle.segment_machine.specs.Seats.{offering, parent, newcomer, giver, getter, purse, joined};
-    ghost use Rattle.live_segment.specs.Steps.{recorder_checks, HasUnits, IsSame};
+    ghost use Rattle.live_segment.specs.Steps.{recorder_checks, IsSame};
+    ghost use Rattle.live_segment.specs.Lending.{HasUnits};
     ghost use Rattle.live_segment.specs.Lists.Fresh.{given_fresh};
     ghost use Rattle.live_segment.specs.declared.segment.Segment.{Segment};
     ghost use Rattle.live_segment.specs.Holders.{IsMadeWith, IsRecorderOf, IsSameOpener, IsSameRecorder, RecordsInto, view_of_opener, view_of_recorder};
@@ -104,7 +105,7 @@ impl Opener {
     fn fill_purse(&mut self, segment: &Segment, units: u32) -> Result<Pass, Refusal>
         requires { self.old.seat.table_id ≡ segment.now.table.shared.table_id }
         ensures mine { MatchResult result (λ _. IsSameOpener self.old self.new × (view_of_opener self.new ≡ giver (view_of_opener self.old) units)) (λ _. self.new ≡ self.old) }
-        ensures filled { MatchResult result (λ filled. (filled.table_id ≡ self.old.seat.table_id) × (filled.me ≡ (purse units, []))) (λ _. Unit {0}) }
+        ensures filled { IfOk result (λ filled. (filled.table_id ≡ self.old.seat.table_id) × (filled.me ≡ (purse units, []))) }
         ensures why { HasUnits units (view_of_opener self.old) result }
     {
         let Some(left) = self.units.checked_sub(units) else {

@@ -21,9 +21,10 @@ impl Owner {
         requires { IsOfOpener (arc_value self.old.tray).table.shared.key met }
         ensures { (self.new ≡ self.old) ⊎ HasJoined self.old self.new }
     {
-        if let Some(recorder) = met {
-            join(&mut self.opener, recorder);
-        }
+        let Some(recorder) = met else {
+            return;
+        };
+        join(&mut self.opener, recorder);
     }
 
     // Lends units to a recorder that was found on its tray.

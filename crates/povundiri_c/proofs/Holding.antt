@@ -1,13 +1,18 @@
 -- What a segment's owner and its tray have is of that segment.
-use Rattle.std.proofs.Common.{◌≡◌, ◌<◌, ℕ, refl, sym, ap, ◌∙◌, subst, Option, Some, None, Result, Ok, Err, MatchOption, MatchResult}
+use Rattle.std.proofs.Common.{◌≡◌, ◌<◌, ◌≤◌, ℕ, refl, sym, ap, ◌∙◌, subst, Option, Some, None, Result, Ok, Err, MatchOption, MatchResult, arith}
 use Rattle.std.proofs.Props.{props}
 use Rattle.std.proofs.lemmas.Result.{MatchResult-at_ok}
 use Rattle.std.specs.Arc.{arc_value}
+use Rattle.std.specs.declared.alloc.Global.{Global}
+use Rattle.std.specs.declared.sync.Arc.{Arc}
+use Rattle.segment_calls.specs.declared.refusal.Refusal.{Refusal}
+use Rattle.segment_machine.specs.declared.actor.Actor.{Actor}
 use Rattle.live_segment.specs.declared.opener.Opener.{Opener}
 use Rattle.owned_recorder.specs.declared.owned.OwnedRecorder.{OwnedRecorder}
 use Rattle.live_segment.specs.declared.segment.Segment.{Segment}
 use Rattle.live_segment.specs.Holders.{IsMadeWith}
-use Rattle.owned_recorder.specs.Desks.{view_of_desk}
+use Rattle.live_segment.specs.Lending.{HasUnits}
+use Rattle.owned_recorder.specs.Desks.{IsSameDesk, view_of_desk}
 use Rattle.owned_recorder.specs.Holders.{IsRecorderOf, RecordsInto}
 use Rattle.povundiri_c.specs.declared.worker.Worker.{Worker}
 use Rattle.povundiri_c.specs.Tray.{IsGuestOf, cursors_of}
@@ -30,6 +35,16 @@ of_tray segment key owned first is into =
 pub of_opener : (segment : Segment) (key opener : Opener) (owned : OwnedRecorder) → IsMadeWith segment key → IsMadeWith segment opener → IsGuestOf owned key
     → IsRecorderOf owned opener
 of_opener segment key opener owned first made of = of.0 ∙ first.table ∙ sym made.table
+
+-- one that was lent units is one of the same opener's segment still
+pub guest_still : (key : Opener) (old new : OwnedRecorder) → new.segment ≡ old.segment → IsSameDesk old.desk new.desk → IsGuestOf old key → IsGuestOf new key
+guest_still key old new kept same of = (same.table ∙ of.0, ap (λ (segment : Arc Segment Global). (arc_value segment).setting.cursors) kept ∙ of.1)
+
+-- units that the opener had were lent
+pub lent_ok : (units : ℕ) (opener : Actor) (result : Result (Unit {0}) Refusal) (Lent Same : Type 0) → HasUnits units opener result
+    → units ≤ opener.units.share → MatchResult result (λ _. Lent) (λ _. Same) → Lent
+lent_ok units opener (Ok done) Lent Same has enough held = held
+lent_ok units opener (Err why) Lent Same has enough held = absurd (omega (arith, has.1, enough))
 
 -- where one was made, nothing was at fault
 pub unrefused : {T : Type 0} (fault : Option T) (result : Result OwnedRecorder T) (owned : OwnedRecorder) (P : OwnedRecorder → Type 0)

@@ -100,21 +100,29 @@ HasLent units owned old worker new =
 abbrev pub units_left : Owner → ℕ
 units_left owner = (view_of_opener owner.opener).units.share
 
--- What is answered where a segment is to lend a recorder units:
--- 104: it has fewer, and all is as before, whichever segment the recorder is of;
--- 0: a recorder of the segment has them, and comes back;
+-- Where nobody took the recorder back from its tray, what lay on that of the segment is taken to be it:
+-- 0: it is lent the units, and comes back;
+-- 14: nothing lay there, so that a call of its own segment, by another thread, has met it.
+abbrev pub LendsMet : ℕ → Owner → ℕ → Option Worker → Owner → Type 0
+LendsMet units old status back new =
+    ((status ≡ 0) × ((owned : OwnedRecorder) × (after : Worker) × (back ≡ Some after) × HasLent units owned old after new))
+    ⊎ ((status ≡ 14) × (back ≡ None) × (new ≡ old))
+
+-- What else is answered where the segment has the units:
 -- 6: it comes back, since it is of another segment; one of this segment, which another thread passed to another, may have been met;
--- 13: it comes back, since there is no room to count one more that shares the tray;
--- 14: a call of its own segment, by another thread, has met it;
+-- 13: it comes back, since no more may share the tray;
 -- 15: it comes back, since another thread passes one of the same segment at the same moment.
+abbrev pub LendsOrNot : ℕ → Worker → Owner → ℕ → Option Worker → Owner → Type 0
+LendsOrNot units worker old status back new =
+    LendsMet units old status back new
+    ⊎ ((status ≡ 6) × (back ≡ Some worker) × ((new ≡ old) ⊎ HasJoined old new))
+    ⊎ (((status ≡ 13) ⊎ (status ≡ 15)) × (back ≡ Some worker) × (new ≡ old))
+
+-- where the segment has fewer, that is answered, whichever segment the recorder is of, and all is as before
 abbrev pub Lends : ℕ → Worker → Owner → ℕ → Option Worker → Owner → Type 0
 Lends units worker old status back new =
     ((units_left old < units) × (status ≡ status_of_refusal NoUnits) × (back ≡ Some worker) × (new ≡ old))
-    ⊎ ((units ≤ units_left old) × (status ≡ 0) × ((owned : OwnedRecorder) × (after : Worker) × (back ≡ Some after) × HasLent units owned old after new))
-    ⊎ ((units ≤ units_left old) × (status ≡ 6) × (back ≡ Some worker) × ((new ≡ old) ⊎ HasJoined old new))
-    ⊎ ((units ≤ units_left old) × (status ≡ 13) × (back ≡ Some worker) × (new ≡ old))
-    ⊎ ((units ≤ units_left old) × (status ≡ 14) × (back ≡ None) × (new ≡ old))
-    ⊎ ((units ≤ units_left old) × (status ≡ 15) × (back ≡ Some worker) × (new ≡ old))
+    ⊎ ((units ≤ units_left old) × LendsOrNot units worker old status back new)
 
 -- ---- a recorder is passed to a segment
 

@@ -6,14 +6,14 @@ use Rattle.std.specs.Arc.{arc_value}
 use Rattle.std.specs.declared.alloc.Global.{Global}
 use Rattle.std.specs.declared.sync.Arc.{Arc}
 use Rattle.segment_calls.specs.declared.refusal.Refusal.{Refusal}
-use Rattle.segment_machine.specs.declared.actor.Actor.{Actor}
+use Rattle.segment_machine.specs.Seats.{getter, giver}
 use Rattle.live_segment.specs.declared.opener.Opener.{Opener}
 use Rattle.owned_recorder.specs.declared.owned.OwnedRecorder.{OwnedRecorder}
 use Rattle.live_segment.specs.declared.segment.Segment.{Segment}
-use Rattle.live_segment.specs.Holders.{IsMadeWith}
+use Rattle.live_segment.specs.Holders.{IsMadeWith, IsSameOpener, view_of_opener}
 use Rattle.live_segment.specs.Lending.{HasUnits}
 use Rattle.owned_recorder.specs.Desks.{IsSameDesk, view_of_desk}
-use Rattle.owned_recorder.specs.Holders.{IsRecorderOf, RecordsInto}
+use Rattle.owned_recorder.specs.Holders.{IsRecorderOf, RecordsInto, view_of_owned}
 use Rattle.povundiri_c.specs.declared.worker.Worker.{Worker}
 use Rattle.povundiri_c.specs.Tray.{IsGuestOf, cursors_of}
 
@@ -41,10 +41,14 @@ pub guest_still : (key : Opener) (old new : OwnedRecorder) → new.segment ≡ o
 guest_still key old new kept same of = (same.table ∙ of.0, ap (λ (segment : Arc Segment Global). (arc_value segment).setting.cursors) kept ∙ of.1)
 
 -- units that the opener had were lent
-pub lent_ok : (units : ℕ) (opener : Actor) (result : Result (Unit {0}) Refusal) (Lent Same : Type 0) → HasUnits units opener result
-    → units ≤ opener.units.share → MatchResult result (λ _. Lent) (λ _. Same) → Lent
-lent_ok units opener (Ok done) Lent Same has enough held = held
-lent_ok units opener (Err why) Lent Same has enough held = absurd (omega (arith, has.1, enough))
+pub lent : (units : ℕ) (result : Result (Unit {0}) Refusal) (old new : Opener) (before after : OwnedRecorder) → HasUnits units (view_of_opener old) result
+    → units ≤ (view_of_opener old).units.share
+    → MatchResult result (λ _. IsSameOpener old new × (view_of_opener new ≡ giver (view_of_opener old) units)) (λ _. new ≡ old)
+    → MatchResult result (λ _. IsSameDesk before.desk after.desk × (view_of_owned after ≡ getter (view_of_owned before) units)) (λ _. after ≡ before)
+    → (IsSameOpener old new × (view_of_opener new ≡ giver (view_of_opener old) units))
+    × (IsSameDesk before.desk after.desk × (view_of_owned after ≡ getter (view_of_owned before) units))
+lent units (Ok done) old new before after has enough mine theirs = (mine, theirs)
+lent units (Err why) old new before after has enough mine theirs = absurd (omega (arith, has.1, enough))
 
 -- where one was made, nothing was at fault
 pub unrefused : {T : Type 0} (fault : Option T) (result : Result OwnedRecorder T) (owned : OwnedRecorder) (P : OwnedRecorder → Type 0)

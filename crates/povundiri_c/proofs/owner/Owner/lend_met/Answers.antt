@@ -3,7 +3,7 @@ use Rattle.std.specs.Arc.{arc_value}
 use Rattle.owned_recorder.specs.declared.owned.OwnedRecorder.{OwnedRecorder}
 use Rattle.povundiri_c.specs.declared.tray.Tray.{Tray}
 use Rattle.povundiri_c.specs.Tray.{IsGuestOf, IsOfOpener, cursors_of}
-use Rattle.povundiri_c.proofs.Holding.{guest_still, lent_ok, of_opener}
+use Rattle.povundiri_c.proofs.Holding.{guest_still, lent, of_opener}
 use Rattle.povundiri_c.proofs.owner.Owner.lend_met.Goals as goal
 
 pub lend-requires : goal.lend-requires
@@ -15,7 +15,8 @@ lend-requires c =
 pub invariant_of-worker : goal.invariant_of-worker
 invariant_of-worker c =
     let key = (arc_value c.args.self.now.tray).table.shared.key in
-    let theirs = lent_ok _ _ c.lend.result _ _ c.lend.ensures.why c.requires.enough c.lend.ensures.theirs in
+    let theirs = (lent c.args.units c.lend.result c.args.self.now.opener c.lend.new.opener c.in-Some.recorder c.lend.new.owned c.lend.ensures.why c.requires.enough
+    c.lend.ensures.mine c.lend.ensures.theirs).1 in
     let of = guest_still key c.in-Some.recorder c.lend.new.owned c.lend.ensures.kept theirs.0
     (subst (λ (met : Option OwnedRecorder). IsOfOpener key met) c.in-Some.is c.requires.met) in
     record {
@@ -26,8 +27,8 @@ invariant_of-worker c =
 pub returns : goal.returns
 returns c =
     let key = (arc_value c.args.self.now.tray).table.shared.key in
-    let mine = lent_ok _ _ c.lend.result _ _ c.lend.ensures.why c.requires.enough c.lend.ensures.mine in
-    let theirs = lent_ok _ _ c.lend.result _ _ c.lend.ensures.why c.requires.enough c.lend.ensures.theirs in
+    let (mine, theirs) = lent c.args.units c.lend.result c.args.self.now.opener c.lend.new.opener c.in-Some.recorder c.lend.new.owned c.lend.ensures.why c.requires.enough
+    c.lend.ensures.mine c.lend.ensures.theirs in
     inl (
       refl,
       (

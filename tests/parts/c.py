@@ -24,6 +24,7 @@ CHECKS = (
     ("refused_memory.c", [], False),
     ("mapped_file.c", [], True),
     ("crossing.cpp", [], False),
+    ("crossing_lends.c", [], False),
 )
 
 

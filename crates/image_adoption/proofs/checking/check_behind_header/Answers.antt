@@ -1,5 +1,6 @@
 -- Each answer has its cause, and none of those before it.
 use Rattle.std.proofs.Common.{◌≡◌, ◌≤◌, ℕ, List, refl, arith}
+use Rattle.std.proofs.lemmas.Result.{err_from_is_err_and}
 use Rattle.bucket_ranges.specs.Reading.{Reading, reading_along}
 use Rattle.segment_promises.specs.Adoption.{used_of}
 use Rattle.image_adoption.proofs.Heads.{adoptable_of, adoption_is, corrupt, damage_is, intact, old_version, reads}
@@ -13,7 +14,9 @@ returns-then-head c = corrupt c.args.words.now c.args.head.now c.requires c.args
 
 pub returns-in_err-survey : goal.returns-in_err-survey
 returns-in_err-survey c =
-    damage_is c.args.words.now c.args.head.now c.requires c.args.cursors _ c.if-head-ne-VERSION_FROZEN.false c.if-head.false c.in_err-survey.ensures
+    let p = err_from_is_err_and c.from_residual.result c.from_residual.ensures.1 in
+    rw (p.1, p.2)
+    (damage_is c.args.words.now c.args.head.now c.requires c.args.cursors _ c.if-head-ne-VERSION_FROZEN.false c.if-head.false c.in_err-survey.ensures)
 
 pub returns-then-used-gt-MAX_UNITS : goal.returns-then-used-gt-MAX_UNITS
 returns-then-used-gt-MAX_UNITS c =

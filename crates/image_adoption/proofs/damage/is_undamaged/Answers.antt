@@ -1,5 +1,5 @@
 -- No record is bad, and the rest is looked at.
-use Rattle.std.proofs.Common.{◌≡◌, ℕ, List, [], ◌∷◌, map, sym, ap, ◌∙◌, true≢false}
+use Rattle.std.proofs.Common.{◌≡◌, ℕ, List, [], ◌∷◌, map, refl, sym, ap, ◌∙◌, true≢false}
 use Rattle.bucket_ranges.specs.Reading.{reading_along}
 use Rattle.image_reader.specs.Views.{bad_view}
 use Rattle.image_reader.specs.declared.reading.BadRecord.{BadRecord}
@@ -9,10 +9,7 @@ use Rattle.image_adoption.proofs.damage.is_undamaged.Goals as goal
 
 -- where nothing is made of a list, it is empty
 none_made : (bad : List BadRecord) → map bad_view bad ≡ [] → bad ≡ []
-none_made [] none = none_empty
-  where
-    none_empty : [] {A = BadRecord} ≡ []
-    none_empty = λ i. []
+none_made [] none = refl
 none_made (one ∷ rest) none = absurd (cc none)
 
 pub is_whole-requires-clause-good : goal.is_whole-requires-clause-good

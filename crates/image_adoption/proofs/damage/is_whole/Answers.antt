@@ -1,10 +1,14 @@
 -- All tests passed, and the later samples say the rest.
-use Rattle.std.proofs.Common.{◌≡◌, ℕ, List, sym, subst, ◌∙◌, true≢false}
+use Rattle.std.proofs.Common.{◌≡◌, ℕ, List, sym, subst, ◌∙◌, arith, true≢false}
 use Rattle.list_core.specs.Chain.{IsStop}
+use Rattle.image_reader.proofs.Headers.{IsHeaded-from_header}
 use Rattle.image_adoption.specs.Conditions.{AreSettled, IsWhole}
 use Rattle.image_adoption.specs.Records.{AreFaultless}
 use Rattle.image_adoption.proofs.Faultless.{faultless_of}
 use Rattle.image_adoption.proofs.damage.is_whole.Goals as goal
+
+pub has_zeros-requires : goal.has_zeros-requires
+has_zeros-requires c = omega (arith, (IsHeaded-from_header c.args.words.now c.args.head.now c.requires.header).free_within)
 
 pub are_settled-requires-clause-faultless : goal.are_settled-requires-clause-faultless
 are_settled-requires-clause-faultless c =

@@ -121,7 +121,9 @@ enum povundiri_status {
     POVUNDIRI_NO_MEMORY = 13,    /* there was no memory for a handle, a name, or a text */
     POVUNDIRI_ELSEWHERE = 14,    /* the recorder's own segment has met it, as another thread joined one there: its handle is empty */
     POVUNDIRI_BUSY = 15,         /* another thread joins a recorder of the same segment at this moment: nothing has happened, try again */
-    POVUNDIRI_TOO_MANY_KEYS = 16, /* the image has more keys than the caller wants */
+
+    /* Why an image is not reported: it has more keys than the caller wants. */
+    POVUNDIRI_TOO_MANY_KEYS = 16,
 
     /* Why a call is refused. */
     POVUNDIRI_REFUSED_BAD_NAME = 101,

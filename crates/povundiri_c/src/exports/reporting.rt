@@ -45,11 +45,14 @@ pub extern "C" fn povundiri_proved_report_bounded(
     ensures untouched { result ≢ 0 → text.new ≡ text.old }
     ensures alone { result ≢ 0 → result ≢ 7 → needed.new ≡ needed.old }
 {
-    match has_more_keys(alloc, words, most_keys) {
-        Ok(false) => write_report(alloc, words, text, needed),
-        Ok(true) => TOO_MANY_KEYS,
-        Err(fault) => of_image_fault(fault),
+    let more = match has_more_keys(alloc, words, most_keys) {
+        Ok(more) => more,
+        Err(fault) => return of_image_fault(fault),
+    };
+    if more {
+        return TOO_MANY_KEYS;
     }
+    write_report(alloc, words, text, needed)
 }
 
 // Writes the report of an image, where there is room for it.

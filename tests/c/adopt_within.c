@@ -1,5 +1,5 @@
-/* Adopts the image in the file FILE, and prints the status, and the most bytes that the library had from its heap at a time. The heap is
- * replaced by the three functions below, which count. */
+/* Adopts the image in the file FILE, and then asks for its report with no key at all. Of each call it prints the status, and the most bytes
+ * that the library had from its heap at a time. The heap is replaced by the three functions below, which count. */
 #include <malloc.h>
 #include <stdlib.h>
 
@@ -46,19 +46,23 @@ void rattle_dealloc(void *at) {
     free(at);
 }
 
+static void show(uint32_t status) {
+    printf("%s %zu\n", povundiri_status_text(status), most);
+    most = had;
+}
+
 int main(int argc, char **argv) {
     enum { MOST_WORDS = 1048576 };
     struct povundiri_handle segment = {0};
     uint64_t *words = calloc(MOST_WORDS, sizeof *words);
     FILE *file = argc == 2 ? fopen(argv[1], "rb") : NULL;
     size_t length;
-    uint32_t status;
     if (words == NULL || file == NULL) return 2;
     length = fread(words, sizeof *words, MOST_WORDS, file);
     fclose(file);
-    status = povundiri_adopt(words, length, 0, &segment);
-    printf("%s %zu\n", povundiri_status_text(status), most);
-    if (status == POVUNDIRI_DONE) status = povundiri_drop(&segment);
+    show(povundiri_adopt(words, length, 0, &segment));
+    if (segment.full && povundiri_drop(&segment) != POVUNDIRI_DONE) return 3;
+    show(povundiri_report_bounded(words, length, NULL, 0, NULL, 0));
     free(words);
     return had == 0 ? 0 : 1;
 }

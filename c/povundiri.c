@@ -36,6 +36,8 @@ extern inline uint32_t povundiri_set_corrupt(struct povundiri_handle *recorder);
 extern inline uint32_t povundiri_records(struct povundiri_handle *recorder, uint64_t *records, size_t length, size_t *needed);
 extern inline uint32_t povundiri_next_shared(struct povundiri_handle *recorder, size_t cursor, uint64_t *record);
 extern inline uint32_t povundiri_report(const uint64_t *words, size_t length, char *text, size_t text_length, size_t *needed);
+extern inline uint32_t povundiri_report_bounded(const uint64_t *words, size_t length, char *text, size_t text_length, size_t *needed,
+                                                uint64_t most_keys);
 
 struct named {
     uint32_t status;
@@ -59,6 +61,7 @@ static const struct named NAMES[] = {
     {POVUNDIRI_NO_MEMORY, "NoMemory"},
     {POVUNDIRI_ELSEWHERE, "Elsewhere"},
     {POVUNDIRI_BUSY, "Busy"},
+    {POVUNDIRI_TOO_MANY_KEYS, "TooManyKeys"},
     {POVUNDIRI_REFUSED_BAD_NAME, "BadName"},
     {POVUNDIRI_REFUSED_BAD_SPEC, "BadSpec"},
     {POVUNDIRI_REFUSED_ZERO_COUNT, "ZeroCount"},

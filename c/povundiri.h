@@ -122,6 +122,9 @@ enum povundiri_status {
     POVUNDIRI_ELSEWHERE = 14,    /* the recorder's own segment has met it, by a call of another thread there: its handle is empty */
     POVUNDIRI_BUSY = 15,         /* another thread passes a recorder of the same segment at this moment: nothing has happened, try again */
 
+    /* Why an image is not reported: it has more keys than the caller wants. */
+    POVUNDIRI_TOO_MANY_KEYS = 16,
+
     /* Why a call is refused. */
     POVUNDIRI_REFUSED_BAD_NAME = 101,
     POVUNDIRI_REFUSED_BAD_SPEC = 102, /* never answered: 401 to 406 say what is wrong with it */
@@ -198,6 +201,8 @@ uint32_t povundiri_proved_set_corrupt(struct povundiri_handle *recorder);
 uint32_t povundiri_proved_records(struct povundiri_handle *recorder, uint64_t *records, size_t length, size_t *needed);
 uint32_t povundiri_proved_next_shared(struct povundiri_handle *recorder, size_t cursor, uint64_t *record);
 uint32_t povundiri_proved_report(const uint64_t *words, size_t words_length, uint8_t *text, size_t text_length, size_t *needed);
+uint32_t povundiri_proved_report_bounded(const uint64_t *words, size_t words_length, uint8_t *text, size_t text_length, size_t *needed,
+                                         uint64_t most_keys);
 
 /* Whether an array is one: only an empty one may be null. */
 inline bool povundiri_is_array(const void *at, size_t length) {
@@ -425,7 +430,9 @@ inline uint32_t povundiri_next_shared(struct povundiri_handle *recorder, size_t 
 /* ---- Readers ---- */
 
 /* The report of an image as CSV, without a zero byte behind. Any words may be given. `needed`, which may be null, is how many bytes it
- * has, also on SHORT.
+ * has, also on SHORT. It costs as much as it says: a reading of the image is held in memory, of 24 bytes and more for each key, and the
+ * report beside it. A lawful image of 8 MiB may have 65 million keys, 1.6 GiB, and a forged one may have a report of more than 5 GiB.
+ * Of words that you do not trust, call povundiri_report_bounded.
  * Statuses: NULL; IMAGE_..: its header has this fault; IMAGE_NO_MEMORY, NO_MEMORY; SHORT.
  * Keep: pointers; process. */
 inline uint32_t povundiri_report(const uint64_t *words, size_t length, char *text, size_t text_length, size_t *needed) {
@@ -433,6 +440,19 @@ inline uint32_t povundiri_report(const uint64_t *words, size_t length, char *tex
     if (!povundiri_is_array(words, length) || !povundiri_is_array(text, text_length)) return POVUNDIRI_NULL;
     return povundiri_proved_report((const uint64_t *)povundiri_address(words), length, (uint8_t *)povundiri_address(text), text_length,
                                    needed != NULL ? needed : &own);
+}
+
+/* The same, of an image that has no more keys than `most_keys`: the buckets of all its histograms, and the values of the sparse ones.
+ * One that has more is refused before memory is taken for its counts. To count the keys takes at most ten times the bytes of the image.
+ * Then povundiri_report takes 24 bytes and more for each key, and of the report a line at most for each, with a name of up to 128 bytes.
+ * Statuses: those of povundiri_report; TOO_MANY_KEYS: exactly where it has more, if the header has no fault and memory suffices.
+ * Keep: pointers; process. */
+inline uint32_t povundiri_report_bounded(const uint64_t *words, size_t length, char *text, size_t text_length, size_t *needed,
+                                         uint64_t most_keys) {
+    size_t own = 0;
+    if (!povundiri_is_array(words, length) || !povundiri_is_array(text, text_length)) return POVUNDIRI_NULL;
+    return povundiri_proved_report_bounded((const uint64_t *)povundiri_address(words), length, (uint8_t *)povundiri_address(text),
+                                           text_length, needed != NULL ? needed : &own, most_keys);
 }
 
 /* The name of a status, of any number. For what most names from 101 on mean, ask persist_report explain NAME. */

@@ -70,6 +70,8 @@ static void nulls_of_segments(void) {
     ANSWERS(NULL, povundiri_outstanding(&segment, NULL));
     ANSWERS(NULL, povundiri_report(NULL, 1, NULL, 0, NULL));
     ANSWERS(NULL, povundiri_report(words, 16, NULL, 1, NULL));
+    ANSWERS(NULL, povundiri_report_bounded(NULL, 1, NULL, 0, NULL, 1));
+    ANSWERS(NULL, povundiri_report_bounded(words, 16, NULL, 1, NULL, 1));
     let_go(&segment, &recorder);
 }
 
@@ -588,6 +590,24 @@ static void reports(void) {
     ANSWERS(IMAGE_TOO_SHORT, povundiri_report(words, 15, text, REPORT, &needed));
 }
 
+/* The boolean histogram has three buckets, and the sparse one a value: four keys. */
+static void bounded_reports(void) {
+    uint64_t words[WORDS];
+    char text[REPORT];
+    size_t needed = 1, length = sizeof EXPECTED - 1;
+    image_of(words, 2);
+    memset(text, '?', sizeof text);
+    ANSWERS(TOO_MANY_KEYS, povundiri_report_bounded(words, WORDS, text, REPORT, &needed, 0));
+    ANSWERS(TOO_MANY_KEYS, povundiri_report_bounded(words, WORDS, text, REPORT, &needed, 3));
+    HOLDS(needed == 1 && text[0] == '?');
+    ANSWERS(SHORT, povundiri_report_bounded(words, WORDS, text, length - 1, &needed, 4));
+    HOLDS(needed == length && text[0] == '?');
+    DONE(povundiri_report_bounded(words, WORDS, text, length, NULL, 4));
+    HOLDS(memcmp(text, EXPECTED, length) == 0);
+    DONE(povundiri_report_bounded(words, WORDS, text, length, &needed, UINT64_MAX));
+    ANSWERS(IMAGE_BAD_SIZE, povundiri_report_bounded(words, WORDS - 1, text, REPORT, &needed, 0));
+}
+
 /* A header, a word that is stored in it, and the fault that it has then. */
 struct header_fault {
     size_t at;
@@ -694,6 +714,7 @@ static const struct test TESTS[] = {
     {"corrupt", corrupt},
     {"records", records},
     {"reports", reports},
+    {"bounded_reports", bounded_reports},
     {"adopted", adopted},
     {"threads", threads},
     {"texts", texts},

@@ -136,6 +136,7 @@ static void each_allocation(void) {
     ASKS_FOR_NONE(povundiri_drop(&segment));
     REFUSE_EACH(povundiri_adopt(words, WORDS, 1, &segment));
     ASKS_FOR_NONE(povundiri_close(&segment, words, WORDS, NULL));
+    REFUSE_EACH(povundiri_report_bounded(words, WORDS, text, sizeof text, &needed, 1000));
     REFUSE_EACH(povundiri_report(words, WORDS, text, sizeof text, &needed));
     HOLDS(needed == sizeof expected - 1 && memcmp(text, expected, needed) == 0);
     HOLDS(refused > 20);

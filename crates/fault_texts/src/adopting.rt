@@ -2,7 +2,7 @@
 
 use crate::lines::{Source, image_lines, word_at};
 use crate::place::place_of;
-use crate::specs_of::{reading_of, spec_lines, words_of};
+use crate::specs_of::{spec_lines, survey_of, words_of};
 use image_adoption::{AdoptFault, Adoptable, check};
 use persist_report_core::CliFault;
 use segment_calls::Refusal;
@@ -41,10 +41,10 @@ pub fn adopt_lines(
 // The first bad record of an image, or why its list stops before its end.
 fn damage_lines(alloc: Global, base: Source<'_, '_>) -> Result<String, AllocError> {
     let origin = base.origin;
-    let Some(reading) = reading_of(alloc, base.bytes) else {
+    let Some(survey) = survey_of(alloc, base.bytes) else {
         return format!(in alloc; "  {origin}\n");
     };
-    match (reading.bad.first(), reading.stopped) {
+    match (survey.bad.first(), survey.stopped) {
         (Some(bad), _) => {
             let (at, fault) = (bad.reference, bad.fault);
             format!(in alloc; "  {origin}, the record at word {at} is {fault}\n")

@@ -3,9 +3,9 @@
 use crate::lines::Source;
 use crate::shown::{Shown, ShownSpec};
 use bucket_ranges::Spec;
-use image_reader::Reading;
+use image_reader::{Reading, Survey, list_of};
 use persist_report_core::MAX_WORDS;
-use segment_image::{Watched, read_words};
+use segment_image::{Watched, header, read_words};
 use std::alloc::{AllocError, Global};
 
 /// The words of an image, which was read before.
@@ -13,8 +13,25 @@ pub(crate) fn words_of(alloc: Global, bytes: &[u8]) -> Option<Vec<u64>> {
     read_words(alloc, &mut Watched::new(bytes), MAX_WORDS).ok()
 }
 
-/// What an image reads as, which was read before.
-pub(crate) fn reading_of(alloc: Global, bytes: &[u8]) -> Option<Reading> {
+/// What the list of an image has, which was read before.
+pub(crate) fn survey_of(alloc: Global, bytes: &[u8]) -> Option<Survey> {
+    let words = words_of(alloc, bytes)?;
+    survey_of_words(alloc, &words)
+}
+
+// What the list of a segment has with these words.
+fn survey_of_words(alloc: Global, words: &[u64]) -> Option<Survey> {
+    let Ok(head) = header(words) else {
+        return None;
+    };
+    let Ok(list) = list_of(alloc, words, &head) else {
+        return None;
+    };
+    Survey::of(alloc, words, &head, list).ok()
+}
+
+// What an image reads as, which was read before.
+fn reading_of(alloc: Global, bytes: &[u8]) -> Option<Reading> {
     let words = words_of(alloc, bytes)?;
     image_reader::read(alloc, &words).ok()
 }

@@ -1,5 +1,5 @@
 -- What a check answers, from what it found.
-use Rattle.std.proofs.Common.{◌≡◌, Bool, true, false, ℕ, ◌≤◌, List, Ok, sym, ap, subst, ◌∙◌}
+use Rattle.std.proofs.Common.{◌≡◌, Bool, true, false, ℕ, ◌≤◌, List, Ok, refl, sym, ap, subst, ◌∙◌}
 use Rattle.std.specs.Prelude.{Decides}
 use Rattle.std.proofs.lemmas.Bool.Decides.{Decides-like}
 use Rattle.segment_image.specs.Head.{header_of, header_checks, head_of}
@@ -8,9 +8,12 @@ use Rattle.bucket_ranges.specs.Reading.{IsListed, Reading, reading_along}
 use Rattle.image_reader.proofs.Headers.{checked_ok}
 use Rattle.segment_promises.specs.Adoption.{IsAdoptable, IsUndamaged, used_of}
 use Rattle.segment_promises.specs.Reads.{HasNoFault}
-use Rattle.image_adoption.specs.Checking.{IsFaultOf, IsIntact, Reads}
+use Rattle.image_adoption.specs.Checking.{IsAdoption, IsFaultOf, IsIntact, Reads}
 use Rattle.image_adoption.specs.Conditions.{IsWhole}
-use Rattle.image_adoption.specs.declared.fault.AdoptFault.TheVariants.{OldVersion, Corrupt}
+use Rattle.image_adoption.specs.Damage.{IsDamageOf}
+use Rattle.image_adoption.specs.declared.checking.Adoptable.{Adoptable}
+use Rattle.image_adoption.specs.declared.fault.AdoptFault.{AdoptFault}
+use Rattle.image_adoption.specs.declared.fault.AdoptFault.TheVariants.{Image, OldVersion, Corrupt, Damaged, NoUnits, BadCursors, NoMemory}
 
 module _ (words : List ℕ) (head : SegmentHead) (header : header_of words ≡ Ok head) where
   same : head_of words ≡ head
@@ -38,6 +41,35 @@ module _ (words : List ℕ) (head : SegmentHead) (header : header_of words ≡ O
     listed = subst (λ (h : SegmentHead). IsListed words h references) (sym same) listed;
     along = subst (λ (h : SegmentHead). reading ≡ reading_along words h references) (sym same) along;
   }
+
+  -- words that are damaged, and want of memory, are what they are
+  pub damage_is : (cursors : ℕ) (fault : AdoptFault) → head.version ≡ 2 → head.corrupt ≡ false → IsDamageOf words head fault → IsFaultOf words cursors fault
+  damage_is cursors (Image fault) two clear why = absurd why
+  damage_is cursors OldVersion two clear why = absurd why
+  damage_is cursors Corrupt two clear why = absurd why
+  damage_is cursors Damaged two clear (references, listed, broken) = (
+    intact two clear,
+    references,
+    reading_along words head references,
+    reads references (reading_along words head references) listed refl,
+    broken,
+  )
+  damage_is cursors NoUnits two clear why = absurd why
+  damage_is cursors BadCursors two clear why = absurd why
+  damage_is cursors NoMemory two clear why = tt
+
+  -- an image that may be adopted, with what is known of it
+  pub adoption_is : (cursors : ℕ) (adoptable : Adoptable) → IsListed words head adoptable.references.items
+      → IsAdoptable words adoptable.references.items (reading_along words head adoptable.references.items)
+      → adoptable.used ≡ used_of (reading_along words head adoptable.references.items) → cursors ≤ 8 → IsAdoption words cursors adoptable
+  adoption_is cursors adoptable listed lawful used few =
+      let references : List ℕ = adoptable.references.items in
+      record {
+        listed = subst (λ (h : SegmentHead). IsListed words h references) (sym same) listed;
+        lawful = subst (λ (h : SegmentHead). IsAdoptable words references (reading_along words h references)) (sym same) lawful;
+        used = subst (λ (h : SegmentHead). adoptable.used ≡ used_of (reading_along words h references)) (sym same) used;
+        few = few;
+      }
 
   -- where no record is bad, the rest settles whether an image is damaged
   pub undamaged_decides : (references : List ℕ) (reading : Reading) (whole : Bool) → HasNoFault reading

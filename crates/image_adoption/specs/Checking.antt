@@ -4,7 +4,6 @@ use Rattle.segment_image.specs.declared.layout.TheConstants.{VERSION_FROZEN}
 use Rattle.segment_image.specs.Head.{header_of, head_of}
 use Rattle.bucket_ranges.specs.Reading.{Reading, IsListed, reading_along}
 use Rattle.segment_promises.specs.Adoption.{IsAdoptable, IsUndamaged, used_of}
-use Rattle.image_reader.specs.Views.{reading_view}
 use Rattle.image_adoption.specs.declared.checking.Adoptable.{Adoptable}
 use Rattle.image_adoption.specs.declared.fault.AdoptFault.{AdoptFault}
 use Rattle.image_adoption.specs.declared.fault.AdoptFault.TheVariants.{Image, OldVersion, Corrupt, Damaged, NoUnits, BadCursors, NoMemory}
@@ -35,11 +34,11 @@ IsFaultOf words cursors BadCursors =
     (references : List ℕ) × (reading : Reading) × Reads words references reading × IsAdoptable words references reading × (8 < cursors)
 IsFaultOf words cursors NoMemory = ⊤
 
--- the image may be adopted with so many cursors, and this is its list, what it reads as, and what it has used
+-- the image may be adopted with so many cursors, and this is its list, and what it has used as it reads
 pub record IsAdoption (words : List ℕ) (cursors : ℕ) (adoptable : Adoptable) : Type 0 where
-  pub reads : Reads words adoptable.references.items (reading_view adoptable.reading)
-  pub lawful : IsAdoptable words adoptable.references.items (reading_view adoptable.reading)
-  pub used : adoptable.used ≡ used_of (reading_view adoptable.reading)
+  pub listed : IsListed words (head_of words) adoptable.references.items
+  pub lawful : IsAdoptable words adoptable.references.items (reading_along words (head_of words) adoptable.references.items)
+  pub used : adoptable.used ≡ used_of (reading_along words (head_of words) adoptable.references.items)
   pub few : cursors ≤ 8
 
 -- the right answer

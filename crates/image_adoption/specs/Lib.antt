@@ -1,10 +1,11 @@
 pub use Rattle.segment_image.specs.Head
 pub use Rattle.bucket_ranges.specs.Reading
 pub use Rattle.image_reader.specs.Views
-pub use Rattle.image_reader.specs.Readable
+pub use Rattle.image_reader.specs.Survey
 pub use Rattle.segment_promises.specs.Adoption
 pub mod Fault
 pub mod Checking
 pub mod Conditions
 pub mod Records
 pub mod Runs
+pub mod Damage

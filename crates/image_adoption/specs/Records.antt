@@ -1,9 +1,10 @@
 -- What is known of the records on a list where none has a fault.
-use Rattle.std.specs.Prelude.{◌≡◌, true, false, ℕ, ◌+◌, ◌<◌, ◌≤◌, List, length, [], All, None}
+use Rattle.std.specs.Prelude.{◌≡◌, ◌≢◌, true, false, ℕ, ◌+◌, ◌<◌, ◌≤◌, List, length, [], All, None}
 use Rattle.std.specs.List.{filter_map}
 use Rattle.segment_image.specs.declared.head.SegmentHead.{SegmentHead}
-use Rattle.segment_image.specs.declared.layout.TheConstants.{BLOCK_TYPE, HISTOGRAM_BUCKETS, HISTOGRAM_COUNTS, HISTOGRAM_LEAST, TYPE_HISTOGRAM, TYPE_SAMPLE}
+use Rattle.segment_image.specs.declared.layout.TheConstants.{BLOCK_SIZE, BLOCK_TYPE, HISTOGRAM_BUCKETS, HISTOGRAM_COUNTS, HISTOGRAM_LEAST, TYPE_HISTOGRAM, TYPE_SAMPLE}
 use Rattle.segment_image.specs.Blocks.{field_at, is_block}
+use Rattle.segment_promises.specs.Adoption.{AreApart, blocks_of}
 use Rattle.bucket_ranges.specs.declared.limits.TheConstants.{MAX_BUCKETS}
 use Rattle.bucket_ranges.specs.Reading.{bad_record, counts_words, has_bad_sample, is_sparse, record_buckets, record_fault, with_earlier}
 
@@ -27,3 +28,15 @@ pub record HasRoom (words : List ℕ) (at : ℕ) : Type 0 where
   pub few : field_at words at HISTOGRAM_BUCKETS ≤ MAX_BUCKETS
   pub counts : is_sparse words at ≡ false → 0 < field_at words at HISTOGRAM_COUNTS
       → field_at words at HISTOGRAM_COUNTS + counts_words (field_at words at HISTOGRAM_BUCKETS) ≤ length words
+
+-- a record of a histogram has its fields, and the counts that it names, if it names some, are a block
+pub record NamesBlock (words : List ℕ) (head : SegmentHead) (at : ℕ) : Type 0 where
+  pub block : is_block words head at ≡ true
+  pub fields : field_at words at BLOCK_TYPE ≡ TYPE_HISTOGRAM → HISTOGRAM_LEAST ≤ field_at words at BLOCK_SIZE
+  pub counts : field_at words at BLOCK_TYPE ≡ TYPE_HISTOGRAM → field_at words at HISTOGRAM_COUNTS ≢ 0
+      → is_block words head (field_at words at HISTOGRAM_COUNTS) ≡ true
+
+-- each record on a list does, and no two blocks overlap
+pub record HasApartBlocks (words : List ℕ) (head : SegmentHead) (references : List ℕ) : Type 0 where
+  pub named : All (NamesBlock words head) references
+  pub apart : AreApart words (blocks_of words references)

@@ -6,22 +6,81 @@ ghost use Rattle.segment_image.specs.Head.{header_of};
 ghost use Rattle.segment_image.specs.Blocks.{field_at, is_block};
 ghost use Rattle.segment_promises.specs.Adoption.{blocks_of as all_blocks, named_counts as named_counts_of};
 ghost use Rattle.image_adoption.specs.Conditions.{AreApart};
-ghost use Rattle.image_adoption.specs.Records.{AreFaultless, IsFaultless};
+ghost use Rattle.image_adoption.specs.Records.{HasApartBlocks, NamesBlock};
 ghost use Rattle.image_adoption.specs.Runs.{is_in};
 
-use segment_image::SegmentHead;
-use segment_image::layout::{BLOCK_SIZE, BLOCK_TYPE, HISTOGRAM_COUNTS, TYPE_HISTOGRAM};
+use segment_image::layout::{
+    BLOCK_SIZE, BLOCK_TYPE, HISTOGRAM_COUNTS, HISTOGRAM_LEAST, TYPE_HISTOGRAM,
+};
+use segment_image::{SegmentHead, block};
 use std::alloc::{AllocError, Global};
 
-/// The blocks of an image: the records on its list, and the blocks that records of histograms name as counts.
-pub(crate) fn blocks_of(
+/// Whether each record of a histogram on a list has its fields and, where it names counts, names a block, and no two blocks
+/// overlap, of the records and of these counts. It takes a byte for each word and 8 bytes for each block, whatever the records
+/// say beside.
+pub(crate) fn has_apart_blocks(
+    alloc: Global,
+    words: &[u64],
+    head: &SegmentHead,
+    references: &[u64],
+) -> Result<bool, AllocError>
+    requires header { header_of words.now ≡ Ok head.now }
+    requires lawful { All (λ at. is_block words.now head.now at ≡ true) references.now }
+    ensures { IfOk result (λ apart. Decides apart (HasApartBlocks words.now head.now references.now)) }
+{
+    if !name_blocks(words, head, references) {
+        return Ok(false);
+    }
+    let blocks = blocks_of(alloc, words, head, references)?;
+    are_apart(alloc, words, head, &blocks)
+}
+
+// Whether each of these records names a block as counts, or none.
+fn name_blocks(words: &[u64], head: &SegmentHead, references: &[u64]) -> bool
+    requires header { header_of words.now ≡ Ok head.now }
+    requires lawful { All (λ at. is_block words.now head.now at ≡ true) references.now }
+    ensures { Decides result (All (NamesBlock words.now head.now) references.now) }
+{
+    for reference in references {
+        if !names_block(words, head, *reference as usize) {
+            return false;
+        }
+    }
+    true
+}
+
+// Whether one does: it is no histogram's, or has the fields of one, and its counts are a block or none.
+fn names_block(words: &[u64], head: &SegmentHead, at: usize) -> bool
+    requires header { header_of words.now ≡ Ok head.now }
+    requires block { is_block words.now head.now at ≡ true }
+    ensures { Decides result (NamesBlock words.now head.now at) }
+{
+    if words[at + BLOCK_TYPE] != TYPE_HISTOGRAM {
+        return true;
+    }
+    if words[at + BLOCK_SIZE] < HISTOGRAM_LEAST as u64 {
+        return false;
+    }
+    let counts = words[at + HISTOGRAM_COUNTS];
+    counts == 0 || is_at_block(words, head, counts)
+}
+
+fn is_at_block(words: &[u64], head: &SegmentHead, reference: u64) -> bool
+    requires { header_of words.now ≡ Ok head.now }
+    ensures { result ≡ is_block words.now head.now reference }
+{
+    block(words, head, reference).is_ok()
+}
+
+// The blocks of an image: the records on its list, and the blocks that records of histograms name as counts.
+fn blocks_of(
     alloc: Global,
     words: &[u64],
     head: &SegmentHead,
     references: &[u64],
 ) -> Result<Vec<u64>, AllocError>
     requires header { header_of words.now ≡ Ok head.now }
-    requires faultless { AreFaultless words.now head.now references.now }
+    requires named { All (NamesBlock words.now head.now) references.now }
     ensures blocks { IfOk result (λ blocks. blocks.items ≡ all_blocks words.now references.now) }
     ensures lawful { IfOk result (λ blocks. All (λ at. is_block words.now head.now at ≡ true) blocks.items) }
 {
@@ -38,7 +97,7 @@ pub(crate) fn blocks_of(
 // The block that a record names as counts, where it is a histogram's and names one.
 fn named_counts(words: &[u64], head: &SegmentHead, at: usize) -> Option<u64>
     requires header { header_of words.now ≡ Ok head.now }
-    requires faultless { IsFaultless words.now head.now at }
+    requires names { NamesBlock words.now head.now at }
     ensures named { option_to_list result ≡ named_counts_of words.now at }
     ensures lawful { IfSome result (λ counts. is_block words.now head.now counts ≡ true) }
 {
@@ -49,8 +108,8 @@ fn named_counts(words: &[u64], head: &SegmentHead, at: usize) -> Option<u64>
     if counts == 0 { None } else { Some(counts) }
 }
 
-/// Whether no two of these blocks overlap. Each word that one has is marked.
-pub(crate) fn are_apart(
+// Whether no two of these blocks overlap. Each word that one has is marked.
+fn are_apart(
     alloc: Global,
     words: &[u64],
     head: &SegmentHead,

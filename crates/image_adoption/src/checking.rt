@@ -4,11 +4,10 @@ ghost use Rattle.std.specs.Prelude.{◌≡◌, Ok};
 ghost use Rattle.segment_image.specs.Head.{header_of};
 ghost use Rattle.image_adoption.specs.Checking.{AdoptionOf};
 
-use crate::damage::is_undamaged;
+use crate::damage::undamaged;
 use crate::fault::AdoptFault;
 use crate::units::used_of;
 use bucket_ranges::limits::MAX_UNITS;
-use image_reader::{ListReading, Reading, read_list};
 use segment_image::layout::VERSION_FROZEN;
 use segment_image::{SegmentHead, header};
 use std::alloc::Global;
@@ -16,13 +15,11 @@ use std::alloc::Global;
 /// The most shared cursors of a segment.
 pub const MAX_CURSORS: usize = 8;
 
-/// What is known of an image that may be adopted.
+/// What is known of an image that may be adopted: no record of it is bad, and its list goes on to its end.
 #[derive(Debug, Drop)]
 pub struct Adoptable {
     /// The references of all records on its list, in its order: also of those that are passed over.
     pub references: Vec<u64>,
-    /// What it reads as. No record is bad, and the list goes on to its end.
-    pub reading: Reading,
     /// The units that its histograms have used, of the 4,294,967,295 of a segment.
     pub used: u64,
 }
@@ -31,7 +28,8 @@ pub struct Adoptable {
 ///
 /// The first fault that holds is answered: `Image` with the header's first fault; `OldVersion`; `Corrupt`; `Damaged`;
 /// `NoUnits`; `BadCursors` where there are to be more than [`MAX_CURSORS`]. `NoMemory` is answered where there was no memory
-/// to look further. Any words may be given, and they are only read.
+/// to look further. Any words may be given, and they are only read. Whether blocks overlap is looked at before anything of the
+/// records, and histogram by histogram is read and given back again. So no image takes more than ten times its bytes.
 pub fn check(alloc: Global, words: &[u64], cursors: usize) -> Result<Adoptable, AdoptFault>
     ensures answer { AdoptionOf words.now cursors result }
 {
@@ -57,26 +55,16 @@ fn check_behind_header(
     if head.corrupt {
         return Err(AdoptFault::Corrupt);
     }
-    let list = read_list(alloc, words, head)?;
-    let whole = is_undamaged(alloc, words, head, &list)?;
-    if !whole {
-        return Err(AdoptFault::Damaged);
-    }
-    let used = used_of(&list.reading);
+    let survey = undamaged(alloc, words, head)?;
+    let used = used_of(alloc, words, head, &survey)?;
     if used > MAX_UNITS {
         return Err(AdoptFault::NoUnits);
     }
     if cursors > MAX_CURSORS {
         return Err(AdoptFault::BadCursors);
     }
-    let ListReading {
-        references,
-        reading,
-        ..
-    } = list;
     Ok(Adoptable {
-        references,
-        reading,
+        references: survey.references,
         used,
     })
 }

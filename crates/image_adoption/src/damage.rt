@@ -1,83 +1,90 @@
 //! Whether an image is damaged.
 
-ghost use Rattle.std.specs.Prelude.{◌≡◌, true, Ok, None, IfOk, Decides};
+ghost use Rattle.std.specs.Prelude.{◌≡◌, [], true, Ok, None, MatchResult, Decides};
 ghost use Rattle.segment_image.specs.Head.{header_of};
 ghost use Rattle.segment_image.specs.Blocks.{is_block};
-ghost use Rattle.bucket_ranges.specs.Reading.{IsListed, reading_along, record_fault};
-ghost use Rattle.image_reader.specs.Later.{later_samples};
-ghost use Rattle.image_reader.specs.Views.{reading_view};
-ghost use Rattle.segment_promises.specs.Adoption.{IsUndamaged};
-ghost use Rattle.segment_promises.specs.Reads.{HasNoFault};
-ghost use Rattle.image_adoption.specs.Conditions.{AreSettled, IsSettled, IsWhole};
+ghost use Rattle.bucket_ranges.specs.Reading.{reading_along, record_fault};
+ghost use Rattle.image_reader.specs.Survey.{IsSurvey};
+ghost use Rattle.segment_promises.specs.Adoption.{IsUndamaged, blocks_of};
+ghost use Rattle.image_adoption.specs.Conditions.{AreApart, AreSettled, IsSettled, IsWhole};
+ghost use Rattle.image_adoption.specs.Damage.{IsDamageOf, IsUndamagedSurvey};
 ghost use Rattle.image_adoption.specs.Records.{AreFaultless, HasNoBad};
 
-use crate::blocks::{are_apart, blocks_of};
+use crate::blocks::has_apart_blocks;
 use crate::counts::{has_packed_mark, has_unused_counts};
 use crate::ends::{has_room, has_tail, has_zeros};
+use crate::fault::AdoptFault;
 use crate::names::has_padded_name;
 use crate::samples::are_later_empty;
-use image_reader::{ListReading, Reading};
+use image_reader::{Survey, list_of};
 use segment_image::SegmentHead;
 use segment_image::layout::{BLOCK_TYPE, TYPE_HISTOGRAM};
-use std::alloc::{AllocError, Global};
+use std::alloc::Global;
 
-/// Whether an image with a lawful header, of version 2, is not damaged. What stands on its list is read already.
-pub(crate) fn is_undamaged(
+/// What the list of an image has, with a lawful header, of version 2; `Damaged` where the words are none that a segment can have.
+/// Overlaps are looked for first: behind that, all records together name no more counts than there are words.
+pub(crate) fn undamaged(
     alloc: Global,
     words: &[u64],
     head: &SegmentHead,
-    list: &ListReading,
-) -> Result<bool, AllocError>
-    requires header { header_of words.now ≡ Ok head.now }
-    requires listed { IsListed words.now head.now list.now.references.items }
-    requires reading { reading_view list.now.reading ≡ reading_along words.now head.now list.now.references.items }
-    requires later { list.now.later.items ≡ later_samples words.now head.now list.now.references.items }
-    ensures { IfOk result (λ whole. Decides whole (IsUndamaged words.now list.now.references.items (reading_view list.now.reading))) }
+) -> Result<Survey, AdoptFault>
+    requires { header_of words.now ≡ Ok head.now }
+    ensures { MatchResult result (IsUndamagedSurvey words.now head.now) (IsDamageOf words.now head.now) }
 {
-    if !is_faultless(&list.reading) {
-        return Ok(false);
+    let list = list_of(alloc, words, head)?;
+    let apart = has_apart_blocks(alloc, words, head, &list.references)?;
+    if !apart {
+        return Err(AdoptFault::Damaged);
     }
-    Ok(is_whole(alloc, words, head, list)?)
+    let survey = Survey::of(alloc, words, head, list)?;
+    if !is_undamaged(words, head, &survey) {
+        return Err(AdoptFault::Damaged);
+    }
+    Ok(survey)
+}
+
+// Whether an image whose blocks are apart is not damaged.
+fn is_undamaged(words: &[u64], head: &SegmentHead, survey: &Survey) -> bool
+    requires header { header_of words.now ≡ Ok head.now }
+    requires survey { IsSurvey words.now head.now survey.now }
+    requires apart { AreApart words.now (blocks_of words.now survey.now.references.items) }
+    ensures { Decides result (IsUndamaged words.now survey.now.references.items (reading_along words.now head.now survey.now.references.items)) }
+{
+    if !is_faultless(survey) {
+        return false;
+    }
+    is_whole(words, head, survey)
 }
 
 // Whether all but the reading is as it has to be.
-fn is_whole(
-    alloc: Global,
-    words: &[u64],
-    head: &SegmentHead,
-    list: &ListReading,
-) -> Result<bool, AllocError>
+fn is_whole(words: &[u64], head: &SegmentHead, survey: &Survey) -> bool
     requires header { header_of words.now ≡ Ok head.now }
-    requires listed { IsListed words.now head.now list.now.references.items }
-    requires good { HasNoBad words.now head.now list.now.references.items }
-    requires later { list.now.later.items ≡ later_samples words.now head.now list.now.references.items }
-    ensures { IfOk result (λ whole. Decides whole (IsWhole words.now head.now list.now.references.items)) }
+    requires survey { IsSurvey words.now head.now survey.now }
+    requires good { HasNoBad words.now head.now survey.now.references.items }
+    requires apart { AreApart words.now (blocks_of words.now survey.now.references.items) }
+    ensures { Decides result (IsWhole words.now head.now survey.now.references.items) }
 {
     if !has_room(&head.shape, head.free) {
-        return Ok(false);
+        return false;
     }
     if !has_zeros(words, head.free as usize) {
-        return Ok(false);
+        return false;
     }
-    let references: &[u64] = &list.references;
+    let references: &[u64] = &survey.references;
     if !has_tail(references, head.tail) {
-        return Ok(false);
+        return false;
     }
     if !are_settled(words, head, references) {
-        return Ok(false);
+        return false;
     }
-    if !are_later_empty(words, head, list) {
-        return Ok(false);
-    }
-    let blocks = blocks_of(alloc, words, head, references)?;
-    Ok(are_apart(alloc, words, head, &blocks)?)
+    are_later_empty(words, head, survey)
 }
 
-// Whether a reading goes on to the end of the list, and no record is bad.
-fn is_faultless(reading: &Reading) -> bool
-    ensures { Decides result (HasNoFault (reading_view reading.now)) }
+// Whether a list goes on to its end, and no record on it is bad.
+fn is_faultless(survey: &Survey) -> bool
+    ensures { Decides result ((survey.now.bad.items ≡ []) × (survey.now.stopped ≡ None)) }
 {
-    reading.bad.is_empty() && reading.stopped.is_none()
+    survey.bad.is_empty() && survey.stopped.is_none()
 }
 
 // Whether each record of a histogram on a list has a padded name, and nothing in counts and marks that are not in use.

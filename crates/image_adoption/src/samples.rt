@@ -2,25 +2,23 @@
 
 ghost use Rattle.std.specs.Prelude.{◌≡◌, ◌≤◌, ◌+◌, Ok, length, All, Decides};
 ghost use Rattle.segment_image.specs.Head.{header_of};
-ghost use Rattle.bucket_ranges.specs.Reading.{IsListed};
-ghost use Rattle.image_reader.specs.Later.{later_samples};
+ghost use Rattle.image_reader.specs.Survey.{IsSurvey};
 ghost use Rattle.image_adoption.specs.Conditions.{AreLaterEmpty, CountsNothing};
 ghost use Rattle.image_adoption.specs.Records.{HasNoBad};
 
-use image_reader::ListReading;
+use image_reader::Survey;
 use segment_image::SegmentHead;
 use segment_image::layout::{SAMPLE_COUNT, SAMPLE_LEAST, SAMPLE_MARK};
 
 /// Whether each sample on a list that is not the first of its histogram and value counts nothing. Which these are was found as
 /// the list was read.
-pub(crate) fn are_later_empty(words: &[u64], head: &SegmentHead, list: &ListReading) -> bool
+pub(crate) fn are_later_empty(words: &[u64], head: &SegmentHead, survey: &Survey) -> bool
     requires header { header_of words.now ≡ Ok head.now }
-    requires listed { IsListed words.now head.now list.now.references.items }
-    requires good { HasNoBad words.now head.now list.now.references.items }
-    requires later { list.now.later.items ≡ later_samples words.now head.now list.now.references.items }
-    ensures { Decides result (AreLaterEmpty words.now list.now.references.items) }
+    requires survey { IsSurvey words.now head.now survey.now }
+    requires good { HasNoBad words.now head.now survey.now.references.items }
+    ensures { Decides result (AreLaterEmpty words.now survey.now.references.items) }
 {
-    count_nothing(words, &list.later)
+    count_nothing(words, &survey.later)
 }
 
 // Whether each of these samples counts nothing.

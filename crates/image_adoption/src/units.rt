@@ -1,11 +1,15 @@
 //! The units that an image has used.
 
-ghost use Rattle.std.specs.Prelude.{◌≡◌, ◌+◌, ◌/◌, ◌<◌, ◌^◌, min, sum_by, map, All};
+ghost use Rattle.std.specs.Prelude.{◌≡◌, ◌+◌, ◌/◌, ◌<◌, ◌^◌, Ok, min, sum_by, IfOk};
+ghost use Rattle.segment_image.specs.Head.{header_of};
+ghost use Rattle.bucket_ranges.specs.Reading.{reading_along};
 ghost use Rattle.segment_promises.specs.Adoption.{used_by as used_by_of, used_of as used_of_of};
-ghost use Rattle.image_reader.specs.Readable.{IsReadable};
-ghost use Rattle.image_reader.specs.Views.{histogram_view, reading_view};
+ghost use Rattle.image_reader.specs.Survey.{IsSurvey};
+ghost use Rattle.image_reader.specs.Views.{histogram_view};
 
-use image_reader::{HistReading, Reading};
+use image_reader::{HistReading, Survey};
+use segment_image::SegmentHead;
+use std::alloc::{AllocError, Global};
 
 // How much of a sum's size a unit stands for.
 const UNIT_AMOUNT: u64 = 1 << 31;
@@ -37,14 +41,22 @@ fn used_by(hist: &HistReading) -> u64
     units(&hist.counts).max(hist.redundant.max(sum.max(mark.max(rest))))
 }
 
-/// The units that the histograms of an image have used; more than 2^64 - 1 are answered as that.
-pub(crate) fn used_of(reading: &Reading) -> u64
-    requires { All IsReadable (map histogram_view reading.now.hists.items) }
-    ensures { result ≡ min (used_of_of (reading_view reading.now)) 18446744073709551615 }
+/// The units that the histograms of an image have used; more than 2^64 - 1 are answered as that. Of one histogram after the other
+/// the counts are made, added up and given back.
+pub(crate) fn used_of(
+    alloc: Global,
+    words: &[u64],
+    head: &SegmentHead,
+    survey: &Survey,
+) -> Result<u64, AllocError>
+    requires header { header_of words.now ≡ Ok head.now }
+    requires survey { IsSurvey words.now head.now survey.now }
+    ensures { IfOk result (λ used. used ≡ min (used_of_of (reading_along words.now head.now survey.now.references.items)) 18446744073709551615) }
 {
     let mut used: u64 = 0;
-    for hist in reading.hists.iter() {
-        used = used.saturating_add(used_by(hist));
+    for reference in &survey.hists {
+        let hist = survey.hist(alloc, words, head, *reference)?;
+        used = used.saturating_add(used_by(&hist));
     }
-    used
+    Ok(used)
 }

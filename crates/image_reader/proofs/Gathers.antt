@@ -2,16 +2,16 @@
 use Rattle.std.proofs.Common.{◌≡◌, Bool, true, false, ◌||◌, ◌&&◌, ◌==◌, if◌then◌else◌, ℕ, List, [], ◌∷◌, ◌++◌, get_or, Some, None, cond, refl, ap, sym, ◌∙◌}
 use Rattle.std.specs.Prelude.{map}
 use Rattle.std.specs.List.{list_any, filter_map}
-use Rattle.image_reader.specs.Views.{bad_view, histogram_view}
+use Rattle.image_reader.specs.Views.{bad_view}
 use Rattle.std.specs.Str.{bytes_eq}
 use Rattle.std.specs.BTreeSet.{insert_key}
-use Rattle.std.proofs.lemmas.List.{append-nil, map-append}
+use Rattle.std.proofs.lemmas.List.{append-nil}
 use Rattle.std.proofs.lemmas.Bool.{eq-eqb}
 use Rattle.segment_image.specs.Blocks.{field_at}
 use Rattle.segment_image.specs.declared.head.SegmentHead.{SegmentHead}
 use Rattle.bucket_ranges.specs.declared.reading.RecordFault.{RecordFault}
 use Rattle.bucket_ranges.specs.declared.reading.RecordFault.TheVariants.{BadSample}
-use Rattle.bucket_ranges.specs.Reading.{is_bad_sample_by, record_fault, lawful_records, read_records, same_name, is_sparse, is_bad_sample, lawful_samples, first_samples, name_of, bad_record, with_earlier, histogram_of}
+use Rattle.bucket_ranges.specs.Reading.{is_bad_sample_by, record_fault, lawful_records, read_records, same_name, is_sparse, is_bad_sample, lawful_samples, first_samples, name_of, bad_record, with_earlier}
 use Rattle.image_reader.specs.declared.gathering.Gathering.{Gathering}
 use Rattle.image_reader.specs.declared.sample.Samples.{Samples}
 use Rattle.image_reader.specs.Samples.{by_entry_value, holds_sample, sample_entry, held}
@@ -77,7 +77,7 @@ IsGathered-known words head earlier g new r name so_far typed none named names k
     ∙ (ap (λ b. read_records words head earlier ++ (if b then [] else r ∷ [])) (known-is words head earlier g r name true so_far named known)
     ∙ append-nil (read_records words head earlier)) in
     record {
-      hists_are = ap (map histogram_view) hists ∙ (so_far.hists_are ∙ ap (map (histogram_of head.version words [])) (sym same));
+      hists_are = hists ∙ (so_far.hists_are ∙ sym same);
       bad_are = ap (map bad_view) bad
           ∙ bad-none words head earlier r g.bad.items so_far.bad_are (fault_behind-histogram words head earlier r one ∙ none);
       names_are = names-more words head earlier g new r name so_far typed none named names;
@@ -92,7 +92,7 @@ pub IsGathered-new : (words : List ℕ) (head : SegmentHead) (earlier : List ℕ
     → IsGathered words head earlier g → field_at words r 2 ≡ 1 → record_fault words head r ≡ None → name ≡ name_of words r
     → ((other : List ℕ) → holds new.names other ≡ (holds g.names other || bytes_eq other name))
     → holds g.names name ≡ false
-    → map histogram_view new.hists.items ≡ map histogram_view g.hists.items ++ histogram_of head.version words [] r ∷ [] → new.bad.items ≡ g.bad.items
+    → new.hists.items ≡ g.hists.items ++ r ∷ [] → new.bad.items ≡ g.bad.items
     → ((h : ℕ) → get_or new.sparse.items h false ≡ (get_or g.sparse.items h false || ((r == h) && is_sparse words r)))
     → ((h : ℕ) → held new.samples h ≡ held g.samples h) → new.later.items ≡ g.later.items
     → IsGathered words head (earlier ++ r ∷ []) new
@@ -102,9 +102,7 @@ IsGathered-new words head earlier g new r name so_far typed none named names unk
     read-push words head earlier r one none
     ∙ ap (λ b. read_records words head earlier ++ (if b then [] else r ∷ [])) (known-is words head earlier g r name false so_far named unknown) in
     record {
-      hists_are = hists
-          ∙ (ap (λ hists. hists ++ histogram_of head.version words [] r ∷ []) so_far.hists_are
-          ∙ (sym (map-append (histogram_of head.version words []) (read_records words head earlier) (r ∷ [])) ∙ ap (map (histogram_of head.version words [])) (sym more)));
+      hists_are = hists ∙ (ap (λ hists. hists ++ r ∷ []) so_far.hists_are ∙ sym more);
       bad_are = ap (map bad_view) bad
           ∙ bad-none words head earlier r g.bad.items so_far.bad_are (fault_behind-histogram words head earlier r one ∙ none);
       names_are = names-more words head earlier g new r name so_far typed none named names;
@@ -126,7 +124,7 @@ stays : (words : List ℕ) (head : SegmentHead) (earlier : List ℕ) (g new : Ga
 stays words head earlier g new r so_far lawful bad none hists names sparse samples later =
     let same = read-same words head earlier (earlier ++ r ∷ []) lawful in
     record {
-      hists_are = ap (map histogram_view) hists ∙ (so_far.hists_are ∙ ap (map (histogram_of head.version words [])) (sym same));
+      hists_are = hists ∙ (so_far.hists_are ∙ sym same);
       bad_are = bad;
       names_are = λ name. names name ∙ (so_far.names_are name ∙ ap (list_any (λ x. bytes_eq name (name_of words x))) (sym lawful));
       sparse_are = λ h. ap (λ xs. get_or xs h false) sparse
@@ -197,7 +195,7 @@ IsGathered-sample words head earlier g new r so_far typed is samples bad hists n
     let lawful = other-push words head earlier r (three-one words r typed) in
     let same = read-same words head earlier (earlier ++ r ∷ []) lawful in
     record {
-      hists_are = ap (map histogram_view) hists ∙ (so_far.hists_are ∙ ap (map (histogram_of head.version words [])) (sym same));
+      hists_are = hists ∙ (so_far.hists_are ∙ sym same);
       bad_are = ap (map bad_view) bad
           ∙ bad-none words head earlier r g.bad.items so_far.bad_are
           (fault_behind-sample words head earlier r false (three-one words r typed) three fine);

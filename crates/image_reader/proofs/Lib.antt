@@ -13,3 +13,4 @@ pub mod Laters
 pub mod Gathers
 pub mod Lawful
 pub mod Readables
+pub mod Surveys

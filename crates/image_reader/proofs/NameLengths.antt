@@ -1,8 +1,8 @@
 -- The length of a name.
-use Rattle.std.proofs.Common.{◌≡◌, Bool, false, ◌&&◌, not, ◌==◌, ℕ, ◌+◌, ◌-◌, ◌*◌, ◌<◌, ◌≤◌, List, length, take, drop, ◌⊎◌, inl, inr, arith, length-take, length-drop}
+use Rattle.std.proofs.Common.{◌≡◌, Bool, true, false, ◌&&◌, not, ◌==◌, ℕ, ◌+◌, ◌-◌, ◌*◌, ◌<◌, ◌≤◌, List, length, take, drop, ◌⊎◌, inl, inr, arith, length-take, length-drop}
 use Rattle.std.specs.Prelude.{nat_le, slice_index}
 use Rattle.std.specs.List.{list_all}
-use Rattle.std.proofs.lemmas.Bool.{cases_Bool, leb-true, lt-leb, and_left, and_right}
+use Rattle.std.proofs.lemmas.Bool.{and_left, and_parts, and_right, cases_Bool, leb-true, lt-leb}
 use Rattle.segment_image.specs.Words.{bytes_of_words}
 use Rattle.segment_image.proofs.ReadWords.{length-bytes_of_words}
 use Rattle.segment_image.specs.Blocks.{field_at}
@@ -48,3 +48,11 @@ has_name-length words at within bad =
           ]))
       | inr short ↦ and_left fits (is_name (name_of words at)) short
     ]
+
+-- the words of a name lie in its record
+pub named_within : (words : List ℕ) (at : ℕ) → at + field_at words at 0 ≤ length words → has_name words at ≡ true
+    → at + (15 + name_words (field_at words at 14)) ≤ length words
+named_within words at within named =
+    let room : 15 + name_words (field_at words at 14) ≤ field_at words at 0 =
+    leb-true _ _ (and_parts (nat_le (15 + name_words (field_at words at 14)) (field_at words at 0)) (is_name (name_of words at)) named).0 in
+    omega arith

@@ -1,8 +1,7 @@
--- Each histogram of a reading is readable.
-use Rattle.std.proofs.Common.{◌≡◌, ℕ, ◌+◌, ◌*◌, ◌^◌, ◌<◌, ◌≤◌, Bool, true, false, not, ◌||◌, ◌&&◌, ◌==◌, List, length, None, Ok, ap, All, ℤ, get_or, lit<, sum_by, sym, subst, arith, if◌then◌else◌}
+-- Each histogram that is read is readable.
+use Rattle.std.proofs.Common.{◌≡◌, ℕ, ◌+◌, ◌*◌, ◌^◌, ◌<◌, ◌≤◌, Bool, true, false, not, ◌||◌, ◌&&◌, ◌==◌, List, length, None, Ok, ap, All, ℤ, lit<, sum_by, arith, if◌then◌else◌}
 use Rattle.std.specs.Prelude.{nat_lt, nat_le, ◌%◌}
 use Rattle.std.proofs.lemmas.Bool.{ltb-false, not-false, or_parts, and_parts, leb-true}
-use Rattle.std.proofs.lemmas.List.Elements.{All-map}
 use Rattle.std.proofs.lemmas.List.FromFn.{length-map-range_with_len}
 use Rattle.std.proofs.lemmas.List.Sums.{sum_by-le}
 use Rattle.segment_image.specs.Words.{word_at}
@@ -19,9 +18,10 @@ use Rattle.bucket_ranges.proofs.Named.{named-lawful}
 use Rattle.bucket_ranges.proofs.Walks.{IsWalk-length}
 use Rattle.bucket_ranges.specs.declared.reading.RecordFault.TheVariants.{BadSpec}
 use Rattle.bucket_ranges.specs.Spec.{spec_fault, buckets_of}
-use Rattle.bucket_ranges.specs.Reading.{Reading, IsReading, histogram_of, read_records, lawful_samples, first_samples, bucket_counts, sample_counts, is_sparse, is_bad_counts, has_large, inner_ranges, record_fault, has_spec, spec_of, totals_of, record_buckets, record_checks, has_counts}
+use Rattle.bucket_ranges.specs.Reading.{IsListed, histogram_of, lawful_samples, first_samples, bucket_counts, sample_counts, is_sparse, is_bad_counts, has_large, inner_ranges, record_fault, has_spec, spec_of, totals_of, record_buckets, record_checks, has_counts}
 use Rattle.image_reader.specs.Readable.{IsCounted, IsReadable}
-use Rattle.image_reader.proofs.Lawful.{IsSmallSample, all_pass, bucket_at, bucket_counts-small, lawful_samples-few, lawful_samples-small, read_records-lawful, sample_counts-few, sample_counts-small}
+use Rattle.image_reader.specs.Survey.{hist_at}
+use Rattle.image_reader.proofs.Lawful.{IsSmallSample, all_pass, bucket_at, bucket_counts-small, lawful_samples-few, lawful_samples-small, sample_counts-few, sample_counts-small}
 
 -- a lawful spec has at most 1,000 buckets
 few_buckets : (spec : Spec) → spec_fault spec ≡ None → buckets_of spec ≤ 1000
@@ -95,15 +95,24 @@ record_readable words head samples reference few small e =
     buckets in
     record { lawful = spec; counted = counted; small = small_sum _ both.few both.below }
 
--- each histogram of a reading is readable
-pub reading_readable : (words : List ℕ) (head : SegmentHead) (reading : Reading) → head.free ≤ 1048576 → IsReading words head reading → All IsReadable reading.hists
-reading_readable words head reading within (references, listed, is) =
-    let samples : List ℕ = lawful_samples words head references in
-    let few : length samples ≤ 1048576 = omega (arith, within, IsWalk-length words head references listed.walk, lawful_samples-few words head references) in
-    let readable = All-map IsReadable (histogram_of head.version words samples) (read_records words head references)
-    (λ k d h. record_readable words head samples (get_or (read_records words head references) k d) few (lawful_samples-small words head references)
-    (read_records-lawful words head references k d h)) in
-    subst (λ (r : Reading). All IsReadable r.hists) (sym is) readable
+-- the samples of a list are few
+listed_few : (words : List ℕ) (head : SegmentHead) (references : List ℕ) → head.free ≤ 1048576 → IsListed words head references
+    → length (lawful_samples words head references) ≤ 1048576
+listed_few words head references within listed =
+    omega (arith, within, IsWalk-length words head references listed.walk, lawful_samples-few words head references)
+
+-- a histogram that is read of a list is readable
+pub hist_readable : (words : List ℕ) (head : SegmentHead) (references : List ℕ) (at : ℕ) → head.free ≤ 1048576 → IsListed words head references
+    → record_fault words head at ≡ None → IsReadable (hist_at words head references at)
+hist_readable words head references at within listed none =
+    record_readable words head (lawful_samples words head references) at (listed_few words head references within listed)
+    (lawful_samples-small words head references) none
+
+-- and its values are few
+pub values_few : (words : List ℕ) (head : SegmentHead) (references : List ℕ) (at : ℕ) → head.free ≤ 1048576 → IsListed words head references
+    → length (sample_counts words (first_samples words (lawful_samples words head references) at)) ≤ 1048576
+values_few words head references at within listed =
+    omega (arith, listed_few words head references within listed, sample_counts-few words (lawful_samples words head references) at)
 
 -- the free pointer of a lawful header is that of no larger a segment than there are
 pub head_within : (words : List ℕ) (head : SegmentHead) → header_of words ≡ Ok head → head.free ≤ 1048576

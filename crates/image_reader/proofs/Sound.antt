@@ -6,18 +6,18 @@ use Rattle.segment_image.specs.Checks.{first_fault}
 use Rattle.segment_image.specs.Head.{header_of}
 use Rattle.segment_image.specs.Blocks.{field_at}
 use Rattle.segment_image.specs.declared.head.SegmentHead.{SegmentHead}
-use Rattle.bucket_ranges.specs.declared.spec.Spec.TheVariants.{Linear, Boolean, Custom, Sparse}
+use Rattle.bucket_ranges.specs.declared.spec.Spec.TheVariants.{Linear}
 use Rattle.bucket_ranges.specs.declared.spec.SpecFault.{SpecFault}
 use Rattle.bucket_ranges.specs.declared.spec.SpecFault.TheVariants.{BadMin, BadMax, TooFew, TooMany}
 use Rattle.bucket_ranges.specs.Spec.{spec_fault}
 use Rattle.bucket_ranges.specs.Reading.{record_fault, is_block, is_kind, has_name, has_spec, is_bad_counts, has_counts, has_large, totals_of, record_buckets, spec_of, inner_ranges, is_custom_named, total_at, mark_at, bucket_counts, bucket_marks, histogram_of, first_samples, sample_counts, sample_marks}
 use Rattle.image_reader.specs.declared.sample.Samples.{Samples}
-use Rattle.image_reader.specs.Samples.{HoldsSamples, held, sample_entry, entry_count, entry_mark, if_sparse, with_samples}
+use Rattle.image_reader.specs.Samples.{HoldsSamples, held, sample_entry, entry_count, entry_mark}
 use Rattle.bucket_ranges.proofs.Named.{named-lawful, IsInner-from_named}
 use Rattle.image_reader.proofs.Headers.{block_in_words}
 use Rattle.std.proofs.lemmas.Simd.{map-map}
 use Rattle.image_reader.proofs.SpecWords.{has_spec-parts, has_spec-buckets}
-use Rattle.image_reader.proofs.Records.{IsSound-from_none, same_histogram}
+use Rattle.image_reader.proofs.Records.{IsSound-from_none}
 use Rattle.image_reader.proofs.BucketChecks.{large-found}
 use Rattle.image_reader.specs.declared.buckets.Buckets.{Buckets}
 use Rattle.image_reader.specs.Buckets.{AreBucketsAt, IsRoomFor}
@@ -157,38 +157,15 @@ pub marks-buckets : (version : ℕ) (words listed : List ℕ) (at : ℕ) → (fi
 marks-buckets version words listed at kind =
     sym (if-false (field_at words at 4 == 4) _ (bucket_marks version words at) (ne_eqb (field_at words at 4) 4 kind))
 
--- a sparse one has none without samples
-pub counts-none : (version : ℕ) (words : List ℕ) (at : ℕ) → field_at words at 4 ≡ 4 → [] ≡ (histogram_of version words [] at).counts
-counts-none version words at kind = sym (if-true (field_at words at 4 == 4) (sample_counts words []) (bucket_counts version words at) (eq-eqb _ 4 kind))
+-- those of a sparse one are what is held of it
+pub counts-held : (version : ℕ) (words listed : List ℕ) (samples : Samples) (at : ℕ) → HoldsSamples words listed samples → field_at words at 4 ≡ 4
+    → map entry_count (held samples at) ≡ (histogram_of version words listed at).counts
+counts-held version words listed samples at holds kind =
+    ap (map entry_count) (holds at) ∙ (map-map entry_count (sample_entry words) (first_samples words listed at)
+    ∙ sym (if-true (field_at words at 4 == 4) (sample_counts words (first_samples words listed at)) (bucket_counts version words at) (eq-eqb _ 4 kind)))
 
-pub marks-none : (version : ℕ) (words : List ℕ) (at : ℕ) → field_at words at 4 ≡ 4 → [] ≡ (histogram_of version words [] at).marks
-marks-none version words at kind = sym (if-true (field_at words at 4 == 4) (sample_marks words []) (bucket_marks version words at) (eq-eqb _ 4 kind))
-
--- a record names a sparse spec by its kind
-sparse-named : {X : Type 0} (sparse custom boolean : Bool) (min max n : ℕ) (inner : List ℕ) (x y z : X)
-    → if_sparse (if sparse then Sparse else (if custom then Custom inner else (if boolean then Boolean else Linear min max n))) x (if sparse then z else y)
-    ≡ (if sparse then x else y)
-sparse-named true custom boolean min max n inner x y z = refl
-sparse-named false true boolean min max n inner x y z = refl
-sparse-named false false true min max n inner x y z = refl
-sparse-named false false false min max n inner x y z = refl
-
--- so a histogram without samples, and then with those that are held of it, is the histogram with the samples of the list
-pub given-samples : (version : ℕ) (words listed : List ℕ) (samples : Samples) (at : ℕ) → HoldsSamples words listed samples
-    → with_samples samples (histogram_of version words [] at) ≡ histogram_of version words listed at
-given-samples version words listed samples at holds =
-    let sparse : Bool = field_at words at 4 == 4 in
-    let custom : Bool = field_at words at 4 == 3 in
-    let boolean : Bool = field_at words at 4 == 2 in
-    let counts : map entry_count (held samples at) ≡ sample_counts words (first_samples words listed at) =
-    ap (map entry_count) (holds at) ∙ map-map entry_count (sample_entry words) (first_samples words listed at) in
-    let marks : map entry_mark (held samples at) ≡ sample_marks words (first_samples words listed at) =
-    ap (map entry_mark) (holds at) ∙ map-map entry_mark (sample_entry words) (first_samples words listed at) in
-    same_histogram _ (histogram_of version words listed at) refl refl refl
-    (sparse-named sparse custom boolean (field_at words at 5) (field_at words at 6) (field_at words at 7) (inner_ranges words at)
-    (map entry_count (held samples at)) (bucket_counts version words at) []
-    ∙ ap (λ cs. if sparse then cs else bucket_counts version words at) counts)
-    (sparse-named sparse custom boolean (field_at words at 5) (field_at words at 6) (field_at words at 7) (inner_ranges words at)
-    (map entry_mark (held samples at)) (bucket_marks version words at) []
-    ∙ ap (λ ms. if sparse then ms else bucket_marks version words at) marks)
-    refl refl refl
+pub marks-held : (version : ℕ) (words listed : List ℕ) (samples : Samples) (at : ℕ) → HoldsSamples words listed samples → field_at words at 4 ≡ 4
+    → map entry_mark (held samples at) ≡ (histogram_of version words listed at).marks
+marks-held version words listed samples at holds kind =
+    ap (map entry_mark) (holds at) ∙ (map-map entry_mark (sample_entry words) (first_samples words listed at)
+    ∙ sym (if-true (field_at words at 4 == 4) (sample_marks words (first_samples words listed at)) (bucket_marks version words at) (eq-eqb _ 4 kind)))

@@ -1,19 +1,19 @@
 -- What a reader has gathered along the list of records.
-use Rattle.std.specs.Prelude.{◌≡◌, ℕ, List, [], map, length, get_or, false}
+use Rattle.std.specs.Prelude.{◌≡◌, ℕ, List, map, length, get_or, false}
 use Rattle.std.specs.List.{filter_map, list_any}
 use Rattle.std.specs.Str.{bytes_eq}
 use Rattle.segment_image.specs.declared.head.SegmentHead.{SegmentHead}
-use Rattle.bucket_ranges.specs.Reading.{read_records, lawful_records, lawful_samples, is_sparse_read, bad_record, with_earlier, name_of, histogram_of}
+use Rattle.bucket_ranges.specs.Reading.{read_records, lawful_records, lawful_samples, is_sparse_read, bad_record, with_earlier, name_of}
 use Rattle.image_reader.specs.declared.gathering.Gathering.{Gathering}
-use Rattle.image_reader.specs.Views.{bad_view, histogram_view}
+use Rattle.image_reader.specs.Views.{bad_view}
 use Rattle.image_reader.specs.Names.{holds, AreKeys}
-use Rattle.image_reader.specs.Samples.{AreNear, AreSamples, HoldsSamples}
+use Rattle.image_reader.specs.Samples.{AreSamples, HoldsSamples}
 use Rattle.image_reader.specs.Later.{later_samples}
 
--- what is gathered of these references: the histograms that are read, as they are without a sample, the bad records, which
+-- what is gathered of these references: which histograms are read, the bad records, which
 -- names the lawful ones have, where a sparse histogram is read, the samples, and those that are not the first of their value
 pub record IsGathered (words : List ℕ) (head : SegmentHead) (references : List ℕ) (gathering : Gathering) : Type 0 where
-  pub hists_are : map histogram_view gathering.hists.items ≡ map (histogram_of head.version words []) (read_records words head references)
+  pub hists_are : gathering.hists.items ≡ read_records words head references
   pub bad_are : map bad_view gathering.bad.items ≡ filter_map (bad_record words head) (with_earlier references)
   pub names_are : (name : List ℕ) → holds gathering.names name
       ≡ list_any (λ reference. bytes_eq name (name_of words reference)) (lawful_records words head references)
@@ -25,5 +25,4 @@ pub record IsGathered (words : List ℕ) (head : SegmentHead) (references : List
 pub record IsReady (words : List ℕ) (gathering : Gathering) : Type 0 where
   pub keys : AreKeys gathering.names
   pub samples : AreSamples gathering.samples
-  pub near : AreNear gathering.hists.items
   pub long : length gathering.sparse.items ≡ length words

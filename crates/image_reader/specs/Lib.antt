@@ -14,3 +14,5 @@ pub mod Buckets
 pub mod Names
 pub mod Gathering
 pub mod Readable
+pub mod Survey
+pub mod Keys

@@ -1,14 +1,11 @@
 -- The samples that a reader has met.
-use Rattle.std.specs.Prelude.{◌≡◌, Bool, true, ◌==◌, ℕ, ◌<◌, ◌^◌, ℤ, List, All, map}
+use Rattle.std.specs.Prelude.{◌≡◌, Bool, true, ◌==◌, ℕ, ℤ, List, All, map}
 use Rattle.std.specs.List.{filter, list_any}
 use Rattle.std.specs.declared.cmp.Ordering.{Ordering}
 use Rattle.std.specs.Ordering.{nat_cmp, int_cmp, is_eq, ordering_then}
 use Rattle.std.specs.List.Sorted.{IsStrictlySortedBy}
 use Rattle.std.specs.Map.{keys_of}
-use Rattle.bucket_ranges.specs.Reading.{is_i32, sample_histogram, sample_value, sample_count, sample_mark, first_samples, Histogram}
-use Rattle.bucket_ranges.specs.declared.spec.Spec.{Spec}
-use Rattle.bucket_ranges.specs.declared.spec.Spec.TheVariants.{Linear, Boolean, Custom, Sparse}
-use Rattle.image_reader.specs.declared.reading.HistReading.{HistReading}
+use Rattle.bucket_ranges.specs.Reading.{is_i32, sample_histogram, sample_value, sample_count, sample_mark, first_samples}
 use Rattle.image_reader.specs.declared.sample.Sample.{Sample}
 use Rattle.image_reader.specs.declared.sample.Samples.{Samples}
 
@@ -57,27 +54,3 @@ pub record AreSamples (samples : Samples) : Type 0 where
 abbrev pub HoldsSamples : List ℕ → List ℕ → Samples → Type 0
 HoldsSamples words samples reader =
     (histogram : ℕ) → held reader histogram ≡ map (sample_entry words) (first_samples words samples histogram)
-
--- the references of histograms have no more than 32 bits
-abbrev pub AreNear : List HistReading → Type 0
-AreNear hists = All (λ hist. hist.reference < 2 ^ 32) hists
-
--- of two values the first where a spec is sparse
-abbrev pub if_sparse : {X : Type 0} → Spec → X → X → X
-if_sparse Sparse of_sparse of_others = of_sparse
-if_sparse (Linear min max n) of_sparse of_others = of_others
-if_sparse Boolean of_sparse of_others = of_others
-if_sparse (Custom values) of_sparse of_others = of_others
-
--- a histogram, which has the counts and the marks of what is held of it where it is sparse
-abbrev pub with_samples : Samples → Histogram → Histogram
-with_samples samples hist = record {
-  reference = hist.reference;
-  name = hist.name;
-  spec = hist.spec;
-  counts = if_sparse hist.spec (map entry_count (held samples hist.reference)) hist.counts;
-  marks = if_sparse hist.spec (map entry_mark (held samples hist.reference)) hist.marks;
-  sum = hist.sum;
-  sum_mark = hist.sum_mark;
-  redundant = hist.redundant;
-}

@@ -6,9 +6,8 @@ ghost use Rattle.segment_image.specs.Blocks.{field_at};
 ghost use Rattle.bucket_ranges.specs.Reading.{is_block, is_name, name_of, record_fault};
 ghost use Rattle.image_reader.specs.Gathering.{IsGathered, IsReady};
 
-use crate::histogram::histogram;
 use crate::names::Names;
-use crate::reading::{BadRecord, HistReading};
+use crate::reading::BadRecord;
 use crate::record::{Refusal, check_record};
 use crate::sample::{Samples, sample_at};
 use bucket_ranges::reading::RecordFault;
@@ -21,8 +20,8 @@ use std::alloc::{AllocError, Global};
 /// What the records of a list say, as far as they were gathered.
 #[derive(Drop)]
 pub(crate) struct Gathering {
-    /// The histograms that are read: of each name the first without a fault. A sparse one has no counts yet.
-    pub(crate) hists: Vec<HistReading>,
+    /// The references of the histograms that are read: of each name the first without a fault.
+    pub(crate) hists: Vec<u64>,
     /// The samples of those that are sparse.
     pub(crate) samples: Samples,
     /// The references of the samples that are not the first of their histogram and value.
@@ -93,7 +92,7 @@ impl Gathering {
         ensures ready { OnOk result (IsReady words.now self.new) }
     {
         match check_record(alloc, words, head, reference as usize) {
-            Ok(name) => self.keep(alloc, words, head, reference, name),
+            Ok(name) => self.keep(alloc, words, head, reference, &name),
             Err(Refusal::Fault(fault)) => {
                 self.bad.push(BadRecord { reference, fault })?;
                 Ok(())
@@ -102,30 +101,30 @@ impl Gathering {
         }
     }
 
-    // Keeps the histogram of a record without a fault, unless one of its name is kept.
+    // Keeps the reference of a record without a fault, unless one of its name is kept.
     fn keep(
         &mut self,
         alloc: Global,
         words: &[u64],
         head: &SegmentHead,
         reference: u64,
-        name: Vec<u8>,
+        name: &[u8],
     ) -> Result<(), AllocError>
         requires header { header_of words.now ≡ Ok head.now }
         requires tag { field_at words.now reference BLOCK_TYPE ≡ TYPE_HISTOGRAM }
         requires within { reference + field_at words.now reference BLOCK_SIZE ≤ length words.now }
         requires lawful { record_fault words.now head.now reference ≡ None }
-        requires name { name.items ≡ name_of words.now reference }
-        requires bytes { is_name name.items ≡ true }
+        requires name { name.now ≡ name_of words.now reference }
+        requires bytes { is_name name.now ≡ true }
         requires ready { IsReady words.now self.old }
         ensures gathered { OnOk result ((earlier : List ℕ) → IsGathered words.now head.now earlier self.old → IsGathered words.now head.now (earlier ++ reference ∷ []) self.new) }
         ensures ready { OnOk result (IsReady words.now self.new) }
     {
-        if !self.names.insert(alloc, &name)? {
+        if !self.names.insert(alloc, name)? {
             return Ok(());
         }
+        self.hists.push(reference)?;
         let at = reference as usize;
-        self.hists.push(histogram(alloc, words, head, at, name)?)?;
         if words[at + HISTOGRAM_KIND] == KIND_SPARSE {
             self.sparse[at] = true;
         }

@@ -1,43 +1,45 @@
 //! What a record of a histogram without a fault reads as.
 
-ghost use Rattle.std.specs.Prelude.{◌≡◌, ◌<◌, ◌≤◌, ◌+◌, ◌-◌, ◌^◌, [], None, Ok, ◌≢◌, length, map, IfOk, OnOk};
+ghost use Rattle.std.specs.Prelude.{◌≡◌, ◌≤◌, ◌+◌, ◌-◌, ℕ, List, None, Ok, ◌≢◌, length, IfOk};
 ghost use Rattle.segment_image.specs.Head.{header_of};
 ghost use Rattle.segment_image.specs.Blocks.{field_at};
 ghost use Rattle.bucket_ranges.specs.Ranges.{boundaries_of};
 ghost use Rattle.bucket_ranges.specs.Spec.{spec_fault, buckets_of};
-ghost use Rattle.bucket_ranges.specs.Reading.{record_fault, histogram_of, name_of, bucket_counts, bucket_marks, spec_of};
+ghost use Rattle.bucket_ranges.specs.Reading.{record_fault, histogram_of, bucket_counts, bucket_marks, spec_of};
 ghost use Rattle.image_reader.specs.Views.{histogram_view};
-ghost use Rattle.image_reader.specs.Samples.{AreNear, AreSamples, with_samples};
+ghost use Rattle.image_reader.specs.Samples.{AreSamples, HoldsSamples};
 
 use crate::buckets::{Buckets, counts_of, marks_of};
+use crate::name::read_name;
 use crate::reading::HistReading;
 use crate::sample::Samples;
 use crate::spec::spec_at;
 use bucket_ranges::{Ranges, Spec, SpecFault};
 use segment_image::SegmentHead;
 use segment_image::layout::{
-    BLOCK_SIZE, HISTOGRAM_KIND, HISTOGRAM_REDUNDANT, HISTOGRAM_SUM, HISTOGRAM_SUM_MARK, KIND_SPARSE,
+    BLOCK_SIZE, HISTOGRAM_KIND, HISTOGRAM_NAME_LENGTH, HISTOGRAM_REDUNDANT, HISTOGRAM_SUM,
+    HISTOGRAM_SUM_MARK, KIND_SPARSE,
 };
 use std::alloc::{AllocError, Global};
 
-/// The histogram of the record in a block at `at`, which has no fault, and whose name is `name`. A sparse one has no
-/// counts yet.
+/// The histogram of the record in a block at `at`, which has no fault. Of a sparse one these are the samples of its list.
 pub(crate) fn histogram(
     alloc: Global,
     words: &[u64],
     head: &SegmentHead,
     at: usize,
-    name: Vec<u8>,
+    samples: &Samples,
 ) -> Result<HistReading, AllocError>
     requires header { header_of words.now ≡ Ok head.now }
     requires lawful { record_fault words.now head.now at ≡ None }
     requires within { at + field_at words.now at BLOCK_SIZE ≤ length words.now }
-    requires name { name.items ≡ name_of words.now at }
-    ensures { IfOk result (λ hist. histogram_view hist ≡ histogram_of head.now.version words.now [] at) }
+    requires are { AreSamples samples.now }
+    ensures { IfOk result (λ hist. (listed : List ℕ) → HoldsSamples words.now listed samples.now → histogram_view hist ≡ histogram_of head.now.version words.now listed at) }
 {
+    let name = read_name(alloc, words, at, words[at + HISTOGRAM_NAME_LENGTH])?;
     let spec = spec_at(alloc, words, at)?;
     let (counts, marks) = if words[at + HISTOGRAM_KIND] == KIND_SPARSE {
-        (Vec::new(alloc), Vec::new(alloc))
+        samples.of(alloc, at as u32)?
     } else {
         bucket_lists(alloc, words, head, at, &spec)?
     };
@@ -87,34 +89,4 @@ fn bucket_lists(
     let ranges = ranges_of(alloc, spec)?;
     let counts = counts_of(alloc, words, &buckets, &ranges)?;
     Ok((counts, marks_of(alloc, words, &buckets)?))
-}
-
-// Gives a sparse histogram, which has no counts yet, those of its samples.
-fn give(alloc: Global, hist: &mut HistReading, samples: &Samples) -> Result<(), AllocError>
-    requires are { AreSamples samples.now }
-    requires near { hist.old.reference < 2 ^ 32 }
-    ensures { OnOk result (histogram_view hist.new ≡ with_samples samples.now (histogram_view hist.old)) }
-{
-    if let Spec::Sparse = hist.spec {
-        let (counts, marks) = samples.of(alloc, hist.reference as u32)?;
-        hist.counts = counts;
-        hist.marks = marks;
-    }
-    Ok(())
-}
-
-/// Gives each sparse one of these histograms, which have no counts yet, those of its samples.
-pub(crate) fn give_samples(
-    alloc: Global,
-    hists: &mut [HistReading],
-    samples: &Samples,
-) -> Result<(), AllocError>
-    requires are { AreSamples samples.now }
-    requires near { AreNear hists.old }
-    ensures { OnOk result (map histogram_view hists.new ≡ map (with_samples samples.now) (map histogram_view hists.old)) }
-{
-    for hist in hists.iter_mut() {
-        give(alloc, hist, samples)?;
-    }
-    Ok(())
 }

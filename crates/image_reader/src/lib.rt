@@ -19,8 +19,11 @@ mod reading;
 mod record;
 mod sample;
 mod spec;
+mod survey;
 mod walk;
 
 pub use bucket_ranges::reading::RecordFault;
-pub use reader::{read, read_list};
-pub use reading::{BadRecord, HistReading, ListReading, Reading};
+pub use reader::{has_more_keys, read};
+pub use reading::{BadRecord, HistReading, Reading};
+pub use survey::Survey;
+pub use walk::{Listed, list_of};

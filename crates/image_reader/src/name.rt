@@ -36,8 +36,13 @@ pub(crate) fn name_at(alloc: Global, words: &[u64], at: usize) -> Result<Vec<u8>
     Ok(name)
 }
 
-// The bytes of the name of a record, so many as `len` says, whose words lie in the image.
-fn read_name(alloc: Global, words: &[u64], at: usize, len: u64) -> Result<Vec<u8>, AllocError>
+/// The bytes of the name of a record, so many as `len` says, whose words lie in the image.
+pub(crate) fn read_name(
+    alloc: Global,
+    words: &[u64],
+    at: usize,
+    len: u64,
+) -> Result<Vec<u8>, AllocError>
     requires length { len ≡ name_length words.now at }
     requires within { at + named_words words.now at ≤ length words.now }
     ensures { IfOk result (λ name. name.items ≡ name_of words.now at) }

@@ -1,17 +1,16 @@
 //! The reading of a segment.
 
-ghost use Rattle.std.specs.Prelude.{◌≡◌, ◌<◌, ℕ, Ok, Err, true, length, map, slice_index, All, IfOk, MatchResult};
+ghost use Rattle.std.specs.Prelude.{◌≡◌, Ok, Err, map, All, IfOk, MatchResult};
 ghost use Rattle.segment_image.specs.Head.{header_of};
-ghost use Rattle.bucket_ranges.specs.Reading.{IsListed, IsReading, is_block, reading_along};
+ghost use Rattle.bucket_ranges.specs.Reading.{IsReading};
+ghost use Rattle.image_reader.specs.Keys.{HasMoreKeys};
 ghost use Rattle.image_reader.specs.Readable.{IsReadable};
+ghost use Rattle.image_reader.specs.Survey.{IsSurvey, hist_at};
 ghost use Rattle.image_reader.specs.Views.{histogram_view, reading_view};
-ghost use Rattle.image_reader.specs.Gathering.{IsGathered, IsReady};
-ghost use Rattle.image_reader.specs.Later.{later_samples};
 
-use crate::gathering::Gathering;
-use crate::histogram::give_samples;
-use crate::reading::{ListReading, Reading};
-use crate::walk::{Listed, walk};
+use crate::reading::{HistReading, Reading};
+use crate::survey::Survey;
+use crate::walk::list_of;
 use segment_image::{ImageFault, SegmentHead, header};
 use std::alloc::{AllocError, Global};
 
@@ -24,60 +23,65 @@ pub fn read(alloc: Global, words: &[u64]) -> Result<Reading, ImageFault>
     ensures readable { IfOk result (λ reading. All IsReadable (map histogram_view reading.hists.items)) }
 {
     let head = header(words)?;
-    match read_list(alloc, words, &head) {
-        Ok(ListReading { reading, .. }) => Ok(reading),
+    read_list(alloc, words, &head).map_err(|_| ImageFault::NoMemory)
+}
+
+/// Whether what the words of a segment read as has more keys than `most`: buckets of its histograms, and values of the sparse ones.
+/// No counts are made, so this takes much less memory than [`read`].
+///
+/// The faults are those of [`read`].
+pub fn has_more_keys(alloc: Global, words: &[u64], most: u64) -> Result<bool, ImageFault>
+    ensures answer { MatchResult (header_of words.now) (λ head. MatchResult result (HasMoreKeys words.now head most) (λ fault. fault ≡ ImageFault.NoMemory)) (λ fault. result ≡ Err fault) }
+{
+    let head = header(words)?;
+    match survey_of(alloc, words, &head) {
+        Ok(survey) => Ok(survey.has_more_keys(words, &head, most)),
         Err(_) => Err(ImageFault::NoMemory),
     }
 }
 
-/// The list of a segment whose header, read from the same words, is `head`, and what it reads as. It is walked once, and
-/// only memory can be wanting.
-pub fn read_list(
-    alloc: Global,
-    words: &[u64],
-    head: &SegmentHead,
-) -> Result<ListReading, AllocError>
+// What the list of a segment has whose header is `head`.
+fn survey_of(alloc: Global, words: &[u64], head: &SegmentHead) -> Result<Survey, AllocError>
     requires { header_of words.now ≡ Ok head.now }
-    ensures listed { IfOk result (λ list. IsListed words.now head.now list.references.items) }
-    ensures reading { IfOk result (λ list. reading_view list.reading ≡ reading_along words.now head.now list.references.items) }
-    ensures readable { IfOk result (λ list. All IsReadable (map histogram_view list.reading.hists.items)) }
-    ensures later { IfOk result (λ list. list.later.items ≡ later_samples words.now head.now list.references.items) }
+    ensures { IfOk result (IsSurvey words.now head.now) }
 {
-    let Listed {
-        references,
-        stopped,
-    } = walk(alloc, words, head)?;
-    let mut gathered = gather(alloc, words, head, &references)?;
-    give_samples(alloc, &mut gathered.hists, &gathered.samples)?;
-    Ok(ListReading {
-        references,
-        later: gathered.later,
-        reading: Reading {
-            id: head.id,
-            full: head.full,
-            corrupt: head.corrupt,
-            hists: gathered.hists,
-            bad: gathered.bad,
-            stopped,
-        },
+    let list = list_of(alloc, words, head)?;
+    Survey::of(alloc, words, head, list)
+}
+
+// What the words read as whose header is `head`.
+fn read_list(alloc: Global, words: &[u64], head: &SegmentHead) -> Result<Reading, AllocError>
+    requires { header_of words.now ≡ Ok head.now }
+    ensures reading { IfOk result (λ reading. IsReading words.now head.now (reading_view reading)) }
+    ensures readable { IfOk result (λ reading. All IsReadable (map histogram_view reading.hists.items)) }
+{
+    let survey = survey_of(alloc, words, head)?;
+    let hists = hists_of(alloc, words, head, &survey)?;
+    Ok(Reading {
+        id: head.id,
+        full: head.full,
+        corrupt: head.corrupt,
+        hists,
+        bad: survey.bad,
+        stopped: survey.stopped,
     })
 }
 
-// What the records at these references say.
-fn gather(
+// All histograms that are read.
+fn hists_of(
     alloc: Global,
     words: &[u64],
     head: &SegmentHead,
-    references: &[u64],
-) -> Result<Gathering, AllocError>
+    survey: &Survey,
+) -> Result<Vec<HistReading>, AllocError>
     requires header { header_of words.now ≡ Ok head.now }
-    requires lawful { (i : ℕ) → i < length references.now → is_block words.now head.now (slice_index references.now i) ≡ true }
-    ensures gathered { IfOk result (IsGathered words.now head.now references.now) }
-    ensures ready { IfOk result (IsReady words.now) }
+    requires survey { IsSurvey words.now head.now survey.now }
+    ensures hists { IfOk result (λ hists. map histogram_view hists.items ≡ map (hist_at words.now head.now survey.now.references.items) survey.now.hists.items) }
+    ensures readable { IfOk result (λ hists. All IsReadable (map histogram_view hists.items)) }
 {
-    let mut gathering = Gathering::new(alloc, words, head)?;
-    for reference in references {
-        gathering.add(alloc, words, head, *reference)?;
+    let mut hists = Vec::with_capacity(alloc, survey.hists.len())?;
+    for reference in &survey.hists {
+        hists.push(survey.hist(alloc, words, head, *reference)?)?;
     }
-    Ok(gathering)
+    Ok(hists)
 }

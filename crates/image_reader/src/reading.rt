@@ -51,15 +51,3 @@ pub struct Reading {
     /// Why the list goes no further before its end: `BadRef`, `BadBlock` or `Loop`. What was read before stays.
     pub stopped: Option<ImageFault>,
 }
-
-/// The list of a segment, and what it reads as.
-#[derive(Debug, Drop)]
-pub struct ListReading {
-    /// The references of all records on the list, in its order: also of those that are not read.
-    pub references: Vec<u64>,
-    /// The references of the samples without a fault that are not the first of their histogram and value, in the order
-    /// of the list.
-    pub later: Vec<u64>,
-    /// What these records read as.
-    pub reading: Reading,
-}

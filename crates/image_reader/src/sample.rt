@@ -1,6 +1,6 @@
 //! The samples of sparse histograms.
 
-ghost use Rattle.std.specs.Prelude.{◌≡◌, ◌<◌, ◌≤◌, ◌+◌, ◌^◌, [], true, false, not, if◌then◌else◌, ◌==◌, get_or, ℕ, map, length, IfOk, OnOk, MatchOption};
+ghost use Rattle.std.specs.Prelude.{◌≡◌, ◌<◌, ◌≤◌, ◌+◌, ◌^◌, [], true, false, not, if◌then◌else◌, ◌==◌, get_or, ℕ, map, min, length, IfOk, OnOk, MatchOption};
 ghost use Rattle.std.specs.BTreeSet.{insert_key};
 ghost use Rattle.segment_image.specs.Blocks.{field_at};
 ghost use Rattle.bucket_ranges.specs.Reading.{is_i32, is_bad_sample_by, sample_histogram};
@@ -112,5 +112,20 @@ impl Samples {
             marks.push(u64::from(units.1))?;
         }
         Ok((counts, marks))
+    }
+
+    /// How many values of a histogram there are; more than 2^64 - 1 are answered as that.
+    pub(crate) fn number_of(&self, histogram: u32) -> u64
+        requires { AreSamples self.now }
+        ensures { result ≡ min (length (held self.now histogram)) 18446744073709551615 }
+    {
+        let mut number: u64 = 0;
+        for _ in self
+            .map
+            .range((histogram, i32::MIN)..=(histogram, i32::MAX))
+        {
+            number = number.saturating_add(1);
+        }
+        number
     }
 }

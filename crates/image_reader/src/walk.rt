@@ -8,15 +8,18 @@ use segment_image::layout::{BLOCK_NEXT, QUEUE};
 use segment_image::{ImageFault, SegmentHead, block};
 use std::alloc::{AllocError, Global};
 
-/// The records of a list in its order, and why it goes no further before its end.
-#[derive(Drop)]
-pub(crate) struct Listed {
-    pub(crate) references: Vec<u64>,
-    pub(crate) stopped: Option<ImageFault>,
+/// The list of a segment's records.
+#[derive(Debug, Drop)]
+pub struct Listed {
+    /// The references of all records on the list, in its order.
+    pub references: Vec<u64>,
+    /// Why the list goes no further before its end: `BadRef`, `BadBlock` or `Loop`.
+    pub stopped: Option<ImageFault>,
 }
 
-/// The list of the segment whose header is `head`. Each block is marked when it is met, so the walk ends.
-pub(crate) fn walk(alloc: Global, words: &[u64], head: &SegmentHead) -> Result<Listed, AllocError>
+/// The list of the segment whose header, read from the same words, is `head`. Only memory can be wanting. Each block is marked when it
+/// is met, so the walk ends.
+pub fn list_of(alloc: Global, words: &[u64], head: &SegmentHead) -> Result<Listed, AllocError>
     requires { header_of words.now ≡ Ok head.now }
     ensures listed { IfOk result (λ list. IsListed words.now head.now list.references.items) }
     ensures stopped { IfOk result (λ list. list.stopped ≡ stop_of words.now head.now list.references.items) }

@@ -73,11 +73,7 @@ impl Segment {
     ) -> Result<(Segment, Opener), AdoptFault>
         ensures answer { MatchResult result (λ made. IsAdopted words.now cursors made.0 made.1) (λ fault. IsFaultOf words.now cursors fault) }
     {
-        let Adoptable {
-            references,
-            used,
-            ..
-        } = check(alloc, words, cursors)?;
+        let Adoptable { references, used } = check(alloc, words, cursors)?;
         let made = Segment::adopted(alloc, memory, words, references, used, cursors)?;
         Ok(made)
     }

@@ -1,18 +1,20 @@
 -- What was read of words is what their report is of.
-use Rattle.std.proofs.Common.{◌≡◌, ℕ, List, length, drop, ◌++◌, sym, ap, ◌∙◌, subst, Result, Ok, Err, MatchResult, IfErr}
+use Rattle.std.proofs.Common.{◌≡◌, Bool, ℕ, List, length, drop, ◌++◌, sym, ap, ◌∙◌, subst, Result, Ok, Err, MatchResult, IfErr}
 use Rattle.std.proofs.lemmas.Result.{MatchResult-at_ok}
 use Rattle.bucket_ranges.specs.Reading.{IsReading}
 use Rattle.segment_image.specs.Head.{header_of}
 use Rattle.segment_image.specs.declared.head.SegmentHead.{SegmentHead}
 use Rattle.segment_image.specs.declared.fault.ImageFault.{ImageFault}
+use Rattle.segment_image.specs.declared.fault.ImageFault.TheVariants.{NoMemory}
+use Rattle.image_reader.specs.Keys.{HasMoreKeys}
 use Rattle.image_reader.specs.declared.reading.Reading.{Reading}
 use Rattle.image_reader.specs.Views.{reading_view}
 use Rattle.reading_texts.specs.Text.{IsTextOf}
-use Rattle.povundiri_c.specs.Reports.{IsReportOfWords}
+use Rattle.povundiri_c.specs.Reports.{IsReportOfWords, SayKeys}
 use Rattle.povundiri_c.specs.Status.{status_of_image_fault}
 
 -- words without a reading, for whose header's fault the reader answered another
-pub fault_of : (outer : Result SegmentHead ImageFault) (result : Result Reading ImageFault) (why : ImageFault) (status : ℕ) (P : SegmentHead → Reading → Type 0) (Q : ImageFault → Type 0)
+pub fault_of : {X : Type 0} (outer : Result SegmentHead ImageFault) (result : Result X ImageFault) (why : ImageFault) (status : ℕ) (P : SegmentHead → X → Type 0) (Q : ImageFault → Type 0)
     → MatchResult outer (λ head. MatchResult result (P head) Q) (λ fault. result ≡ Err fault) → result ≡ Err why → status ≡ status_of_image_fault why
     → IfErr outer (λ fault. status ≡ status_of_image_fault fault)
 fault_of (Ok head) result why status P Q held is says = tt
@@ -36,3 +38,19 @@ report_of words (Err fault) result reading text Q same held is of = absurd (subs
 pub in_front : (text bytes old : List ℕ) (count : ℕ) → bytes ≡ text → count ≡ length text → bytes ++ drop count old ≡ text ++ drop (length text) old
 in_front text bytes old count same long =
     ap (λ (front : List ℕ). front ++ drop count old) same ∙ ap (λ (n : ℕ). text ++ drop n old) long
+
+-- where words are answered with how many keys they have, their header is lawful
+pub keys_said : (words : List ℕ) (outer : Result SegmentHead ImageFault) (result : Result Bool ImageFault) (most : ℕ) (more : Bool)
+    → header_of words ≡ outer
+    → MatchResult outer (λ head. MatchResult result (HasMoreKeys words head most) (λ fault. fault ≡ NoMemory)) (λ fault. result ≡ Err fault)
+    → result ≡ Ok more → SayKeys words most more
+keys_said words (Ok head) result most more same held is =
+    (head, same, MatchResult-at_ok (HasMoreKeys words head most) (λ fault. fault ≡ NoMemory) is held)
+keys_said words (Err fault) result most more same held is =
+    absurd (subst (λ (read : Result Bool ImageFault). MatchResult read (λ _. Unit {0}) (λ _. ⊥)) (sym is ∙ held) tt)
+
+-- so nothing is said of a fault of it
+pub no_fault_of : (words : List ℕ) (most : ℕ) (more : Bool) (status : ℕ) → SayKeys words most more
+    → IfErr (header_of words) (λ fault. status ≡ status_of_image_fault fault)
+no_fault_of words most more status (head, lawful, said) =
+    subst (λ (outer : Result SegmentHead ImageFault). IfErr outer (λ fault. status ≡ status_of_image_fault fault)) (sym lawful) tt

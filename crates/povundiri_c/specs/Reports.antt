@@ -1,8 +1,9 @@
 -- The report that C is given.
-use Rattle.std.specs.Prelude.{◌≡◌, ◌<◌, ℕ, List, length, drop, ◌++◌, Ok}
+use Rattle.std.specs.Prelude.{◌≡◌, ◌<◌, Bool, ℕ, List, length, drop, ◌++◌, Ok}
 use Rattle.bucket_ranges.specs.Reading.{Reading, IsReading}
 use Rattle.segment_image.specs.Head.{header_of}
 use Rattle.segment_image.specs.declared.head.SegmentHead.{SegmentHead}
+use Rattle.image_reader.specs.Keys.{HasMoreKeys}
 use Rattle.reading_texts.specs.Text.{IsTextOf}
 
 -- the text is the report of what the words read as
@@ -20,3 +21,7 @@ IsReportWritten words old new needed = (text : List ℕ) × IsReportOfWords word
 -- the array has no room for the report of the words, which has so many bytes
 abbrev pub IsReportTooLong : List ℕ → List ℕ → ℕ → Type 0
 IsReportTooLong words old needed = (text : List ℕ) × IsReportOfWords words text × (needed ≡ length text) × (length old < length text)
+
+-- the header of the words is lawful, and they read as more keys than so many, or as no more
+abbrev pub SayKeys : List ℕ → ℕ → Bool → Type 0
+SayKeys words most more = (head : SegmentHead) × (header_of words ≡ Ok head) × HasMoreKeys words head most more

@@ -49,6 +49,9 @@ pub(crate) const ELSEWHERE: u32 = 14;
 /// Another thread joins a recorder of the same segment at this moment.
 pub(crate) const BUSY: u32 = 15;
 
+/// The image reads as more keys than the caller wants.
+pub(crate) const TOO_MANY_KEYS: u32 = 16;
+
 /// Why a call is refused: its status, and the length that goes with it: what is needed where it is `SHORT`, and 0 or what was done
 /// else.
 #[derive(Clone, Copy)]

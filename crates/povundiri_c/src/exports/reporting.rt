@@ -1,12 +1,12 @@
 //! The report of an image.
 
-ghost use Rattle.std.specs.Prelude.{◌≡◌, ◌≢◌, IfErr};
+ghost use Rattle.std.specs.Prelude.{◌≡◌, ◌≢◌, ◌⊎◌, true, false, IfErr};
 ghost use Rattle.segment_image.specs.Head.{header_of};
-ghost use Rattle.povundiri_c.specs.Reports.{IsReportTooLong, IsReportWritten};
+ghost use Rattle.povundiri_c.specs.Reports.{IsReportTooLong, IsReportWritten, SayKeys};
 ghost use Rattle.povundiri_c.specs.Status.{status_of_image_fault};
 
-use crate::status::{DONE, NO_MEMORY, SHORT, of_image_fault};
-use image_reader::read;
+use crate::status::{DONE, NO_MEMORY, SHORT, TOO_MANY_KEYS, of_image_fault};
+use image_reader::{has_more_keys, read};
 use reading_texts::text_of;
 use std::alloc::Global;
 
@@ -21,6 +21,46 @@ pub extern "C" fn povundiri_proved_report(
     ensures fault { IfErr (header_of words.now) (λ fault. result ≡ status_of_image_fault fault) }
     ensures done { result ≡ 0 → IsReportWritten words.now text.old text.new needed.new }
     ensures short { result ≡ 7 → IsReportTooLong words.now text.old needed.new }
+    ensures untouched { result ≢ 0 → text.new ≡ text.old }
+    ensures alone { result ≢ 0 → result ≢ 7 → needed.new ≡ needed.old }
+{
+    write_report(alloc, words, text, needed)
+}
+
+/// The same, of an image that reads as no more keys than `most_keys`: buckets of its histograms, and values of the sparse ones.
+/// Another is refused before anything is read of its counts.
+#[unsafe(no_mangle)]
+pub extern "C" fn povundiri_proved_report_bounded(
+    alloc: Global,
+    words: &[u64],
+    text: &mut [u8],
+    needed: &mut usize,
+    most_keys: u64,
+) -> u32
+    ensures fault { IfErr (header_of words.now) (λ fault. result ≡ status_of_image_fault fault) }
+    ensures done { result ≡ 0 → IsReportWritten words.now text.old text.new needed.new }
+    ensures short { result ≡ 7 → IsReportTooLong words.now text.old needed.new }
+    ensures many { result ≡ 16 → SayKeys words.now most_keys true }
+    ensures few { (result ≡ 0) ⊎ (result ≡ 7) → SayKeys words.now most_keys false }
+    ensures untouched { result ≢ 0 → text.new ≡ text.old }
+    ensures alone { result ≢ 0 → result ≢ 7 → needed.new ≡ needed.old }
+{
+    let more = match has_more_keys(alloc, words, most_keys) {
+        Ok(more) => more,
+        Err(fault) => return of_image_fault(fault),
+    };
+    if more {
+        return TOO_MANY_KEYS;
+    }
+    write_report(alloc, words, text, needed)
+}
+
+// Writes the report of an image, where there is room for it.
+fn write_report(alloc: Global, words: &[u64], text: &mut [u8], needed: &mut usize) -> u32
+    ensures fault { IfErr (header_of words.now) (λ fault. result ≡ status_of_image_fault fault) }
+    ensures done { result ≡ 0 → IsReportWritten words.now text.old text.new needed.new }
+    ensures short { result ≡ 7 → IsReportTooLong words.now text.old needed.new }
+    ensures others { result ≢ 16 }
     ensures untouched { result ≢ 0 → text.new ≡ text.old }
     ensures alone { result ≢ 0 → result ≢ 7 → needed.new ≡ needed.old }
 {

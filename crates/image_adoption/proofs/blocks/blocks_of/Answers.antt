@@ -5,8 +5,8 @@ use Rattle.segment_image.specs.Blocks.{is_block}
 use Rattle.image_adoption.proofs.NamedBlocks.{more_blocks}
 use Rattle.image_adoption.proofs.blocks.blocks_of.Goals as goal
 
-pub named_counts-requires-clause-faultless : goal.named_counts-requires-clause-faultless
-named_counts-requires-clause-faultless c = c.requires.faultless c.loop-reference.reference-index 0 c.loop-reference-test.true
+pub named_counts-requires-clause-names : goal.named_counts-requires-clause-names
+named_counts-requires-clause-names c = c.requires.named c.loop-reference.reference-index 0 c.loop-reference-test.true
 
 pub loop-reference-preserved : goal.loop-reference-preserved
 loop-reference-preserved c =

@@ -12,12 +12,12 @@ pub count_nothing-requires : goal.count_nothing-requires
 count_nothing-requires c =
     let words = c.args.words.now in
     let head = c.args.head.now in
-    let references : List ℕ = c.args.list.now.references.items in
-    let lawful = c.requires.listed.walk.lawful in
+    let references : List ℕ = c.args.survey.now.references.items in
+    let lawful = c.requires.survey.listed.walk.lawful in
     let faultless = faultless_of words head references lawful c.requires.good in
     let told : List ℕ = later_samples words head (take (length references) references) in
     let same : told ≡ c.deref.result.now =
-    ap (later_samples words head) (take_all (length references) references (omega arith)) ∙ (sym c.requires.later ∙ sym c.deref.ensures.value) in
+    ap (later_samples words head) (take_all (length references) references (omega arith)) ∙ (sym c.requires.survey.later_are ∙ sym c.deref.ensures.value) in
     subst (All (λ at. at + 8 ≤ length words)) same
     (all_told words head references c.requires.good (λ at. at + 8 ≤ length words) (length references) (omega arith)
     (λ k below three later. sample_room words head _ c.requires.header (lawful k below) ((faultless k 0 below).sample three)))
@@ -26,14 +26,14 @@ pub returns : goal.returns
 returns c =
     let words = c.args.words.now in
     let head = c.args.head.now in
-    let references : List ℕ = c.args.list.now.references.items in
+    let references : List ℕ = c.args.survey.now.references.items in
     let told : List ℕ = later_samples words head (take (length references) references) in
     let same : c.deref.result.now ≡ told =
-    c.deref.ensures.value ∙ (c.requires.later ∙ ap (later_samples words head) (sym (take_all (length references) references (omega arith)))) in
+    c.deref.ensures.value ∙ (c.requires.survey.later_are ∙ ap (later_samples words head) (sym (take_all (length references) references (omega arith)))) in
     Decides-like c.count_nothing.result
     (λ all. later_empty words references
     (told_each words head references c.requires.good (CountsNothing words) (length references) (omega arith) (subst (All (CountsNothing words)) same all)))
     (λ empty. subst (All (CountsNothing words)) (sym same)
     (all_told words head references c.requires.good (CountsNothing words) (length references) (omega arith)
-    (later_nothing words references c.requires.listed.walk.distinct empty)))
+    (later_nothing words references c.requires.survey.listed.walk.distinct empty)))
     c.count_nothing.ensures

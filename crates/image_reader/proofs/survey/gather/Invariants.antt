@@ -1,6 +1,6 @@
 use Rattle.std.proofs.Common.{take}
 use Rattle.image_reader.specs.Gathering.{IsGathered, IsReady}
-use Rattle.image_reader.proofs.reader.gather.Given as goal
+use Rattle.image_reader.proofs.survey.gather.Given as goal
 
 -- the records so far are gathered
 abbrev pub invariant-loop-reference : goal.invariant-loop-reference

@@ -8,7 +8,7 @@ use Rattle.bucket_ranges.specs.Reading.{next_of}
 use Rattle.bucket_ranges.proofs.Walks.{IsWalk-none, IsWalk-push, IsListed-from_fault, IsListed-from_end}
 use Rattle.image_reader.proofs.Headers.{IsBlockHead-from_block, block_extent, stop_of-bad_block, stop_of-loop, stop_of-end}
 use Rattle.image_reader.proofs.Marks.{before-last, unmet-set, marks-push, unmarked_at, read_mark}
-use Rattle.image_reader.proofs.walk.walk.Goals as goal
+use Rattle.image_reader.proofs.walk.list_of.Goals as goal
 
 pub loop-next-init : goal.loop-next-init
 loop-next-init c =

@@ -6,7 +6,7 @@ use Rattle.segment_image.specs.declared.fault.ImageFault.TheVariants.{NoMemory}
 use Rattle.image_reader.specs.declared.reading.Reading.{Reading}
 use Rattle.image_reader.specs.Views.{reading_view}
 use Rattle.povundiri_c.proofs.Reporting.{fault_of, in_front, report_of}
-use Rattle.povundiri_c.proofs.exports.reporting.povundiri_proved_report.Goals as goal
+use Rattle.povundiri_c.proofs.exports.reporting.write_report.Goals as goal
 
 pub returns-in-Err-clause-fault : goal.returns-in-Err-clause-fault
 returns-in-Err-clause-fault c =

@@ -3,7 +3,7 @@ use Rattle.std.specs.Prelude.{◌==◌}
 use Rattle.std.specs.List.{list_any}
 use Rattle.bucket_ranges.specs.Reading.{IsWalk, next_of, before}
 use Rattle.image_reader.proofs.Marks.{unmet}
-use Rattle.image_reader.proofs.walk.walk.Given as goal
+use Rattle.image_reader.proofs.walk.list_of.Given as goal
 
 -- What was met is a walk of distinct blocks, the next reference follows from it, and each word's mark says
 -- whether it was met.

@@ -2,7 +2,7 @@
 use Rattle.std.proofs.Common.{ℕ, List, take, sym, subst}
 use Rattle.std.proofs.lemmas.List.{take_more}
 use Rattle.image_reader.specs.Gathering.{IsGathered}
-use Rattle.image_reader.proofs.reader.gather.Goals as goal
+use Rattle.image_reader.proofs.survey.gather.Goals as goal
 
 pub loop-reference-preserved : goal.loop-reference-preserved
 loop-reference-preserved c =

@@ -1,0 +1,25 @@
+-- What is found of the words of an image of version 2 with a lawful header.
+use Rattle.std.specs.Prelude.{ℕ, List, ⊤}
+use Rattle.segment_image.specs.declared.head.SegmentHead.{SegmentHead}
+use Rattle.bucket_ranges.specs.Reading.{IsListed, reading_along}
+use Rattle.segment_promises.specs.Adoption.{IsUndamaged}
+use Rattle.image_reader.specs.declared.survey.Survey.{Survey}
+use Rattle.image_reader.specs.Survey.{IsSurvey}
+use Rattle.image_adoption.specs.declared.fault.AdoptFault.{AdoptFault}
+use Rattle.image_adoption.specs.declared.fault.AdoptFault.TheVariants.{Image, OldVersion, Corrupt, Damaged, NoUnits, BadCursors, NoMemory}
+
+-- they are not damaged, and this is what their list has
+pub record IsUndamagedSurvey (words : List ℕ) (head : SegmentHead) (survey : Survey) : Type 0 where
+  pub survey_is : IsSurvey words head survey
+  pub undamaged : IsUndamaged words survey.references.items (reading_along words head survey.references.items)
+
+-- they are damaged, or there was no memory to look further
+abbrev pub IsDamageOf : List ℕ → SegmentHead → AdoptFault → Type 0
+IsDamageOf words head (Image fault) = ⊥
+IsDamageOf words head OldVersion = ⊥
+IsDamageOf words head Corrupt = ⊥
+IsDamageOf words head Damaged =
+    (references : List ℕ) × IsListed words head references × (¬ (IsUndamaged words references (reading_along words head references)))
+IsDamageOf words head NoUnits = ⊥
+IsDamageOf words head BadCursors = ⊥
+IsDamageOf words head NoMemory = ⊤

@@ -1,0 +1,131 @@
+"""Images that are made to cost much: each is adopted, or refused, in at most ten times its bytes, and refused a bounded report in as much, by a
+C program that counts what the library has from its heap. And `report`, which costs as much as it says, under a limit of memory, as README.md has it.
+"""
+
+import array
+import pathlib
+import resource
+import subprocess
+import tempfile
+
+from parts.explained import both
+from parts.largest import BLOCK_COOKIE, FIRST, HISTOGRAM, PAGE, PURGED, QUEUE, SAMPLE, SEGMENT_COOKIE, SIZE, SPARSE
+from support import native
+from support.program import answer, difference, fault
+
+PROGRAM = "persist_report"
+VERSION = 2
+LINEAR = 1
+COUNTS = 2
+BUCKETS = 1000
+COUNTS_WORDS = 4 + 2 * BUCKETS
+RECORD_WORDS = 16
+# A record that overlaps the next one: its fields from the tenth on are that one's first.
+OVERLAPPING_WORDS = 10
+MOST_TIMES = 10
+MOST_SECONDS = 30
+# Where a command is limited: 400 MiB, of which a program that runs takes a few.
+MOST_KILOBYTES = 400 * 1024
+SCRIPT = f"segment,{SIZE},{PAGE},7\n".encode()
+
+
+def image_of(listed, others=()):
+    """The bytes of an image of version 2 whose list has these blocks, each its reference, size, type and payload, and which has others."""
+    words = array.array("Q", bytes(8 * SIZE))
+    words[0:9] = array.array("Q", [SEGMENT_COOKIE, VERSION, SIZE, PAGE, 7, 1, 0, SIZE, listed[-1][0]])
+    words[12:15] = array.array("Q", [4, 1, PURGED])
+    words[QUEUE + 3] = listed[0][0]
+    following = [at for at, *_ in listed[1:]] + [QUEUE]
+    placed = [*zip(listed, following), *((block, 0) for block in others)]
+    for (at, size, tag, payload), after in placed:
+        words[at : at + 4 + len(payload)] = array.array("Q", [size, BLOCK_COOKIE, tag, after, *payload])
+    return words.tobytes()
+
+
+def linear(at, counts, name, size=RECORD_WORDS):
+    """A linear histogram of 1,000 buckets that nobody counted in, with a name of eight bytes."""
+    return at, size, HISTOGRAM, [LINEAR, 65, 65 + BUCKETS, BUCKETS, counts, 0, 0, 0, 0, 0, len(name), int.from_bytes(name, "little")]
+
+
+def names(references):
+    return [f"h{number:07x}".encode() for number in range(len(references))]
+
+
+def unused():
+    """As many histograms as fit, none of which has a block of counts: 65,535."""
+    references = range(FIRST, SIZE, RECORD_WORDS)
+    return image_of([linear(at, 0, name) for at, name in zip(references, names(references))])
+
+
+def one_block():
+    """As many histograms as fit, all of which name one block of counts."""
+    references = range(PAGE, SIZE, RECORD_WORDS)
+    counts = (FIRST, COUNTS_WORDS, COUNTS, [])
+    return image_of([linear(at, FIRST, name) for at, name in zip(references, names(references))], [counts])
+
+
+def overlapping():
+    """More than 98,000 records, each of which shares six words with the next one, and all of which name one block of counts."""
+    references = [at for page in range(PAGE, SIZE, PAGE) for at in range(page, page + PAGE - RECORD_WORDS, OVERLAPPING_WORDS)]
+    counts = (FIRST, COUNTS_WORDS, COUNTS, [])
+    assert len(references) > 98_000
+    return image_of([linear(at, FIRST, b"A") for at in references], [counts])
+
+
+def values():
+    """A sparse histogram and as many samples as fit, each of a value of its own."""
+    references = range(FIRST + RECORD_WORDS, SIZE, 8)
+    record = (FIRST, RECORD_WORDS, HISTOGRAM, [SPARSE, 0, 0, 0, 0, 0, 0, 0, 0, 0, 1, ord("S")])
+    return image_of([record, *((at, 8, SAMPLE, [FIRST, number, 1, 0]) for number, at in enumerate(references))])
+
+
+# Each image, and what is answered when it is adopted.
+IMAGES = ((unused, "Done"), (one_block, "Damaged"), (overlapping, "Damaged"), (values, "Done"))
+
+
+def within(program, path, wanted):
+    """What is wrong with what the calls of the C program answer and take of an image, or None."""
+    try:
+        done = subprocess.run([program, path], capture_output=True, text=True, timeout=MOST_SECONDS)
+    except subprocess.TimeoutExpired:
+        return f"no end within {MOST_SECONDS} seconds"
+    if done.returncode != 0:
+        return f"status {done.returncode}"
+    came = [line.split() for line in done.stdout.splitlines()]
+    if [status for status, _ in came] != wanted:
+        return f"wanted {wanted}, came {came}"
+    allowed = MOST_TIMES * path.stat().st_size
+    taken = max(int(most) for _, most in came)
+    return None if taken <= allowed else f"wanted at most {allowed:,} bytes of memory, came {taken:,}"
+
+
+def calls(program, folder):
+    for make, wanted in IMAGES:
+        path = folder / f"{make.__name__}.img"
+        path.write_bytes(make())
+        yield f"{make.__name__} is adopted, and its keys are counted", within(program, path, [wanted, "TooManyKeys"])
+        path.unlink()
+
+
+def limited(kilobytes):
+    """The setting under which a program has so many kilobytes of addresses, as with `ulimit -v`."""
+    return {"preexec_fn": lambda: resource.setrlimit(resource.RLIMIT_AS, (1024 * kilobytes, 1024 * kilobytes))}
+
+
+def commands(program, folder):
+    """Commands of the program under a limit of memory."""
+    base, script, out = (folder / name for name in ("base.img", "script.csv", "out.img"))
+    script.write_bytes(SCRIPT)
+    base.write_bytes(unused())
+    line = f'ulimit -v {MOST_KILOBYTES}; exec "$0" report "$1"'
+    yield "report under `ulimit -v`", difference(fault("NoMemory", 5), answer("sh", ["-c", line, program, base]))
+    base.write_bytes(one_block())
+    said = f'"{base}", all records are read; other words are none that a segment can have'
+    wrong = both(program, ["resume", base, script, out], "Damaged", 3, [said], **limited(MOST_KILOBYTES))
+    yield "resume of an image whose blocks overlap", wrong or (None if not out.exists() else "OUT was written")
+
+
+def cases(program, _options):
+    yield from native.cases_of("adopt_within.c", calls)
+    with tempfile.TemporaryDirectory() as scratch:
+        yield from commands(program, pathlib.Path(scratch))

@@ -1,12 +1,6 @@
 /* Who has a file, and what signals and limits do to its opening: file_locks FOLDER
  *
- * It is compiled with povundiri_file.c, of which some calls to the system come here (-Dflock=test_flock and so on). */
-#undef flock
-#undef pread
-#undef open
-#undef posix_fallocate
-#undef ftruncate
-
+ * It is linked with a povundiri_file.c of which some calls to the system come here: -Dflock=test_flock and so on. */
 #include "files.h"
 
 #include <sys/mount.h>
@@ -252,16 +246,14 @@ static void full_device(void) {
     HOLDS(povundiri_file_open(&file, path_of("new"), 8224, NULL) == 0);
     povundiri_file_close(&file);
     folder = before;
+    HOLDS(umount(path_of("small")) == 0);
 }
 
 static int full_device_where_it_can_be_mounted(void) {
-    int failed;
     if (mkdir(path_of("small"), 0700) != 0 || mount("none", path_of("small"), "tmpfs", 0, "size=64k") != 0) {
         return left_out("full_device", "no small device can be mounted here");
     }
-    failed = group("full_device", full_device);
-    HOLDS(umount(path_of("small")) == 0);
-    return failed;
+    return group("full_device", full_device);
 }
 
 int main(int count, char **words) {

@@ -60,6 +60,7 @@ static const struct named NAMES[] = {
     {POVUNDIRI_NO_MEMORY, "NoMemory"},
     {POVUNDIRI_ELSEWHERE, "Elsewhere"},
     {POVUNDIRI_BUSY, "Busy"},
+    {POVUNDIRI_SYSTEM, "System"},
     {POVUNDIRI_REFUSED_BAD_NAME, "BadName"},
     {POVUNDIRI_REFUSED_BAD_SPEC, "BadSpec"},
     {POVUNDIRI_REFUSED_ZERO_COUNT, "ZeroCount"},

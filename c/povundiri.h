@@ -137,6 +137,7 @@ enum povundiri_status {
     POVUNDIRI_NO_MEMORY = 13,    /* there was no memory for a handle, a name, or a text */
     POVUNDIRI_ELSEWHERE = 14,    /* the recorder's own segment has met it, as another thread joined one there: its handle is empty */
     POVUNDIRI_BUSY = 15,         /* another thread joins a recorder of the same segment at this moment: nothing has happened, try again */
+    POVUNDIRI_SYSTEM = 16,       /* of povundiri_file.h: the system's fault, whose number (errno.h) stands beside it */
 
     /* Why a call is refused. */
     POVUNDIRI_REFUSED_BAD_NAME = 101,

@@ -1,22 +1,23 @@
 // Povundiri for C++17 and later: segments and recorders that end by themselves, over povundiri.h and povundiri_file.h.
 //
-//     povundiri::Opened opened = povundiri::Segment::open("latency.seg", povundiri::shape(65'536, 4096), povundiri::Policy::AdoptOrSetAside);
-//     povundiri::Recorder recorder = opened.segment.recorder();       // one for each thread; it joins itself where it ends
-//     const povundiri::Hist latency = recorder.linear("latency", 1, 1000, 50);
+//     using namespace povundiri;
+//     Opened opened = Segment::open("latency.seg", shape(65'536, 4096), Policy::AdoptOrSetAside);
+//     Recorder recorder = opened.segment.recorder();       // one for each thread; it joins itself where it ends
+//     const Hist latency = recorder.linear("latency", 1, 1000, 50);
 //     if (!recorder.add(latency, 17)) ++missed;
 //
-// CALLS. 'add' and 'batch' say whether they counted; they throw nothing and end no process. 'try_' calls return a Status. All others throw a
-// Fault where the status is not Done, by povundiri::raise: the library has one that throws. Where a program is built without exceptions,
+// CALLS. 'add' and 'batch' say whether they counted; they throw nothing and end no process. 'try_' calls return a Status. All others throw
+// a Fault where the status is not Done, by povundiri::raise: the library has one that throws. Where a program is built without exceptions,
 // povundiri_raise.cpp is compiled into it in the same way, and ends the process in place of throwing. Files with and without exceptions may
 // be in one program: nothing here depends on it. Beside that, what fills a vector or a string may throw std::bad_alloc.
 //
 // THREADS. A recorder is used by one thread at a time, and goes to another in order. A segment is shared: its calls come from any threads,
-// as long as none moves, assigns or ends that object meanwhile. 'recorder', 'join', 'lend', 'units', 'outstanding' and 'close' take its mutex; so
-// does an 'add' that has to borrow units, once for some hundred thousand, and a recorder's end. Nothing else waits.
+// as long as none moves, assigns or ends that object meanwhile. 'recorder', 'join', 'lend', 'units', 'outstanding' and 'close' take its
+// mutex; so does an 'add' that has to borrow units, once for some hundred thousand, and a recorder's end. Nothing else waits.
 //
-// ENDS. The words of a segment, and the file where they lie in one, live until the Segment and all its recorders have ended, in any order: also of
-// statics and of thread_locals. A recorder that ends gives back its place and its units. std::quick_exit, _exit and a kill end
-// no recorder: what was counted stands in the file, and the next process has the other units again.
+// ENDS. The words of a segment, and the file where they lie in one, live until the Segment and all its recorders have ended, in any order:
+// also of statics and of thread_locals. A recorder that ends gives back its place and its units. std::quick_exit, _exit and a kill end no
+// recorder: what was counted stands in the file, and the next process has the other units again.
 //
 // FORKS. A child of fork has no part in the segments and recorders of its parent: their calls return Forked there, 'add' false, and where
 // they end, nothing is touched, locked or freed. So open behind daemon(3), and in each process of a server that forks its workers.
@@ -45,6 +46,7 @@
 
 #include "povundiri.h"
 #include "povundiri_file.h"
+#include "povundiri_status.hpp"
 
 namespace povundiri {
 
@@ -59,110 +61,6 @@ constexpr Shape shape(std::uint64_t size, std::uint64_t page, std::uint64_t id =
                       std::uint64_t version = kFrozenVersion) noexcept {
     return {size, page, id, cursors, version};
 }
-
-// ---- Statuses ----
-
-// What a call did, or why it did nothing: the statuses of povundiri.h, which says what each means.
-enum class Status : std::uint32_t {
-    Done = POVUNDIRI_DONE,
-    Null = POVUNDIRI_NULL,
-    BadRoom = POVUNDIRI_BAD_ROOM,
-    Empty = POVUNDIRI_EMPTY,
-    NotEmpty = POVUNDIRI_NOT_EMPTY,
-    OtherKind = POVUNDIRI_OTHER_KIND,
-    OtherSegment = POVUNDIRI_OTHER_SEGMENT,
-    Short = POVUNDIRI_SHORT,
-    Unknown = POVUNDIRI_UNKNOWN,  // the histogram is of another recorder, or of none
-    NoCursor = POVUNDIRI_NO_CURSOR,
-    BadKind = POVUNDIRI_BAD_KIND,
-    InUse = POVUNDIRI_IN_USE,
-    ListEnds = POVUNDIRI_LIST_ENDS,
-    NoMemory = POVUNDIRI_NO_MEMORY,
-    Elsewhere = POVUNDIRI_ELSEWHERE,
-    Busy = POVUNDIRI_BUSY,
-    Forked = 99,  // of these classes alone: the segment or recorder is of a process from which this one was forked
-
-    RefusedBadName = POVUNDIRI_REFUSED_BAD_NAME,
-    RefusedBadSpec = POVUNDIRI_REFUSED_BAD_SPEC,
-    RefusedZeroCount = POVUNDIRI_REFUSED_ZERO_COUNT,
-    RefusedNoUnits = POVUNDIRI_REFUSED_NO_UNITS,
-    RefusedTooMany = POVUNDIRI_REFUSED_TOO_MANY,
-    RefusedNoMemory = POVUNDIRI_REFUSED_NO_MEMORY,
-    RefusedTooLarge = POVUNDIRI_REFUSED_TOO_LARGE,
-    RefusedCorrupt = POVUNDIRI_REFUSED_CORRUPT,
-    RefusedFull = POVUNDIRI_REFUSED_FULL,
-    RefusedOtherSpec = POVUNDIRI_REFUSED_OTHER_SPEC,
-
-    OpenBadShape = POVUNDIRI_OPEN_BAD_SHAPE,
-    OpenBadCursors = POVUNDIRI_OPEN_BAD_CURSORS,
-    OpenNoMemory = POVUNDIRI_OPEN_NO_MEMORY,
-
-    AdoptBadImage = POVUNDIRI_ADOPT_BAD_IMAGE,
-    AdoptOldVersion = POVUNDIRI_ADOPT_OLD_VERSION,
-    AdoptCorrupt = POVUNDIRI_ADOPT_CORRUPT,
-    AdoptDamaged = POVUNDIRI_ADOPT_DAMAGED,
-    AdoptNoUnits = POVUNDIRI_ADOPT_NO_UNITS,
-    AdoptBadCursors = POVUNDIRI_ADOPT_BAD_CURSORS,
-    AdoptNoMemory = POVUNDIRI_ADOPT_NO_MEMORY,
-
-    SpecBadMin = POVUNDIRI_SPEC_BAD_MIN,
-    SpecBadMax = POVUNDIRI_SPEC_BAD_MAX,
-    SpecTooFew = POVUNDIRI_SPEC_TOO_FEW,
-    SpecTooMany = POVUNDIRI_SPEC_TOO_MANY,
-    SpecBadRange = POVUNDIRI_SPEC_BAD_RANGE,
-    SpecEmpty = POVUNDIRI_SPEC_EMPTY,
-
-    ImageTooShort = POVUNDIRI_IMAGE_TOO_SHORT,
-    ImageBadCookie = POVUNDIRI_IMAGE_BAD_COOKIE,
-    ImageBadVersion = POVUNDIRI_IMAGE_BAD_VERSION,
-    ImageBadPage = POVUNDIRI_IMAGE_BAD_PAGE,
-    ImageBadSize = POVUNDIRI_IMAGE_BAD_SIZE,
-    ImageNotReady = POVUNDIRI_IMAGE_NOT_READY,
-    ImageDeleted = POVUNDIRI_IMAGE_DELETED,
-    ImageBadFree = POVUNDIRI_IMAGE_BAD_FREE,
-    ImageBadQueue = POVUNDIRI_IMAGE_BAD_QUEUE,
-    ImageNoMemory = POVUNDIRI_IMAGE_NO_MEMORY
-};
-
-// The name of a status, which no other has; of any number. 'persist_report explain' knows most.
-inline const char* text(Status status) noexcept {
-    return status == Status::Forked ? "Forked" : povundiri_status_text(static_cast<std::uint32_t>(status));
-}
-
-// The category of statuses as error codes.
-class Category final : public std::error_category {
-public:
-    const char* name() const noexcept override { return "povundiri"; }
-    std::string message(int status) const override { return text(static_cast<Status>(status)); }
-};
-
-inline const std::error_category& category() noexcept {
-    // Never destroyed: threads may ask for it behind the end of main.
-    alignas(Category) static unsigned char place[sizeof(Category)];
-    static const Category* const made = ::new (place) Category;
-    return *made;
-}
-
-inline std::error_code make_error_code(Status status) noexcept { return {static_cast<int>(status), category()}; }
-
-}  // namespace povundiri
-
-template <>
-struct std::is_error_code_enum<povundiri::Status> : std::true_type {};
-
-namespace povundiri {
-
-// A call that was not done. 'what' names the call, what was asked, and the status: 'hist "latency": OtherSpec'.
-class Fault : public std::system_error {
-public:
-    Fault(Status status, const std::string& asked) : std::system_error(make_error_code(status), asked) {}
-
-    Status status() const noexcept { return static_cast<Status>(code().value()); }
-};
-
-// Ends a call that throws, with its fault and what was asked. That of the library throws a Fault, or a std::system_error for a fault of the system;
-// where povundiri_raise.cpp is compiled without exceptions, it says so on the error stream and calls std::abort.
-[[noreturn]] void raise(std::error_code fault, const std::string& asked);
 
 // ---- What calls are given, and fill ----
 
@@ -235,8 +133,8 @@ private:
     std::uint64_t tag_ = 0;
 };
 
-// What a delta or a snapshot fills: keys with their units, ascending; the sum; and of a snapshot the units, counted once more. It keeps its room,
-// so whoever fills one again and again asks for memory once.
+// What a delta or a snapshot fills: keys with their units, ascending; the sum; and of a snapshot the units, counted once more. It keeps its
+// room, so whoever fills one again and again asks for memory once.
 class Counts {
 public:
     Counts() noexcept = default;
@@ -368,14 +266,16 @@ private:
 
 }  // namespace detail
 
-// So many units a recorder borrows at once, where nothing else is asked: for some milliseconds of adds, and 256 recorders have a sixteenth of all.
+// So many units a recorder borrows at once, where nothing else is asked: for some milliseconds of adds, and 256 recorders have a sixteenth
+// of all.
 inline constexpr std::uint32_t kUsualLease = 1U << 20U;
 
 // ---- Recorders ----
 
-// What one thread records with. It borrows units from its segment as it needs them, so an 'add' goes on until the segment itself has no units: at
-// RefusedNoUnits it takes the greater of what the call needs and its lease (or half of what is left, where that is less), and all that is left
-// where that is less still. Where it ends, or is assigned to, it joins its segment: its place and its units are there for others.
+// What one thread records with. It borrows units from its segment as it needs them, so an 'add' goes on until the segment itself has no
+// units: at RefusedNoUnits it takes the greater of what the call needs and its lease (or half of what is left, where that is less), and all
+// that is left where that is less still. Where it ends, or is assigned to, it joins its segment: its place and its units are there for
+// others.
 class Recorder {
 public:
     Recorder() noexcept = default;
@@ -409,8 +309,8 @@ public:
         raise(status, std::string("add of ").append(std::to_string(count)).append(" at ").append(std::to_string(value.get())));
     }
 
-    // Adds units of values, in order, and then an amount to the sum (povundiri_batch). False where not all was counted: of the items then those
-    // before the first that found no room, as many as 'try_batch' puts into 'added', and nothing of the sum.
+    // Adds units of values, in order, and then an amount to the sum (povundiri_batch). False where not all was counted: of the items then
+    // those before the first that found no room, as many as 'try_batch' puts into 'added', and nothing of the sum.
     bool batch(Hist hist, Span<const Item> items, std::int64_t sum) noexcept {
         std::size_t added = 0;
         return try_batch(hist, items, sum, added) == Status::Done;
@@ -434,8 +334,8 @@ public:
         const Status usable = state_.usable();
         if (usable != Status::Done) return usable;
         std::size_t number = 0;
-        const auto status = static_cast<Status>(
-            povundiri_hist(&handle_, name.data(), name.size(), spec, values.data(), values.size(), &number));
+        const auto status =
+            static_cast<Status>(povundiri_hist(&handle_, name.data(), name.size(), spec, values.data(), values.size(), &number));
         if (status != Status::Done) return status;
         hist.number_ = number;
         hist.tag_ = tag_;
@@ -550,9 +450,8 @@ private:
 
     Status counted(Counting call, Hist hist, Counts& counts) noexcept {
         if (!is_own(hist)) return why_not();
-        return counts.filled([&](Count* data, std::size_t size, povundiri_totals* totals) {
-            return call(&handle_, hist.number_, data, size, totals);
-        });
+        return counts.filled(
+            [&](Count* data, std::size_t size, povundiri_totals* totals) { return call(&handle_, hist.number_, data, size, totals); });
     }
 
     // The units that a batch takes: those of its items, and no fewer than the size of the sum divided by 2^31, rounded up.
@@ -607,12 +506,7 @@ enum class Policy {
     AdoptOrBeginAnew = POVUNDIRI_ADOPT_OR_BEGIN_ANEW
 };
 
-enum class Outcome {
-    Nothing = POVUNDIRI_NOTHING,
-    Made = POVUNDIRI_MADE,
-    Adopted = POVUNDIRI_ADOPTED,
-    MadeAnew = POVUNDIRI_MADE_ANEW
-};
+enum class Outcome { Nothing = POVUNDIRI_NOTHING, Made = POVUNDIRI_MADE, Adopted = POVUNDIRI_ADOPTED, MadeAnew = POVUNDIRI_MADE_ANEW };
 
 struct Opened;
 
@@ -673,8 +567,8 @@ public:
     std::uint64_t id() const noexcept { return shape().id; }
     std::uint64_t version() const noexcept { return shape().version; }
 
-    // A recorder, which borrows so many units at a time. It begins with as many, or half of what is left where that is less. RefusedTooMany where
-    // there are 256. 'recorder' is empty: NotEmpty else.
+    // A recorder, which borrows so many units at a time. It begins with as many, or half of what is left where that is less. RefusedTooMany
+    // where there are 256. 'recorder' is empty: NotEmpty else.
     Recorder recorder(std::uint32_t lease = kUsualLease) {
         Recorder recorder;
         detail::need(try_recorder(recorder, lease), "recorder");
@@ -781,8 +675,8 @@ inline std::error_code Segment::try_open(const char* path, const Shape& shape, P
     if ((options.flags & POVUNDIRI_FILE_KEEP_ON_FORK) != 0) return std::make_error_code(std::errc::invalid_argument);
     detail::Shared state = detail::Shared::made();
     if (!state) return Status::NoMemory;
-    const std::uint32_t status = povundiri_open(path, shape, static_cast<povundiri_policy>(policy), &options, &state->file, &state->segment,
-                                                &opened.what);
+    const std::uint32_t status =
+        povundiri_open(path, shape, static_cast<povundiri_policy>(policy), &options, &state->file, &state->segment, &opened.what);
     if (status == POVUNDIRI_SYSTEM) return {opened.what.fault, std::generic_category()};
     if (status != POVUNDIRI_DONE) return static_cast<Status>(status);
     state->shape = opened.what.shape;

@@ -1,10 +1,10 @@
-// How the calls of povundiri.hpp end that throw. The library has this compiled with exceptions; a program without them compiles this file into
-// itself, without them too.
+// How the calls of povundiri.hpp end that throw. The library has this compiled with exceptions; a program without them compiles this file
+// into itself, without them too.
 
 #include <cstdio>
 #include <cstdlib>
 
-#include "povundiri.hpp"
+#include "povundiri_status.hpp"
 
 namespace povundiri {
 

@@ -72,12 +72,17 @@ def exported(installed):
     yield "each function is in the archive", None if declared and declared <= defined else f"missing are {sorted(declared - defined)}"
 
 
-def text_of_statuses():
-    """Each status has a name."""
+def text_of_statuses(program):
+    """Each status has a name that no other has. Where one has two words, `persist_report` explains the last."""
     header, names = ((native.LIBRARY / name).read_text() for name in ("povundiri.h", "povundiri.c"))
-    listed = re.findall(r"^    \{(POVUNDIRI_\w+), \"\w+\"\},$", names, re.MULTILINE)
+    listed = dict(re.findall(r"^    \{(POVUNDIRI_\w+), \"([\w ]+)\"\},$", names, re.MULTILINE))
     statuses = re.findall(r"^    (POVUNDIRI_\w+) = \d+", header.split("enum povundiri_status")[1], re.MULTILINE)
-    yield "each status has a name", None if statuses and statuses == listed else f"they differ: {sorted(set(statuses) ^ set(listed))}"
+    yield "each status has a name", None if statuses and statuses == [*listed] else f"they differ: {sorted(set(statuses) ^ set(listed))}"
+    shared = sorted(name for name in listed.values() if [*listed.values()].count(name) > 1)
+    yield "no two statuses have one name", f"shared are {shared}" if shared else None
+    words = sorted({name.split()[-1] for name in listed.values() if " " in name})
+    unknown = [word for word in words if answer(program, ["explain", word]).status != 0]
+    yield "names of two words are explained", None if words and not unknown else f"not explained are {unknown}"
 
 
 def report_in(program, file):
@@ -164,7 +169,7 @@ def cases(program, options):
             yield "the library", str(why)
             return
         yield from exported(installed)
-        yield from text_of_statuses()
+        yield from text_of_statuses(program)
         for name, flags, works in CHECKS:
             yield from checked(installed, name, flags, folder if works else None)
         for name, test in examples(installed, program, folder):

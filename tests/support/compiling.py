@@ -84,7 +84,7 @@ def mixed(installed, folder):
     yield "files with exceptions and without", None if status == 0 and "failed" not in said else f"status {status}: {said}"
     raising = compiled(folder, native.LIBRARY / "povundiri_raise.cpp", "-fno-exceptions")
     status, said = said_by(installed.program(native.PROGRAMS / "mixed.cpp", plain, raising), "aborts")
-    wanted = (-6, "povundiri: recorder: EmptyHandle\n")
+    wanted = (-6, "povundiri: recorder, lease 1048576: EmptyHandle\n")
     yield "povundiri_raise.cpp without exceptions", None if (status, said) == wanted else f"status {status}: {said}"
 
 

@@ -55,11 +55,11 @@ struct povundiri_mapping {
     int descriptor; /* -1 where there is none */
     dev_t device;   /* with the inode the file that the descriptor was opened for */
     ino_t inode;
-    void *at;       /* null where nothing is mapped */
-    size_t bytes;   /* that are mapped */
-    off_t was;      /* how long the file was before it was opened */
-    bool is_kept;   /* in children of fork */
-    pid_t process;  /* that opened it, or was forked and keeps it */
+    void *at;      /* null where nothing is mapped */
+    size_t bytes;  /* that are mapped */
+    off_t was;     /* how long the file was before it was opened */
+    bool is_kept;  /* in children of fork */
+    pid_t process; /* that opened it, or was forked and keeps it */
 };
 
 /* Held while a descriptor or a mapping comes or goes, and while the process forks: so a child knows each that it has. */

@@ -145,10 +145,10 @@ enum povundiri_policy {
 
 /* What happened. */
 enum povundiri_outcome {
-    POVUNDIRI_NOTHING = 0,   /* the call was refused */
-    POVUNDIRI_MADE = 1,      /* there was no segment: a new one was made, of the shape that was asked for */
-    POVUNDIRI_ADOPTED = 2,   /* the segment that stood in the file goes on, of the shape that it has */
-    POVUNDIRI_MADE_ANEW = 3  /* the file was set aside, and a new segment was made in a new file */
+    POVUNDIRI_NOTHING = 0,  /* the call was refused */
+    POVUNDIRI_MADE = 1,     /* there was no segment: a new one was made, of the shape that was asked for */
+    POVUNDIRI_ADOPTED = 2,  /* the segment that stood in the file goes on, of the shape that it has */
+    POVUNDIRI_MADE_ANEW = 3 /* the file was set aside, and a new segment was made in a new file */
 };
 
 /* The bytes of the longest path, with the zero byte behind. */

@@ -190,7 +190,8 @@ struct povundiri_opened {
  *                      fits. EBUSY also where another process was faster to make the new file.
  *   POVUNDIRI_NULL, POVUNDIRI_NOT_EMPTY (`segment` or `file`), POVUNDIRI_BAD_KIND (no such policy)
  *   POVUNDIRI_OPEN_.., POVUNDIRI_NO_MEMORY   as of povundiri_create_in
- *   POVUNDIRI_ADOPT_.., POVUNDIRI_IMAGE_..   as of povundiri_adopt_in: refused, and not set aside
+ *   POVUNDIRI_ADOPT_.., POVUNDIRI_IMAGE_..   as of povundiri_adopt_in: refused, and not set aside: one file is set aside in a call, and
+ *                                            another process was faster with the next
  * Keep: pointers; handles: `file` and `segment` begin as zeros; process. */
 uint32_t povundiri_open(const char *path, struct povundiri_shape shape, enum povundiri_policy policy,
                         const struct povundiri_file_options *options, struct povundiri_file *file, struct povundiri_handle *segment,

@@ -596,17 +596,11 @@ static void close_as_it_was(struct povundiri_file *file) {
     povundiri_file_close(file);
 }
 
-/* A handle that is empty stays so. */
-static void drop(struct povundiri_handle *handle) {
-    const uint32_t status = povundiri_drop(handle);
-    (void)status;
-}
-
 /* Lets go what was opened, and what was said of it. */
 static void take_back(const struct task *task) {
     const struct povundiri_shape none = {0, 0, 0, 0, 0};
     struct povundiri_opened *opened = task->opened;
-    drop(task->segment);
+    if (task->segment->full) povundiri_drop(task->segment);
     close_as_it_was(task->file);
     opened->outcome = POVUNDIRI_NOTHING;
     opened->shape = none;

@@ -44,6 +44,8 @@ struct named {
     const char *name;
 };
 
+/* Each is unique. Where several statuses have one word that `persist_report explain` knows, the call or the part that it is of stands in
+ * front, as in the lines of that program. */
 static const struct named NAMES[] = {
     {POVUNDIRI_DONE, "Done"},
     {POVUNDIRI_NULL, "Null"},
@@ -61,31 +63,32 @@ static const struct named NAMES[] = {
     {POVUNDIRI_NO_MEMORY, "NoMemory"},
     {POVUNDIRI_ELSEWHERE, "Elsewhere"},
     {POVUNDIRI_BUSY, "Busy"},
+    {POVUNDIRI_SYSTEM, "System"},
     {POVUNDIRI_TOO_MANY_KEYS, "TooManyKeys"},
     {POVUNDIRI_REFUSED_BAD_NAME, "BadName"},
     {POVUNDIRI_REFUSED_BAD_SPEC, "BadSpec"},
     {POVUNDIRI_REFUSED_ZERO_COUNT, "ZeroCount"},
     {POVUNDIRI_REFUSED_NO_UNITS, "NoUnits"},
     {POVUNDIRI_REFUSED_TOO_MANY, "TooMany"},
-    {POVUNDIRI_REFUSED_NO_MEMORY, "NoMemory"},
+    {POVUNDIRI_REFUSED_NO_MEMORY, "Refused NoMemory"},
     {POVUNDIRI_REFUSED_TOO_LARGE, "TooLarge"},
     {POVUNDIRI_REFUSED_CORRUPT, "Corrupt"},
     {POVUNDIRI_REFUSED_FULL, "Full"},
     {POVUNDIRI_REFUSED_OTHER_SPEC, "OtherSpec"},
     {POVUNDIRI_OPEN_BAD_SHAPE, "BadShape"},
-    {POVUNDIRI_OPEN_BAD_CURSORS, "BadCursors"},
-    {POVUNDIRI_OPEN_NO_MEMORY, "NoMemory"},
+    {POVUNDIRI_OPEN_BAD_CURSORS, "Open BadCursors"},
+    {POVUNDIRI_OPEN_NO_MEMORY, "Open NoMemory"},
     {POVUNDIRI_ADOPT_BAD_IMAGE, "Image"},
     {POVUNDIRI_ADOPT_OLD_VERSION, "OldVersion"},
-    {POVUNDIRI_ADOPT_CORRUPT, "Corrupt"},
+    {POVUNDIRI_ADOPT_CORRUPT, "Adopt Corrupt"},
     {POVUNDIRI_ADOPT_DAMAGED, "Damaged"},
-    {POVUNDIRI_ADOPT_NO_UNITS, "NoUnits"},
-    {POVUNDIRI_ADOPT_BAD_CURSORS, "BadCursors"},
-    {POVUNDIRI_ADOPT_NO_MEMORY, "NoMemory"},
+    {POVUNDIRI_ADOPT_NO_UNITS, "Adopt NoUnits"},
+    {POVUNDIRI_ADOPT_BAD_CURSORS, "Adopt BadCursors"},
+    {POVUNDIRI_ADOPT_NO_MEMORY, "Adopt NoMemory"},
     {POVUNDIRI_SPEC_BAD_MIN, "BadMin"},
     {POVUNDIRI_SPEC_BAD_MAX, "BadMax"},
     {POVUNDIRI_SPEC_TOO_FEW, "TooFew"},
-    {POVUNDIRI_SPEC_TOO_MANY, "TooMany"},
+    {POVUNDIRI_SPEC_TOO_MANY, "BadSpec TooMany"},
     {POVUNDIRI_SPEC_BAD_RANGE, "BadRange"},
     {POVUNDIRI_SPEC_EMPTY, "Empty"},
     {POVUNDIRI_IMAGE_TOO_SHORT, "TooShort"},
@@ -97,7 +100,7 @@ static const struct named NAMES[] = {
     {POVUNDIRI_IMAGE_DELETED, "Deleted"},
     {POVUNDIRI_IMAGE_BAD_FREE, "BadFree"},
     {POVUNDIRI_IMAGE_BAD_QUEUE, "BadQueue"},
-    {POVUNDIRI_IMAGE_NO_MEMORY, "NoMemory"},
+    {POVUNDIRI_IMAGE_NO_MEMORY, "Image NoMemory"},
 };
 
 const char *povundiri_status_text(uint32_t status) {

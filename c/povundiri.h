@@ -1,5 +1,7 @@
 /* Povundiri for C99: threads record samples into histograms of one segment, without locks. A segment lies in the heap, or in memory that
  * the caller gives, as a mapped file (povundiri_file.h): what was recorded there stands there also after the process was killed.
+ * The number of a histogram is for the recorder that returned it: given to another one, it is refused as UNKNOWN, or it is the number of
+ * another histogram there, which then counts the sample.
  *
  *     struct povundiri_handle segment = {0}, recorder = {0};
  *     struct povundiri_shape shape = {65536, 4096, 7, 0, 2};
@@ -12,7 +14,8 @@
  *     povundiri_close(&segment, words, length, &needed);                      the image
  *
  * Each call answers a status: POVUNDIRI_DONE, or why nothing was done. A null, an array that is too short, a handle that is closed or of
- * another kind are statuses. No call waits or takes a lock.
+ * another kind are statuses. No call takes a lock or waits for another thread, except where malloc, realloc and free do. Those that have
+ * a NO_MEMORY among their statuses ask for memory, and povundiri_add of a sparse histogram; close, join and drop free what there is.
  *
  * WHAT THE CALLER KEEPS. No call can test this; where it is not kept, anything may happen. Behind each call stands which of these it asks.
  *
@@ -36,7 +39,20 @@
 #include <stdint.h>
 #include <string.h>
 
+/* Of calls that return a status: a compiler that can warns where nobody looks at it. */
+#if defined(__GNUC__)
+#define POVUNDIRI_CHECKED __attribute__((warn_unused_result))
+#else
+#define POVUNDIRI_CHECKED
+#endif
+
 #ifdef __cplusplus
+/* The inline functions are C, with its casts and its NULL. */
+#if defined(__GNUC__)
+#pragma GCC diagnostic push
+#pragma GCC diagnostic ignored "-Wold-style-cast"
+#pragma GCC diagnostic ignored "-Wzero-as-null-pointer-constant"
+#endif
 extern "C" {
 #endif
 
@@ -121,9 +137,8 @@ enum povundiri_status {
     POVUNDIRI_NO_MEMORY = 13,    /* there was no memory for a handle, a name, or a text */
     POVUNDIRI_ELSEWHERE = 14,    /* the recorder's own segment has met it, by a call of another thread there: its handle is empty */
     POVUNDIRI_BUSY = 15,         /* another thread passes a recorder of the same segment at this moment: nothing has happened, try again */
-
-    /* Why an image is not reported: it has more keys than the caller wants. */
-    POVUNDIRI_TOO_MANY_KEYS = 16,
+    POVUNDIRI_SYSTEM = 16,       /* of povundiri_file.h: the system's fault, whose number (errno.h) stands beside it */
+    POVUNDIRI_TOO_MANY_KEYS = 17, /* of an image that is not reported: it has more keys than the caller wants */
 
     /* Why a call is refused. */
     POVUNDIRI_REFUSED_BAD_NAME = 101,
@@ -224,6 +239,7 @@ inline bool povundiri_is_room(struct povundiri_room room) {
 /* A new segment without records, in the heap. It has 4,294,967,295 units: a sample takes as many as it counts.
  * Statuses: NULL, NOT_EMPTY; OPEN_BAD_SHAPE, OPEN_BAD_CURSORS, OPEN_NO_MEMORY; NO_MEMORY.
  * Keep: pointers; handles: `out` begins as zeros; process. */
+POVUNDIRI_CHECKED
 inline uint32_t povundiri_create(struct povundiri_shape shape, struct povundiri_handle *out) {
     return out == NULL ? (uint32_t)POVUNDIRI_NULL : povundiri_proved_create(shape, out);
 }
@@ -232,6 +248,7 @@ inline uint32_t povundiri_create(struct povundiri_shape shape, struct povundiri_
  * of both may stand there.
  * Statuses: NULL, BAD_ROOM, then as above; OPEN_NO_MEMORY also where the room is too small. On any but DONE the room is the caller's still.
  * Keep: room; pointers, `out` does not lie in the room; handles: `out` begins as zeros; process. */
+POVUNDIRI_CHECKED
 inline uint32_t povundiri_create_in(struct povundiri_room room, struct povundiri_shape shape, struct povundiri_handle *out) {
     if (out == NULL) return POVUNDIRI_NULL;
     return povundiri_is_room(room) ? povundiri_proved_create_in(room, shape, out) : (uint32_t)POVUNDIRI_BAD_ROOM;
@@ -241,6 +258,7 @@ inline uint32_t povundiri_create_in(struct povundiri_room room, struct povundiri
  * that it has not used. Any words may be given: they are checked first.
  * Statuses: NULL, NOT_EMPTY; IMAGE_.. and ADOPT_.., the first that holds; NO_MEMORY.
  * Keep: pointers; handles: `out` begins as zeros; process. */
+POVUNDIRI_CHECKED
 inline uint32_t povundiri_adopt(const uint64_t *words, size_t length, size_t cursors, struct povundiri_handle *out) {
     if (out == NULL || !povundiri_is_array(words, length)) return POVUNDIRI_NULL;
     return povundiri_proved_adopt((const uint64_t *)povundiri_address(words), length, cursors, out);
@@ -250,6 +268,7 @@ inline uint32_t povundiri_adopt(const uint64_t *words, size_t length, size_t cur
  * during this call leaves the image as it was.
  * Statuses: NULL, BAD_ROOM, then as above; ADOPT_NO_MEMORY also where the room is too small. On any but DONE the room is the caller's still.
  * Keep: room; pointers, neither `words` nor `out` lies in the room; handles: `out` begins as zeros; process. */
+POVUNDIRI_CHECKED
 inline uint32_t povundiri_adopt_in(struct povundiri_room room, const uint64_t *words, size_t length, size_t cursors,
                                    struct povundiri_handle *out) {
     if (out == NULL || !povundiri_is_array(words, length)) return POVUNDIRI_NULL;
@@ -261,6 +280,7 @@ inline uint32_t povundiri_adopt_in(struct povundiri_room room, const uint64_t *w
  * `needed`, which may be null, is how many words the image has, also on SHORT: then the segment goes on.
  * Statuses: NULL, EMPTY, OTHER_KIND, SHORT, IN_USE.
  * Keep: pointers, `words` does not lie in the segment's room; handles; turns; process. */
+POVUNDIRI_CHECKED
 inline uint32_t povundiri_close(struct povundiri_handle *segment, uint64_t *words, size_t length, size_t *needed) {
     const struct povundiri_handle none = {false, NULL};
     size_t own = 0;
@@ -280,6 +300,7 @@ inline uint32_t povundiri_drop(struct povundiri_handle *handle) {
 /* A recorder for one thread, with so many of the segment's units.
  * Statuses: NULL, NOT_EMPTY, NO_MEMORY, EMPTY, OTHER_KIND; REFUSED_NO_UNITS: the segment has fewer; REFUSED_TOO_MANY: it has 256 recorders.
  * Keep: pointers; handles: `out` begins as zeros; turns: that of the segment; process. */
+POVUNDIRI_CHECKED
 inline uint32_t povundiri_recorder(struct povundiri_handle *segment, uint32_t units, struct povundiri_handle *out) {
     if (segment == NULL || out == NULL) return POVUNDIRI_NULL;
     return segment == out ? (uint32_t)POVUNDIRI_NOT_EMPTY : povundiri_proved_recorder(segment, units, out);
@@ -305,6 +326,7 @@ inline uint32_t povundiri_lend(struct povundiri_handle *segment, struct povundir
  * joins any to the recorder's own: the first may be answered ELSEWHERE or DONE, and the recorder is joined to its own segment; either may
  * be answered BUSY. A program that joins each recorder to its own segment is not meant to see these; no proof says so.
  * Keep: pointers; handles; turns: those of both; process. */
+POVUNDIRI_CHECKED
 inline uint32_t povundiri_join(struct povundiri_handle *segment, struct povundiri_handle *recorder) {
     const struct povundiri_handle none = {false, NULL};
     if (segment == NULL || recorder == NULL) return POVUNDIRI_NULL;
@@ -314,6 +336,7 @@ inline uint32_t povundiri_join(struct povundiri_handle *segment, struct povundir
 /* Of a segment the units that no recorder was given, of a recorder those that it may still spend.
  * Statuses: NULL, EMPTY.
  * Keep: pointers; handles; turns; process. */
+POVUNDIRI_CHECKED
 inline uint32_t povundiri_units(struct povundiri_handle *handle, uint32_t *units) {
     return handle == NULL || units == NULL ? (uint32_t)POVUNDIRI_NULL : povundiri_proved_units(handle, units);
 }
@@ -321,6 +344,7 @@ inline uint32_t povundiri_units(struct povundiri_handle *handle, uint32_t *units
 /* How many recorders of a segment were made and not joined.
  * Statuses: NULL, EMPTY, OTHER_KIND.
  * Keep: pointers; handles; turns; process. */
+POVUNDIRI_CHECKED
 inline uint32_t povundiri_outstanding(struct povundiri_handle *segment, uint32_t *outstanding) {
     return segment == NULL || outstanding == NULL ? (uint32_t)POVUNDIRI_NULL : povundiri_proved_outstanding(segment, outstanding);
 }
@@ -333,6 +357,7 @@ inline uint32_t povundiri_outstanding(struct povundiri_handle *segment, uint32_t
  * Statuses: NULL, EMPTY, BAD_KIND, NO_MEMORY, OTHER_KIND; REFUSED_BAD_NAME; SPEC_..; REFUSED_TOO_LARGE, REFUSED_NO_MEMORY,
  * REFUSED_OTHER_SPEC, REFUSED_CORRUPT, REFUSED_FULL.
  * Keep: pointers; handles; turns; process. */
+POVUNDIRI_CHECKED
 inline uint32_t povundiri_hist(struct povundiri_handle *recorder, const char *name, size_t name_length, struct povundiri_spec spec,
                                const uint32_t *values, size_t values_length, size_t *hist) {
     if (recorder == NULL || hist == NULL) return POVUNDIRI_NULL;
@@ -343,31 +368,38 @@ inline uint32_t povundiri_hist(struct povundiri_handle *recorder, const char *na
 
 /* The same of a name that ends at its first zero byte, for each kind.
  * Statuses and what to keep: as above. */
+POVUNDIRI_CHECKED
 inline uint32_t povundiri_hist_linear(struct povundiri_handle *recorder, const char *name, uint32_t minimum, uint32_t maximum,
                                       uint32_t buckets, size_t *hist) {
     struct povundiri_spec spec = {POVUNDIRI_LINEAR, minimum, maximum, buckets};
     return name == NULL ? (uint32_t)POVUNDIRI_NULL : povundiri_hist(recorder, name, strlen(name), spec, NULL, 0, hist);
 }
 
+POVUNDIRI_CHECKED
 inline uint32_t povundiri_hist_boolean(struct povundiri_handle *recorder, const char *name, size_t *hist) {
     struct povundiri_spec spec = {POVUNDIRI_BOOLEAN, 0, 0, 0};
     return name == NULL ? (uint32_t)POVUNDIRI_NULL : povundiri_hist(recorder, name, strlen(name), spec, NULL, 0, hist);
 }
 
+POVUNDIRI_CHECKED
 inline uint32_t povundiri_hist_custom(struct povundiri_handle *recorder, const char *name, const uint32_t *values, size_t length,
                                       size_t *hist) {
     struct povundiri_spec spec = {POVUNDIRI_CUSTOM, 0, 0, 0};
     return name == NULL ? (uint32_t)POVUNDIRI_NULL : povundiri_hist(recorder, name, strlen(name), spec, values, length, hist);
 }
 
+POVUNDIRI_CHECKED
 inline uint32_t povundiri_hist_sparse(struct povundiri_handle *recorder, const char *name, size_t *hist) {
     struct povundiri_spec spec = {POVUNDIRI_SPARSE, 0, 0, 0};
     return name == NULL ? (uint32_t)POVUNDIRI_NULL : povundiri_hist(recorder, name, strlen(name), spec, NULL, 0, hist);
 }
 
-/* Adds a sample: so many units of a value. On any but DONE nothing was counted.
+/* Adds a sample: so many units of a value. On any but DONE nothing was counted. A recorder keeps an index of the samples of sparse
+ * histograms that it has met on the list, which an add to a sparse histogram may let grow: it asks for memory then, and where there is
+ * none, the call returns the same, and later ones take longer. An add to the other kinds asks for none.
  * Statuses: NULL, EMPTY, OTHER_KIND, UNKNOWN; REFUSED_ZERO_COUNT, REFUSED_NO_UNITS, REFUSED_CORRUPT, REFUSED_FULL.
  * Keep: pointers; handles; turns; process. */
+POVUNDIRI_CHECKED
 inline uint32_t povundiri_add(struct povundiri_handle *recorder, size_t hist, int32_t value, uint32_t count) {
     return recorder == NULL ? (uint32_t)POVUNDIRI_NULL : povundiri_proved_add(recorder, hist, value, count);
 }
@@ -375,8 +407,9 @@ inline uint32_t povundiri_add(struct povundiri_handle *recorder, size_t hist, in
 /* Adds units of values, in order, and then an amount to the sum. It takes as many units as the items have, and no fewer than the size of
  * the sum divided by 2^31. `added`, which may be null, is how many items were counted: all on DONE, and on REFUSED_FULL and
  * REFUSED_CORRUPT those before the one for which no block was found. The sum is added on DONE alone.
- * Statuses: NULL, EMPTY, NO_MEMORY; then as of povundiri_add. It asks for 8 bytes for each item.
+ * Statuses: NULL, EMPTY, NO_MEMORY; then as of povundiri_add. It asks for 8 bytes for each item, and for what povundiri_add asks for.
  * Keep: pointers; handles; turns; process. */
+POVUNDIRI_CHECKED
 inline uint32_t povundiri_batch(struct povundiri_handle *recorder, size_t hist, const struct povundiri_item *items, size_t length,
                                 int64_t sum, size_t *added) {
     size_t own = 0;
@@ -389,6 +422,7 @@ inline uint32_t povundiri_batch(struct povundiri_handle *recorder, size_t hist, 
  * Statuses: NULL, EMPTY, OTHER_KIND, UNKNOWN; SHORT: the array wants room for as many keys as the histogram may have, and nothing is
  * taken (its buckets; of a sparse one as many samples as fit in the segment); REFUSED_NO_MEMORY.
  * Keep: pointers; handles; turns; process. */
+POVUNDIRI_CHECKED
 inline uint32_t povundiri_delta(struct povundiri_handle *recorder, size_t hist, struct povundiri_count *counts, size_t length,
                                 struct povundiri_totals *totals) {
     if (recorder == NULL || totals == NULL || !povundiri_is_array(counts, length)) return POVUNDIRI_NULL;
@@ -397,6 +431,7 @@ inline uint32_t povundiri_delta(struct povundiri_handle *recorder, size_t hist, 
 
 /* What a histogram has: the units of each of its buckets, or of each value that has some; its sum; and its units, counted once more.
  * Statuses and what to keep: as of povundiri_delta. */
+POVUNDIRI_CHECKED
 inline uint32_t povundiri_snapshot(struct povundiri_handle *recorder, size_t hist, struct povundiri_count *counts, size_t length,
                                    struct povundiri_totals *totals) {
     if (recorder == NULL || totals == NULL || !povundiri_is_array(counts, length)) return POVUNDIRI_NULL;
@@ -406,6 +441,7 @@ inline uint32_t povundiri_snapshot(struct povundiri_handle *recorder, size_t his
 /* Marks the segment as corrupt for good: no block is claimed in it any more, and its image cannot be adopted.
  * Statuses: NULL, EMPTY, OTHER_KIND.
  * Keep: pointers; handles; turns; process. */
+POVUNDIRI_CHECKED
 inline uint32_t povundiri_set_corrupt(struct povundiri_handle *recorder) {
     return recorder == NULL ? (uint32_t)POVUNDIRI_NULL : povundiri_proved_set_corrupt(recorder);
 }
@@ -414,6 +450,7 @@ inline uint32_t povundiri_set_corrupt(struct povundiri_handle *recorder) {
  * how many there are, also on SHORT.
  * Statuses: NULL, EMPTY, OTHER_KIND, SHORT, REFUSED_NO_MEMORY.
  * Keep: pointers; handles; turns; process. */
+POVUNDIRI_CHECKED
 inline uint32_t povundiri_records(struct povundiri_handle *recorder, uint64_t *records, size_t length, size_t *needed) {
     size_t own = 0;
     if (recorder == NULL || !povundiri_is_array(records, length)) return POVUNDIRI_NULL;
@@ -423,6 +460,7 @@ inline uint32_t povundiri_records(struct povundiri_handle *recorder, uint64_t *r
 /* The next record of a cursor that all recorders share: each record goes to one recorder alone.
  * Statuses: NULL, EMPTY, OTHER_KIND, NO_CURSOR; LIST_ENDS: there is none as yet.
  * Keep: pointers; handles; turns; process. */
+POVUNDIRI_CHECKED
 inline uint32_t povundiri_next_shared(struct povundiri_handle *recorder, size_t cursor, uint64_t *record) {
     return recorder == NULL || record == NULL ? (uint32_t)POVUNDIRI_NULL : povundiri_proved_next_shared(recorder, cursor, record);
 }
@@ -435,6 +473,7 @@ inline uint32_t povundiri_next_shared(struct povundiri_handle *recorder, size_t 
  * Of words that you do not trust, call povundiri_report_bounded.
  * Statuses: NULL; IMAGE_..: its header has this fault; IMAGE_NO_MEMORY, NO_MEMORY; SHORT.
  * Keep: pointers; process. */
+POVUNDIRI_CHECKED
 inline uint32_t povundiri_report(const uint64_t *words, size_t length, char *text, size_t text_length, size_t *needed) {
     size_t own = 0;
     if (!povundiri_is_array(words, length) || !povundiri_is_array(text, text_length)) return POVUNDIRI_NULL;
@@ -460,6 +499,9 @@ const char *povundiri_status_text(uint32_t status);
 
 #ifdef __cplusplus
 }
+#if defined(__GNUC__)
+#pragma GCC diagnostic pop
+#endif
 #endif
 
 #endif

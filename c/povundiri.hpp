@@ -1,25 +1,41 @@
-// Povundiri for C++17: handles that move and close themselves, over povundiri.h. Header only.
+// Povundiri for C++17 and later: segments and recorders that end by themselves, over povundiri.h and povundiri_file.h.
 //
-//     povundiri::Segment segment(povundiri::shape(65536, 4096));
-//     povundiri::Recorder recorder = segment.recorder(1000);        // one for each thread
-//     const povundiri::Hist latency = recorder.linear("latency", 1, 1000, 50);
-//     recorder.add(latency, 17);
-//     segment.join(recorder);
-//     std::string csv = povundiri::report(segment.close());
+//     using namespace povundiri;
+//     Opened opened = Segment::open("latency.seg", shape(65'536, 4096), Policy::AdoptOrSetAside);
+//     Recorder recorder = opened.segment.recorder();       // one for each thread; it joins itself where it ends
+//     const Hist latency = recorder.linear("latency", 1, 1000, 50);
+//     if (!recorder.add(latency, 17)) ++missed;
 //
-// Each call comes twice. 'add' throws a povundiri::Fault; 'try_add' answers the status and throws nothing but std::bad_alloc, from the
-// vectors and strings that it fills. Without exceptions (-fno-exceptions) there are the second ones alone.
+// CALLS. 'add' and 'batch' say whether they counted; they throw nothing and end no process. 'try_' calls return a Status. All others throw
+// a Fault where the status is not Done, by povundiri::raise: the library has one that throws. Where a program is built without exceptions,
+// povundiri_raise.cpp is compiled into it in the same way, and ends the process in place of throwing. Files with and without exceptions may
+// be in one program: nothing here depends on it. Beside that, what fills a vector or a string may throw std::bad_alloc.
 //
-// What povundiri.h asks of its caller, these classes ask too: pointers, turns, room and process. What it asks of handles they keep.
+// THREADS. A recorder is used by one thread at a time, and goes to another in order. A segment is shared: its calls come from any threads,
+// as long as none moves, assigns or ends that object meanwhile. 'recorder', 'join', 'lend', 'units', 'outstanding' and 'close' take its
+// mutex; so does an 'add' that has to borrow units, once for some hundred thousand, and a recorder's end. Nothing else waits.
+//
+// ENDS. The words of a segment, and the file where they lie in one, live until the Segment and all its recorders have ended, in any order:
+// also of statics and of thread_locals. A recorder that ends gives back its place and its units. std::quick_exit, _exit and a kill end no
+// recorder: what was counted stands in the file, and the next process has the other units again.
+//
+// FORKS. A child of fork has no part in the segments and recorders of its parent: their calls return Forked there, 'add' false, and where
+// they end, nothing is touched, locked or freed. So open behind daemon(3), and in each process of a server that forks its workers. _Fork
+// and a raw clone(2) are not seen: such a child makes no call.
+//
+// What povundiri.h asks of its caller, these classes ask too: pointers, room and process. Handles and turns of the segment they keep.
 #ifndef POVUNDIRI_HPP
 #define POVUNDIRI_HPP
 
+#include <algorithm>
+#include <atomic>
+#include <chrono>
 #include <cstddef>
 #include <cstdint>
-#include <cstdlib>
-#include <exception>
 #include <initializer_list>
+#include <limits>
 #include <memory>
+#include <mutex>
 #include <new>
 #include <optional>
 #include <string>
@@ -31,366 +47,708 @@
 
 #include "povundiri.h"
 #include "povundiri_file.h"
-
-#if defined(__cpp_exceptions)
-#define POVUNDIRI_THROWS 1
-#endif
+#include "povundiri_status.hpp"
 
 namespace povundiri {
 
-using Status = std::uint32_t;
 using Shape = povundiri_shape;
 using Room = povundiri_room;
 using Item = povundiri_item;
 using Count = povundiri_count;
 
-inline constexpr Status kDone = POVUNDIRI_DONE;
-
 inline constexpr std::uint64_t kMovingVersion = 1, kFrozenVersion = 2;
 
 constexpr Shape shape(std::uint64_t size, std::uint64_t page, std::uint64_t id = 0, std::size_t cursors = 0,
-                      std::uint64_t version = kFrozenVersion) {
+                      std::uint64_t version = kFrozenVersion) noexcept {
     return {size, page, id, cursors, version};
 }
+
+// ---- What calls are given, and fill ----
 
 // Elements that lie behind one another, which are lent for a call: of a vector, an array, a list in braces.
 template <typename T>
 class Span {
 public:
-    constexpr Span() = default;
-    constexpr Span(T* data, std::size_t size) : data_(data), size_(size) {}
-    constexpr Span(std::initializer_list<std::remove_const_t<T>> list) : size_(list.size()) { data_ = list.begin(); }
+    constexpr Span() noexcept = default;
+    constexpr Span(T* data, std::size_t size) noexcept : data_(data), size_(size) {}
+    constexpr Span(std::initializer_list<std::remove_const_t<T>> list) noexcept : size_(list.size()) { data_ = list.begin(); }
 
     template <typename From, typename = std::enable_if_t<std::is_convertible_v<decltype(std::declval<From&>().data()), T*>>>
-    constexpr Span(From&& from) : data_(from.data()), size_(from.size()) {}
+    constexpr Span(From&& from) noexcept : data_(from.data()), size_(from.size()) {}
 
     template <std::size_t N>
-    constexpr Span(T (&array)[N]) : data_(array), size_(N) {}
+    constexpr Span(T (&array)[N]) noexcept : data_(array), size_(N) {}
 
-    constexpr T* data() const { return data_; }
-    constexpr std::size_t size() const { return size_; }
+    constexpr T* data() const noexcept { return data_; }
+    constexpr std::size_t size() const noexcept { return size_; }
+    constexpr bool empty() const noexcept { return size_ == 0; }
+    constexpr T* begin() const noexcept { return data_; }
+    constexpr T* end() const noexcept { return data_ + size_; }
+    constexpr T& operator[](std::size_t place) const noexcept { return data_[place]; }
 
 private:
     T* data_ = nullptr;
     std::size_t size_ = 0;
 };
 
-#if defined(POVUNDIRI_THROWS)
-// A status that is not DONE.
-class Fault : public std::exception {
+// The value of a sample: any integer, or the ticks of a duration in its own unit. What 32 bits do not hold becomes the nearest that
+// they do, and a duration that is not a number 0.
+class Value {
 public:
-    explicit Fault(Status status) : status_(status) {}
+    template <typename Number, std::enable_if_t<std::is_integral_v<Number>, int> = 0>
+    constexpr Value(Number number) noexcept : value_(saturated(number)) {}
+    template <typename Ticks, typename Period>
+    constexpr Value(std::chrono::duration<Ticks, Period> time) noexcept : value_(saturated(time.count())) {}
 
-    Status status() const noexcept { return status_; }
-    const char* what() const noexcept override { return povundiri_status_text(status_); }
+    constexpr std::int32_t get() const noexcept { return value_; }
 
 private:
-    Status status_;
+    static constexpr std::int32_t kLeast = std::numeric_limits<std::int32_t>::min(), kGreatest = std::numeric_limits<std::int32_t>::max();
+
+    template <typename Number>
+    static constexpr std::int32_t saturated(Number number) noexcept {
+        static_assert(std::is_floating_point_v<Number> || sizeof(Number) <= sizeof(std::intmax_t));
+        if constexpr (std::is_floating_point_v<Number>) {
+            if (number >= static_cast<Number>(kGreatest)) return kGreatest;
+            if (number <= static_cast<Number>(kLeast)) return kLeast;
+            return number < static_cast<Number>(kGreatest) ? static_cast<std::int32_t>(number) : 0;
+        } else if constexpr (std::is_signed_v<Number>) {
+            return static_cast<std::int32_t>(std::clamp<std::intmax_t>(number, kLeast, kGreatest));
+        } else {
+            return static_cast<std::int32_t>(std::min<std::uintmax_t>(number, static_cast<std::uintmax_t>(kGreatest)));
+        }
+    }
+
+    std::int32_t value_;
 };
 
-inline void check(Status status) {
-    if (status != kDone) throw Fault(status);
-}
-#endif
-
-// A histogram, for the recorder that answered with it.
-struct Hist {
-    std::size_t number = 0;
-};
-
-// Keys with their units, ascending; the sum; and of a snapshot the units, counted once more.
-struct Counts {
-    std::vector<Count> units;
-    std::int64_t sum = 0;
-    std::uint64_t redundant = 0;
-};
-
-// A handle that lets go what it holds.
-class Handle {
+// A histogram, for the recorder that returned it: to all others it is Unknown. One that no recorder returned is Unknown to all.
+class Hist {
 public:
-    Handle() = default;
-    Handle(Handle&& other) noexcept : handle_(std::exchange(other.handle_, povundiri_handle{})) {}
-    Handle& operator=(Handle&& other) noexcept {
+    constexpr Hist() noexcept = default;
+
+private:
+    friend class Recorder;
+
+    std::size_t number_ = 0;
+    std::uint64_t tag_ = 0;
+};
+
+// What a delta or a snapshot fills: keys with their units, ascending; the sum; and of a snapshot the units, counted once more. It keeps its
+// room, so whoever fills one again and again asks for memory once.
+class Counts {
+public:
+    Counts() noexcept = default;
+    Counts(Counts&& other) noexcept
+        : room_(std::move(other.room_)), size_(std::exchange(other.size_, 0)), totals_(std::exchange(other.totals_, povundiri_totals{})) {}
+    Counts& operator=(Counts&& other) noexcept {
+        room_ = std::move(other.room_);
+        size_ = std::exchange(other.size_, 0);
+        totals_ = std::exchange(other.totals_, povundiri_totals{});
+        return *this;
+    }
+
+    Span<const Count> units() const noexcept { return {room_.get(), totals_.length}; }
+    std::int64_t sum() const noexcept { return totals_.sum; }
+    std::uint64_t redundant() const noexcept { return totals_.redundant; }
+
+private:
+    friend class Recorder;
+
+    // Where the call was not done, this is as it was, though maybe with more room.
+    template <typename Call>
+    Status filled(const Call& call) noexcept {
+        while (true) {
+            povundiri_totals totals{};
+            const auto status = static_cast<Status>(call(room_.get(), size_, &totals));
+            if (status == Status::Done) totals_ = totals;
+            if (status != Status::Short) return status;
+            std::unique_ptr<Count[]> larger(new (std::nothrow) Count[totals.length]);
+            if (larger == nullptr) return Status::NoMemory;
+            std::copy_n(room_.get(), totals_.length, larger.get());
+            room_ = std::move(larger);
+            size_ = totals.length;
+        }
+    }
+
+    std::unique_ptr<Count[]> room_;
+    std::size_t size_ = 0;
+    povundiri_totals totals_{};
+};
+
+// ---- What lies behind: no part of the interface ----
+
+namespace detail {
+
+inline void need(Status status, const char* call) {
+    if (status != Status::Done) raise(status, call);
+}
+
+inline void need(Status status, const char* call, std::string_view name) {
+    if (status != Status::Done) raise(status, std::string(call).append(" \"").append(name).append("\""));
+}
+
+// What was asked is a number: 'recorder, lease 1000'.
+inline void need(Status status, const char* call, std::uint64_t number) {
+    if (status != Status::Done) raise(status, std::string(call).append(" ").append(std::to_string(number)));
+}
+
+// Calls with an array and the length that is needed until it is long enough: in between another thread may have put more there.
+template <typename Array, typename Call>
+Status filled(Array& array, const Call& call) {
+    while (true) {
+        std::size_t needed = 0;
+        const auto status = static_cast<Status>(call(array.data(), array.size(), &needed));
+        if (status != Status::Done && status != Status::Short) return status;
+        array.resize(needed);
+        if (status == Status::Done) return status;
+    }
+}
+
+// A number that no recorder of this process had before, and no histogram that is new has.
+inline std::uint64_t new_tag() noexcept {
+    static std::atomic<std::uint64_t> last{0};
+    return last.fetch_add(1, std::memory_order_relaxed) + 1;
+}
+
+// What a segment and its recorders share. It ends with the last of them.
+struct State {
+    State() noexcept = default;
+    State(const State&) = delete;
+    State& operator=(const State&) = delete;
+    ~State() {
+        if (is_forked()) return;
+        povundiri_drop(&segment);
+        povundiri_file_close(&file);
+    }
+
+    bool is_forked() const noexcept { return generation != povundiri_fork_number; }
+
+    const std::uint64_t generation = povundiri_fork_generation();
+    std::atomic<std::size_t> owners{1};
+    Shape shape{};
+    std::mutex turn;  // of whoever calls with the handle that follows; behind a fork nobody takes it
+    povundiri_handle segment{};
+    povundiri_file file{};
+};
+
+// One of the owners of a state.
+class Shared {
+public:
+    Shared() noexcept = default;
+    Shared(const Shared& other) noexcept : state_(other.state_) {
+        if (state_ != nullptr) state_->owners.fetch_add(1, std::memory_order_relaxed);
+    }
+    Shared(Shared&& other) noexcept : state_(std::exchange(other.state_, nullptr)) {}
+    Shared& operator=(Shared other) noexcept {
+        std::swap(state_, other.state_);
+        return *this;
+    }
+    ~Shared() {
+        if (state_ != nullptr && state_->owners.fetch_sub(1, std::memory_order_acq_rel) == 1) delete state_;
+    }
+
+    // Of a new state; none where there is no memory for it, or to watch for forks.
+    static Shared made() noexcept {
+        Shared shared;
+        shared.state_ = new (std::nothrow) State;
+        if (shared.state_ != nullptr && shared.state_->generation == 0) shared = Shared();
+        return shared;
+    }
+
+    State* get() const noexcept { return state_; }
+    State* operator->() const noexcept { return state_; }
+    explicit operator bool() const noexcept { return state_ != nullptr; }
+
+    // Whether calls may be made; else why not.
+    Status usable() const noexcept {
+        if (state_ == nullptr) return Status::Empty;
+        return state_->is_forked() ? Status::Forked : Status::Done;
+    }
+
+private:
+    State* state_ = nullptr;
+};
+
+}  // namespace detail
+
+// So many units a recorder borrows at once, where nothing else is asked: for some milliseconds of adds, and 256 recorders have a sixteenth
+// of all.
+inline constexpr std::uint32_t kUsualLease = 1U << 20U;
+
+// ---- Recorders ----
+
+// What one thread records with. It borrows units from its segment as it needs them, so an 'add' goes on until the segment itself has no
+// units: at RefusedNoUnits it takes the greater of what the call needs and its lease (or half of what is left, where that is less), and all
+// that is left where that is less still. Where it ends, or is assigned to, it joins its segment: its place and its units are there for
+// others.
+class Recorder {
+public:
+    Recorder() noexcept = default;
+    Recorder(Recorder&& other) noexcept { take(other); }
+    Recorder& operator=(Recorder&& other) noexcept {
         if (this != &other) {
             reset();
-            handle_ = std::exchange(other.handle_, povundiri_handle{});
+            take(other);
         }
         return *this;
     }
-    ~Handle() { reset(); }
+    ~Recorder() { reset(); }
 
-    // Whether it holds something.
-    explicit operator bool() const { return handle_.full; }
+    // Whether it records: it was made, has not ended, and is of this process.
+    explicit operator bool() const noexcept { return state_.usable() == Status::Done; }
 
-    void reset() {
-        if (handle_.full) povundiri_drop(&handle_);
+    // Ends it: it is joined, and empty. In a forked child it is empty, and nothing else happens.
+    void reset() noexcept;
+
+    // Adds a sample: so many units of a value. False where it was not counted; 'try_add' returns why, and 'add_or_throw' throws that.
+    bool add(Hist hist, Value value, std::uint32_t count = 1) noexcept { return try_add(hist, value, count) == Status::Done; }
+    [[nodiscard]] Status try_add(Hist hist, Value value, std::uint32_t count = 1) noexcept {
+        if (!is_own(hist)) return why_not();
+        const auto status = static_cast<Status>(povundiri_add(&handle_, hist.number_, value.get(), count));
+        if (status != Status::RefusedNoUnits || !borrow(count)) return status;
+        return static_cast<Status>(povundiri_add(&handle_, hist.number_, value.get(), count));
+    }
+    void add_or_throw(Hist hist, Value value, std::uint32_t count = 1) {
+        const Status status = try_add(hist, value, count);
+        if (status == Status::Done) return;
+        raise(status, std::string("add, value ").append(std::to_string(value.get())).append(", count ").append(std::to_string(count)));
     }
 
-    // For calls of povundiri.h.
-    povundiri_handle* get() { return &handle_; }
-
-    Status try_units(std::uint32_t& units) { return povundiri_units(&handle_, &units); }
-
-private:
-    povundiri_handle handle_{};
-};
-
-// What one thread records with.
-class Recorder : public Handle {
-public:
-    Status try_hist(std::string_view name, povundiri_spec spec, Span<const std::uint32_t> values, Hist& hist) {
-        return povundiri_hist(get(), name.data(), name.size(), spec, values.data(), values.size(), &hist.number);
+    // Adds units of values, in order, and then an amount to the sum (povundiri_batch). False where not all was counted: of the items then
+    // those before the first that found no room, as many as 'try_batch' puts into 'added', and nothing of the sum.
+    bool batch(Hist hist, Span<const Item> items, std::int64_t sum) noexcept {
+        std::size_t added = 0;
+        return try_batch(hist, items, sum, added) == Status::Done;
     }
-    Status try_linear(std::string_view name, std::uint32_t minimum, std::uint32_t maximum, std::uint32_t buckets, Hist& hist) {
+    [[nodiscard]] Status try_batch(Hist hist, Span<const Item> items, std::int64_t sum, std::size_t& added) noexcept {
+        if (!is_own(hist)) return why_not();
+        const auto call = [&] {
+            return static_cast<Status>(povundiri_batch(&handle_, hist.number_, items.data(), items.size(), sum, &added));
+        };
+        const Status status = call();
+        return status == Status::RefusedNoUnits && borrow(units_of(items, sum)) ? call() : status;
+    }
+    void batch_or_throw(Hist hist, Span<const Item> items, std::int64_t sum) {
+        std::size_t added = 0;
+        detail::need(try_batch(hist, items, sum, added), "batch, items", items.size());
+    }
+
+    // The histogram of a name, which is made where there is none.
+    [[nodiscard]] Status try_hist(std::string_view name, povundiri_spec spec, Span<const std::uint32_t> values, Hist& hist) noexcept {
+        const Status usable = state_.usable();
+        if (usable != Status::Done) return usable;
+        std::size_t number = 0;
+        const auto status =
+            static_cast<Status>(povundiri_hist(&handle_, name.data(), name.size(), spec, values.data(), values.size(), &number));
+        if (status != Status::Done) return status;
+        hist.number_ = number;
+        hist.tag_ = tag_;
+        return status;
+    }
+    [[nodiscard]] Status try_linear(std::string_view name, std::uint32_t minimum, std::uint32_t maximum, std::uint32_t buckets,
+                                    Hist& hist) noexcept {
         return try_hist(name, {POVUNDIRI_LINEAR, minimum, maximum, buckets}, {}, hist);
     }
-    Status try_boolean(std::string_view name, Hist& hist) { return try_hist(name, {POVUNDIRI_BOOLEAN, 0, 0, 0}, {}, hist); }
-    Status try_custom(std::string_view name, Span<const std::uint32_t> values, Hist& hist) {
+    [[nodiscard]] Status try_boolean(std::string_view name, Hist& hist) noexcept {
+        return try_hist(name, {POVUNDIRI_BOOLEAN, 0, 0, 0}, {}, hist);
+    }
+    [[nodiscard]] Status try_custom(std::string_view name, Span<const std::uint32_t> values, Hist& hist) noexcept {
         return try_hist(name, {POVUNDIRI_CUSTOM, 0, 0, 0}, values, hist);
     }
-    Status try_sparse(std::string_view name, Hist& hist) { return try_hist(name, {POVUNDIRI_SPARSE, 0, 0, 0}, {}, hist); }
-
-    Status try_add(Hist hist, std::int32_t value, std::uint32_t count = 1) { return povundiri_add(get(), hist.number, value, count); }
-
-    // 'added' is how many items were counted, also where it is refused.
-    Status try_batch(Hist hist, Span<const Item> items, std::int64_t sum, std::size_t& added) {
-        return povundiri_batch(get(), hist.number, items.data(), items.size(), sum, &added);
-    }
-
-    Status try_delta(Hist hist, Counts& taken) { return counted(povundiri_delta, hist, taken); }
-    Status try_snapshot(Hist hist, Counts& seen) { return counted(povundiri_snapshot, hist, seen); }
-    Status try_set_corrupt() { return povundiri_set_corrupt(get()); }
-
-    Status try_records(std::vector<std::uint64_t>& records) {
-        return filled(records, [this](std::uint64_t* data, std::size_t size, std::size_t* needed) {
-            return povundiri_records(get(), data, size, needed);
-        });
-    }
-
-    // LIST_ENDS where the cursor has no record behind it as yet.
-    Status try_next_shared(std::size_t cursor, std::uint64_t& record) { return povundiri_next_shared(get(), cursor, &record); }
-
-    // Calls with an array and the length that is needed until it is long enough: in between another thread may have put more there.
-    template <typename Array, typename Call>
-    static Status filled(Array& array, const Call& call) {
-        while (true) {
-            std::size_t needed = 0;
-            const Status status = call(array.data(), array.size(), &needed);
-            if (status != kDone && status != POVUNDIRI_SHORT) return status;
-            array.resize(needed);
-            if (status == kDone) return kDone;
-        }
-    }
-
-#if defined(POVUNDIRI_THROWS)
-    std::uint32_t units() {
-        std::uint32_t units = 0;
-        check(try_units(units));
-        return units;
+    [[nodiscard]] Status try_sparse(std::string_view name, Hist& hist) noexcept {
+        return try_hist(name, {POVUNDIRI_SPARSE, 0, 0, 0}, {}, hist);
     }
     Hist linear(std::string_view name, std::uint32_t minimum, std::uint32_t maximum, std::uint32_t buckets) {
         Hist hist;
-        check(try_linear(name, minimum, maximum, buckets, hist));
+        detail::need(try_linear(name, minimum, maximum, buckets, hist), "hist", name);
         return hist;
     }
     Hist boolean(std::string_view name) {
         Hist hist;
-        check(try_boolean(name, hist));
+        detail::need(try_boolean(name, hist), "hist", name);
         return hist;
     }
     Hist custom(std::string_view name, Span<const std::uint32_t> values) {
         Hist hist;
-        check(try_custom(name, values, hist));
+        detail::need(try_custom(name, values, hist), "hist", name);
         return hist;
     }
     Hist sparse(std::string_view name) {
         Hist hist;
-        check(try_sparse(name, hist));
+        detail::need(try_sparse(name, hist), "hist", name);
         return hist;
     }
-    void add(Hist hist, std::int32_t value, std::uint32_t count = 1) { check(try_add(hist, value, count)); }
 
-    // Whoever has to know how many items a refused one counted calls 'try_batch'.
-    void batch(Hist hist, Span<const Item> items, std::int64_t sum) {
-        std::size_t added = 0;
-        check(try_batch(hist, items, sum, added));
-    }
+    // What no delta took before, and what a histogram has. Whoever asks again and again keeps the counts, and so their room.
+    [[nodiscard]] Status try_delta(Hist hist, Counts& taken) noexcept { return counted(povundiri_delta, hist, taken); }
+    [[nodiscard]] Status try_snapshot(Hist hist, Counts& seen) noexcept { return counted(povundiri_snapshot, hist, seen); }
     Counts delta(Hist hist) {
         Counts taken;
-        check(try_delta(hist, taken));
+        detail::need(try_delta(hist, taken), "delta");
         return taken;
     }
     Counts snapshot(Hist hist) {
         Counts seen;
-        check(try_snapshot(hist, seen));
+        detail::need(try_snapshot(hist, seen), "snapshot");
         return seen;
     }
-    void set_corrupt() { check(try_set_corrupt()); }
+
+    [[nodiscard]] Status try_set_corrupt() noexcept {
+        const Status usable = state_.usable();
+        return usable != Status::Done ? usable : static_cast<Status>(povundiri_set_corrupt(&handle_));
+    }
+    void set_corrupt() { detail::need(try_set_corrupt(), "set_corrupt"); }
+
+    [[nodiscard]] Status try_records(std::vector<std::uint64_t>& records) {
+        const Status usable = state_.usable();
+        if (usable != Status::Done) return usable;
+        return detail::filled(records, [this](std::uint64_t* data, std::size_t size, std::size_t* needed) {
+            return povundiri_records(&handle_, data, size, needed);
+        });
+    }
     std::vector<std::uint64_t> records() {
         std::vector<std::uint64_t> records;
-        check(try_records(records));
+        detail::need(try_records(records), "records");
         return records;
+    }
+
+    // ListEnds, or no record, where the cursor has none behind it as yet.
+    [[nodiscard]] Status try_next_shared(std::size_t cursor, std::uint64_t& record) noexcept {
+        const Status usable = state_.usable();
+        return usable != Status::Done ? usable : static_cast<Status>(povundiri_next_shared(&handle_, cursor, &record));
     }
     std::optional<std::uint64_t> next_shared(std::size_t cursor) {
         std::uint64_t record = 0;
         const Status status = try_next_shared(cursor, record);
-        if (status == POVUNDIRI_LIST_ENDS) return std::nullopt;
-        check(status);
+        if (status == Status::ListEnds) return std::nullopt;
+        detail::need(status, "next_shared, cursor", cursor);
         return record;
     }
-#endif
+
+    // The units that it has borrowed and not spent.
+    [[nodiscard]] Status try_units(std::uint32_t& units) const noexcept {
+        const Status usable = state_.usable();
+        return usable != Status::Done ? usable : static_cast<Status>(povundiri_units(&handle_, &units));
+    }
+    std::uint32_t units() const {
+        std::uint32_t units = 0;
+        detail::need(try_units(units), "units");
+        return units;
+    }
 
 private:
-    using Counting = Status (*)(povundiri_handle*, std::size_t, povundiri_count*, std::size_t, povundiri_totals*);
+    friend class Segment;
 
-    Status counted(Counting call, Hist hist, Counts& counts) {
-        povundiri_totals totals{};
-        const Status status = filled(counts.units, [&](Count* data, std::size_t size, std::size_t* needed) {
-            const Status answer = call(get(), hist.number, data, size, &totals);
-            *needed = totals.length;
-            return answer;
-        });
-        if (status == kDone) {
-            counts.sum = totals.sum;
-            counts.redundant = totals.redundant;
-        }
-        return status;
+    // What an empty recorder has for a tag. No histogram has it.
+    static constexpr std::uint64_t kNone = std::numeric_limits<std::uint64_t>::max();
+
+    using Counting = std::uint32_t (*)(povundiri_handle*, std::size_t, povundiri_count*, std::size_t, povundiri_totals*);
+
+    // By what this object has itself: what it shares lies beside the mutex, which others write.
+    bool is_own(Hist hist) const noexcept { return hist.tag_ == tag_ && generation_ == povundiri_fork_number; }
+
+    // Why a call is refused with a histogram that is not its own.
+    [[gnu::cold]] Status why_not() const noexcept {
+        const Status usable = state_.usable();
+        return usable != Status::Done ? usable : Status::Unknown;
     }
+
+    Status counted(Counting call, Hist hist, Counts& counts) noexcept {
+        if (!is_own(hist)) return why_not();
+        return counts.filled(
+            [&](Count* data, std::size_t size, povundiri_totals* totals) { return call(&handle_, hist.number_, data, size, totals); });
+    }
+
+    // The units that a batch takes: those of its items, and no fewer than the size of the sum divided by 2^31, rounded up.
+    static std::uint64_t units_of(Span<const Item> items, std::int64_t sum) noexcept {
+        const std::uint64_t bits = static_cast<std::uint64_t>(sum), size = sum < 0 ? 0 - bits : bits;
+        std::uint64_t units = 0;
+        for (const Item& item : items) units += item.count;
+        return std::max(units, (size >> 31U) + (size % (std::uint64_t{1} << 31U) != 0));
+    }
+
+    bool borrow(std::uint64_t wanted) noexcept;
+
+    void take(Recorder& other) noexcept {
+        state_ = std::move(other.state_);
+        handle_ = std::exchange(other.handle_, povundiri_handle{});
+        tag_ = std::exchange(other.tag_, kNone);
+        generation_ = other.generation_;
+        lease_ = other.lease_;
+    }
+
+    detail::Shared state_;
+    mutable povundiri_handle handle_{};
+    std::uint64_t tag_ = kNone, generation_ = 0;
+    std::uint32_t lease_ = 0;
 };
 
-// What threads record into. It makes their recorders and takes them back.
-class Segment : public Handle {
+inline void Recorder::reset() noexcept {
+    if (state_ && !state_->is_forked()) {
+        const std::lock_guard<std::mutex> turn(state_->turn);
+        if (povundiri_join(&state_->segment, &handle_) != POVUNDIRI_DONE) povundiri_drop(&handle_);
+    }
+    handle_ = {};
+    tag_ = kNone;
+    state_ = detail::Shared();
+}
+
+// Whether the segment has lent as many units as are wanted, or more. Where it has too few, it keeps them.
+[[gnu::cold]] inline bool Recorder::borrow(std::uint64_t wanted) noexcept {
+    const std::lock_guard<std::mutex> turn(state_->turn);
+    std::uint32_t own = 0, left = 0;
+    if (povundiri_units(&handle_, &own) != POVUNDIRI_DONE || povundiri_units(&state_->segment, &left) != POVUNDIRI_DONE) return false;
+    if (wanted > std::uint64_t{own} + left) return false;
+    const std::uint64_t lent = std::min<std::uint64_t>(left, std::max<std::uint64_t>(wanted, std::min(lease_, left / 2)));
+    return povundiri_lend(&state_->segment, &handle_, static_cast<std::uint32_t>(lent)) == POVUNDIRI_DONE;
+}
+
+// ---- Segments ----
+
+// What becomes of a file with an image that cannot be adopted, or with one that has no more room (povundiri_file.h).
+enum class Policy {
+    AdoptOrFail = POVUNDIRI_ADOPT_OR_FAIL,
+    AdoptOrSetAside = POVUNDIRI_ADOPT_OR_SET_ASIDE,
+    AdoptOrBeginAnew = POVUNDIRI_ADOPT_OR_BEGIN_ANEW
+};
+
+enum class Outcome { Nothing = POVUNDIRI_NOTHING, Made = POVUNDIRI_MADE, Adopted = POVUNDIRI_ADOPTED, MadeAnew = POVUNDIRI_MADE_ANEW };
+
+struct Opened;
+
+// What threads record into: it makes their recorders.
+class Segment {
 public:
-    Segment() = default;
+    Segment() noexcept = default;
+    Segment(Segment&&) noexcept = default;
+    Segment& operator=(Segment&&) noexcept = default;
 
-    // 'segment' is empty.
-    static Status try_create(const Shape& shape, Segment& segment) { return povundiri_create(shape, segment.get()); }
-    static Status try_create(const Shape& shape, Room room, Segment& segment) { return povundiri_create_in(room, shape, segment.get()); }
-    static Status try_adopt(Span<const std::uint64_t> words, Segment& segment, std::size_t cursors = 0) {
-        return povundiri_adopt(words.data(), words.size(), cursors, segment.get());
+    // A new segment in the heap, or in a room, which is the segment's until it and all its recorders have ended.
+    explicit Segment(const Shape& shape) { detail::need(try_create(shape, *this), "create, words", shape.size); }
+    Segment(const Shape& shape, Room room) { detail::need(try_create(shape, room, *this), "create, words", shape.size); }
+    // 'segment' is empty: NotEmpty else.
+    [[nodiscard]] static Status try_create(const Shape& shape, Segment& segment) noexcept {
+        return fill(segment, shape, [&](povundiri_handle* out) { return povundiri_create(shape, out); });
     }
-    static Status try_adopt(Span<const std::uint64_t> words, Room room, Segment& segment, std::size_t cursors = 0) {
-        return povundiri_adopt_in(room, words.data(), words.size(), cursors, segment.get());
-    }
-
-    // 'recorder' is empty.
-    Status try_recorder(std::uint32_t units, Recorder& recorder) { return povundiri_recorder(get(), units, recorder.get()); }
-
-    // On DONE the recorder is empty, and on ELSEWHERE.
-    Status try_join(Recorder& recorder) { return povundiri_join(get(), recorder.get()); }
-    Status try_outstanding(std::uint32_t& outstanding) { return povundiri_outstanding(get(), &outstanding); }
-
-    // On DONE the segment is empty, and 'image' has its words.
-    Status try_close(std::vector<std::uint64_t>& image) {
-        return Recorder::filled(image, [this](std::uint64_t* data, std::size_t size, std::size_t* needed) {
-            return povundiri_close(get(), data, size, needed);
-        });
+    [[nodiscard]] static Status try_create(const Shape& shape, Room room, Segment& segment) noexcept {
+        return fill(segment, shape, [&](povundiri_handle* out) { return povundiri_create_in(room, shape, out); });
     }
 
-#if defined(POVUNDIRI_THROWS)
-    explicit Segment(const Shape& shape) { check(try_create(shape, *this)); }
-    Segment(const Shape& shape, Room room) { check(try_create(shape, room, *this)); }
+    // One that goes on with the words of an image.
     static Segment adopt(Span<const std::uint64_t> words, std::size_t cursors = 0) {
         Segment segment;
-        check(try_adopt(words, segment, cursors));
+        detail::need(try_adopt(words, segment, cursors), "adopt, words", words.size());
         return segment;
     }
     static Segment adopt(Span<const std::uint64_t> words, Room room, std::size_t cursors = 0) {
         Segment segment;
-        check(try_adopt(words, room, segment, cursors));
+        detail::need(try_adopt(words, room, segment, cursors), "adopt, words", words.size());
         return segment;
     }
+    [[nodiscard]] static Status try_adopt(Span<const std::uint64_t> words, Segment& segment, std::size_t cursors = 0) noexcept {
+        return fill(segment, shape_of(words, cursors),
+                    [&](povundiri_handle* out) { return povundiri_adopt(words.data(), words.size(), cursors, out); });
+    }
+    [[nodiscard]] static Status try_adopt(Span<const std::uint64_t> words, Room room, Segment& segment, std::size_t cursors = 0) noexcept {
+        return fill(segment, shape_of(words, cursors),
+                    [&](povundiri_handle* out) { return povundiri_adopt_in(room, words.data(), words.size(), cursors, out); });
+    }
 
-    Recorder recorder(std::uint32_t units) {
+    // One in a file (povundiri_open), which is closed when the segment and all its recorders have ended, or behind 'close'.
+    // 'try_open' returns a Status, or the system's fault in the generic category. The flag KEEP_ON_FORK is invalid: open behind daemon(3).
+    static Opened open(const char* path, const Shape& shape, Policy policy, const povundiri_file_options& options = {});
+    [[nodiscard]] static std::error_code try_open(const char* path, const Shape& shape, Policy policy, Opened& opened,
+                                                  const povundiri_file_options& options = {}) noexcept;
+
+    // Whether it goes on: it was made, is not closed, and is of this process.
+    explicit operator bool() const noexcept {
+        if (state_.usable() != Status::Done) return false;
+        const std::lock_guard<std::mutex> turn(state_->turn);
+        return state_->segment.full;
+    }
+
+    // Lets it go, without an image. Its recorders go on; behind the last of them the words are gone, or stand in the file or the room.
+    void reset() noexcept { state_ = detail::Shared(); }
+
+    // What it was made as; of an adopted one what its image says. Zeros where it is empty.
+    Shape shape() const noexcept { return state_ ? state_->shape : Shape{}; }
+    std::uint64_t id() const noexcept { return shape().id; }
+    std::uint64_t version() const noexcept { return shape().version; }
+
+    // A recorder, which borrows so many units at a time. It begins with as many, or half of what is left where that is less. RefusedTooMany
+    // where there are 256. 'recorder' is empty: NotEmpty else.
+    Recorder recorder(std::uint32_t lease = kUsualLease) {
         Recorder recorder;
-        check(try_recorder(units, recorder));
+        detail::need(try_recorder(recorder, lease), "recorder, lease", lease);
         return recorder;
     }
-    void join(Recorder& recorder) { check(try_join(recorder)); }
-    void join(Recorder&& recorder) { check(try_join(recorder)); }
-    std::uint32_t units() {
+    [[nodiscard]] Status try_recorder(Recorder& recorder, std::uint32_t lease = kUsualLease) noexcept;
+
+    // Takes a recorder back before it ends, and says where that fails.
+    void join(Recorder& recorder) { detail::need(try_join(recorder), "join"); }
+    void join(Recorder&& recorder) { detail::need(try_join(recorder), "join"); }
+    [[nodiscard]] Status try_join(Recorder& recorder) noexcept;
+
+    // Moves units to a recorder that runs. A recorder asks by itself for what it needs.
+    void lend(Recorder& recorder, std::uint32_t units) { detail::need(try_lend(recorder, units), "lend, units", units); }
+    [[nodiscard]] Status try_lend(Recorder& recorder, std::uint32_t units) noexcept {
+        return with(recorder, [&](povundiri_handle* segment) { return povundiri_lend(segment, &recorder.handle_, units); });
+    }
+
+    // The units that no recorder has or has spent, and how many recorders there are.
+    std::uint32_t units() const {
         std::uint32_t units = 0;
-        check(try_units(units));
+        detail::need(try_units(units), "units");
         return units;
     }
-    std::uint32_t outstanding() {
+    std::uint32_t outstanding() const {
         std::uint32_t outstanding = 0;
-        check(try_outstanding(outstanding));
+        detail::need(try_outstanding(outstanding), "outstanding");
         return outstanding;
     }
+    [[nodiscard]] Status try_units(std::uint32_t& units) const noexcept {
+        return in_turn([&](povundiri_handle* segment) { return povundiri_units(segment, &units); });
+    }
+    [[nodiscard]] Status try_outstanding(std::uint32_t& outstanding) const noexcept {
+        return in_turn([&](povundiri_handle* segment) { return povundiri_outstanding(segment, &outstanding); });
+    }
+
+    // Ends it, and its file is closed: the image. InUse where it has recorders.
     std::vector<std::uint64_t> close() {
         std::vector<std::uint64_t> image;
-        check(try_close(image));
+        detail::need(try_close(image), "close");
         return image;
     }
-#endif
-};
-
-// A mapped file, which is unmapped when this ends: before it end the segment in it and all its recorders.
-class File {
-public:
-    File() = default;
-    File(File&& other) noexcept : file_(std::exchange(other.file_, povundiri_file{})) {}
-    File& operator=(File&& other) noexcept {
-        if (this != &other) {
-            povundiri_file_close(&file_);
-            file_ = std::exchange(other.file_, povundiri_file{});
-        }
-        return *this;
-    }
-    ~File() { povundiri_file_close(&file_); }
-
-    // 0, or the system's fault (povundiri_file.h). 'file' is empty.
-    static int try_open(const char* path, const Shape& shape, File& file) {
-        return povundiri_file_open(&file.file_, path, povundiri_file_bytes(shape.size, shape.cursors));
-    }
-
-    Room room() const { return povundiri_file_room(&file_); }
-
-    // The words of the image that stands in the file; none where a new segment may be created there.
-    std::vector<std::uint64_t> words() const {
-        std::size_t length = 0;
-        const std::unique_ptr<std::uint64_t, void (*)(void*)> copy(povundiri_file_words(&file_, &length), std::free);
-        if (copy == nullptr && length != 0) no_memory();
-        return copy == nullptr ? std::vector<std::uint64_t>() : std::vector<std::uint64_t>(copy.get(), copy.get() + length);
-    }
-
-#if defined(POVUNDIRI_THROWS)
-    File(const char* path, const Shape& shape) {
-        const int fault = try_open(path, shape, *this);
-        if (fault != 0) throw std::system_error(fault, std::generic_category(), path);
-    }
-#endif
+    [[nodiscard]] Status try_close(std::vector<std::uint64_t>& image);
 
 private:
-    [[noreturn]] static void no_memory() {
-#if defined(POVUNDIRI_THROWS)
-        throw std::bad_alloc();
-#else
-        std::abort();
-#endif
+    // Makes a segment of a state of its own.
+    template <typename Make>
+    static Status fill(Segment& segment, const Shape& shape, const Make& make) noexcept {
+        if (segment) return Status::NotEmpty;
+        detail::Shared state = detail::Shared::made();
+        if (!state) return Status::NoMemory;
+        const auto status = static_cast<Status>(make(&state->segment));
+        if (status != Status::Done) return status;
+        state->shape = shape;
+        segment.state_ = std::move(state);
+        return status;
     }
 
-    povundiri_file file_{};
+    // What the header of an image says; zeros where it is too short.
+    static Shape shape_of(Span<const std::uint64_t> words, std::size_t cursors) noexcept {
+        return words.size() < 5 ? Shape{} : Shape{words[2], words[3], words[4], cursors, words[1]};
+    }
+
+    template <typename Call>
+    Status in_turn(const Call& call) const noexcept {
+        const Status usable = state_.usable();
+        if (usable != Status::Done) return usable;
+        const std::lock_guard<std::mutex> turn(state_->turn);
+        return static_cast<Status>(call(&state_->segment));
+    }
+
+    template <typename Call>
+    Status with(const Recorder& recorder, const Call& call) const noexcept {
+        const Status usable = recorder.state_.usable();
+        if (usable != Status::Done) return usable;
+        return state_ && state_.get() != recorder.state_.get() ? Status::OtherSegment : in_turn(call);
+    }
+
+    detail::Shared state_;
 };
+
+// What 'open' has done, and the segment.
+struct Opened {
+    Segment segment;
+    povundiri_opened what{};
+
+    Outcome outcome() const noexcept { return static_cast<Outcome>(what.outcome); }
+    // Why the image that stood in the file was not adopted; else Done.
+    Status refused() const noexcept { return static_cast<Status>(what.refused); }
+    // The name that the file has now which was set aside; else empty.
+    const char* set_aside() const noexcept { return what.set_aside; }
+    // Whether the segment that goes on is not of the shape that was asked for: 'segment.shape()' is its own.
+    bool other_shape() const noexcept { return what.other_shape; }
+    // Whether no units are left, or the segment has the flag 'full'.
+    bool spent() const noexcept { return what.spent; }
+};
+
+inline std::error_code Segment::try_open(const char* path, const Shape& shape, Policy policy, Opened& opened,
+                                         const povundiri_file_options& options) noexcept {
+    if (opened.segment) return Status::NotEmpty;
+    if ((options.flags & POVUNDIRI_FILE_KEEP_ON_FORK) != 0) return std::make_error_code(std::errc::invalid_argument);
+    detail::Shared state = detail::Shared::made();
+    if (!state) return Status::NoMemory;
+    const std::uint32_t status =
+        povundiri_open(path, shape, static_cast<povundiri_policy>(policy), &options, &state->file, &state->segment, &opened.what);
+    if (status == POVUNDIRI_SYSTEM) return {opened.what.fault, std::generic_category()};
+    if (status != POVUNDIRI_DONE) return static_cast<Status>(status);
+    state->shape = opened.what.shape;
+    opened.segment.state_ = std::move(state);
+    return {};
+}
+
+inline Opened Segment::open(const char* path, const Shape& shape, Policy policy, const povundiri_file_options& options) {
+    Opened opened;
+    const std::error_code fault = try_open(path, shape, policy, opened, options);
+    if (fault) raise(fault, std::string("open \"").append(path != nullptr ? path : "").append("\""));
+    return opened;
+}
+
+inline Status Segment::try_recorder(Recorder& recorder, std::uint32_t lease) noexcept {
+    if (recorder.state_) return Status::NotEmpty;
+    const Status status = in_turn([&](povundiri_handle* segment) {
+        std::uint32_t left = 0;
+        const std::uint32_t asked = povundiri_units(segment, &left);
+        return asked != POVUNDIRI_DONE ? asked : povundiri_recorder(segment, std::min(lease, left / 2), &recorder.handle_);
+    });
+    if (status != Status::Done) return status;
+    recorder.state_ = state_;
+    recorder.tag_ = detail::new_tag();
+    recorder.generation_ = state_->generation;
+    recorder.lease_ = lease;
+    return status;
+}
+
+inline Status Segment::try_join(Recorder& recorder) noexcept {
+    const Status status = with(recorder, [&](povundiri_handle* segment) { return povundiri_join(segment, &recorder.handle_); });
+    if (status == Status::Done) {
+        recorder.tag_ = Recorder::kNone;
+        recorder.state_ = detail::Shared();
+    }
+    return status;
+}
+
+inline Status Segment::try_close(std::vector<std::uint64_t>& image) {
+    const Status usable = state_.usable();
+    if (usable != Status::Done) return usable;
+    const std::lock_guard<std::mutex> turn(state_->turn);
+    const Status status = detail::filled(image, [this](std::uint64_t* data, std::size_t size, std::size_t* needed) {
+        return povundiri_close(&state_->segment, data, size, needed);
+    });
+    if (status == Status::Done) povundiri_file_close(&state_->file);
+    return status;
+}
+
+// ---- Readers ----
 
 // The report of an image as CSV. It is made once where it is no longer than this, and else twice.
 inline constexpr std::size_t kUsualReport = 16'384;
 
-inline Status try_report(Span<const std::uint64_t> words, std::string& text) {
+[[nodiscard]] inline Status try_report(Span<const std::uint64_t> words, std::string& text) {
     text.resize(kUsualReport);
-    return Recorder::filled(text, [&](char* data, std::size_t size, std::size_t* needed) {
+    return detail::filled(text, [&](char* data, std::size_t size, std::size_t* needed) {
         return povundiri_report(words.data(), words.size(), data, size, needed);
     });
 }
 
-#if defined(POVUNDIRI_THROWS)
 inline std::string report(Span<const std::uint64_t> words) {
     std::string text;
-    check(try_report(words, text));
+    detail::need(try_report(words, text), "report, words", words.size());
     return text;
 }
-#endif
 
 }  // namespace povundiri
 

@@ -27,12 +27,18 @@ static void check_status(int line, const char *call, uint32_t wanted, uint32_t c
 #define DONE(call) ANSWERS(DONE, call)
 
 /* Runs a group of checks; 1 where one failed. */
-static int group(const char *name, void (*checks)(void)) {
+static __attribute__((unused)) int group(const char *name, void (*checks)(void)) {
     failed_here = 0;
     checks();
     printf("%s: %s\n", name, failed_here == 0 ? "passed" : "failed");
     fflush(stdout);
     return failed_here != 0;
+}
+
+/* A group that cannot be run here, which is said; 0. */
+static __attribute__((unused)) int left_out(const char *name, const char *why) {
+    printf("left out: %s: %s\n", name, why);
+    return 0;
 }
 
 #endif

@@ -45,6 +45,22 @@ def compiler(suffix):
     return [*words, standard]
 
 
+def groups(said):
+    """The name of each group of checks that a program tells of, and what failed in it or None. What it leaves out is printed."""
+    failed = []
+    for line in said.splitlines():
+        name, _, how = line.rpartition(": ")
+        if line.startswith("left out: "):
+            print(line, flush=True)
+        elif how == "passed":
+            yield name, None
+        elif how == "failed":
+            yield name, "; ".join(failed)
+            failed = []
+        else:
+            failed.append(line)
+
+
 class Installed:
     """The library, built and installed in a folder."""
 
@@ -53,6 +69,7 @@ class Installed:
             compiler(suffix)
         self.folder = pathlib.Path(folder)
         self.prefix = self.folder / "prefix"
+        self.objects = {}
         run(["make", "-s", "-C", LIBRARY, "install", f"PREFIX={self.prefix}"], seconds=MOST_SECONDS_TO_BUILD)
 
     def words(self, what):
@@ -60,10 +77,32 @@ class Installed:
         path = str(self.prefix / "lib" / "pkgconfig")
         return shlex.split(run(["pkg-config", what, "povundiri"], env={**os.environ, "PKG_CONFIG_PATH": path}))
 
+    def sanitized(self, suffix):
+        """What is in `c/` for a program in this language, compiled under the sanitizers: it is linked in place of the library's own."""
+        kept = [".c"] if suffix == ".c" else [*COMPILERS]
+        for source in sorted(path for path in LIBRARY.iterdir() if path.suffix in kept):
+            if source not in self.objects:
+                self.objects[source] = self.folder / f"{source.stem}_sanitized.o"
+                run([*compiler(source.suffix), *STRICT, *SANITIZED, *self.words("--cflags"), "-c", "-o", self.objects[source], source])
+        return [built for source, built in self.objects.items() if source.suffix in kept]
+
     def program(self, source, *flags):
         """A program, compiled and linked; `flags` are more words for the compiler."""
         built = self.folder / f"{source.stem}{source.suffix.replace('.', '_')}{'_sanitized' if SANITIZED[0] in flags else ''}"
-        run([*compiler(source.suffix), *STRICT, *flags, *self.words("--cflags"), "-o", built, source, *self.words("--libs")])
+        objects = self.sanitized(source.suffix) if SANITIZED[0] in flags else []
+        run([*compiler(source.suffix), *STRICT, *flags, *self.words("--cflags"), "-o", built, source, *objects, *self.words("--libs")])
+        return built
+
+    def with_file_layer(self, source, compiler_words, flags, replaced=()):
+        """A program of `tests/c` with povundiri_file.c compiled for it: by these words and flags, and with the calls to the system that are
+        in `replaced` going to the program's own `test_` functions. The proved part is that of the library."""
+        built = self.folder / f"{source.stem}_with_file_layer"
+        words = [*compiler_words, *STRICT, *flags, *self.words("--cflags")]
+        parts = []
+        for name in ("povundiri.c", "povundiri_file.c"):
+            parts.append(self.folder / f"{source.stem}_{name}.o")
+            run([*words, *(f"-D{call}=test_{call}" for call in replaced), "-c", "-o", parts[-1], LIBRARY / name])
+        run([*words, "-o", built, source, *parts, *self.words("--libs")])
         return built
 
 

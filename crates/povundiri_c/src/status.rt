@@ -50,7 +50,7 @@ pub(crate) const ELSEWHERE: u32 = 14;
 pub(crate) const BUSY: u32 = 15;
 
 /// The image reads as more keys than the caller wants.
-pub(crate) const TOO_MANY_KEYS: u32 = 16;
+pub(crate) const TOO_MANY_KEYS: u32 = 17;
 
 /// Why a call is refused: its status, and the length that goes with it: what is needed where it is `SHORT`, and 0 or what was done
 /// else.

@@ -40,7 +40,7 @@ pub extern "C" fn povundiri_proved_report_bounded(
     ensures fault { IfErr (header_of words.now) (λ fault. result ≡ status_of_image_fault fault) }
     ensures done { result ≡ 0 → IsReportWritten words.now text.old text.new needed.new }
     ensures short { result ≡ 7 → IsReportTooLong words.now text.old needed.new }
-    ensures many { result ≡ 16 → SayKeys words.now most_keys true }
+    ensures many { result ≡ 17 → SayKeys words.now most_keys true }
     ensures few { (result ≡ 0) ⊎ (result ≡ 7) → SayKeys words.now most_keys false }
     ensures untouched { result ≢ 0 → text.new ≡ text.old }
     ensures alone { result ≢ 0 → result ≢ 7 → needed.new ≡ needed.old }
@@ -60,7 +60,7 @@ fn write_report(alloc: Global, words: &[u64], text: &mut [u8], needed: &mut usiz
     ensures fault { IfErr (header_of words.now) (λ fault. result ≡ status_of_image_fault fault) }
     ensures done { result ≡ 0 → IsReportWritten words.now text.old text.new needed.new }
     ensures short { result ≡ 7 → IsReportTooLong words.now text.old needed.new }
-    ensures others { result ≢ 16 }
+    ensures others { result ≢ 17 }
     ensures untouched { result ≢ 0 → text.new ≡ text.old }
     ensures alone { result ≢ 0 → result ≢ 7 → needed.new ≡ needed.old }
 {

@@ -25,7 +25,7 @@ returns-in-Err-clause-few c = λ either. elim either [
 
 pub returns-then-more-clause-fault : goal.returns-then-more-clause-fault
 returns-then-more-clause-fault c =
-    no_fault_of c.args.words.now c.args.most_keys c.in-Ok.more 16
+    no_fault_of c.args.words.now c.args.most_keys c.in-Ok.more 17
     (keys_said c.args.words.now (header_of c.args.words.now) c.has_more_keys.result c.args.most_keys c.in-Ok.more refl c.has_more_keys.ensures.answer c.in-Ok.is)
 
 pub returns-then-more-clause-many : goal.returns-then-more-clause-many

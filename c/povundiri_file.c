@@ -64,7 +64,9 @@ struct povundiri_mapping {
 static pthread_mutex_t mutex = PTHREAD_MUTEX_INITIALIZER;
 static struct povundiri_mapping *all;
 static pthread_once_t once = PTHREAD_ONCE_INIT;
-static uint64_t generation;
+
+/* Changes in a child alone, while it has one thread. */
+uint64_t povundiri_fork_number = 0;
 
 /* Closes the descriptor, and so the lock where no other process has it as well. The mutex is held. */
 static void give_up_descriptor(struct povundiri_mapping *mapping) {
@@ -91,19 +93,17 @@ static void in_child(void) {
             mapping->at = NULL;
         }
     }
-    generation += 1;
+    povundiri_fork_number += 1;
     pthread_mutex_unlock(&mutex);
 }
 
 static void watch_forks(void) {
-    if (pthread_atfork(before_fork, in_parent, in_child) == 0) __atomic_store_n(&generation, 1, __ATOMIC_RELAXED);
+    if (pthread_atfork(before_fork, in_parent, in_child) == 0) povundiri_fork_number = 1;
 }
 
 uint64_t povundiri_fork_generation(void) {
-    const uint64_t known = __atomic_load_n(&generation, __ATOMIC_RELAXED);
-    if (known != 0) return known;
     pthread_once(&once, watch_forks);
-    return __atomic_load_n(&generation, __ATOMIC_RELAXED);
+    return povundiri_fork_number;
 }
 
 /* One of which nothing is open as yet. Null where there is no memory. */
@@ -202,16 +202,16 @@ static int inspect(int descriptor, off_t length, struct content *content) {
     uint64_t first[1 + HEADER_WORDS] = {0};
     const uint64_t *image = first + 1;
     size_t got;
-    bool is_made_whole, only_zeros;
+    bool begins, only_zeros;
     int fault;
     if (length > (off_t)most_bytes()) return EEXIST;
     fault = read_at(descriptor, first, sizeof first, 0, &got);
     if (fault == 0) fault = look_for_zeros(descriptor, (off_t)sizeof first, &only_zeros);
     if (fault != 0) return fault;
-    if (first[0] != 0 || (image[COOKIE_AT] != COOKIE && !(only_zeros && are_zeros(first, sizeof first)))) return EEXIST;
-    is_made_whole = is_made(image);
-    content->is_new = !is_made_whole && only_zeros;
-    content->words = is_made_whole && has_all_words(image[SIZE_AT], length) ? (size_t)image[SIZE_AT] : 0;
+    begins = got >= 2 * WORD && first[0] == 0 && image[COOKIE_AT] == COOKIE;
+    if (!begins && !(only_zeros && are_zeros(first, sizeof first))) return EEXIST;
+    content->is_new = only_zeros && !is_made(image);
+    content->words = is_made(image) && has_all_words(image[SIZE_AT], length) ? (size_t)image[SIZE_AT] : 0;
     return 0;
 }
 
@@ -526,9 +526,8 @@ static uint32_t adopt(const struct task *task, const uint64_t *words, size_t cou
     opened->shape = shape;
     opened->other_shape =
         shape.size != asked->size || shape.page != asked->page || shape.id != asked->id || shape.version != asked->version;
-    (void)povundiri_units(task->segment, &opened->units);
-    opened->spent = opened->units == 0 || (words[FLAGS_AT] & FULL) != 0;
-    return POVUNDIRI_DONE;
+    opened->spent = (words[FLAGS_AT] & FULL) != 0;
+    return povundiri_units(task->segment, &opened->units);
 }
 
 static uint32_t adopt_or_make(const struct task *task) {
@@ -558,11 +557,17 @@ static void close_as_it_was(struct povundiri_file *file) {
     povundiri_file_close(file);
 }
 
+/* A handle that is empty stays so. */
+static void drop(struct povundiri_handle *handle) {
+    const uint32_t status = povundiri_drop(handle);
+    (void)status;
+}
+
 /* Lets go what was opened, and what was said of it. */
 static void take_back(const struct task *task) {
     const struct povundiri_shape none = {0, 0, 0, 0, 0};
     struct povundiri_opened *opened = task->opened;
-    if (task->segment->full) (void)povundiri_drop(task->segment);
+    drop(task->segment);
     close_as_it_was(task->file);
     opened->outcome = POVUNDIRI_NOTHING;
     opened->shape = none;
@@ -579,6 +584,7 @@ static uint32_t open_one(const struct task *task, bool *again) {
     *again = false;
     if (fault != 0) return system_fault(opened, fault);
     status = adopt_or_make(task);
+    if (status == POVUNDIRI_DONE && opened->units == 0) opened->spent = true;
     kind = kind_of(task, status);
     if (status == POVUNDIRI_DONE && kind == NULL) return status;
     if (is_refused_for_good(status)) opened->refused = status;

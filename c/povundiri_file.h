@@ -123,14 +123,14 @@ struct povundiri_room povundiri_file_room(const struct povundiri_file *file);
 uint64_t *povundiri_file_words(const struct povundiri_file *file, size_t *count) POVUNDIRI_FILE_CHECKED;
 
 /* From now on children of fork have the file, its memory and its lock, or do not have it. With `keep`: of parent and child one goes on with
- * the segment in it, and the other makes no call on it or its recorders, and ends or calls povundiri_file_close. The lock is both theirs: it
- * ends when both have closed the file. So a daemon opens with POVUNDIRI_FILE_KEEP_ON_FORK, calls daemon(3), and then this with false: what
- * it forks later does not hold the lock.
+ * the segment in it, and the other makes no call on it or its recorders, and ends or calls povundiri_file_close. The lock is theirs
+ * together: it ends when both have closed the file. So a daemon opens with POVUNDIRI_FILE_KEEP_ON_FORK, calls daemon(3), and then this with
+ * false: what it forks later does not hold the lock.
  *
  * 0, or the number of the system's fault; EINVAL where the file is not open. */
 int povundiri_file_keep_on_fork(struct povundiri_file *file, bool keep) POVUNDIRI_FILE_CHECKED;
 
-/* Unmaps the file, and lets others open it. No segment is in the room. Where the file is not open, as in a forked child, or a null is given,
+/* Unmaps the file, and lets others open it. No segment is in the room. Where the file is not open, as in a forked child, and for a null,
  * nothing happens. */
 void povundiri_file_close(struct povundiri_file *file);
 
@@ -198,9 +198,12 @@ uint32_t povundiri_open(const char *path, struct povundiri_shape shape, enum pov
 /* ---- Forks ---- */
 
 /* A number of this process: the same until fork, and in a child of fork another one than in all processes from which it comes. So whoever
- * keeps the number sees that it is in a child. Any thread may call it, and behind the first call it allocates nothing. 0 where there was
- * no memory to watch for forks: then the next call tries again. _Fork(3) and a raw clone(2) are not seen. */
+ * keeps the number sees that it is in a child. Any thread may call it, and only the first call allocates. 0, now and ever, where there was
+ * no memory then to watch for forks. _Fork(3) and a raw clone(2) are not seen. */
 uint64_t povundiri_fork_generation(void);
+
+/* The same number, for whoever looks at it often: 0 until the first call of povundiri_fork_generation. It is only read. */
+extern uint64_t povundiri_fork_number;
 
 #ifdef __cplusplus
 }

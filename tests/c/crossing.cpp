@@ -1,7 +1,6 @@
-// Two threads join recorders at the same moment, one or both of them to a segment that is not the recorder's own. Whatever they are answered,
-// no recorder is lost and none is joined twice: in the end both segments have all their units again.
-
-#include "povundiri.hpp"
+// Two threads join recorders at the same moment by povundiri.h, one or both of them to a segment that is not the recorder's own. Whatever
+// the calls return, no recorder is lost and none is joined twice: in the end both segments have all their units again. The classes of
+// povundiri.hpp do not let it come to this: they know which segment a recorder is of.
 
 #include <atomic>
 #include <cstdint>
@@ -11,21 +10,26 @@
 
 namespace {
 
-using povundiri::Recorder;
-using povundiri::Segment;
-using povundiri::Status;
-
-constexpr povundiri::Shape kShape = povundiri::shape(1024, 256);
+constexpr povundiri_shape kShape = {1024, 256, 0, 0, 2};
 constexpr std::uint32_t kShare = 1000;
 constexpr int kRounds = 5000;
 
-// What two joins answer that begin at the same moment.
-struct Answers {
-    Status first = POVUNDIRI_NULL;
-    Status second = POVUNDIRI_NULL;
+// The handle of a segment, or of a recorder.
+struct Handle {
+    Handle() = default;
+    Handle(const Handle&) = delete;
+    ~Handle() { povundiri_drop(&it); }
+
+    povundiri_handle it{};
 };
 
-Answers joined_together(Segment& first, Recorder& one, Segment& second, Recorder& other) {
+// What two joins return that begin at the same moment.
+struct Answers {
+    std::uint32_t first = POVUNDIRI_NULL;
+    std::uint32_t second = POVUNDIRI_NULL;
+};
+
+Answers joined_together(Handle& first, Handle& one, Handle& second, Handle& other) {
     Answers answers;
     std::atomic<int> ready{0};
     const auto meet = [&] {
@@ -34,39 +38,40 @@ Answers joined_together(Segment& first, Recorder& one, Segment& second, Recorder
     };
     std::thread beside([&] {
         meet();
-        answers.first = first.try_join(one);
+        answers.first = povundiri_join(&first.it, &one.it);
     });
     meet();
-    answers.second = second.try_join(other);
+    answers.second = povundiri_join(&second.it, &other.it);
     beside.join();
     return answers;
 }
 
-// A join that is done, or was done elsewhere, leaves its handle empty; one that is refused leaves it full, and then its own segment takes it.
-void comes_home(Status answer, Recorder& recorder, Segment& own) {
+// A join that is done, or was done elsewhere, leaves its handle empty; one that is refused leaves it full, and then its own segment takes
+// it.
+void comes_home(std::uint32_t answer, Handle& recorder, Handle& own) {
     const bool met = answer == POVUNDIRI_DONE || answer == POVUNDIRI_ELSEWHERE;
     HOLDS(met || answer == POVUNDIRI_OTHER_SEGMENT || answer == POVUNDIRI_BUSY);
-    HOLDS(met != static_cast<bool>(recorder));
-    if (recorder) DONE(own.try_join(recorder));
+    HOLDS(met != recorder.it.full);
+    if (recorder.it.full) DONE(povundiri_join(&own.it, &recorder.it));
 }
 
-void is_whole(Segment& segment) {
+void is_whole(Handle& segment) {
     std::uint32_t units = 0, outstanding = 1;
-    DONE(segment.try_units(units));
-    DONE(segment.try_outstanding(outstanding));
+    DONE(povundiri_units(&segment.it, &units));
+    DONE(povundiri_outstanding(&segment.it, &outstanding));
     HOLDS(units == UINT32_MAX && outstanding == 0);
 }
 
 // The first recorder is of the other segment; so is the second, where both cross.
 void cross(bool both) {
-    Segment here, there;
-    DONE(Segment::try_create(kShape, here));
-    DONE(Segment::try_create(kShape, there));
+    Handle here, there;
+    DONE(povundiri_create(kShape, &here.it));
+    DONE(povundiri_create(kShape, &there.it));
     for (int round = 0; round < kRounds && failed_here == 0; ++round) {
-        Recorder one, other;
-        Segment& home = both ? here : there;
-        DONE(there.try_recorder(kShare, one));
-        DONE(home.try_recorder(kShare, other));
+        Handle one, other;
+        Handle& home = both ? here : there;
+        DONE(povundiri_recorder(&there.it, kShare, &one.it));
+        DONE(povundiri_recorder(&home.it, kShare, &other.it));
         const Answers answers = joined_together(here, one, there, other);
         HOLDS(both || answers.first != POVUNDIRI_DONE);
         comes_home(answers.first, one, there);

@@ -1,12 +1,13 @@
-// Every call of povundiri.hpp, those that throw and those that answer a status; with -fno-exceptions the second ones alone.
+// Every call of povundiri.hpp: those that return a status, and with exceptions those that throw.
 
 #include "povundiri.hpp"
 
 #include <array>
 #include <cstdlib>
+#include <set>
 #include <thread>
 
-#include "checks.h"
+#include "checks.hpp"
 
 namespace {
 
@@ -14,10 +15,12 @@ using povundiri::Counts;
 using povundiri::Hist;
 using povundiri::Recorder;
 using povundiri::Segment;
+using povundiri::Status;
 
 constexpr std::size_t kWords = 1024;
 constexpr povundiri::Shape kShape = povundiri::shape(kWords, 256, 7, 1);
-constexpr const char* kReport = "b,boolean,1,2,1\nb,total,1,1\nc,custom,10,100,5\nc,total,5,60\nl,linear,1,126,3\nl,total,3,51\ns,sparse,-3,-2,1\ns,total,1,-3\n";
+constexpr const char* kReport =
+    "b,boolean,1,2,1\nb,total,1,1\nc,custom,10,100,5\nc,total,5,60\nl,linear,1,126,3\nl,total,3,51\ns,sparse,-3,-2,1\ns,total,1,-3\n";
 
 // A room that lasts as long as this.
 class Memory {
@@ -46,35 +49,37 @@ void statuses() {
     std::size_t added = 0;
     std::string text;
     DONE(Segment::try_create(kShape, segment));
-    ANSWERS(NOT_EMPTY, Segment::try_create(kShape, segment));
-    ANSWERS(EMPTY, none.try_recorder(1, recorder));
-    DONE(segment.try_recorder(100, recorder));
-    DONE(segment.try_recorder(1, other));
+    RETURNS(NotEmpty, Segment::try_create(kShape, segment));
+    RETURNS(Empty, none.try_recorder(recorder));
+    HOLDS(segment.shape().size == kWords && segment.id() == 7 && segment.version() == 2 && none.shape().size == 0);
+    DONE(segment.try_recorder(recorder, 100));
+    DONE(segment.try_recorder(other, 1));
     DONE(recorder.try_linear(std::string_view("latency", 1), 1, 1000, 10, linear));
     DONE(recorder.try_boolean(std::string("b"), boolean));
     DONE(recorder.try_custom("c", {10, 100, 1000}, custom));
     DONE(recorder.try_sparse("s", sparse));
-    ANSWERS(REFUSED_OTHER_SPEC, recorder.try_sparse("c", sparse));
+    RETURNS(RefusedOtherSpec, recorder.try_sparse("c", sparse));
     DONE(recorder.try_add(linear, 17, 3));
-    DONE(recorder.try_add(boolean, 1));
-    DONE(recorder.try_add(sparse, -3));
+    DONE(recorder.try_add(boolean, true));
+    HOLDS(recorder.add(sparse, std::int64_t{-3}));
     DONE(recorder.try_batch(custom, {{10, 2}, {20, 3}}, 60, added));
     HOLDS(added == 2);
-    ANSWERS(UNKNOWN, other.try_add(linear, 1));
-    ANSWERS(UNKNOWN, other.try_delta(linear, counts));
+    RETURNS(Unknown, other.try_add(linear, 1));
+    RETURNS(Unknown, other.try_delta(linear, counts));
     DONE(recorder.try_snapshot(custom, counts));
-    HOLDS(counts.units.size() == 4 && counts.units[1].key == 10 && counts.units[1].count == 5 && counts.sum == 60 && counts.redundant == 5);
+    HOLDS(counts.units().size() == 4 && counts.units()[1].key == 10 && counts.units()[1].count == 5 && counts.sum() == 60);
+    HOLDS(counts.redundant() == 5);
     DONE(recorder.try_delta(sparse, counts));
-    HOLDS(counts.units.size() == 1 && counts.units[0].key == -3 && counts.sum == -3);
+    HOLDS(counts.units().size() == 1 && counts.units()[0].key == -3 && counts.sum() == -3);
     DONE(recorder.try_records(records));
     DONE(recorder.try_next_shared(0, record));
     HOLDS(records.size() == 5 && record == records[0]);
-    ANSWERS(NO_CURSOR, recorder.try_next_shared(1, record));
+    RETURNS(NoCursor, recorder.try_next_shared(1, record));
     DONE(recorder.try_units(number));
     HOLDS(number == 90);
     DONE(segment.try_outstanding(number));
     HOLDS(number == 2);
-    ANSWERS(IN_USE, segment.try_close(image));
+    RETURNS(InUse, segment.try_close(image));
     DONE(segment.try_join(recorder));
     DONE(segment.try_join(other));
     HOLDS(!recorder && !other && segment);
@@ -83,8 +88,8 @@ void statuses() {
     DONE(segment.try_close(image));
     DONE(povundiri::try_report(image, text));
     HOLDS(image.size() == kWords && text == kReport);
-    ANSWERS(IMAGE_TOO_SHORT, povundiri::try_report({image.data(), 15}, text));
-    ANSWERS(EMPTY, segment.try_close(image));
+    RETURNS(ImageTooShort, povundiri::try_report({image.data(), 15}, text));
+    RETURNS(Empty, segment.try_close(image));
 }
 
 void corrupt() {
@@ -93,26 +98,25 @@ void corrupt() {
     Hist hist;
     std::vector<std::uint64_t> image;
     DONE(Segment::try_create(kShape, segment));
-    DONE(segment.try_recorder(100, recorder));
+    DONE(segment.try_recorder(recorder));
     DONE(recorder.try_set_corrupt());
-    ANSWERS(REFUSED_CORRUPT, recorder.try_sparse("s", hist));
+    RETURNS(RefusedCorrupt, recorder.try_sparse("s", hist));
     DONE(segment.try_join(recorder));
     DONE(segment.try_close(image));
-    ANSWERS(ADOPT_CORRUPT, Segment::try_adopt(image, segment));
+    RETURNS(AdoptCorrupt, Segment::try_adopt(image, segment));
 }
 
-// Handles are let go where they end, whichever ends first, and what they moved from is empty.
+// A room is the caller's again behind the last of the segment and its recorders, whichever ends first; what was moved from is empty.
 void moves() {
     Memory memory(kBytes);
     Segment segment;
     Recorder outlives;
-    std::vector<std::uint64_t> image;
     {
         Segment first;
         Recorder recorder, left;
         DONE(Segment::try_create(kShape, memory.room(), first));
-        DONE(first.try_recorder(10, recorder));
-        DONE(first.try_recorder(10, left));
+        DONE(first.try_recorder(recorder, 10));
+        DONE(first.try_recorder(left, 10));
         segment = std::move(first);
         outlives = std::move(recorder);
         HOLDS(segment && outlives);
@@ -121,29 +125,51 @@ void moves() {
         HOLDS(bool(segment));
     }
     DONE(segment.try_join(outlives));
-    DONE(segment.try_recorder(10, outlives));
+    DONE(segment.try_recorder(outlives, 10));
     segment.reset();
     HOLDS(!segment);
     Hist hist;
     DONE(outlives.try_boolean("b", hist));
     outlives.reset();
-    image.assign(static_cast<std::uint64_t*>(memory.room().at) + 1, static_cast<std::uint64_t*>(memory.room().at) + 1 + kWords);
+    const std::uint64_t* const words = static_cast<std::uint64_t*>(memory.room().at) + 1;
+    const std::vector<std::uint64_t> image(words, words + kWords);
     DONE(Segment::try_adopt(image, memory.room(), segment, 1));
-    DONE(segment.try_recorder(10, outlives));
+    HOLDS(segment.shape().size == kWords && segment.shape().page == 256 && segment.shape().cursors == 1 && segment.id() == 7);
+    DONE(segment.try_recorder(outlives, 10));
 }
 
-#if defined(POVUNDIRI_THROWS)
+// Each status is an error code, and no two have one name.
+void names() {
+    std::set<std::string> names;
+    int statuses = 0;
+    for (std::uint32_t number = 0; number < 1000; ++number) {
+        const auto status = static_cast<Status>(number);
+        const std::error_code code = status;
+        HOLDS(code.message() == povundiri::text(status) && &code.category() == &povundiri::category());
+        if (code.message() == "NoSuchStatus") continue;
+        statuses += 1;
+        HOLDS(names.insert(code.message()).second);
+    }
+    HOLDS(statuses == 55 && names.count("Forked") == 1 && names.count("Adopt NoUnits") == 1);
+    HOLDS(std::error_code(Status::Unknown) == Status::Unknown && std::error_code(Status::Unknown) != Status::Empty);
+    HOLDS(!std::error_code(Status::Done) && std::string(povundiri::category().name()) == "povundiri");
+}
 
+#if defined(__cpp_exceptions)
+
+// What was thrown, and its status.
 template <typename Call>
-povundiri::Status thrown(const Call& call) {
+std::string thrown(const Call& call, Status wanted) {
     try {
         call();
     } catch (const povundiri::Fault& fault) {
-        HOLDS(strcmp(fault.what(), povundiri_status_text(fault.status())) == 0);
-        return fault.status();
+        HOLDS(fault.status() == wanted && fault.code() == wanted);
+        return fault.what();
     }
-    return POVUNDIRI_DONE;
+    return "nothing";
 }
+
+#define THROWS(status, what, call) HOLDS(thrown([&] { call; }, Status::status) == (what))
 
 void exceptions() {
     Memory memory(kBytes);
@@ -152,31 +178,44 @@ void exceptions() {
     const Hist linear = recorder.linear("l", 1, 1000, 10), boolean = recorder.boolean("b"), sparse = recorder.sparse("s");
     const std::array<std::uint32_t, 3> values = {1000, 10, 100};
     const Hist custom = recorder.custom("c", values);
-    recorder.add(linear, 17, 3);
-    recorder.add(boolean, 1);
-    recorder.add(sparse, -3);
+    recorder.add_or_throw(linear, 17, 3);
+    recorder.add_or_throw(boolean, 1);
+    recorder.add_or_throw(sparse, -3);
     const std::vector<povundiri::Item> items = {{10, 2}, {20, 3}};
-    recorder.batch(custom, items, 60);
-    HOLDS(recorder.snapshot(linear).redundant == 3 && recorder.delta(custom).sum == 60);
+    recorder.batch_or_throw(custom, items, 60);
+    HOLDS(recorder.snapshot(linear).redundant() == 3 && recorder.delta(custom).sum() == 60);
     HOLDS(recorder.records().size() == 5 && recorder.next_shared(0) == recorder.records()[0]);
     for (int i = 0; i < 4; ++i) HOLDS(recorder.next_shared(0).has_value());
     HOLDS(!recorder.next_shared(0) && recorder.units() == 90 && segment.outstanding() == 1);
-    ANSWERS(REFUSED_ZERO_COUNT, thrown([&] { recorder.add(linear, 1, 0); }));
-    ANSWERS(REFUSED_NO_UNITS, thrown([&] { recorder.batch(custom, {{1, 91}}, 0); }));
-    ANSWERS(SPEC_BAD_MIN, thrown([&] { recorder.linear("k", 0, 1, 3); }));
-    ANSWERS(IN_USE, thrown([&] { segment.close(); }));
-    ANSWERS(OPEN_BAD_SHAPE, thrown([] { Segment(povundiri::shape(1, 1)); }));
+    THROWS(RefusedZeroCount, "add of 0 at 1: ZeroCount", recorder.add_or_throw(linear, 1, 0));
+    THROWS(Unknown, "batch of 1 items: UnknownHistogram", recorder.batch_or_throw(Hist(), {{1, 91}}, 0));
+    THROWS(SpecBadMin, "hist \"k\": BadMin", recorder.linear("k", 0, 1, 3));
+    THROWS(RefusedOtherSpec, "hist \"l\": OtherSpec", recorder.sparse("l"));
+    THROWS(RefusedBadName, "hist \"a b\": BadName", recorder.boolean("a b"));
+    THROWS(NoCursor, "next_shared of cursor 3: NoCursor", recorder.next_shared(3));
+    THROWS(InUse, "close: InUse", segment.close());
+    THROWS(RefusedNoUnits, "lend of 4294967295: NoUnits", segment.lend(recorder, UINT32_MAX));
+    THROWS(OpenBadShape, "create: BadShape", Segment(povundiri::shape(1, 1)));
+    THROWS(Empty, "recorder: EmptyHandle", Segment().recorder());
     segment.join(std::move(recorder));
+    THROWS(Empty, "join: EmptyHandle", segment.join(recorder));
     const std::vector<std::uint64_t> image = segment.close();
     HOLDS(povundiri::report(image) == kReport);
-    ANSWERS(IMAGE_TOO_SHORT, thrown([] { povundiri::report({}); }));
-    ANSWERS(IMAGE_TOO_SHORT, thrown([] { Segment::adopt({}); }));
+    THROWS(ImageTooShort, "report: TooShort", povundiri::report({}));
+    THROWS(ImageTooShort, "adopt: TooShort", Segment::adopt({}));
     Segment again = Segment::adopt(image, memory.room(), 1), heap = Segment::adopt(image);
     HOLDS(again.units() == heap.units() && heap.units() == UINT32_MAX - 10);
-    Recorder one = heap.recorder(5);
+    Recorder one = heap.recorder();
     one.set_corrupt();
     heap.join(one);
     HOLDS(povundiri::report(heap.close()) == std::string(kReport) + "!flag,corrupt\n");
+    // The system's faults are its own.
+    try {
+        const povundiri::Opened opened = Segment::open("/nowhere/file", kShape, povundiri::Policy::AdoptOrFail);
+        HOLDS(false);
+    } catch (const std::system_error& fault) {
+        HOLDS(fault.code() == std::errc::no_such_file_or_directory && std::string(fault.what()).find("open \"/nowhere/file\": ") == 0);
+    }
 }
 
 #endif
@@ -184,18 +223,18 @@ void exceptions() {
 void threads() {
     Segment segment;
     DONE(Segment::try_create(kShape, segment));
-    std::array<Recorder, 4> recorders;
-    std::vector<std::thread> running;
-    for (Recorder& recorder : recorders) {
-        DONE(segment.try_recorder(10'000, recorder));
-        running.emplace_back([&recorder] {
+    std::array<std::thread, 4> running;
+    std::array<int, 4> counted{};
+    for (std::size_t i = 0; i < running.size(); ++i) {
+        running[i] = std::thread([&segment, &number = counted[i]] {
+            Recorder recorder;
             Hist hist;
-            povundiri::Status status = recorder.try_boolean("b", hist);
-            for (int i = 0; i < 10'000 && status == povundiri::kDone; ++i) status = recorder.try_add(hist, 1);
+            if (segment.try_recorder(recorder) != Status::Done || recorder.try_boolean("b", hist) != Status::Done) return;
+            for (int sample = 0; sample < 10'000; ++sample) number += recorder.add(hist, 1);
         });
     }
     for (std::thread& thread : running) thread.join();
-    for (Recorder& recorder : recorders) DONE(segment.try_join(recorder));
+    for (const int number : counted) HOLDS(number == 10'000);
     std::uint32_t units = 0;
     DONE(segment.try_units(units));
     HOLDS(units == UINT32_MAX - 40'000);
@@ -207,7 +246,8 @@ int main() {
     int failed = group("statuses", statuses);
     failed += group("corrupt", corrupt);
     failed += group("moves", moves);
-#if defined(POVUNDIRI_THROWS)
+    failed += group("names", names);
+#if defined(__cpp_exceptions)
     failed += group("exceptions", exceptions);
 #endif
     failed += group("threads", threads);

@@ -42,12 +42,12 @@ struct Options {
 }
 
 void need(const char* what, Status status) {
-    if (status != povundiri::kDone) stop(what, povundiri_status_text(status));
+    if (status != Status::Done) stop(what, povundiri::text(status));
 }
 
 // Whether the call was done. It may also have found no room.
 bool done(const char* what, Status status) {
-    if (status == POVUNDIRI_REFUSED_FULL) return false;
+    if (status == Status::RefusedFull) return false;
     need(what, status);
     return true;
 }
@@ -152,12 +152,11 @@ tally::Thread* tally_of(const std::string& path) {
     return static_cast<tally::Thread*>(at);
 }
 
-void open_in_file(const Options& options, povundiri::File& file, povundiri::Segment& segment) {
-    const int fault = povundiri::File::try_open(options.file.c_str(), options.shape, file);
-    if (fault != 0) stop("file", std::strerror(fault));
-    const std::vector<std::uint64_t> words = file.words();
-    if (words.empty()) return need("create", povundiri::Segment::try_create(options.shape, file.room(), segment));
-    need("adopt", povundiri::Segment::try_adopt(words, file.room(), segment, options.shape.cursors));
+void open_in_file(const Options& options, povundiri::Segment& segment) {
+    povundiri::Opened opened;
+    const std::error_code fault = povundiri::Segment::try_open(options.file.c_str(), options.shape, povundiri::Policy::AdoptOrFail, opened);
+    if (fault) stop("file", fault.message().c_str());
+    segment = std::move(opened.segment);
 }
 
 void open_in_heap(const Options& options, povundiri::Segment& segment) {
@@ -171,15 +170,12 @@ void open_in_heap(const Options& options, povundiri::Segment& segment) {
 
 [[noreturn]] void record(const Options& options) {
     tally::Thread* cells = tally_of(options.tally);
-    povundiri::File file;
     povundiri::Segment segment;
-    options.place == "file" ? open_in_file(options, file, segment) : open_in_heap(options, segment);
-    std::uint32_t units = 0;
-    need("units", segment.try_units(units));
+    options.place == "file" ? open_in_file(options, segment) : open_in_heap(options, segment);
     std::vector<std::thread> threads;
     for (std::uint32_t i = 0; i < tally::kThreads; ++i) {
         Recorder recorder;
-        need("recorder", segment.try_recorder(units / tally::kThreads, recorder));
+        need("recorder", segment.try_recorder(recorder));
         threads.emplace_back(&Worker::run, new Worker(std::move(recorder), cells[i], options.seed + i));
     }
     while (true) pause();

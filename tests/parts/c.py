@@ -1,5 +1,5 @@
-"""The interface for C and C++: every call of the headers, and each of its statuses, under the address sanitizer; the examples; and the
-program that docs/C.md shows.
+"""The interface for C and C++: every call of the headers, and each of its statuses, under the sanitizers; forks, and threads that come and go;
+the examples, whatever they find; and the programs that the pages show.
 
 The programs are in `tests/c`. Each prints a line for each group of its checks.
 """
@@ -8,14 +8,13 @@ import pathlib
 import re
 import subprocess
 import tempfile
-import time
 
-from support import native
+from support import compiling, native, services
 from support.program import ROOT, Answer, answer, difference
 
 PROGRAM = "persist_report"
 NO_EXCEPTIONS = "-fno-exceptions"
-MOST_SECONDS = 120
+MOST_SECONDS = 300
 # A source, more flags, and whether it is told a folder to work in.
 CHECKS = (
     ("every_call.c", [], False),
@@ -24,6 +23,10 @@ CHECKS = (
     ("refused_memory.c", [], False),
     ("mapped_file.c", [], True),
     ("crossing.cpp", [], False),
+    ("recorders.cpp", [], True),
+    ("recorders.cpp", [NO_EXCEPTIONS], True),
+    ("forked.cpp", [], True),
+    ("opened.cpp", [], True),
 )
 
 
@@ -78,6 +81,8 @@ def text_of_statuses(program):
     listed = dict(re.findall(r"^    \{(POVUNDIRI_\w+), \"([\w ]+)\"\},$", names, re.MULTILINE))
     statuses = re.findall(r"^    (POVUNDIRI_\w+) = \d+", header.split("enum povundiri_status")[1], re.MULTILINE)
     yield "each status has a name", None if statuses and statuses == [*listed] else f"they differ: {sorted(set(statuses) ^ set(listed))}"
+    classes = re.findall(r"^    \w+ = (POVUNDIRI_\w+),?", (native.LIBRARY / "povundiri_status.hpp").read_text(), re.MULTILINE)
+    yield "each status is one of povundiri::Status", None if classes == statuses else f"they differ: {sorted(set(statuses) ^ set(classes))}"
     shared = sorted(name for name in listed.values() if [*listed.values()].count(name) > 1)
     yield "no two statuses have one name", f"shared are {shared}" if shared else None
     words = sorted({name.split()[-1] for name in listed.values() if " " in name})
@@ -102,37 +107,6 @@ def record_example(installed, program, folder):
     return difference(Answer(RECORDED.encode()), report_in(program, file))
 
 
-def requests_of(report):
-    """How many requests a report of the service tells of."""
-    total = re.search(rb"^latency_us,total,(\d+),", report.output, re.MULTILINE)
-    return 0 if total is None else int(total[1])
-
-
-def killed_service(service, program, file, before):
-    """What the service prints until it is killed, once it has answered more requests than there were before."""
-    ends = time.monotonic() + MOST_SECONDS
-    with subprocess.Popen([service, file], stdout=subprocess.PIPE) as running:
-        try:
-            while running.poll() is None and requests_of(report_in(program, file)) <= before and time.monotonic() < ends:
-                time.sleep(0.05)
-        finally:
-            running.kill()
-        return running.stdout.read()
-
-
-def service_example(installed, program, folder):
-    """`examples/cpp/service.cpp`, killed three times: each time it first prints what the one before had left."""
-    service, file = installed.program(EXAMPLES / "cpp" / "service.cpp"), folder / "service.seg"
-    left, before = Answer(), 0
-    for _ in range(3):
-        wrong = difference(left, Answer(killed_service(service, program, file, before)))
-        left = report_in(program, file)
-        if wrong is not None or requests_of(left) <= before:
-            return wrong or f"behind {before} requests came {left}"
-        before = requests_of(left)
-    return None
-
-
 def shown_programs(folder):
     """The programs that the pages show, as files: blocks that begin with an include."""
     for page in PAGES:
@@ -146,9 +120,8 @@ def shown_programs(folder):
 
 
 def examples(installed, program, folder):
-    """The two examples, and what the pages show."""
+    """The example in C, and what the pages show."""
     yield "record.c", lambda: record_example(installed, program, folder)
-    yield "service.cpp", lambda: service_example(installed, program, folder)
     for name, source in shown_programs(folder):
         yield name, lambda source=source: installed.program(source) and None
 
@@ -170,7 +143,11 @@ def cases(program, options):
             return
         yield from exported(installed)
         yield from text_of_statuses(program)
-        for name, flags, works in CHECKS:
-            yield from checked(installed, name, flags, folder if works else None)
+        for number, (name, flags, works) in enumerate(CHECKS):
+            own = folder / f"works_{number}"
+            own.mkdir()
+            yield from checked(installed, name, flags, own if works else None)
         for name, test in examples(installed, program, folder):
             yield name, wrong_of(test)
+        yield from services.cases(installed, program, folder, report_in)
+        yield from compiling.cases(installed, folder)

@@ -1,0 +1,274 @@
+/* Who has a file, and what signals and limits do to its opening: file_locks FOLDER
+ *
+ * It is linked with a povundiri_file.c of which some calls to the system come here: -Dflock=test_flock and so on. */
+#include "files.h"
+
+#include <sys/mount.h>
+
+/* How often the next calls are interrupted before they are made. */
+static int interruptions;
+static int interrupted;
+
+static int is_interrupted(void) {
+    if (interrupted >= interruptions) {
+        interrupted = 0;
+        return 0;
+    }
+    interrupted += 1;
+    errno = EINTR;
+    return 1;
+}
+
+int test_flock(int descriptor, int how);
+int test_flock(int descriptor, int how) {
+    return is_interrupted() ? -1 : flock(descriptor, how);
+}
+
+ssize_t test_pread(int descriptor, void *to, size_t bytes, off_t at);
+ssize_t test_pread(int descriptor, void *to, size_t bytes, off_t at) {
+    return is_interrupted() ? -1 : pread(descriptor, to, bytes, at);
+}
+
+int test_open(const char *path, int flags, ...);
+int test_open(const char *path, int flags, ...) {
+    return is_interrupted() ? -1 : open(path, flags, 0600);
+}
+
+int test_posix_fallocate(int descriptor, off_t at, off_t bytes);
+int test_posix_fallocate(int descriptor, off_t at, off_t bytes) {
+    return is_interrupted() ? EINTR : posix_fallocate(descriptor, at, bytes);
+}
+
+int test_ftruncate(int descriptor, off_t length);
+int test_ftruncate(int descriptor, off_t length) {
+    return is_interrupted() ? -1 : ftruncate(descriptor, length);
+}
+
+/* ---- The lock ---- */
+
+static void second_open(void) {
+    struct povundiri_file file = {0}, other = {0};
+    struct povundiri_opened opened;
+    int64_t began;
+    make_segment("twice", 5);
+    HOLDS(open_file(&file, "twice") == 0);
+    began = milliseconds_now();
+    HOLDS(open_file(&other, "twice") == EBUSY && !povundiri_file_is_open(&other));
+    HOLDS(milliseconds_now() - began >= 100 && milliseconds_now() - began < 5000);
+    ANSWERS(SYSTEM, open_and_count("twice", POVUNDIRI_ADOPT_OR_BEGIN_ANEW, 1, &opened));
+    HOLDS(opened.fault == EBUSY && opened.set_aside[0] == 0 && units_in(path_of("twice")) == 5);
+    povundiri_file_close(&file);
+    DONE(open_and_count("twice", POVUNDIRI_ADOPT_OR_FAIL, 1, &opened));
+}
+
+/* The lock is with the file that is open: no other descriptor of the path gives it away. */
+static void other_descriptors(void) {
+    struct povundiri_file file = {0};
+    int i;
+    HOLDS(open_file(&file, "others") == 0 && opened_by_another("others") == EBUSY);
+    for (i = 0; i < 3; i += 1) {
+        const int descriptor = open(path_of("others"), i == 0 ? O_RDONLY : O_RDWR);
+        HOLDS(descriptor >= 0 && close(descriptor) == 0);
+    }
+    HOLDS(opened_by_another("others") == EBUSY);
+    povundiri_file_close(&file);
+    HOLDS(opened_by_another("others") == 0);
+}
+
+/* A child that has a lock of the file, by a descriptor that only reads, for so long. It has it when this returns. */
+static pid_t reader_for(const char *name, int how, int milliseconds) {
+    int ready[2];
+    char byte;
+    pid_t child;
+    HOLDS(pipe(ready) == 0);
+    child = fork();
+    if (child == 0) {
+        const int descriptor = open(path_of(name), O_RDONLY);
+        if (flock(descriptor, how) != 0 || write(ready[1], "r", 1) != 1) _exit(1);
+        sleep_for(milliseconds);
+        _exit(0);
+    }
+    HOLDS(read(ready[0], &byte, 1) == 1);
+    close(ready[0]);
+    close(ready[1]);
+    return child;
+}
+
+static void readers_that_probe(void) {
+    struct povundiri_opened opened;
+    pid_t child;
+    make_segment("probed", 5);
+    child = reader_for("probed", LOCK_SH, 50);
+    DONE(open_and_count("probed", POVUNDIRI_ADOPT_OR_FAIL, 1, &opened));
+    HOLDS(end_of(child) == 0);
+    child = reader_for("probed", LOCK_EX, 50);
+    DONE(open_and_count("probed", POVUNDIRI_ADOPT_OR_FAIL, 1, &opened));
+    HOLDS(end_of(child) == 0);
+    child = reader_for("probed", LOCK_SH, 600);
+    ANSWERS(SYSTEM, open_and_count("probed", POVUNDIRI_ADOPT_OR_FAIL, 1, &opened));
+    HOLDS(opened.fault == EBUSY && end_of(child) == 0 && units_in(path_of("probed")) == 7);
+}
+
+/* While the lock is waited for, its owner gives the file another name and makes a new one: that is the one that is opened. */
+static void other_file_of_the_name(void) {
+    static const int has_new_one[] = {0, 1};
+    size_t i;
+    for (i = 0; i < 2; i += 1) {
+        struct povundiri_file file = {0};
+        struct stat about, named;
+        int ready[2];
+        char byte;
+        pid_t child;
+        make_segment("renamed", 5);
+        HOLDS(pipe(ready) == 0);
+        child = fork();
+        if (child == 0) {
+            const int descriptor = open(path_of("renamed"), O_RDWR);
+            if (flock(descriptor, LOCK_EX) != 0 || write(ready[1], "r", 1) != 1) _exit(1);
+            sleep_for(30);
+            if (rename(path_of("renamed"), path_of("renamed.old")) != 0) _exit(1);
+            if (has_new_one[i]) store("renamed", "", 0);
+            _exit(0);
+        }
+        HOLDS(read(ready[0], &byte, 1) == 1);
+        HOLDS(open_file(&file, "renamed") == 0);
+        HOLDS(fstat(povundiri_file_descriptor(&file), &about) == 0 && stat(path_of("renamed"), &named) == 0);
+        HOLDS(about.st_ino == named.st_ino && units_in(path_of("renamed.old")) == 5);
+        povundiri_file_close(&file);
+        HOLDS(end_of(child) == 0);
+        close(ready[0]);
+        close(ready[1]);
+    }
+}
+
+/* ---- Signals ---- */
+
+static volatile sig_atomic_t signals;
+
+static void count_signal(int number) {
+    (void)number;
+    signals += 1;
+}
+
+/* Opens new files and old ones in a folder, while signals come all the time. */
+static void open_in_storm(const char *where, int rounds) {
+    const struct itimerval often = {{0, 150}, {0, 150}}, never = {{0, 0}, {0, 0}};
+    const char *before = folder;
+    struct sigaction action;
+    int i;
+    folder = where;
+    memset(&action, 0, sizeof action);
+    action.sa_handler = count_signal;
+    HOLDS(sigaction(SIGALRM, &action, NULL) == 0);
+    signals = 0;
+    HOLDS(setitimer(ITIMER_REAL, &often, NULL) == 0);
+    for (i = 0; i < rounds; i += 1) {
+        struct povundiri_file file = {0};
+        HOLDS(povundiri_file_open(&file, path_of("storm"), LARGEST, NULL) == 0);
+        HOLDS(blocks_of("storm") >= LARGEST);
+        povundiri_file_close(&file);
+        HOLDS(povundiri_file_open(&file, path_of("storm"), LARGEST, NULL) == 0);
+        povundiri_file_close(&file);
+        unlink(path_of("storm"));
+    }
+    HOLDS(setitimer(ITIMER_REAL, &never, NULL) == 0 && signals >= rounds);
+    folder = before;
+}
+
+static void signal_storm(void) {
+    open_in_storm(folder, 20);
+}
+
+static void signal_storm_in_memory(void) {
+    char memory[64];
+    snprintf(memory, sizeof memory, "/dev/shm/povundiri_%ld", (long)getpid());
+    HOLDS(mkdir(memory, 0700) == 0);
+    open_in_storm(memory, 20);
+    HOLDS(rmdir(memory) == 0);
+}
+
+/* Each call to the system is interrupted three times before it is made. */
+static void interrupted_calls(void) {
+    struct povundiri_opened opened;
+    const uint64_t wrong = 99;
+    interruptions = 3;
+    unlink(path_of("interrupted"));
+    DONE(open_and_count("interrupted", POVUNDIRI_ADOPT_OR_FAIL, 5, &opened));
+    DONE(open_and_count("interrupted", POVUNDIRI_ADOPT_OR_FAIL, 1, &opened));
+    HOLDS(opened.outcome == POVUNDIRI_ADOPTED && units_in(path_of("interrupted")) == 6);
+    HOLDS(truncate(path_of("interrupted"), 8200) == 0);
+    store_at("interrupted", 8 + 8 * 7, &wrong, 8);
+    ANSWERS(ADOPT_DAMAGED, open_and_count("interrupted", POVUNDIRI_ADOPT_OR_FAIL, 1, &opened));
+    HOLDS(length_of("interrupted") == 8200);
+    interruptions = 0;
+}
+
+/* ---- Limits and full devices ---- */
+
+static void limit_of_length(void) {
+    struct povundiri_opened opened;
+    pid_t child = fork();
+    if (child == 0) {
+        const struct rlimit limit = {8223, 8223};
+        struct povundiri_file file = {0};
+        int fault;
+        if (setrlimit(RLIMIT_FSIZE, &limit) != 0) _exit(1);
+        fault = open_file(&file, "limited");
+        _exit(fault == EFBIG && length_of("limited") == 0 ? 0 : 1);
+    }
+    HOLDS(end_of(child) == 0);
+    make_segment("limited", 5);
+    HOLDS(truncate(path_of("limited"), 8200) == 0);
+    child = fork();
+    if (child == 0) {
+        const struct rlimit limit = {8223, 8223};
+        if (setrlimit(RLIMIT_FSIZE, &limit) != 0) _exit(1);
+        if (open_and_count("limited", POVUNDIRI_ADOPT_OR_SET_ASIDE, 1, &opened) != POVUNDIRI_SYSTEM) _exit(2);
+        _exit(opened.fault == EFBIG && length_of("limited") == 8200 ? 0 : 3);
+    }
+    HOLDS(end_of(child) == 0);
+    DONE(open_and_count("limited", POVUNDIRI_ADOPT_OR_FAIL, 1, &opened));
+    HOLDS(units_in(path_of("limited")) == 6);
+}
+
+static void full_device(void) {
+    struct povundiri_file file = {0};
+    struct povundiri_opened opened;
+    const char *before = folder;
+    static char small[4096];
+    snprintf(small, sizeof small, "%s", path_of("small"));
+    folder = small;
+    HOLDS(povundiri_file_open(&file, path_of("new"), LARGEST, NULL) == ENOSPC && length_of("new") == 0);
+    make_segment("segment", 5);
+    HOLDS(povundiri_file_open(&file, path_of("segment"), LARGEST, NULL) == ENOSPC);
+    HOLDS(length_of("segment") == 8224 && units_in(path_of("segment")) == 5);
+    DONE(open_and_count("segment", POVUNDIRI_ADOPT_OR_FAIL, 1, &opened));
+    HOLDS(povundiri_file_open(&file, path_of("new"), 8224, NULL) == 0);
+    povundiri_file_close(&file);
+    folder = before;
+    HOLDS(umount(path_of("small")) == 0);
+}
+
+static int full_device_where_it_can_be_mounted(void) {
+    if (mkdir(path_of("small"), 0700) != 0 || mount("none", path_of("small"), "tmpfs", 0, "size=64k") != 0) {
+        return left_out("full_device", "no small device can be mounted here");
+    }
+    return group("full_device", full_device);
+}
+
+int main(int count, char **words) {
+    int failed;
+    if (count != 2) return 2;
+    folder = words[1];
+    failed = group("second_open", second_open);
+    failed += group("other_descriptors", other_descriptors);
+    failed += group("readers_that_probe", readers_that_probe);
+    failed += group("other_file_of_the_name", other_file_of_the_name);
+    failed += group("signal_storm", signal_storm);
+    failed += access("/dev/shm", W_OK) == 0 ? group("signal_storm_in_memory", signal_storm_in_memory)
+                                            : left_out("signal_storm_in_memory", "there is no /dev/shm");
+    failed += group("interrupted_calls", interrupted_calls);
+    failed += group("limit_of_length", limit_of_length);
+    failed += full_device_where_it_can_be_mounted();
+    return failed != 0;
+}

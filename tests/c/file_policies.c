@@ -1,0 +1,603 @@
+/* What povundiri_open makes of each file that stands at a path, by each policy; and that neither a kill nor a fault of the system at any call
+ * of it loses a unit: file_policies FOLDER
+ *
+ * It is linked with a povundiri_file.c of which the calls to the system come here: -Drenameat2=test_renameat2 and so on. */
+#include "files.h"
+
+#include <dirent.h>
+#include <stdarg.h>
+#include <sys/mman.h>
+
+/* ---- The system's calls ---- */
+
+/* At which of the calls that come the process is killed, or the call fails, from 1 on; 0 for none. */
+static int calls, killed_at, failing_at, cannot_rename_to_free;
+
+/* Whether this call is to fail. */
+static int fails(void) {
+    calls += 1;
+    if (calls == killed_at) raise(SIGKILL);
+    errno = EIO;
+    return calls == failing_at;
+}
+
+int test_open(const char *path, int flags, ...);
+int test_open(const char *path, int flags, ...) {
+    va_list more;
+    mode_t mode;
+    va_start(more, flags);
+    mode = va_arg(more, mode_t);
+    va_end(more);
+    return fails() ? -1 : open(path, flags, mode);
+}
+
+int test_fstat(int descriptor, struct stat *about);
+int test_fstat(int descriptor, struct stat *about) {
+    return fails() ? -1 : fstat(descriptor, about);
+}
+
+int test_fstatat(int directory, const char *path, struct stat *about, int flags);
+int test_fstatat(int directory, const char *path, struct stat *about, int flags) {
+    return fails() ? -1 : fstatat(directory, path, about, flags);
+}
+
+int test_flock(int descriptor, int how);
+int test_flock(int descriptor, int how) {
+    return fails() ? -1 : flock(descriptor, how);
+}
+
+ssize_t test_pread(int descriptor, void *to, size_t bytes, off_t at);
+ssize_t test_pread(int descriptor, void *to, size_t bytes, off_t at) {
+    return fails() ? -1 : pread(descriptor, to, bytes, at);
+}
+
+int test_posix_fallocate(int descriptor, off_t at, off_t bytes);
+int test_posix_fallocate(int descriptor, off_t at, off_t bytes) {
+    return fails() ? EIO : posix_fallocate(descriptor, at, bytes);
+}
+
+int test_ftruncate(int descriptor, off_t length);
+int test_ftruncate(int descriptor, off_t length) {
+    if (fails()) return 0; /* a failure of this is not looked at: it is as if the process had been killed before */
+    return ftruncate(descriptor, length);
+}
+
+void *test_mmap(void *at, size_t bytes, int protection, int flags, int descriptor, off_t offset);
+void *test_mmap(void *at, size_t bytes, int protection, int flags, int descriptor, off_t offset) {
+    return fails() ? MAP_FAILED : mmap(at, bytes, protection, flags, descriptor, offset);
+}
+
+int test_madvise(void *at, size_t bytes, int advice);
+int test_madvise(void *at, size_t bytes, int advice) {
+    return fails() ? -1 : madvise(at, bytes, advice);
+}
+
+int test_munmap(void *at, size_t bytes);
+int test_munmap(void *at, size_t bytes) {
+    (void)fails();
+    return munmap(at, bytes);
+}
+
+int test_close(int descriptor);
+int test_close(int descriptor) {
+    (void)fails();
+    return close(descriptor);
+}
+
+int test_renameat2(int from_directory, const char *from, int to_directory, const char *to, unsigned flags);
+int test_renameat2(int from_directory, const char *from, int to_directory, const char *to, unsigned flags) {
+    if (fails()) return -1;
+    if (!cannot_rename_to_free) return renameat2(from_directory, from, to_directory, to, flags);
+    errno = EINVAL;
+    return -1;
+}
+
+int test_link(const char *from, const char *to);
+int test_link(const char *from, const char *to) {
+    return fails() ? -1 : link(from, to);
+}
+
+int test_unlink(const char *path);
+int test_unlink(const char *path) {
+    return fails() ? -1 : unlink(path);
+}
+
+/* ---- Files that were set aside ---- */
+
+/* Removes all that stands in the folder. */
+static void clear(void) {
+    DIR *all = opendir(folder);
+    const struct dirent *entry;
+    while (all != NULL && (entry = readdir(all)) != NULL) unlink(path_of(entry->d_name));
+    closedir(all);
+}
+
+/* How many files of the folder have these bytes, of those whose name begins so. */
+static int with_bytes(const char *beginning, const void *bytes, size_t length) {
+    DIR *all = opendir(folder);
+    const struct dirent *entry;
+    int found = 0;
+    while (all != NULL && (entry = readdir(all)) != NULL) {
+        found += strncmp(entry->d_name, beginning, strlen(beginning)) == 0 && has_bytes(path_of(entry->d_name), bytes, length);
+    }
+    closedir(all);
+    return found;
+}
+
+/* Whether this is PATH.KIND-YYYYMMDDThhmmssZ-N with this number, and of the last minutes. */
+static int is_name(const char *name, const char *path, const char *kind, int number) {
+    const time_t now = time(NULL);
+    char before[4200], after[16];
+    struct tm parts;
+    time_t ago;
+    snprintf(before, sizeof before, "%s.%s-", path, kind);
+    snprintf(after, sizeof after, "-%d", number);
+    if (strncmp(name, before, strlen(before)) != 0) return 0;
+    name += strlen(before);
+    memset(&parts, 0, sizeof parts);
+    if (strlen(name) != 16 + strlen(after) || strptime(name, "%Y%m%dT%H%M%SZ", &parts) != name + 16) return 0;
+    ago = now - timegm(&parts);
+    return ago >= 0 && ago < 300 && strcmp(name + 16, after) == 0;
+}
+
+/* ---- Images that are refused ---- */
+
+static const struct damage {
+    size_t word;
+    uint64_t value;
+    uint32_t fault;
+} DAMAGES[] = {
+    {1, 1, POVUNDIRI_ADOPT_OLD_VERSION},  {6, 1, POVUNDIRI_ADOPT_CORRUPT},   {7, 99, POVUNDIRI_ADOPT_DAMAGED},
+    {2, 8, POVUNDIRI_IMAGE_TOO_SHORT},    {1, 3, POVUNDIRI_IMAGE_BAD_VERSION}, {3, 65, POVUNDIRI_IMAGE_BAD_PAGE},
+    {2, 512 + 1, POVUNDIRI_IMAGE_BAD_SIZE}, {5, 3, POVUNDIRI_IMAGE_NOT_READY},  {5, 2, POVUNDIRI_IMAGE_DELETED},
+    {7, 5, POVUNDIRI_IMAGE_BAD_FREE},     {12, 5, POVUNDIRI_IMAGE_BAD_QUEUE},
+};
+enum { DAMAGE_COUNT = sizeof DAMAGES / sizeof DAMAGES[0] };
+
+/* A file with a segment of five units in which one word is another. Its bytes, for free(). */
+static unsigned char *damaged_file(const char *name, const struct damage *damage, size_t *length) {
+    make_segment(name, 5);
+    store_at(name, 8 + 8 * (off_t)damage->word, &damage->value, 8);
+    return bytes_at(path_of(name), length);
+}
+
+static void refused_and_left(void) {
+    struct povundiri_opened opened;
+    size_t i, length;
+    for (i = 0; i < DAMAGE_COUNT; i += 1) {
+        unsigned char *before = damaged_file("left", &DAMAGES[i], &length);
+        check_status(__LINE__, "open", DAMAGES[i].fault, open_and_count("left", POVUNDIRI_ADOPT_OR_FAIL, 1, &opened));
+        HOLDS(opened.outcome == POVUNDIRI_NOTHING && opened.refused == DAMAGES[i].fault && opened.set_aside[0] == 0);
+        HOLDS(opened.fault == 0 && opened.shape.size == 0 && !opened.spent);
+        HOLDS(has_bytes(path_of("left"), before, length) && with_bytes("left.", before, length) == 0);
+        free(before);
+    }
+}
+
+static void refused_and_set_aside(void) {
+    struct povundiri_opened opened;
+    size_t i, length;
+    int policy;
+    for (i = 0; i < DAMAGE_COUNT; i += 1) {
+        for (policy = POVUNDIRI_ADOPT_OR_SET_ASIDE; policy <= POVUNDIRI_ADOPT_OR_BEGIN_ANEW; policy += 1) {
+            unsigned char *before = damaged_file("aside", &DAMAGES[i], &length);
+            DONE(open_and_count("aside", (enum povundiri_policy)policy, 7, &opened));
+            HOLDS(opened.outcome == POVUNDIRI_MADE_ANEW && opened.refused == DAMAGES[i].fault && opened.fault == 0);
+            HOLDS(opened.shape.size == WORDS && opened.units == UINT32_MAX && !opened.other_shape && !opened.spent);
+            HOLDS(has_bytes(opened.set_aside, before, length) && units_in(path_of("aside")) == 7);
+            HOLDS(strncmp(opened.set_aside, path_of("aside.damaged-"), strlen(path_of("aside.damaged-"))) == 0);
+            free(before);
+        }
+    }
+}
+
+/* More units than a segment has. */
+static void too_many_units(void) {
+    struct povundiri_file file = {0};
+    struct povundiri_handle segment = {0};
+    struct povundiri_opened opened;
+    const struct povundiri_shape shape = shape_of(WORDS);
+    const uint64_t most = UINT32_MAX;
+    uint64_t *words;
+    size_t count, i, changed = 0;
+    make_segment("units", 5);
+    DONE(open_and_count("units", POVUNDIRI_ADOPT_OR_FAIL, 0, &opened));
+    HOLDS(povundiri_file_open(&file, path_of("units"), 16, NULL) == 0);
+    words = povundiri_file_words(&file, &count);
+    for (i = 16; i + 6 < count; i += 1) {
+        /* the sample of 3: its block's cookie and type, then the histogram, the value and the count */
+        if (words[i + 1] == 0xC8799269 && words[i + 2] == 3 && words[i + 6] == 5) {
+            changed = i + 6;
+            break;
+        }
+    }
+    free(words);
+    povundiri_file_close(&file);
+    HOLDS(changed != 0);
+    store_at("units", 8 + 8 * (off_t)changed, &most, 8);
+    DONE(povundiri_open(path_of("units"), shape, POVUNDIRI_ADOPT_OR_FAIL, NULL, &file, &segment, &opened));
+    HOLDS(opened.spent && opened.units == 0);
+    DONE(povundiri_drop(&segment));
+    povundiri_file_close(&file);
+    {
+        const uint64_t more = most + 1;
+        store_at("units", 8 + 8 * (off_t)changed, &more, 8);
+        ANSWERS(ADOPT_NO_UNITS, open_and_count("units", POVUNDIRI_ADOPT_OR_FAIL, 1, &opened));
+        DONE(open_and_count("units", POVUNDIRI_ADOPT_OR_SET_ASIDE, 1, &opened));
+        HOLDS(opened.refused == POVUNDIRI_ADOPT_NO_UNITS && opened.outcome == POVUNDIRI_MADE_ANEW);
+    }
+}
+
+/* A file that is cut keeps its length under its new name. */
+static void cut_and_set_aside(void) {
+    struct povundiri_opened opened;
+    unsigned char *before;
+    size_t length;
+    make_segment("cut", 5);
+    HOLDS(truncate(path_of("cut"), 5001) == 0);
+    before = bytes_at(path_of("cut"), &length);
+    DONE(open_and_count("cut", POVUNDIRI_ADOPT_OR_SET_ASIDE, 1, &opened));
+    HOLDS(length == 5001 && opened.refused == POVUNDIRI_IMAGE_BAD_SIZE && has_bytes(opened.set_aside, before, length));
+    free(before);
+    before = damaged_file("cut", &DAMAGES[2], &length);
+    HOLDS(truncate(path_of("cut"), 8200) == 0);
+    DONE(open_and_count("cut", POVUNDIRI_ADOPT_OR_SET_ASIDE, 1, &opened));
+    HOLDS(opened.refused == POVUNDIRI_ADOPT_DAMAGED && has_bytes(opened.set_aside, before, 8200));
+    free(before);
+}
+
+/* The numbers count up within a second, and no file is written over, nor one that a link leads to. */
+static void numbers(void) {
+    static const char text[] = "a file of somebody else";
+    struct povundiri_opened opened;
+    unsigned char *before;
+    size_t length;
+    int number, tries = 0;
+    do { /* until all of it falls into one second */
+        clear();
+        before = damaged_file("n", &DAMAGES[2], &length);
+        for (number = 1; number <= 4; number += 1) {
+            store("n", before, length);
+            DONE(open_and_count("n", POVUNDIRI_ADOPT_OR_SET_ASIDE, 1, &opened));
+            if (!is_name(opened.set_aside, path_of("n"), "damaged", number)) break;
+            if (number == 2) { /* the next name is taken */
+                char taken[POVUNDIRI_PATH_BYTES];
+                strcpy(taken, opened.set_aside);
+                taken[strlen(taken) - 1] = '3';
+                store("text", text, sizeof text);
+                HOLDS(symlink("text", taken) == 0);
+                number = 3;
+            }
+        }
+        tries += 1;
+        if (number <= 4) free(before);
+    } while (number <= 4 && tries < 20);
+    HOLDS(number == 5 && with_bytes("n.damaged-", before, length) == 3 && has_bytes(path_of("text"), text, sizeof text));
+    HOLDS(with_bytes("n.damaged-", text, sizeof text) == 1);
+    free(before);
+}
+
+/* Where the system knows no RENAME_NOREPLACE, it is done by link and unlink: never over a file either. */
+static void without_renameat2(void) {
+    cannot_rename_to_free = 1;
+    numbers();
+    refused_and_set_aside();
+    cannot_rename_to_free = 0;
+}
+
+/* A name that would be too long: nothing is renamed. */
+static void long_names(void) {
+    struct povundiri_opened opened;
+    unsigned char *before;
+    char name[256];
+    size_t length;
+    memset(name, 'x', 250);
+    name[250] = 0;
+    before = damaged_file(name, &DAMAGES[2], &length);
+    ANSWERS(SYSTEM, open_and_count(name, POVUNDIRI_ADOPT_OR_SET_ASIDE, 1, &opened));
+    HOLDS(opened.fault == ENAMETOOLONG && opened.set_aside[0] == 0 && opened.refused == POVUNDIRI_ADOPT_DAMAGED);
+    HOLDS(has_bytes(path_of(name), before, length));
+    free(before);
+}
+
+/* With a link, the file to which it leads is set aside, and the link leads to the new one. */
+static void behind_a_link(void) {
+    const struct povundiri_file_options follow = {POVUNDIRI_FILE_FOLLOW, 0};
+    struct povundiri_file file = {0};
+    struct povundiri_handle segment = {0};
+    struct povundiri_opened opened;
+    char target[4096], found[4096];
+    unsigned char *before;
+    size_t length;
+    before = damaged_file("target", &DAMAGES[2], &length);
+    HOLDS(symlink("target", path_of("link")) == 0 && realpath(path_of("target"), target) != NULL);
+    DONE(povundiri_open(path_of("link"), shape_of(WORDS), POVUNDIRI_ADOPT_OR_SET_ASIDE, &follow, &file, &segment, &opened));
+    HOLDS(is_name(opened.set_aside, target, "damaged", 1) && has_bytes(opened.set_aside, before, length));
+    HOLDS(realpath(path_of("link"), found) != NULL && strcmp(found, target) == 0);
+    DONE(povundiri_drop(&segment));
+    povundiri_file_close(&file);
+    free(before);
+}
+
+/* ---- What is not refused for good ---- */
+
+static void other_faults(void) {
+    const struct povundiri_file_options wrong = {1 << 20, 0};
+    const struct povundiri_shape shape = shape_of(WORDS);
+    struct povundiri_shape unlawful = shape, many = shape;
+    struct povundiri_file file = {0}, other = {0};
+    struct povundiri_handle segment = {0}, heap = {0};
+    struct povundiri_opened opened;
+    const char *path = path_of("faults");
+    unsigned char *before;
+    size_t length;
+    unlawful.page = 65;
+    many.cursors = 9;
+    before = damaged_file("faults", &DAMAGES[2], &length);
+    ANSWERS(NULL, povundiri_open(NULL, shape, POVUNDIRI_ADOPT_OR_SET_ASIDE, NULL, &file, &segment, &opened));
+    ANSWERS(NULL, povundiri_open(path, shape, POVUNDIRI_ADOPT_OR_SET_ASIDE, NULL, NULL, &segment, &opened));
+    ANSWERS(NULL, povundiri_open(path, shape, POVUNDIRI_ADOPT_OR_SET_ASIDE, NULL, &file, NULL, &opened));
+    ANSWERS(NULL, povundiri_open(path, shape, POVUNDIRI_ADOPT_OR_SET_ASIDE, NULL, &file, &segment, NULL));
+    ANSWERS(BAD_KIND, povundiri_open(path, shape, (enum povundiri_policy)0, NULL, &file, &segment, &opened));
+    ANSWERS(OPEN_BAD_SHAPE, povundiri_open(path, unlawful, POVUNDIRI_ADOPT_OR_SET_ASIDE, NULL, &file, &segment, &opened));
+    ANSWERS(OPEN_BAD_CURSORS, povundiri_open(path, many, POVUNDIRI_ADOPT_OR_SET_ASIDE, NULL, &file, &segment, &opened));
+    ANSWERS(SYSTEM, povundiri_open(path, shape, POVUNDIRI_ADOPT_OR_SET_ASIDE, &wrong, &file, &segment, &opened));
+    HOLDS(opened.fault == EINVAL && !segment.full && !povundiri_file_is_open(&file));
+    DONE(povundiri_create(shape, &heap));
+    ANSWERS(NOT_EMPTY, povundiri_open(path, shape, POVUNDIRI_ADOPT_OR_SET_ASIDE, NULL, &file, &heap, &opened));
+    DONE(povundiri_drop(&heap));
+    HOLDS(open_file(&other, "other") == 0);
+    ANSWERS(NOT_EMPTY, povundiri_open(path, shape, POVUNDIRI_ADOPT_OR_SET_ASIDE, NULL, &other, &segment, &opened));
+    povundiri_file_close(&other);
+    HOLDS(open_file(&other, "faults") == 0);
+    ANSWERS(SYSTEM, povundiri_open(path_of("faults"), shape, POVUNDIRI_ADOPT_OR_SET_ASIDE, NULL, &file, &segment, &opened));
+    HOLDS(opened.fault == EBUSY);
+    povundiri_file_close(&other);
+    HOLDS(chmod(path_of("faults"), 0666) == 0);
+    ANSWERS(SYSTEM, povundiri_open(path_of("faults"), shape, POVUNDIRI_ADOPT_OR_SET_ASIDE, NULL, &file, &segment, &opened));
+    HOLDS(opened.fault == EPERM && chmod(path_of("faults"), 0600) == 0);
+    HOLDS(has_bytes(path_of("faults"), before, length) && with_bytes("faults.", before, length) == 0);
+    HOLDS(!is_there(path_of("none")) && povundiri_open(path_of("none"), unlawful, POVUNDIRI_ADOPT_OR_FAIL, NULL, &file, &segment, &opened) ==
+                                            POVUNDIRI_OPEN_BAD_SHAPE);
+    HOLDS(!is_there(path_of("none")));
+    free(before);
+}
+
+/* ---- What is adopted ---- */
+
+/* An older segment keeps its shape, which is told; there is room for the cursors that are asked for. */
+static void other_shapes(void) {
+    const struct povundiri_shape small = {512, 64, 8, 8, 2}, large = {4096, 1024, 7, 0, 2};
+    struct povundiri_file file = {0};
+    struct povundiri_handle segment = {0};
+    struct povundiri_opened opened;
+    make_segment("shape", 5);
+    HOLDS(truncate(path_of("shape"), 8208) == 0);
+    DONE(povundiri_open(path_of("shape"), small, POVUNDIRI_ADOPT_OR_SET_ASIDE, NULL, &file, &segment, &opened));
+    HOLDS(opened.outcome == POVUNDIRI_ADOPTED && opened.other_shape && opened.units == UINT32_MAX - 5 && !opened.spent);
+    HOLDS(opened.shape.size == WORDS && opened.shape.page == PAGE && opened.shape.id == 7 && opened.shape.version == 2);
+    HOLDS(opened.shape.cursors == 8 && povundiri_file_room(&file).bytes == povundiri_file_bytes(WORDS, 8));
+    count_units(&segment, 1);
+    DONE(povundiri_drop(&segment));
+    povundiri_file_close(&file);
+    DONE(povundiri_open(path_of("shape"), large, POVUNDIRI_ADOPT_OR_FAIL, NULL, &file, &segment, &opened));
+    HOLDS(opened.other_shape && opened.shape.size == WORDS && opened.shape.cursors == 0);
+    DONE(povundiri_drop(&segment));
+    povundiri_file_close(&file);
+    DONE(povundiri_open(path_of("shape"), shape_of(WORDS), POVUNDIRI_ADOPT_OR_FAIL, NULL, &file, &segment, &opened));
+    HOLDS(!opened.other_shape && opened.outcome == POVUNDIRI_ADOPTED && opened.set_aside[0] == 0 && opened.refused == POVUNDIRI_DONE);
+    DONE(povundiri_drop(&segment));
+    povundiri_file_close(&file);
+    HOLDS(units_in(path_of("shape")) == 6);
+}
+
+/* A segment in which an allocation found no room is spent, and so is one without units. */
+static void spent(void) {
+    struct povundiri_opened opened;
+    unsigned char *before;
+    const uint64_t full = 2;
+    size_t length;
+    make_segment("spent", 5);
+    store_at("spent", 8 + 8 * 6, &full, 8);
+    before = bytes_at(path_of("spent"), &length);
+    DONE(open_and_count("spent", POVUNDIRI_ADOPT_OR_FAIL, 0, &opened));
+    HOLDS(opened.outcome == POVUNDIRI_ADOPTED && opened.spent && opened.units == UINT32_MAX - 5);
+    DONE(open_and_count("spent", POVUNDIRI_ADOPT_OR_SET_ASIDE, 0, &opened));
+    HOLDS(opened.outcome == POVUNDIRI_ADOPTED && opened.spent && opened.set_aside[0] == 0);
+    HOLDS(has_bytes(path_of("spent"), before, length));
+    DONE(open_and_count("spent", POVUNDIRI_ADOPT_OR_BEGIN_ANEW, 1, &opened));
+    HOLDS(opened.outcome == POVUNDIRI_MADE_ANEW && !opened.spent && opened.units == UINT32_MAX && opened.refused == POVUNDIRI_DONE);
+    HOLDS(strncmp(opened.set_aside, path_of("spent.full-"), strlen(path_of("spent.full-"))) == 0);
+    HOLDS(has_bytes(opened.set_aside, before, length) && units_in(path_of("spent")) == 1);
+    free(before);
+    make_segment("spent", UINT32_MAX);
+    DONE(open_and_count("spent", POVUNDIRI_ADOPT_OR_SET_ASIDE, 0, &opened));
+    HOLDS(opened.spent && opened.units == 0 && opened.outcome == POVUNDIRI_ADOPTED);
+    DONE(open_and_count("spent", POVUNDIRI_ADOPT_OR_BEGIN_ANEW, 1, &opened));
+    HOLDS(opened.outcome == POVUNDIRI_MADE_ANEW && units_in(opened.set_aside) == UINT32_MAX);
+}
+
+/* ---- Kills and faults at each call to the system ---- */
+
+/* What stands at the path before, and what is to stand there or under another name behind it. */
+enum start { NOTHING_THERE, GROWS, IS_DAMAGED, IS_SPENT, STARTS };
+
+static unsigned char *begin(enum start start, size_t *length) {
+    const uint64_t full = 2;
+    clear();
+    *length = 0;
+    if (start == NOTHING_THERE) return NULL;
+    if (start == IS_DAMAGED) return damaged_file("at_each", &DAMAGES[2], length);
+    make_segment("at_each", 5);
+    if (start == GROWS) HOLDS(truncate(path_of("at_each"), 8200) == 0);
+    if (start == IS_SPENT) store_at("at_each", 8 + 8 * 6, &full, 8);
+    return bytes_at(path_of("at_each"), length);
+}
+
+/* Behind a stop the next call succeeds, and no unit is lost. */
+static void next_start(enum start start, const unsigned char *before, size_t length) {
+    struct povundiri_opened opened;
+    DONE(open_and_count("at_each", POVUNDIRI_ADOPT_OR_BEGIN_ANEW, 1, &opened));
+    if (start == IS_DAMAGED) HOLDS(with_bytes("at_each.damaged-", before, length) >= 1);
+    if (start == IS_SPENT) HOLDS(with_bytes("at_each.full-", before, length) >= 1);
+    HOLDS(units_in(path_of("at_each")) == (start == GROWS ? 6 : 1));
+}
+
+/* Kills it at each call in turn; how often it was. */
+static int kill_at_each_call(enum start start) {
+    int at, end = 1000 + SIGKILL;
+    for (at = 1; end == 1000 + SIGKILL && at < 1000; at += 1) {
+        size_t length;
+        unsigned char *before = begin(start, &length);
+        const pid_t child = fork();
+        if (child == 0) {
+            struct povundiri_opened opened;
+            struct povundiri_file file = {0};
+            struct povundiri_handle segment = {0};
+            calls = 0;
+            killed_at = at;
+            _exit(povundiri_open(path_of("at_each"), shape_of(WORDS), POVUNDIRI_ADOPT_OR_BEGIN_ANEW, NULL, &file, &segment, &opened) != 0);
+        }
+        end = end_of(child);
+        next_start(start, before, length);
+        free(before);
+    }
+    HOLDS(end == 0);
+    return at - 2;
+}
+
+/* Has each call fail in turn; how often it did. */
+static int fail_at_each_call(enum start start) {
+    uint32_t status = POVUNDIRI_SYSTEM;
+    int at, failed = 0;
+    for (at = 1; at < 1000; at += 1) {
+        struct povundiri_opened opened;
+        size_t length;
+        unsigned char *before = begin(start, &length);
+        calls = 0;
+        failing_at = at;
+        status = open_and_count("at_each", POVUNDIRI_ADOPT_OR_BEGIN_ANEW, 0, &opened);
+        failing_at = 0;
+        if (calls < at) at = 1000;
+        HOLDS(status == POVUNDIRI_DONE || (status == POVUNDIRI_SYSTEM && opened.fault == EIO));
+        failed += status == POVUNDIRI_SYSTEM;
+        if (status == POVUNDIRI_SYSTEM && opened.set_aside[0] != 0) HOLDS(has_bytes(opened.set_aside, before, length));
+        if (status == POVUNDIRI_SYSTEM && opened.set_aside[0] == 0 && before != NULL) {
+            HOLDS(with_bytes("at_each", before, length) >= 1 || calls > at);
+        }
+        if (status == POVUNDIRI_SYSTEM) next_start(start, before, length);
+        free(before);
+    }
+    HOLDS(status == POVUNDIRI_DONE);
+    return failed;
+}
+
+static void kills_at_calls(void) {
+    int start;
+    for (start = 0; start < STARTS; start += 1) {
+        HOLDS(kill_at_each_call((enum start)start) >= (start == IS_DAMAGED || start == IS_SPENT ? 15 : 7));
+        cannot_rename_to_free = 1;
+        HOLDS(kill_at_each_call((enum start)start) >= (start == IS_DAMAGED || start == IS_SPENT ? 17 : 7));
+        cannot_rename_to_free = 0;
+    }
+}
+
+static void faults_at_calls(void) {
+    int start;
+    for (start = 0; start < STARTS; start += 1) {
+        HOLDS(fail_at_each_call((enum start)start) >= 7);
+        cannot_rename_to_free = 1;
+        HOLDS(fail_at_each_call((enum start)start) >= 7);
+        cannot_rename_to_free = 0;
+    }
+}
+
+/* Kills at any moment of the making of a large segment. */
+static void kills_amid_making(void) {
+    const struct povundiri_shape large = {1048576, 65536, 7, 8, 2};
+    int i, killed = 0;
+    for (i = 0; i < 200; i += 1) {
+        struct povundiri_file file = {0};
+        struct povundiri_handle segment = {0};
+        struct povundiri_opened opened;
+        struct timespec wait = {0, 200000 * (long)i};
+        pid_t child;
+        unlink(path_of("making"));
+        child = fork();
+        if (child == 0) {
+            _exit(povundiri_open(path_of("making"), large, POVUNDIRI_ADOPT_OR_FAIL, NULL, &file, &segment, &opened) != 0);
+        }
+        nanosleep(&wait, NULL);
+        kill(child, SIGKILL);
+        killed += end_of(child) == 1000 + SIGKILL;
+        DONE(povundiri_open(path_of("making"), large, POVUNDIRI_ADOPT_OR_FAIL, NULL, &file, &segment, &opened));
+        DONE(povundiri_drop(&segment));
+        povundiri_file_close(&file);
+    }
+    HOLDS(killed > 20);
+}
+
+/* ---- Races ---- */
+
+enum { RACES = 200 };
+
+/* Two processes open the same damaged file: it is set aside once, and each that is done counts in the same new file. */
+static void races(void) {
+    int i, both = 0;
+    for (i = 0; i < RACES; i += 1) {
+        pid_t children[2];
+        int gate[2], number, done = 0;
+        size_t length;
+        unsigned char *before;
+        clear();
+        before = damaged_file("race", &DAMAGES[2], &length);
+        HOLDS(pipe(gate) == 0);
+        for (number = 0; number < 2; number += 1) {
+            children[number] = fork();
+            if (children[number] == 0) {
+                struct povundiri_opened opened;
+                char byte;
+                uint32_t status;
+                close(gate[1]);
+                if (read(gate[0], &byte, 1) != 0) _exit(9);
+                status = open_and_count("race", POVUNDIRI_ADOPT_OR_SET_ASIDE, 1, &opened);
+                if (failed_here != 0) _exit(8);
+                _exit(status == POVUNDIRI_DONE ? 0 : status == POVUNDIRI_SYSTEM && opened.fault == EBUSY ? 1 : 7);
+            }
+        }
+        close(gate[0]);
+        close(gate[1]);
+        for (number = 0; number < 2; number += 1) {
+            const int end = end_of(children[number]);
+            HOLDS(end == 0 || end == 1);
+            done += end == 0;
+        }
+        HOLDS(done >= 1 && units_in(path_of("race")) == done);
+        HOLDS(with_bytes("race.damaged-", before, length) == 1);
+        both += done == 2;
+        free(before);
+    }
+    HOLDS(both > 0);
+}
+
+int main(int count, char **words) {
+    int failed;
+    if (count != 2) return 2;
+    folder = words[1];
+    failed = group("refused_and_left", refused_and_left);
+    failed += group("refused_and_set_aside", refused_and_set_aside);
+    failed += group("too_many_units", too_many_units);
+    failed += group("cut_and_set_aside", cut_and_set_aside);
+    failed += group("numbers", numbers);
+    failed += group("without_renameat2", without_renameat2);
+    failed += group("long_names", long_names);
+    failed += group("behind_a_link", behind_a_link);
+    failed += group("other_faults", other_faults);
+    failed += group("other_shapes", other_shapes);
+    failed += group("spent", spent);
+    failed += group("kills_at_calls", kills_at_calls);
+    failed += group("faults_at_calls", faults_at_calls);
+    failed += group("kills_amid_making", kills_amid_making);
+    failed += group("races", races);
+    return failed != 0;
+}

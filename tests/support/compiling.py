@@ -1,0 +1,86 @@
+"""How the headers and sources of `c/` compile: without a warning by each compiler that is there and in each standard; in one program of files
+with exceptions and without; and under the thread sanitizer.
+"""
+
+import shutil
+import subprocess
+
+from support import native
+
+WARNINGS = ["-Wall", "-Wextra", "-Wpedantic", "-Wconversion", "-Wshadow", "-Werror", "-fsyntax-only", f"-I{native.LIBRARY}"]
+CPP_WARNINGS = ["-Wold-style-cast", "-Wzero-as-null-pointer-constant"]
+C_HEADERS, CPP_HEADERS = ("povundiri.h", "povundiri_file.h"), ("povundiri.h", "povundiri_file.h", "povundiri_status.hpp", "povundiri.hpp")
+MOST_SECONDS = 300
+
+
+def languages():
+    """The compilers that are there, with the words for each language and standard, and the suffix of its sources."""
+    for c, cpp in (("gcc", "g++"), ("clang", "clang++")):
+        if shutil.which(c) is not None:
+            yield from ((c, [f"-std={standard}"], ".c") for standard in ("c99", "c11", "c17", "c2x"))
+        if shutil.which(cpp) is not None:
+            for standard in ("c++17", "c++20", "c++2b"):
+                yield cpp, [f"-std={standard}", *CPP_WARNINGS], ".cpp"
+                yield cpp, [f"-std={standard}", "-fno-exceptions", *CPP_WARNINGS], ".cpp"
+
+
+def warnings(folder):
+    """Each header alone, and the sources."""
+    seen = set()
+    for compiler, words, suffix in languages():
+        source = folder / f"headers{suffix}"
+        source.write_text("".join(f"#include <{name}>\n" for name in (C_HEADERS if suffix == ".c" else CPP_HEADERS)))
+        sources = [source, *(path for path in native.LIBRARY.iterdir() if path.suffix == suffix)]
+        seen.add(suffix)
+        title = " ".join(["no warning of", compiler, *words[:2] if "-fno-exceptions" in words else words[:1]])
+        try:
+            native.run([compiler, *words, *WARNINGS, *sources])
+            yield title, None
+        except native.Failed as why:
+            yield title, str(why)
+    yield "a compiler for each language", None if seen == {".c", ".cpp"} else f"only for {seen}"
+
+
+def compiled(folder, source, *flags):
+    """An object of a source, with the headers of the library."""
+    built = folder / f"{source.stem}.o"
+    native.run([*native.compiler(source.suffix), *native.STRICT, *flags, f"-I{native.LIBRARY}", "-c", "-o", built, source])
+    return built
+
+
+def said_by(program, *words):
+    """The status of a program and what it printed."""
+    done = subprocess.run([program, *words], capture_output=True, text=True, timeout=MOST_SECONDS)
+    return done.returncode, done.stdout + done.stderr
+
+
+def mixed(installed, folder):
+    """Files with exceptions and without in one program; what throws then throws, or ends it where povundiri_raise.cpp is built without."""
+    plain = compiled(folder, native.PROGRAMS / "mixed_plain.cpp", "-fno-exceptions")
+    status, said = said_by(installed.program(native.PROGRAMS / "mixed.cpp", plain))
+    yield "files with exceptions and without", None if status == 0 and "failed" not in said else f"status {status}: {said}"
+    raising = compiled(folder, native.LIBRARY / "povundiri_raise.cpp", "-fno-exceptions")
+    status, said = said_by(installed.program(native.PROGRAMS / "mixed.cpp", plain, raising), "aborts")
+    wanted = (-6, "povundiri: recorder: EmptyHandle\n")
+    yield "povundiri_raise.cpp without exceptions", None if (status, said) == wanted else f"status {status}: {said}"
+
+
+def thread_sanitized(folder):
+    """What is in `c/` alone, with a stand-in for the proved functions: the sanitizer cannot see into those."""
+    flags = ["-fsanitize=thread"]
+    sources = [native.LIBRARY / name for name in ("povundiri.c", "povundiri_file.c", "povundiri_raise.cpp")]
+    sources += [native.PROGRAMS / "stand_in.cpp", native.PROGRAMS / "recorders.cpp"]
+    objects = [compiled(folder, source, *flags) for source in sources]
+    program = folder / "recorders_threads"
+    native.run([*native.compiler(".cpp"), *flags, "-pthread", "-o", program, *objects])
+    status, said = said_by(program, folder)
+    yield "recorders.cpp under the thread sanitizer", None if status == 0 else f"status {status}: {said[-3000:]}"
+
+
+def cases(installed, folder):
+    yield from warnings(folder)
+    for test in (lambda: mixed(installed, folder), lambda: thread_sanitized(folder)):
+        try:
+            yield from test()
+        except native.Failed as why:
+            yield "compiling", str(why)

@@ -1,0 +1,181 @@
+"""`examples/cpp/service.cpp`, run against files that a release, a fault or a disk left it. Whatever it finds, it answers requests until it is told
+to end, and says what it could not record.
+"""
+
+import os
+import pathlib
+import re
+import signal
+import struct
+import subprocess
+import time
+
+from support import native
+from support.program import ROOT, answer
+
+SOURCE = ROOT / "examples" / "cpp" / "service.cpp"
+MOST_SECONDS = 120
+ENOUGH = 200
+# Of the image in a file, which begins at byte 8, the word behind which nothing was claimed.
+FREE_AT = 8 * (1 + 7)
+ALL_UNITS = 4_294_967_295
+
+
+def requests_of(report):
+    """How many requests a report of the service's file tells of."""
+    total = re.search(rb"^latency_us,total,(\d+),", report.output, re.MULTILINE)
+    return 0 if total is None else int(total[1])
+
+
+class Service:
+    """The service, and the files of one run of the tests."""
+
+    def __init__(self, installed, program, folder, report_in):
+        self.installed = installed
+        self.folder = folder / "services"
+        self.folder.mkdir()
+        self.program = installed.program(SOURCE)
+        self.report_in = lambda file: report_in(program, file)
+
+    def recorded(self, file):
+        return requests_of(self.report_in(file))
+
+    def killed(self, file, before):
+        """What it prints until it is killed, once it has recorded more requests than there were before."""
+        ends = time.monotonic() + MOST_SECONDS
+        with subprocess.Popen([self.program, file], stdout=subprocess.PIPE, text=True) as running:
+            try:
+                while running.poll() is None and self.recorded(file) <= before and time.monotonic() < ends:
+                    time.sleep(0.05)
+            finally:
+                running.kill()
+            return running.stdout.read()
+
+    def ended(self, file, **settings):
+        """What it says to its two streams when it is told to end, once it has answered some hundred requests."""
+        streams = {"stdout": subprocess.PIPE, "stderr": subprocess.PIPE, "text": True}
+        with subprocess.Popen([self.program, file], **streams, **settings) as running:
+            time.sleep(1)
+            running.send_signal(signal.SIGTERM)
+            said, errors = running.communicate(timeout=MOST_SECONDS)
+        if running.returncode != 0:
+            raise native.Failed(f"status {running.returncode}: {said} {errors}")
+        return said, errors
+
+    def made(self, name, source):
+        """A file that a C++ program of these statements left, with `segment` in it."""
+        file, program = self.folder / name, self.folder / f"{name}.cpp"
+        program.write_text(
+            "#include <povundiri.hpp>\n"
+            "int main(int, char** words) {\n"
+            "    auto opened = povundiri::Segment::open(words[1], povundiri::shape(65536, 4096, 7), povundiri::Policy::AdoptOrFail);\n"
+            "    povundiri::Recorder recorder = opened.segment.recorder();\n"
+            f"    {source}\n"
+            "}\n"
+        )
+        native.run([self.installed.program(program), file])
+        return file
+
+
+def counts(said):
+    """How many requests were answered and how many of them not recorded, as the service says at its end; None where it does not."""
+    found = re.search(r"^served: (\d+), not recorded: (\d+)$", said, re.MULTILINE)
+    return None if found is None else (int(found[1]), int(found[2]))
+
+
+def is_killed_thrice(service):
+    """It goes on with what the one before had left, and says so."""
+    file, before = service.folder / "killed.seg", 0
+    for _ in range(3):
+        said = service.killed(file, before)
+        if said != f"served before: {before}\n":
+            return f"behind {before} requests it said {said!r}"
+        left = service.recorded(file)
+        if left <= before:
+            return f"behind {before} requests came {left}"
+        before = left
+    return None
+
+
+def ends_well(service):
+    """Told to end, it has recorded all that it answered."""
+    file = service.folder / "ends.seg"
+    said, errors = service.ended(file)
+    served, missed = counts(said) or (0, 0)
+    wrong = errors or served < ENOUGH or missed != 0 or service.recorded(file) != served
+    return f"{said} {errors} {service.recorded(file)}" if wrong else None
+
+
+def has_another_spec(service):
+    """A release before had other buckets: it answers, and does not record."""
+    file = service.made("spec.seg", 'recorder.add_or_throw(recorder.linear("latency_us", 1, 500, 10), 17);')
+    said, errors = service.ended(file)
+    served, missed = counts(said) or (0, 0)
+    wrong = served < ENOUGH or missed != served or "latency_us is not recorded: OtherSpec" not in errors or service.recorded(file) != 1
+    return f"{said} {errors}" if wrong else None
+
+
+def has_few_units(service):
+    """It records to the last unit, and then answers on."""
+    left = 100
+    file = service.made("units.seg", f'recorder.add_or_throw(recorder.boolean("other"), 1, {ALL_UNITS - left}u);')
+    said, errors = service.ended(file)
+    served, missed = counts(said) or (0, 0)
+    wrong = errors or served < ENOUGH or served - missed != left or service.recorded(file) != left
+    if wrong:
+        return f"{said} {errors} {service.recorded(file)}"
+    said, errors = service.ended(file)
+    return None if f"{file} is full" in said and counts(said) and counts(said)[0] == counts(said)[1] else f"spent: {said} {errors}"
+
+
+def is_damaged(service):
+    """A damaged file is set aside as it is, and a new one is begun."""
+    file = service.made("damaged.seg", 'recorder.add_or_throw(recorder.boolean("other"), 1);')
+    with open(file, "r+b") as stream:
+        stream.seek(FREE_AT)
+        stream.write(struct.pack("<Q", 15))
+    was = file.read_bytes()
+    said, errors = service.ended(file)
+    served, missed = counts(said) or (0, 0)
+    aside = re.search(r"^set aside as (.*): BadFree$", said, re.MULTILINE)
+    wrong = errors or aside is None or pathlib.Path(aside[1]).read_bytes() != was or missed != 0 or service.recorded(file) != served
+    return f"{said} {errors}" if wrong or served < ENOUGH else None
+
+
+def has_a_full_disk(service):
+    """Without room for a file it records into memory."""
+    shim = service.folder / "full_disk.so"
+    native.run([*native.compiler(".c"), "-shared", "-fPIC", "-o", shim, native.PROGRAMS / "full_disk.c"])
+    file = service.folder / "full.seg"
+    said, errors = service.ended(file, env={**os.environ, "LD_PRELOAD": str(shim)})
+    served, missed = counts(said) or (0, 0)
+    wrong = served < ENOUGH or missed != 0 or "No space left on device: recording into memory" not in errors
+    if wrong:
+        return f"{said} {errors}"
+    # With room again, it takes what was left there as new.
+    said, errors = service.ended(file)
+    return f"behind the full disk: {said} {errors}" if errors or service.recorded(file) != (counts(said) or (0, 0))[0] else None
+
+
+TESTS = (
+    ("killed three times", is_killed_thrice),
+    ("told to end", ends_well),
+    ("another spec of a release before", has_another_spec),
+    ("to the last unit", has_few_units),
+    ("a damaged file", is_damaged),
+    ("a full disk", has_a_full_disk),
+)
+
+
+def cases(installed, program, folder, report_in):
+    """Each test of the service, and what was wrong in it or None."""
+    try:
+        service = Service(installed, program, folder, report_in)
+    except native.Failed as why:
+        yield "service.cpp", str(why)
+        return
+    for name, test in TESTS:
+        try:
+            yield f"service.cpp, {name}", test(service)
+        except native.Failed as why:
+            yield f"service.cpp, {name}", str(why)

@@ -41,8 +41,8 @@ Worker worker_of(povundiri::Segment& segment, const Options& options, std::size_
         const std::size_t place = options.shared ? i : number * count + i;
         worker.histograms.push_back(worker.recorder.linear("h" + std::to_string(place), plain::kLeast, plain::kGreatest, plain::kBuckets));
         if (options.packed) continue;
-        worker.recorder.add(worker.histograms.back(), 1);
-        worker.recorder.add(worker.histograms.back(), 5'000);
+        worker.recorder.add_or_throw(worker.histograms.back(), 1);
+        worker.recorder.add_or_throw(worker.histograms.back(), 5'000);
     }
     return worker;
 }
@@ -62,7 +62,7 @@ std::vector<std::int32_t> values_of(bool packed) {
 void record(Worker worker, std::size_t samples, const std::vector<std::int32_t>& values) {
     for (const povundiri::Hist histogram : worker.histograms) {
         for (std::size_t i = 0; i < samples; ++i) {
-            if (worker.recorder.try_add(histogram, values[i % kValues]) != povundiri::kDone) std::abort();
+            if (!worker.recorder.add(histogram, values[i % kValues])) std::abort();
         }
     }
 }

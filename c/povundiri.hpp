@@ -216,7 +216,7 @@ struct State {
         povundiri_file_close(&file);
     }
 
-    bool is_forked() const noexcept { return generation != povundiri_fork_generation(); }
+    bool is_forked() const noexcept { return generation != povundiri_fork_number; }
 
     const std::uint64_t generation = povundiri_fork_generation();
     std::atomic<std::size_t> owners{1};

@@ -16,6 +16,7 @@
 #include <chrono>
 #include <csignal>
 #include <cstdio>
+#include <exception>
 #include <functional>
 #include <random>
 #include <thread>
@@ -86,7 +87,12 @@ void run(const char* path) {
     std::printf("served before: %llu\n", static_cast<unsigned long long>(served_before(segment)));
     std::fflush(stdout);
     std::vector<std::thread> threads;
-    for (unsigned i = 0; i < kThreads; ++i) threads.emplace_back(serve, std::ref(segment), i);
+    try {
+        threads.reserve(kThreads);
+        while (threads.size() < kThreads) threads.emplace_back(serve, std::ref(segment), static_cast<unsigned>(threads.size()));
+    } catch (const std::exception& fault) {
+        std::fprintf(stderr, "%zu threads serve: %s\n", threads.size(), fault.what());
+    }
     for (std::thread& thread : threads) thread.join();
     std::printf("served: %llu, not recorded: %llu\n", static_cast<unsigned long long>(served), static_cast<unsigned long long>(missed));
 }

@@ -27,7 +27,7 @@ static void check_status(int line, const char *call, uint32_t wanted, uint32_t c
 #define DONE(call) ANSWERS(DONE, call)
 
 /* Runs a group of checks; 1 where one failed. */
-static int group(const char *name, void (*checks)(void)) {
+static __attribute__((unused)) int group(const char *name, void (*checks)(void)) {
     failed_here = 0;
     checks();
     printf("%s: %s\n", name, failed_here == 0 ? "passed" : "failed");

@@ -1,5 +1,5 @@
-/* What povundiri_open makes of each file that stands at a path, by each policy; and that neither a kill nor a fault of the system at any call
- * of it loses a unit: file_policies FOLDER
+/* What povundiri_open makes of each file that stands at a path, by each policy; and that neither a kill nor a fault of the system at any
+ * call of it loses a unit: file_policies FOLDER
  *
  * It is linked with a povundiri_file.c of which the calls to the system come here: -Drenameat2=test_renameat2 and so on. */
 #include "files.h"
@@ -357,9 +357,9 @@ static void other_faults(void) {
     ANSWERS(SYSTEM, povundiri_open(path_of("faults"), shape, POVUNDIRI_ADOPT_OR_SET_ASIDE, NULL, &file, &segment, &opened));
     HOLDS(opened.fault == EPERM && chmod(path_of("faults"), 0600) == 0);
     HOLDS(has_bytes(path_of("faults"), before, length) && with_bytes("faults.", before, length) == 0);
-    HOLDS(!is_there(path_of("none")) && povundiri_open(path_of("none"), unlawful, POVUNDIRI_ADOPT_OR_FAIL, NULL, &file, &segment, &opened) ==
-                                            POVUNDIRI_OPEN_BAD_SHAPE);
-    HOLDS(!is_there(path_of("none")));
+    path = path_of("none");
+    ANSWERS(OPEN_BAD_SHAPE, povundiri_open(path, unlawful, POVUNDIRI_ADOPT_OR_FAIL, NULL, &file, &segment, &opened));
+    HOLDS(!is_there(path));
     free(before);
 }
 
@@ -449,6 +449,7 @@ static int kill_at_each_call(enum start start) {
     for (at = 1; end == 1000 + SIGKILL && at < 1000; at += 1) {
         size_t length;
         unsigned char *before = begin(start, &length);
+        const char *path = path_of("at_each");
         const pid_t child = fork();
         if (child == 0) {
             struct povundiri_opened opened;
@@ -456,7 +457,7 @@ static int kill_at_each_call(enum start start) {
             struct povundiri_handle segment = {0};
             calls = 0;
             killed_at = at;
-            _exit(povundiri_open(path_of("at_each"), shape_of(WORDS), POVUNDIRI_ADOPT_OR_BEGIN_ANEW, NULL, &file, &segment, &opened) != 0);
+            _exit(povundiri_open(path, shape_of(WORDS), POVUNDIRI_ADOPT_OR_BEGIN_ANEW, NULL, &file, &segment, &opened) != 0);
         }
         end = end_of(child);
         next_start(start, before, length);

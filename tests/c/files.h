@@ -32,10 +32,10 @@ enum { LARGEST = 8388688 };
 
 static const char *folder;
 
-/* The path of a name in the folder, until the fourth call behind this. */
+/* The path of a name in the folder, until the fourth call of this thread behind this. */
 static const char *path_of(const char *name) {
-    static char paths[4][4096];
-    static int turn;
+    static __thread char paths[4][4096];
+    static __thread int turn;
     turn = (turn + 1) % 4;
     snprintf(paths[turn], sizeof paths[turn], "%s/%s", folder, name);
     return paths[turn];

@@ -123,8 +123,8 @@ static void unfinished(void) {
     povundiri_file_close(&file);
 }
 
-/* One of the words that are never 0 is 0, and data stands behind: adopt names the fault, and the file is as it was. The cookie is what makes
- * the file one of a segment. */
+/* One of the words that are never 0 is 0, and data stands behind: adopt names the fault, and the file is as it was. The cookie is what
+ * makes the file one of a segment. */
 static void one_zero(void) {
     static const struct {
         size_t word;

@@ -1,5 +1,5 @@
-/* Each allocation of each call is refused alone: the call says so, and made once more it answers as if nothing had been. In the end all
- * blocks were given back. The library's heap is replaced by the three functions below. */
+/* Each allocation of each call is refused alone: the call says so, and made once more it answers as if nothing had been. Of an add to a sparse
+ * histogram, which grows an index, the call is done all the same. In the end all blocks were given back. The library's heap is replaced by the three functions below. */
 #include <stdlib.h>
 
 #include "checks.h"
@@ -142,6 +142,78 @@ static void each_allocation(void) {
     free(memory);
 }
 
+/* A segment in the heap, and a recorder with a sparse histogram in it. */
+struct sparse {
+    struct povundiri_handle segment, recorder;
+    size_t hist;
+};
+
+static struct sparse made_sparse(void) {
+    const struct povundiri_shape shape = {WORDS, PAGE, 7, 0, 2};
+    struct sparse sparse = {{false, NULL}, {false, NULL}, 0};
+    DONE(povundiri_create(shape, &sparse.segment));
+    DONE(povundiri_recorder(&sparse.segment, 100, &sparse.recorder));
+    DONE(povundiri_hist_sparse(&sparse.recorder, "s", &sparse.hist));
+    return sparse;
+}
+
+/* Adds with the allocation of this number refused, and looks at what is counted. Whether there was one of this number. */
+static bool adds_without(struct povundiri_handle *recorder, size_t hist, int32_t value, size_t number) {
+    const int before = refused;
+    until_refused = number;
+    DONE(povundiri_add(recorder, hist, value, 2));
+    until_refused = SIZE_MAX;
+    return refused != before;
+}
+
+static void counts_twice(struct povundiri_handle *recorder, size_t hist) {
+    struct povundiri_count *counts = calloc(WORDS, sizeof *counts);
+    struct povundiri_totals totals = {0, 0, 0};
+    DONE(povundiri_snapshot(recorder, hist, counts, WORDS, &totals));
+    HOLDS(totals.length == 2 && counts[0].key == -3 && counts[0].count == 1 && counts[1].key == 5 && counts[1].count == 4);
+    HOLDS(totals.sum == 17 && totals.redundant == 5);
+    free(counts);
+}
+
+/* The second value, for which the recorder enters the first sample in its index. */
+static void second_value(void) {
+    bool asked = true;
+    size_t number;
+    for (number = 0; asked; number += 1) {
+        struct sparse sparse = made_sparse();
+        DONE(povundiri_add(&sparse.recorder, sparse.hist, -3, 1));
+        asked = adds_without(&sparse.recorder, sparse.hist, 5, number);
+        DONE(povundiri_add(&sparse.recorder, sparse.hist, 5, 2));
+        counts_twice(&sparse.recorder, sparse.hist);
+        DONE(povundiri_join(&sparse.segment, &sparse.recorder));
+        DONE(povundiri_drop(&sparse.segment));
+    }
+    HOLDS(number > 1 && blocks == 0);
+}
+
+/* A second recorder, which meets on the list what the first one has made. */
+static void second_recorder(void) {
+    bool asked = true;
+    size_t number;
+    for (number = 0; asked; number += 1) {
+        struct sparse sparse = made_sparse();
+        struct povundiri_handle other = {false, NULL};
+        size_t others = 0;
+        DONE(povundiri_add(&sparse.recorder, sparse.hist, -3, 1));
+        DONE(povundiri_add(&sparse.recorder, sparse.hist, 5, 2));
+        DONE(povundiri_recorder(&sparse.segment, 100, &other));
+        DONE(povundiri_hist_sparse(&other, "s", &others));
+        asked = adds_without(&other, others, 5, number);
+        counts_twice(&other, others);
+        counts_twice(&sparse.recorder, sparse.hist);
+        DONE(povundiri_join(&sparse.segment, &other));
+        DONE(povundiri_join(&sparse.segment, &sparse.recorder));
+        DONE(povundiri_drop(&sparse.segment));
+    }
+    HOLDS(number > 1 && blocks == 0);
+}
+
 int main(void) {
-    return group("each allocation", each_allocation);
+    return group("each allocation", each_allocation) + group("a second value of a sparse histogram", second_value) +
+           group("a second recorder of a sparse histogram", second_recorder);
 }

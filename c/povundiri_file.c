@@ -53,6 +53,8 @@ static size_t most_bytes(void) {
 struct povundiri_mapping {
     struct povundiri_mapping *next;
     int descriptor; /* -1 where there is none */
+    dev_t device;   /* with the inode the file that the descriptor was opened for */
+    ino_t inode;
     void *at;       /* null where nothing is mapped */
     size_t bytes;   /* that are mapped */
     off_t was;      /* how long the file was before it was opened */
@@ -68,10 +70,19 @@ static pthread_once_t once = PTHREAD_ONCE_INIT;
 /* Changes in a child alone, while it has one thread. */
 uint64_t povundiri_fork_number = 0;
 
+/* Whether the descriptor is that of the file still: a daemon may have closed all that it had, and the number be another file's by now. */
+static bool has_descriptor(const struct povundiri_mapping *mapping) {
+    struct stat about;
+    if (mapping->descriptor < 0) return false;
+    if (fstat(mapping->descriptor, &about) != 0) return errno != EBADF;
+    return mapping->inode == 0 || (about.st_dev == mapping->device && about.st_ino == mapping->inode);
+}
+
 /* Closes the descriptor, and so the lock where no other process has it as well. The mutex is held. */
 static void give_up_descriptor(struct povundiri_mapping *mapping) {
-    if (mapping->descriptor >= 0) close(mapping->descriptor);
+    if (has_descriptor(mapping)) close(mapping->descriptor);
     mapping->descriptor = -1;
+    mapping->inode = 0;
 }
 
 static void before_fork(void) {
@@ -331,18 +342,32 @@ static int map(struct povundiri_mapping *mapping, size_t bytes) {
     return fault;
 }
 
-static int open_once(const struct request *request, struct povundiri_mapping *mapping) {
+/* Gives the file that is locked its length, and maps it. */
+static int prepare(const struct request *request, struct povundiri_mapping *mapping) {
     struct stat about;
     size_t bytes = 0;
+    int fault = fstat(mapping->descriptor, &about) == 0 ? 0 : errno;
+    if (fault != 0) return fault;
+    mapping->was = about.st_size;
+    fault = give_length(request, mapping, &bytes);
+    if (fault != 0) return fault;
+    fault = map(mapping, bytes);
+    if (fault != 0 && mapping->was < (off_t)bytes) cut(mapping->descriptor, mapping->was);
+    return fault;
+}
+
+static int open_once(const struct request *request, struct povundiri_mapping *mapping) {
+    struct stat about;
     int fault = open_descriptor(request, mapping);
     if (fault != 0) return fault;
     fault = fstat(mapping->descriptor, &about) == 0 ? judge(request, &about) : errno;
-    if (fault == 0) fault = lock(mapping->descriptor);
+    if (fault == 0) {
+        mapping->device = about.st_dev;
+        mapping->inode = about.st_ino;
+        fault = lock(mapping->descriptor);
+    }
     if (fault == 0) fault = look_for_name(request, &about);
-    if (fault == 0 && fstat(mapping->descriptor, &about) != 0) fault = errno;
-    mapping->was = about.st_size;
-    if (fault == 0) fault = give_length(request, mapping, &bytes);
-    if (fault == 0) fault = map(mapping, bytes);
+    if (fault == 0) fault = prepare(request, mapping);
     if (fault != 0) give_up(mapping);
     return fault;
 }

@@ -20,8 +20,8 @@
  * is SIGBUS. Its blocks are reserved, so no store finds the device full.
  *
  * THE LOCK is flock(2), exclusive, on the whole file, from open to close or to the end of the process, however it ends. It excludes other
- * processes, other threads, and a second open in this process. It is not lost where another descriptor of the file is closed. It works
- * among the processes of one machine that take it.
+ * processes, other threads, and a second open in this process. It is not lost where another descriptor of the file is closed, nor where
+ * a daemon closes all descriptors that it has. It works among the processes of one machine that take it.
  *
  * FORK. A child of fork(2) does not have the file: its descriptor is closed there and its memory is not mapped, so the lock ends with the
  * parent, however long the child lives. In the child povundiri_file_is_open is false, povundiri_file_close does nothing else than forget,

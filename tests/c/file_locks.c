@@ -75,6 +75,22 @@ static void other_descriptors(void) {
     HOLDS(opened_by_another("others") == 0);
 }
 
+/* Nor does a daemon that closes all that it has; and what it opens behind that under the same number is not closed with the file. */
+static void all_descriptors_closed(void) {
+    struct povundiri_file file = {0};
+    int descriptor, other;
+    HOLDS(open_file(&file, "daemons") == 0);
+    descriptor = povundiri_file_descriptor(&file);
+    HOLDS(close(descriptor) == 0 && opened_by_another("daemons") == EBUSY);
+    other = open("/dev/null", O_RDONLY | O_CLOEXEC);
+    HOLDS(other == descriptor && opened_by_another("daemons") == EBUSY);
+    povundiri_file_close(&file);
+    HOLDS(fcntl(other, F_GETFD) == FD_CLOEXEC && close(other) == 0 && opened_by_another("daemons") == 0);
+    HOLDS(open_file(&file, "daemons") == 0 && close(povundiri_file_descriptor(&file)) == 0);
+    povundiri_file_close(&file);
+    HOLDS(opened_by_another("daemons") == 0);
+}
+
 /* A child that has a lock of the file, by a descriptor that only reads, for so long. It has it when this returns. */
 static pid_t reader_for(const char *name, int how, int milliseconds) {
     int ready[2];
@@ -262,6 +278,7 @@ int main(int count, char **words) {
     folder = words[1];
     failed = group("second_open", second_open);
     failed += group("other_descriptors", other_descriptors);
+    failed += group("all_descriptors_closed", all_descriptors_closed);
     failed += group("readers_that_probe", readers_that_probe);
     failed += group("other_file_of_the_name", other_file_of_the_name);
     failed += group("signal_storm", signal_storm);

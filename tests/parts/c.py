@@ -21,7 +21,6 @@ CHECKS = (
     ("every_call.cpp", [], False),
     ("every_call.cpp", [NO_EXCEPTIONS], False),
     ("refused_memory.c", [], False),
-    ("mapped_file.c", [], True),
     ("crossing.cpp", [], False),
     ("recorders.cpp", [], True),
     ("recorders.cpp", [NO_EXCEPTIONS], True),
@@ -38,20 +37,6 @@ UNITS = (2, 250, 250, 250, 250, 248, 250, 250, 250)
 RECORDED = "".join(f"latency,linear,{low},{high},{units}\n" for low, high, units in zip(ENDS, ENDS[1:], UNITS)) + "latency,total,2000,999000\n"
 
 
-def groups(said):
-    """The name of each group of checks that a program tells of, and what failed in it or None."""
-    failed = []
-    for line in said.splitlines():
-        name, _, how = line.rpartition(": ")
-        if how == "passed":
-            yield name, None
-        elif how == "failed":
-            yield name, "; ".join(failed)
-            failed = []
-        else:
-            failed.append(line)
-
-
 def checked(installed, name, flags, folder):
     """The cases of one program."""
     title = " ".join([name, *flags])
@@ -62,7 +47,7 @@ def checked(installed, name, flags, folder):
     except native.Failed as why:
         yield title, str(why)
         return
-    for group, wrong in groups(done.stdout):
+    for group, wrong in native.groups(done.stdout):
         yield f"{title}, {group}", wrong
     yield f"{title}, its end", None if done.returncode == 0 else f"status {done.returncode}: {done.stderr[-1500:]}"
 

@@ -45,6 +45,22 @@ def compiler(suffix):
     return [*words, standard]
 
 
+def groups(said):
+    """The name of each group of checks that a program tells of, and what failed in it or None. What it leaves out is printed."""
+    failed = []
+    for line in said.splitlines():
+        name, _, how = line.rpartition(": ")
+        if line.startswith("left out: "):
+            print(line, flush=True)
+        elif how == "passed":
+            yield name, None
+        elif how == "failed":
+            yield name, "; ".join(failed)
+            failed = []
+        else:
+            failed.append(line)
+
+
 class Installed:
     """The library, built and installed in a folder."""
 
@@ -75,6 +91,18 @@ class Installed:
         built = self.folder / f"{source.stem}{source.suffix.replace('.', '_')}{'_sanitized' if SANITIZED[0] in flags else ''}"
         objects = self.sanitized() if SANITIZED[0] in flags else []
         run([*compiler(source.suffix), *STRICT, *flags, *self.words("--cflags"), "-o", built, source, *objects, *self.words("--libs")])
+        return built
+
+    def with_file_layer(self, source, compiler_words, flags, replaced=()):
+        """A program of `tests/c` with povundiri_file.c compiled for it: by these words and flags, and with the calls to the system that are
+        in `replaced` going to the program's own `test_` functions. The proved part is that of the library."""
+        built = self.folder / f"{source.stem}_with_file_layer"
+        words = [*compiler_words, *STRICT, *flags, *self.words("--cflags")]
+        parts = []
+        for name in ("povundiri.c", "povundiri_file.c"):
+            parts.append(self.folder / f"{source.stem}_{name}.o")
+            run([*words, *(f"-D{call}=test_{call}" for call in replaced), "-c", "-o", parts[-1], LIBRARY / name])
+        run([*words, "-o", built, source, *parts, *self.words("--libs")])
         return built
 
 

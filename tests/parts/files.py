@@ -1,0 +1,86 @@
+"""Segments in files: what is opened as one and what is refused, who has it, what children have of it, and what becomes of a file that is
+damaged or spent.
+
+The programs are in `tests/c`. They are compiled with `c/povundiri_file.c`, so that the address sanitizer and the undefined-behaviour
+sanitizer see into it, and the thread sanitizer for threads that open files at once. Of some the calls to the system come to the program,
+which has each of them fail, or is killed there. Then libFuzzer opens files of any bytes for a minute, where clang has it.
+"""
+
+import os
+import pathlib
+import shutil
+import subprocess
+import tempfile
+
+from support import native
+
+PROGRAM = None
+MOST_SECONDS = 300
+FUZZ_SECONDS = 60
+INTERRUPTED = ("flock", "pread", "open", "posix_fallocate", "ftruncate")
+STOPPED = (*INTERRUPTED, "fstat", "fstatat", "mmap", "madvise", "munmap", "close", "renameat2", "link", "unlink")
+THREAD_SANITIZER = ["-fsanitize=thread"]
+# A source, how it is watched, and the calls to the system that come to it.
+CHECKS = (
+    ("mapped_file.c", native.SANITIZED, ()),
+    ("file_locks.c", native.SANITIZED, INTERRUPTED),
+    ("file_forks.c", native.SANITIZED, ()),
+    ("file_policies.c", native.SANITIZED, STOPPED),
+    ("file_threads.c", THREAD_SANITIZER, ()),
+)
+FUZZER = ["clang", "-std=c99"]
+FUZZER_FLAGS = ["-fsanitize=fuzzer,address,undefined", "-fno-sanitize-recover=all"]
+
+
+def checked(installed, name, flags, replaced):
+    """The cases of one program."""
+    try:
+        program = installed.with_file_layer(native.PROGRAMS / name, native.compiler(".c"), flags, replaced)
+        with tempfile.TemporaryDirectory() as folder:
+            settings = {**os.environ, "ASAN_OPTIONS": "detect_leaks=1", "TSAN_OPTIONS": "halt_on_error=1"}
+            done = subprocess.run([program, folder], capture_output=True, text=True, timeout=MOST_SECONDS, env=settings)
+    except (native.Failed, subprocess.TimeoutExpired) as why:
+        yield name, str(why)
+        return
+    for group, wrong in native.groups(done.stdout):
+        yield f"{name}, {group}", wrong
+    yield f"{name}, its end", None if done.returncode == 0 else f"status {done.returncode}: {done.stderr[-1500:]}"
+
+
+def has_fuzzer(folder):
+    """Whether clang is there, with its runtime for fuzzing."""
+    if shutil.which(FUZZER[0]) is None:
+        return False
+    source = folder / "nothing.c"
+    source.write_text("int LLVMFuzzerTestOneInput(const unsigned char *data, unsigned long size) { return data == 0 && size == 1; }\n")
+    words = [*FUZZER, *FUZZER_FLAGS, "-o", folder / "nothing", source]
+    return subprocess.run([str(word) for word in words], capture_output=True).returncode == 0
+
+
+def fuzzed(installed, options):
+    """What the fuzzer found, or None."""
+    program = installed.with_file_layer(native.PROGRAMS / "fuzz_file.c", FUZZER, FUZZER_FLAGS)
+    with tempfile.TemporaryDirectory() as folder:
+        words = [program, f"-max_total_time={FUZZ_SECONDS}", "-max_len=4096", f"-seed={options.seed}", f"-artifact_prefix={folder}/"]
+        settings = {**os.environ, "FUZZ_FOLDER": folder}
+        done = subprocess.run(words, capture_output=True, text=True, timeout=MOST_SECONDS, env=settings, cwd=folder)
+    return None if done.returncode == 0 else f"status {done.returncode}: {done.stderr[-3000:]}"
+
+
+def cases(program, options):
+    with tempfile.TemporaryDirectory() as scratch:
+        folder = pathlib.Path(scratch)
+        try:
+            installed = native.Installed(folder)
+        except native.Failed as why:
+            yield "the library", str(why)
+            return
+        for name, flags, replaced in CHECKS:
+            yield from checked(installed, name, flags, replaced)
+        if not has_fuzzer(folder):
+            print("left out: fuzz_file.c: there is no clang with its runtime for fuzzing (libclang-rt)", flush=True)
+            return
+        try:
+            yield "fuzz_file.c", fuzzed(installed, options)
+        except (native.Failed, subprocess.TimeoutExpired) as why:
+            yield "fuzz_file.c", str(why)

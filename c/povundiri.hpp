@@ -187,6 +187,11 @@ inline void need(Status status, const char* call, std::string_view name) {
     if (status != Status::Done) raise(status, std::string(call).append(" \"").append(name).append("\""));
 }
 
+// What was asked is a number: 'recorder, lease 1000'.
+inline void need(Status status, const char* call, std::uint64_t number) {
+    if (status != Status::Done) raise(status, std::string(call).append(" ").append(std::to_string(number)));
+}
+
 // Calls with an array and the length that is needed until it is long enough: in between another thread may have put more there.
 template <typename Array, typename Call>
 Status filled(Array& array, const Call& call) {
@@ -306,7 +311,7 @@ public:
     void add_or_throw(Hist hist, Value value, std::uint32_t count = 1) {
         const Status status = try_add(hist, value, count);
         if (status == Status::Done) return;
-        raise(status, std::string("add of ").append(std::to_string(count)).append(" at ").append(std::to_string(value.get())));
+        raise(status, std::string("add, value ").append(std::to_string(value.get())).append(", count ").append(std::to_string(count)));
     }
 
     // Adds units of values, in order, and then an amount to the sum (povundiri_batch). False where not all was counted: of the items then
@@ -325,8 +330,7 @@ public:
     }
     void batch_or_throw(Hist hist, Span<const Item> items, std::int64_t sum) {
         std::size_t added = 0;
-        const Status status = try_batch(hist, items, sum, added);
-        if (status != Status::Done) raise(status, std::string("batch of ").append(std::to_string(items.size())).append(" items"));
+        detail::need(try_batch(hist, items, sum, added), "batch, items", items.size());
     }
 
     // The histogram of a name, which is made where there is none.
@@ -417,7 +421,7 @@ public:
         std::uint64_t record = 0;
         const Status status = try_next_shared(cursor, record);
         if (status == Status::ListEnds) return std::nullopt;
-        if (status != Status::Done) raise(status, "next_shared of cursor " + std::to_string(cursor));
+        detail::need(status, "next_shared, cursor", cursor);
         return record;
     }
 
@@ -516,8 +520,8 @@ public:
     Segment() noexcept = default;
 
     // A new segment in the heap, or in a room, which is the segment's until it and all its recorders have ended.
-    explicit Segment(const Shape& shape) { detail::need(try_create(shape, *this), "create"); }
-    Segment(const Shape& shape, Room room) { detail::need(try_create(shape, room, *this), "create"); }
+    explicit Segment(const Shape& shape) { detail::need(try_create(shape, *this), "create, words", shape.size); }
+    Segment(const Shape& shape, Room room) { detail::need(try_create(shape, room, *this), "create, words", shape.size); }
     // 'segment' is empty: NotEmpty else.
     [[nodiscard]] static Status try_create(const Shape& shape, Segment& segment) noexcept {
         return fill(segment, shape, [&](povundiri_handle* out) { return povundiri_create(shape, out); });
@@ -529,12 +533,12 @@ public:
     // One that goes on with the words of an image.
     static Segment adopt(Span<const std::uint64_t> words, std::size_t cursors = 0) {
         Segment segment;
-        detail::need(try_adopt(words, segment, cursors), "adopt");
+        detail::need(try_adopt(words, segment, cursors), "adopt, words", words.size());
         return segment;
     }
     static Segment adopt(Span<const std::uint64_t> words, Room room, std::size_t cursors = 0) {
         Segment segment;
-        detail::need(try_adopt(words, room, segment, cursors), "adopt");
+        detail::need(try_adopt(words, room, segment, cursors), "adopt, words", words.size());
         return segment;
     }
     [[nodiscard]] static Status try_adopt(Span<const std::uint64_t> words, Segment& segment, std::size_t cursors = 0) noexcept {
@@ -571,7 +575,7 @@ public:
     // where there are 256. 'recorder' is empty: NotEmpty else.
     Recorder recorder(std::uint32_t lease = kUsualLease) {
         Recorder recorder;
-        detail::need(try_recorder(recorder, lease), "recorder");
+        detail::need(try_recorder(recorder, lease), "recorder, lease", lease);
         return recorder;
     }
     [[nodiscard]] Status try_recorder(Recorder& recorder, std::uint32_t lease = kUsualLease) noexcept;
@@ -582,10 +586,7 @@ public:
     [[nodiscard]] Status try_join(Recorder& recorder) noexcept;
 
     // Moves units to a recorder that runs. A recorder asks by itself for what it needs.
-    void lend(Recorder& recorder, std::uint32_t units) {
-        const Status status = try_lend(recorder, units);
-        if (status != Status::Done) raise(status, "lend of " + std::to_string(units));
-    }
+    void lend(Recorder& recorder, std::uint32_t units) { detail::need(try_lend(recorder, units), "lend, units", units); }
     [[nodiscard]] Status try_lend(Recorder& recorder, std::uint32_t units) noexcept {
         return with(recorder, [&](povundiri_handle* segment) { return povundiri_lend(segment, &recorder.handle_, units); });
     }
@@ -739,7 +740,7 @@ inline constexpr std::size_t kUsualReport = 16'384;
 
 inline std::string report(Span<const std::uint64_t> words) {
     std::string text;
-    detail::need(try_report(words, text), "report");
+    detail::need(try_report(words, text), "report, words", words.size());
     return text;
 }
 

@@ -30,7 +30,7 @@ void thrown_without_exceptions() {
         plain::ask(none);
         HOLDS(false);
     } catch (const povundiri::Fault& fault) {
-        HOLDS(fault.status() == povundiri::Status::Empty && std::string(fault.what()) == "recorder: EmptyHandle");
+        HOLDS(fault.status() == povundiri::Status::Empty && std::string(fault.what()) == "recorder, lease 1048576: EmptyHandle");
     }
 }
 

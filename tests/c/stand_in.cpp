@@ -128,7 +128,7 @@ std::uint32_t povundiri_proved_join(povundiri_handle* segment, povundiri_handle*
     return POVUNDIRI_DONE;
 }
 
-std::uint32_t povundiri_proved_lend(povundiri_handle* segment, povundiri_handle* recorder, std::uint32_t units) {
+std::uint32_t povundiri_proved_lend(povundiri_handle* segment, povundiri_handle* recorder, std::uint32_t units, povundiri_handle) {
     if (kind(segment, true) != POVUNDIRI_DONE) return kind(segment, true);
     if (kind(recorder, false) != POVUNDIRI_DONE) return kind(recorder, false);
     if (held(segment)->words != held(recorder)->words) return POVUNDIRI_OTHER_SEGMENT;

@@ -2,6 +2,7 @@
 with exceptions and without; and under the thread sanitizer.
 """
 
+import re
 import shutil
 import subprocess
 
@@ -32,13 +33,35 @@ def warnings(folder):
         source.write_text("".join(f"#include <{name}>\n" for name in (C_HEADERS if suffix == ".c" else CPP_HEADERS)))
         sources = [source, *(path for path in native.LIBRARY.iterdir() if path.suffix == suffix)]
         seen.add(suffix)
-        title = " ".join(["no warning of", compiler, *words[:2] if "-fno-exceptions" in words else words[:1]])
+        title = " ".join(["no warning of", compiler, *(word for word in words if not word.startswith("-W"))])
         try:
             native.run([compiler, *words, *WARNINGS, *sources])
             yield title, None
         except native.Failed as why:
             yield title, str(why)
     yield "a compiler for each language", None if seen == {".c", ".cpp"} else f"only for {seen}"
+
+
+def own_lines(source, *flags):
+    """What the preprocessor leaves of the library's headers."""
+    text = native.run([*native.compiler(".cpp"), *flags, f"-I{native.LIBRARY}", "-E", source])
+    kept, is_own = [], False
+    for line in text.splitlines():
+        marker = re.match(r'# \d+ "(.*)"', line)
+        if marker is not None:
+            is_own = marker[1].startswith(str(native.LIBRARY))
+        elif is_own and line.strip():
+            kept.append(line)
+    return kept
+
+
+def one_definition(folder):
+    """A file with exceptions and one without see the same definitions."""
+    source = folder / "definitions.cpp"
+    source.write_text("#include <povundiri.hpp>\n")
+    thrown, plain = own_lines(source), own_lines(source, "-fno-exceptions")
+    found = any("class Recorder" in line for line in thrown)
+    yield "the same definitions with exceptions and without", None if found and thrown == plain else "they differ"
 
 
 def compiled(folder, source, *flags):
@@ -61,7 +84,7 @@ def mixed(installed, folder):
     yield "files with exceptions and without", None if status == 0 and "failed" not in said else f"status {status}: {said}"
     raising = compiled(folder, native.LIBRARY / "povundiri_raise.cpp", "-fno-exceptions")
     status, said = said_by(installed.program(native.PROGRAMS / "mixed.cpp", plain, raising), "aborts")
-    wanted = (-6, "povundiri: recorder: EmptyHandle\n")
+    wanted = (-6, "povundiri: recorder, lease 1048576: EmptyHandle\n")
     yield "povundiri_raise.cpp without exceptions", None if (status, said) == wanted else f"status {status}: {said}"
 
 
@@ -79,7 +102,7 @@ def thread_sanitized(folder):
 
 def cases(installed, folder):
     yield from warnings(folder)
-    for test in (lambda: mixed(installed, folder), lambda: thread_sanitized(folder)):
+    for test in (lambda: one_definition(folder), lambda: mixed(installed, folder), lambda: thread_sanitized(folder)):
         try:
             yield from test()
         except native.Failed as why:

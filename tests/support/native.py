@@ -69,7 +69,7 @@ class Installed:
             compiler(suffix)
         self.folder = pathlib.Path(folder)
         self.prefix = self.folder / "prefix"
-        self.objects = []
+        self.objects = {}
         run(["make", "-s", "-C", LIBRARY, "install", f"PREFIX={self.prefix}"], seconds=MOST_SECONDS_TO_BUILD)
 
     def words(self, what):
@@ -77,19 +77,19 @@ class Installed:
         path = str(self.prefix / "lib" / "pkgconfig")
         return shlex.split(run(["pkg-config", what, "povundiri"], env={**os.environ, "PKG_CONFIG_PATH": path}))
 
-    def sanitized(self):
-        """What is in `c/`, compiled under the sanitizers: it is linked in place of the library's own."""
-        if not self.objects:
-            for source in sorted(path for path in LIBRARY.iterdir() if path.suffix in COMPILERS):
-                built = self.folder / f"{source.stem}_sanitized.o"
-                run([*compiler(source.suffix), *STRICT, *SANITIZED, *self.words("--cflags"), "-c", "-o", built, source])
-                self.objects.append(built)
-        return self.objects
+    def sanitized(self, suffix):
+        """What is in `c/` for a program in this language, compiled under the sanitizers: it is linked in place of the library's own."""
+        kept = [".c"] if suffix == ".c" else [*COMPILERS]
+        for source in sorted(path for path in LIBRARY.iterdir() if path.suffix in kept):
+            if source not in self.objects:
+                self.objects[source] = self.folder / f"{source.stem}_sanitized.o"
+                run([*compiler(source.suffix), *STRICT, *SANITIZED, *self.words("--cflags"), "-c", "-o", self.objects[source], source])
+        return [built for source, built in self.objects.items() if source.suffix in kept]
 
     def program(self, source, *flags):
         """A program, compiled and linked; `flags` are more words for the compiler."""
         built = self.folder / f"{source.stem}{source.suffix.replace('.', '_')}{'_sanitized' if SANITIZED[0] in flags else ''}"
-        objects = self.sanitized() if SANITIZED[0] in flags else []
+        objects = self.sanitized(source.suffix) if SANITIZED[0] in flags else []
         run([*compiler(source.suffix), *STRICT, *flags, *self.words("--cflags"), "-o", built, source, *objects, *self.words("--libs")])
         return built
 

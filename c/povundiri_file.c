@@ -147,11 +147,14 @@ static void give_up(struct povundiri_mapping *mapping) {
 
 static void forget(struct povundiri_mapping *mapping) {
     struct povundiri_mapping **link = &all;
+    int state;
+    pthread_setcancelstate(PTHREAD_CANCEL_DISABLE, &state);
     give_up(mapping);
     pthread_mutex_lock(&mutex);
     while (*link != mapping) link = &(*link)->next;
     *link = mapping->next;
     pthread_mutex_unlock(&mutex);
+    pthread_setcancelstate(state, NULL);
     free(mapping);
 }
 
@@ -378,23 +381,31 @@ static int64_t milliseconds(void) {
     return (int64_t)now.tv_sec * 1000 + now.tv_nsec / 1000000;
 }
 
-static int open_request(struct povundiri_file *file, const struct request *request) {
+/* Tries until nobody else has the lock, or for as long as it is tried. */
+static int open_in_time(const struct request *request, struct povundiri_mapping *mapping) {
     const struct timespec nap = {0, NAP_NANOSECONDS};
     const int64_t ends = milliseconds() + MOST_MILLISECONDS;
-    struct povundiri_mapping *mapping = new_mapping((request->flags & POVUNDIRI_FILE_KEEP_ON_FORK) != 0);
-    int fault;
-    if (mapping == NULL) return ENOMEM;
     for (;;) {
-        fault = open_once(request, mapping);
-        if (fault != EBUSY || milliseconds() >= ends) break;
+        const int fault = open_once(request, mapping);
+        if (fault != EBUSY || milliseconds() >= ends) return fault;
         nanosleep(&nap, NULL);
     }
-    if (fault != 0) {
+}
+
+/* A thread that is cancelled meanwhile ends behind it: what it had open would stay open, and locked. */
+static int open_request(struct povundiri_file *file, const struct request *request) {
+    struct povundiri_mapping *mapping = new_mapping((request->flags & POVUNDIRI_FILE_KEEP_ON_FORK) != 0);
+    int state, fault;
+    if (mapping == NULL) return ENOMEM;
+    pthread_setcancelstate(PTHREAD_CANCEL_DISABLE, &state);
+    fault = open_in_time(request, mapping);
+    pthread_setcancelstate(state, NULL);
+    if (fault == 0) {
+        file->mapping = mapping;
+    } else {
         forget(mapping);
-        return fault;
     }
-    file->mapping = mapping;
-    return 0;
+    return fault;
 }
 
 int povundiri_file_open(struct povundiri_file *file, const char *path, size_t bytes, const struct povundiri_file_options *options) {

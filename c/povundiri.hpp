@@ -20,7 +20,8 @@
 // recorder: what was counted stands in the file, and the next process has the other units again.
 //
 // FORKS. A child of fork has no part in the segments and recorders of its parent: their calls return Forked there, 'add' false, and where
-// they end, nothing is touched, locked or freed. So open behind daemon(3), and in each process of a server that forks its workers.
+// they end, nothing is touched, locked or freed. So open behind daemon(3), and in each process of a server that forks its workers. _Fork
+// and a raw clone(2) are not seen: such a child makes no call.
 //
 // What povundiri.h asks of its caller, these classes ask too: pointers, room and process. Handles and turns of the segment they keep.
 #ifndef POVUNDIRI_HPP

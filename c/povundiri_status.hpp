@@ -85,6 +85,20 @@ class Category final : public std::error_category {
 public:
     const char* name() const noexcept override { return "povundiri"; }
     std::string message(int status) const override { return text(static_cast<Status>(status)); }
+
+    // Want of memory, whoever had none, is std::errc::not_enough_memory.
+    std::error_condition default_error_condition(int status) const noexcept override {
+        switch (static_cast<Status>(status)) {
+            case Status::NoMemory:
+            case Status::RefusedNoMemory:
+            case Status::OpenNoMemory:
+            case Status::AdoptNoMemory:
+            case Status::ImageNoMemory:
+                return std::errc::not_enough_memory;
+            default:
+                return {status, *this};
+        }
+    }
 };
 
 inline const std::error_category& category() noexcept {

@@ -152,6 +152,8 @@ void names() {
     }
     HOLDS(statuses == 55 && names.count("Forked") == 1 && names.count("Adopt NoUnits") == 1);
     HOLDS(std::error_code(Status::Unknown) == Status::Unknown && std::error_code(Status::Unknown) != Status::Empty);
+    HOLDS(std::error_code(Status::RefusedNoMemory) == std::errc::not_enough_memory);
+    HOLDS(std::error_code(Status::RefusedNoUnits) != std::errc::not_enough_memory);
     HOLDS(!std::error_code(Status::Done) && std::string(povundiri::category().name()) == "povundiri");
 }
 

@@ -445,7 +445,8 @@ private:
 
     using Counting = std::uint32_t (*)(povundiri_handle*, std::size_t, povundiri_count*, std::size_t, povundiri_totals*);
 
-    bool is_own(Hist hist) const noexcept { return hist.tag_ == tag_ && !state_->is_forked(); }
+    // By what this object has itself: what it shares lies beside the mutex, which others write.
+    bool is_own(Hist hist) const noexcept { return hist.tag_ == tag_ && generation_ == povundiri_fork_number; }
 
     // Why a call is refused with a histogram that is not its own.
     [[gnu::cold]] Status why_not() const noexcept {
@@ -473,12 +474,13 @@ private:
         state_ = std::move(other.state_);
         handle_ = std::exchange(other.handle_, povundiri_handle{});
         tag_ = std::exchange(other.tag_, kNone);
+        generation_ = other.generation_;
         lease_ = other.lease_;
     }
 
     detail::Shared state_;
     mutable povundiri_handle handle_{};
-    std::uint64_t tag_ = kNone;
+    std::uint64_t tag_ = kNone, generation_ = 0;
     std::uint32_t lease_ = 0;
 };
 
@@ -703,6 +705,7 @@ inline Status Segment::try_recorder(Recorder& recorder, std::uint32_t lease) noe
     if (status != Status::Done) return status;
     recorder.state_ = state_;
     recorder.tag_ = detail::new_tag();
+    recorder.generation_ = state_->generation;
     recorder.lease_ = lease;
     return status;
 }

@@ -141,16 +141,14 @@ void moves() {
 // Each status is an error code, and no two have one name.
 void names() {
     std::set<std::string> names;
-    int statuses = 0;
     for (std::uint32_t number = 0; number < 1000; ++number) {
         const auto status = static_cast<Status>(number);
         const std::error_code code = status;
         HOLDS(code.message() == povundiri::text(status) && &code.category() == &povundiri::category());
         if (code.message() == "NoSuchStatus") continue;
-        statuses += 1;
         HOLDS(names.insert(code.message()).second);
     }
-    HOLDS(statuses == 55 && names.count("Forked") == 1 && names.count("Adopt NoUnits") == 1);
+    HOLDS(names.count("Done") == 1 && names.count("Forked") == 1 && names.count("Adopt NoUnits") == 1);
     HOLDS(std::error_code(Status::Unknown) == Status::Unknown && std::error_code(Status::Unknown) != Status::Empty);
     HOLDS(std::error_code(Status::RefusedNoMemory) == std::errc::not_enough_memory);
     HOLDS(std::error_code(Status::RefusedNoUnits) != std::errc::not_enough_memory);

@@ -517,11 +517,11 @@ static void faults_at_calls(void) {
 static void kills_amid_making(void) {
     const struct povundiri_shape large = {1048576, 65536, 7, 8, 2};
     int i, killed = 0;
-    for (i = 0; i < 200; i += 1) {
+    for (i = 0; i < 60; i += 1) {
         struct povundiri_file file = {0};
         struct povundiri_handle segment = {0};
         struct povundiri_opened opened;
-        struct timespec wait = {0, 200000 * (long)i};
+        const struct timespec wait = {0, 400000 * (long)i};
         pid_t child;
         unlink(path_of("making"));
         child = fork();
@@ -535,7 +535,7 @@ static void kills_amid_making(void) {
         DONE(povundiri_drop(&segment));
         povundiri_file_close(&file);
     }
-    HOLDS(killed > 20);
+    HOLDS(killed > 10);
 }
 
 /* ---- Races ---- */

@@ -94,9 +94,9 @@ static void others_files(void) {
     refuse(__LINE__, "sparse", NULL, (size_t)1 << 30);
     store_hole("longer", LARGEST + 1);
     refuse(__LINE__, "longer", NULL, LARGEST + 1);
-    store_hole("sparse_header", (off_t)1 << 40);
+    store_hole("sparse_header", (off_t)1 << 30);
     store_at("sparse_header", 0, cookie, sizeof cookie);
-    refuse(__LINE__, "sparse_header", NULL, (size_t)1 << 40);
+    refuse(__LINE__, "sparse_header", NULL, (size_t)1 << 30);
 }
 
 /* A header of which some words are 0 still, with zeros behind, was not made to its end. */

@@ -435,9 +435,12 @@ struct povundiri_room povundiri_file_room(const struct povundiri_file *file) {
     return room;
 }
 
-/* Whether nothing was counted here, of these words which are all that there are. */
-static bool is_unfinished(const uint64_t *image, size_t words) {
-    return words < HEADER_WORDS || (!is_made(image) && are_zeros(image + HEADER_WORDS, (words - HEADER_WORDS) * WORD));
+/* Whether nothing was counted in these bytes of a file, which are all that it has. */
+static bool is_unfinished(const unsigned char *bytes, size_t count) {
+    uint64_t first[1 + HEADER_WORDS] = {0};
+    const size_t known = count < sizeof first ? count : sizeof first;
+    memcpy(first, bytes, known);
+    return !is_made(first + 1) && are_zeros(bytes + known, count - known);
 }
 
 uint64_t *povundiri_file_words(const struct povundiri_file *file, size_t *count) {
@@ -446,9 +449,9 @@ uint64_t *povundiri_file_words(const struct povundiri_file *file, size_t *count)
     size_t there;
     *count = 0;
     if (!povundiri_file_is_open(file)) return NULL;
+    if (is_unfinished((const unsigned char *)file->mapping->at, file->mapping->bytes)) return NULL;
     image = (const uint64_t *)file->mapping->at + 1;
     there = file->mapping->bytes / WORD - 1;
-    if (is_unfinished(image, there)) return NULL;
     *count = image[SIZE_AT] != 0 && image[SIZE_AT] < there ? (size_t)image[SIZE_AT] : there;
     words = (uint64_t *)malloc(*count * WORD);
     if (words != NULL) memcpy(words, image, *count * WORD);
@@ -541,10 +544,10 @@ static bool is_refused_for_good(uint32_t status) {
 /* A new segment. Zeros come before it, so that what a killed process had begun is not taken for a part of its header. */
 static uint32_t make(const struct task *task) {
     const struct povundiri_room room = povundiri_file_room(task->file);
-    const size_t header = (1 + HEADER_WORDS) * WORD;
     struct povundiri_opened *opened = task->opened;
     uint32_t status;
-    memset(room.at, 0, room.bytes < header ? room.bytes : header);
+    if (room.bytes < task->request.bytes) return POVUNDIRI_OPEN_NO_MEMORY;
+    memset(room.at, 0, (1 + HEADER_WORDS) * WORD);
     status = povundiri_create_in(room, task->shape, task->segment);
     if (status != POVUNDIRI_DONE) return status;
     opened->outcome = opened->set_aside[0] == 0 ? POVUNDIRI_MADE : POVUNDIRI_MADE_ANEW;

@@ -181,8 +181,9 @@ struct povundiri_opened {
  * A file is set aside by renaming it to PATH.damaged-YYYYMMDDThhmmssZ-N, in UTC and with the first N from 1 on that is free, and never over
  * another file; one that is spent to PATH.full-... Only an image that is refused for good is set aside: POVUNDIRI_ADOPT_OLD_VERSION,
  * _CORRUPT, _DAMAGED, _NO_UNITS and POVUNDIRI_IMAGE_TOO_SHORT to _BAD_QUEUE. With POVUNDIRI_FILE_FOLLOW that is the file to which the link
- * leads. What was set aside is as it was, and stays until somebody removes it: a service that damages its file at each start fills the
- * device. A segment of version 1 cannot be adopted, so it is set aside each time.
+ * leads. A damaged file has its bytes and its length under the new name, and a spent one its image. Both stay until somebody removes
+ * them: a service that damages its file at each start fills the device. A segment of version 1 cannot be adopted, so it is set aside each
+ * time.
  *
  * POVUNDIRI_DONE: `file` is open and has `segment` in it. Else both are as before, and so is the file, unless `set_aside` has a name.
  *   POVUNDIRI_SYSTEM   opened->fault says what: as of povundiri_file_open, of renaming, or ENAMETOOLONG: no name for what is set aside

@@ -67,10 +67,8 @@ static UNUSED int64_t milliseconds_now(void) {
 /* ---- The bytes of files ---- */
 
 static UNUSED void store(const char *name, const void *bytes, size_t length) {
-    FILE *file = fopen(path_of(name), "wb");
-    HOLDS(file != NULL && fwrite(bytes, 1, length, file) == length);
-    HOLDS(file != NULL && fclose(file) == 0);
-    HOLDS(chmod(path_of(name), 0600) == 0);
+    const int descriptor = open(path_of(name), O_WRONLY | O_CREAT | O_TRUNC | O_CLOEXEC, 0600);
+    HOLDS(write(descriptor, bytes, length) == (ssize_t)length && fchmod(descriptor, 0600) == 0 && close(descriptor) == 0);
 }
 
 /* A file of zeros that has no blocks. */
@@ -101,12 +99,16 @@ static UNUSED int mode_of(const char *name) {
 
 /* The bytes of a path, for free(). */
 static UNUSED unsigned char *bytes_at(const char *path, size_t *length) {
-    FILE *file = fopen(path, "rb");
-    unsigned char *bytes = malloc(16 << 20);
+    const int descriptor = open(path, O_RDONLY | O_CLOEXEC);
+    struct stat about;
+    unsigned char *bytes;
+    ssize_t got;
     *length = 0;
-    if (file == NULL || bytes == NULL) return bytes;
-    *length = fread(bytes, 1, 16 << 20, file);
-    fclose(file);
+    if (descriptor < 0 || fstat(descriptor, &about) != 0) return NULL;
+    bytes = malloc((size_t)about.st_size + 1);
+    got = bytes == NULL ? 0 : read(descriptor, bytes, (size_t)about.st_size);
+    if (got > 0) *length = (size_t)got;
+    close(descriptor);
     return bytes;
 }
 

@@ -180,6 +180,26 @@ static void cut_files(void) {
     HOLDS(length_of("cut") == 8224 && units_in(path_of("cut")) == 6);
 }
 
+/* A header that breaks off in its last word is none, and no segment is made over it. */
+static void cut_headers(void) {
+    static const off_t cut[] = {129, 133, 135};
+    struct povundiri_opened opened;
+    size_t i, length;
+    for (i = 0; i < sizeof cut / sizeof cut[0]; i += 1) {
+        unsigned char *before;
+        make_segment("cut", 5);
+        HOLDS(truncate(path_of("cut"), cut[i]) == 0);
+        before = bytes_at(path_of("cut"), &length);
+        ANSWERS(IMAGE_TOO_SHORT, open_and_count("cut", POVUNDIRI_ADOPT_OR_FAIL, 1, &opened));
+        HOLDS(length == (size_t)cut[i] && has_bytes(path_of("cut"), before, length));
+        free(before);
+    }
+    make_segment("cut", 5);
+    HOLDS(truncate(path_of("cut"), 128) == 0);
+    DONE(open_and_count("cut", POVUNDIRI_ADOPT_OR_FAIL, 1, &opened));
+    HOLDS(opened.outcome == POVUNDIRI_MADE && units_in(path_of("cut")) == 1);
+}
+
 /* What is refused is as long as it was, also where room for more cursors would have been made. */
 static void refused_as_it_was(void) {
     const uint64_t wrong = 99;
@@ -311,6 +331,7 @@ int main(int count, char **words) {
     failed += group("unfinished", unfinished);
     failed += group("one_zero", one_zero);
     failed += group("cut_files", cut_files);
+    failed += group("cut_headers", cut_headers);
     failed += group("refused_as_it_was", refused_as_it_was);
     failed += group("modes", modes);
     failed += group("writers", writers);

@@ -30,6 +30,9 @@ CHECKS = (
 )
 FUZZER = ["clang", "-std=c99"]
 FUZZER_FLAGS = ["-fsanitize=fuzzer,address,undefined", "-fno-sanitize-recover=all"]
+FUZZER_WORDS = ["-max_len=1024", "-len_control=0"]
+# Files that are opened some thousand times stand here, where there is such a folder.
+MEMORY = "/dev/shm"
 
 
 def checked(installed, name, flags, replaced):
@@ -60,8 +63,8 @@ def has_fuzzer(folder):
 def fuzzed(installed, options):
     """What the fuzzer found, or None."""
     program = installed.with_file_layer(native.PROGRAMS / "fuzz_file.c", FUZZER, FUZZER_FLAGS)
-    with tempfile.TemporaryDirectory() as folder:
-        words = [program, f"-max_total_time={FUZZ_SECONDS}", "-max_len=4096", f"-seed={options.seed}", f"-artifact_prefix={folder}/"]
+    with tempfile.TemporaryDirectory(dir=MEMORY if os.access(MEMORY, os.W_OK) else None) as folder:
+        words = [program, f"-max_total_time={FUZZ_SECONDS}", *FUZZER_WORDS, f"-seed={options.seed}", f"-artifact_prefix={folder}/"]
         settings = {**os.environ, "FUZZ_FOLDER": folder}
         done = subprocess.run(words, capture_output=True, text=True, timeout=MOST_SECONDS, env=settings, cwd=folder)
     return None if done.returncode == 0 else f"status {done.returncode}: {done.stderr[-3000:]}"

@@ -521,6 +521,8 @@ struct Opened;
 class Segment {
 public:
     Segment() noexcept = default;
+    Segment(Segment&&) noexcept = default;
+    Segment& operator=(Segment&&) noexcept = default;
 
     // A new segment in the heap, or in a room, which is the segment's until it and all its recorders have ended.
     explicit Segment(const Shape& shape) { detail::need(try_create(shape, *this), "create, words", shape.size); }

@@ -42,6 +42,37 @@ def warnings(folder):
     yield "a compiler for each language", None if seen == {".c", ".cpp"} else f"only for {seen}"
 
 
+# What a compiler refuses, by the warning or the words with which it does.
+MISTAKES = (
+    (".c", "povundiri_add(&recorder, 0, 1, 1);", "unused"),
+    (".c", "povundiri_join(&segment, &recorder);", "unused"),
+    (".cpp", "recorder.try_add(hist, 1);", "nodiscard"),
+    (".cpp", "segment.try_recorder(recorder);", "nodiscard"),
+    (".cpp", "povundiri::Recorder moved(std::move(segment));", "Segment"),
+    (".cpp", "segment = std::move(recorder);", "Recorder"),
+    (".cpp", "povundiri::Segment copied(segment);", "deleted"),
+    (".cpp", "recorder.add(hist, 1.5);", "double"),
+    (".cpp", "povundiri::Recorder copied(recorder);", "deleted"),
+)
+PROGRAMS = {
+    ".c": "#include <povundiri.h>\nint main(void) {\n    struct povundiri_handle segment = {0}, recorder = {0};\n    %s\n"
+    "    return segment.full || recorder.full;\n}\n",
+    ".cpp": "#include <povundiri.hpp>\nint main() {\n    povundiri::Segment segment;\n    povundiri::Recorder recorder;\n    povundiri::Hist hist;\n    %s\n"
+    "    return segment || recorder || recorder.add(hist, 1);\n}\n",
+}
+
+
+def mistakes(folder):
+    """What is easily done wrong does not compile, or with a warning; and the program without it does."""
+    for suffix, statement, word in (*((suffix, "", "") for suffix in PROGRAMS), *MISTAKES):
+        source = folder / f"mistake{suffix}"
+        source.write_text(PROGRAMS[suffix] % statement)
+        words = [*native.compiler(suffix), "-Wall", "-Wextra", "-Werror", f"-I{native.LIBRARY}", "-c", "-o", "/dev/null", source]
+        done = subprocess.run([str(word) for word in words], capture_output=True, text=True, timeout=MOST_SECONDS)
+        wrong = done.returncode != 0 if statement == "" else done.returncode == 0 or word not in done.stderr
+        yield f"refused: {statement or f'nothing ({suffix})'}", f"status {done.returncode}: {done.stderr[-1000:]}" if wrong else None
+
+
 def own_lines(source, *flags):
     """What the preprocessor leaves of the library's headers."""
     text = native.run([*native.compiler(".cpp"), *flags, f"-I{native.LIBRARY}", "-E", source])
@@ -102,6 +133,7 @@ def thread_sanitized(folder):
 
 def cases(installed, folder):
     yield from warnings(folder)
+    yield from mistakes(folder)
     for test in (lambda: one_definition(folder), lambda: mixed(installed, folder), lambda: thread_sanitized(folder)):
         try:
             yield from test()

@@ -19,8 +19,13 @@ static int is_interrupted(void) {
     return 1;
 }
 
+/* What happens before the next lock is asked for. */
+static void (*before_lock)(void);
+
 int test_flock(int descriptor, int how);
 int test_flock(int descriptor, int how) {
+    if (before_lock != NULL) before_lock();
+    before_lock = NULL;
     return is_interrupted() ? -1 : flock(descriptor, how);
 }
 
@@ -157,6 +162,29 @@ static void other_file_of_the_name(void) {
     }
 }
 
+static void set_it_aside(void) {
+    HOLDS(rename(path_of("between"), path_of("between.old")) == 0);
+}
+
+static void set_it_aside_and_make_one(void) {
+    set_it_aside();
+    store("between", "", 0);
+}
+
+/* So it is where that happens between the opening and the lock. */
+static void other_file_before_the_lock(void) {
+    static void (*const happens[])(void) = {set_it_aside, set_it_aside_and_make_one};
+    struct povundiri_opened opened;
+    size_t i;
+    for (i = 0; i < 2; i += 1) {
+        make_segment("between", 5);
+        before_lock = happens[i];
+        DONE(open_and_count("between", POVUNDIRI_ADOPT_OR_FAIL, 1, &opened));
+        HOLDS(opened.outcome == POVUNDIRI_MADE);
+        HOLDS(units_in(path_of("between")) == 1 && units_in(path_of("between.old")) == 5);
+    }
+}
+
 /* ---- Signals ---- */
 
 static volatile sig_atomic_t signals;
@@ -266,7 +294,7 @@ static void full_device(void) {
 }
 
 static int full_device_where_it_can_be_mounted(void) {
-    if (mkdir(path_of("small"), 0700) != 0 || mount("none", path_of("small"), "tmpfs", 0, "size=64k") != 0) {
+    if (mkdir(path_of("small"), 0700) != 0 || mount("none", path_of("small"), "tmpfs", 0, "size=1m") != 0) {
         return left_out("full_device", "no small device can be mounted here");
     }
     return group("full_device", full_device);
@@ -281,6 +309,7 @@ int main(int count, char **words) {
     failed += group("all_descriptors_closed", all_descriptors_closed);
     failed += group("readers_that_probe", readers_that_probe);
     failed += group("other_file_of_the_name", other_file_of_the_name);
+    failed += group("other_file_before_the_lock", other_file_before_the_lock);
     failed += group("signal_storm", signal_storm);
     failed += access("/dev/shm", W_OK) == 0 ? group("signal_storm_in_memory", signal_storm_in_memory)
                                             : left_out("signal_storm_in_memory", "there is no /dev/shm");

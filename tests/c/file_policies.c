@@ -102,6 +102,62 @@ int test_unlink(const char *path) {
     return fails() ? -1 : unlink(path);
 }
 
+/* ---- Memory ---- */
+
+/* Which allocation of those that come is refused, from 1 on; 0 for none. Those of the library come by the three functions below. */
+static int allocations, refused_at;
+
+static int is_allocation_refused(void) {
+    allocations += 1;
+    return allocations == refused_at;
+}
+
+void *test_malloc(size_t size);
+void *test_malloc(size_t size) {
+    return is_allocation_refused() ? NULL : malloc(size);
+}
+
+void *test_calloc(size_t count, size_t size);
+void *test_calloc(size_t count, size_t size) {
+    return is_allocation_refused() ? NULL : calloc(count, size);
+}
+
+/* What the library's heap answers. */
+struct tried {
+    bool ok;
+    void *at;
+};
+
+struct tried rattle_alloc(size_t size, size_t align);
+struct tried rattle_realloc(void *at, size_t kept, size_t size, size_t align);
+void rattle_dealloc(void *at);
+
+struct tried rattle_alloc(size_t size, size_t align) {
+    struct tried answer = {false, (void *)16};
+    (void)align;
+    if (is_allocation_refused()) return answer;
+    answer.at = malloc(size != 0 ? size : 1);
+    answer.ok = answer.at != NULL;
+    return answer;
+}
+
+struct tried rattle_realloc(void *at, size_t kept, size_t size, size_t align) {
+    struct tried answer = {false, at};
+    void *moved;
+    (void)kept;
+    (void)align;
+    if (is_allocation_refused()) return answer;
+    moved = realloc(at, size != 0 ? size : 1);
+    if (moved == NULL) return answer;
+    answer.ok = true;
+    answer.at = moved;
+    return answer;
+}
+
+void rattle_dealloc(void *at) {
+    free(at);
+}
+
 /* ---- Files that were set aside ---- */
 
 /* Removes all that stands in the folder. */
@@ -467,6 +523,12 @@ static int kill_at_each_call(enum start start) {
     return at - 2;
 }
 
+/* Whether a file that was there has its bytes, under its name or the one that it was given; and one that was not there none. */
+static int is_as_before(const struct povundiri_opened *opened, const unsigned char *before, size_t length) {
+    if (before == NULL) return length_of("at_each") <= 0;
+    return has_bytes(opened->set_aside[0] != 0 ? opened->set_aside : path_of("at_each"), before, length);
+}
+
 /* Has each call fail in turn; how often it did. */
 static int fail_at_each_call(enum start start) {
     uint32_t status = POVUNDIRI_SYSTEM;
@@ -482,10 +544,7 @@ static int fail_at_each_call(enum start start) {
         if (calls < at) at = 1000;
         HOLDS(status == POVUNDIRI_DONE || (status == POVUNDIRI_SYSTEM && opened.fault == EIO));
         failed += status == POVUNDIRI_SYSTEM;
-        if (status == POVUNDIRI_SYSTEM && opened.set_aside[0] != 0) HOLDS(has_bytes(opened.set_aside, before, length));
-        if (status == POVUNDIRI_SYSTEM && opened.set_aside[0] == 0 && before != NULL) {
-            HOLDS(with_bytes("at_each", before, length) >= 1 || calls > at);
-        }
+        if (status == POVUNDIRI_SYSTEM) HOLDS(is_as_before(&opened, before, length));
         if (status == POVUNDIRI_SYSTEM) next_start(start, before, length);
         free(before);
     }
@@ -511,6 +570,46 @@ static void faults_at_calls(void) {
         HOLDS(fail_at_each_call((enum start)start) >= 7);
         cannot_rename_to_free = 0;
     }
+}
+
+static int is_no_memory(uint32_t status, int fault) {
+    return (status == POVUNDIRI_SYSTEM && fault == ENOMEM) || status == POVUNDIRI_NO_MEMORY || status == POVUNDIRI_OPEN_NO_MEMORY ||
+           status == POVUNDIRI_ADOPT_NO_MEMORY;
+}
+
+/* Refuses each allocation in turn; how often one was. No file is set aside for want of memory. */
+static int refuse_each_allocation(enum start start) {
+    struct povundiri_opened opened;
+    int at, refused = 0;
+    for (at = 1; at < 1000; at += 1) {
+        struct povundiri_file file = {0};
+        struct povundiri_handle segment = {0};
+        size_t length;
+        unsigned char *before = begin(start, &length);
+        uint32_t status;
+        allocations = 0;
+        refused_at = at;
+        status = povundiri_open(path_of("at_each"), shape_of(WORDS), POVUNDIRI_ADOPT_OR_BEGIN_ANEW, NULL, &file, &segment, &opened);
+        refused_at = 0;
+        if (allocations < at) at = 1000;
+        if (status != POVUNDIRI_DONE) {
+            HOLDS(is_no_memory(status, opened.fault) && is_as_before(&opened, before, length));
+            HOLDS(opened.set_aside[0] == 0 || start == IS_DAMAGED || start == IS_SPENT);
+            HOLDS(!segment.full && !povundiri_file_is_open(&file));
+            refused += 1;
+            next_start(start, before, length);
+        } else {
+            DONE(povundiri_drop(&segment));
+            povundiri_file_close(&file);
+        }
+        free(before);
+    }
+    return refused;
+}
+
+static void refused_memory(void) {
+    int start;
+    for (start = 0; start < STARTS; start += 1) HOLDS(refuse_each_allocation((enum start)start) >= 4);
 }
 
 /* Kills at any moment of the making of a large segment. */
@@ -598,6 +697,7 @@ int main(int count, char **words) {
     failed += group("spent", spent);
     failed += group("kills_at_calls", kills_at_calls);
     failed += group("faults_at_calls", faults_at_calls);
+    failed += group("refused_memory", refused_memory);
     failed += group("kills_amid_making", kills_amid_making);
     failed += group("races", races);
     return failed != 0;

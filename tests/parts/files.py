@@ -18,7 +18,7 @@ PROGRAM = None
 MOST_SECONDS = 300
 FUZZ_SECONDS = 60
 INTERRUPTED = ("flock", "pread", "open", "posix_fallocate", "ftruncate")
-STOPPED = (*INTERRUPTED, "fstat", "fstatat", "mmap", "madvise", "munmap", "close", "renameat2", "link", "unlink")
+STOPPED = (*INTERRUPTED, "fstat", "fstatat", "mmap", "madvise", "munmap", "close", "renameat2", "link", "unlink", "malloc", "calloc")
 THREAD_SANITIZER = ["-fsanitize=thread"]
 # A source, how it is watched, and the calls to the system that come to it.
 CHECKS = (

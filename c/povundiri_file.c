@@ -55,11 +55,11 @@ struct povundiri_mapping {
     int descriptor; /* -1 where there is none */
     dev_t device;   /* with the inode the file that the descriptor was opened for */
     ino_t inode;
-    void *at;       /* null where nothing is mapped */
-    size_t bytes;   /* that are mapped */
-    off_t was;      /* how long the file was before it was opened */
-    bool is_kept;   /* in children of fork */
-    pid_t process;  /* that opened it, or was forked and keeps it */
+    void *at;      /* null where nothing is mapped */
+    size_t bytes;  /* that are mapped */
+    off_t was;     /* how long the file was before it was opened */
+    bool is_kept;  /* in children of fork */
+    pid_t process; /* that opened it, or was forked and keeps it */
 };
 
 /* Held while a descriptor or a mapping comes or goes, and while the process forks: so a child knows each that it has. */
@@ -596,17 +596,11 @@ static void close_as_it_was(struct povundiri_file *file) {
     povundiri_file_close(file);
 }
 
-/* A handle that is empty stays so. */
-static void drop(struct povundiri_handle *handle) {
-    const uint32_t status = povundiri_drop(handle);
-    (void)status;
-}
-
 /* Lets go what was opened, and what was said of it. */
 static void take_back(const struct task *task) {
     const struct povundiri_shape none = {0, 0, 0, 0, 0};
     struct povundiri_opened *opened = task->opened;
-    drop(task->segment);
+    if (task->segment->full) povundiri_drop(task->segment);
     close_as_it_was(task->file);
     opened->outcome = POVUNDIRI_NOTHING;
     opened->shape = none;

@@ -45,12 +45,6 @@
 
 #include "povundiri.h"
 
-#if defined(__GNUC__)
-#define POVUNDIRI_FILE_CHECKED __attribute__((warn_unused_result))
-#else
-#define POVUNDIRI_FILE_CHECKED
-#endif
-
 #ifdef __cplusplus
 extern "C" {
 #endif
@@ -105,7 +99,7 @@ size_t povundiri_file_bytes(uint64_t words, size_t cursors);
  *   ENOSPC, EDQUOT, ENOMEM, EACCES, ENOENT, EROFS and others, as the system's calls say
  * A signal interrupts nothing: the system's calls are made again. */
 int povundiri_file_open(struct povundiri_file *file, const char *path, size_t bytes,
-                        const struct povundiri_file_options *options) POVUNDIRI_FILE_CHECKED;
+                        const struct povundiri_file_options *options) POVUNDIRI_CHECKED;
 
 /* Whether the file is open in this process. */
 bool povundiri_file_is_open(const struct povundiri_file *file);
@@ -120,7 +114,7 @@ struct povundiri_room povundiri_file_room(const struct povundiri_file *file);
 /* A copy of the words of the image that stands in the file, for povundiri_adopt and free(), and how many there are. NULL and 0 where no
  * segment was begun there, or its making had not ended: one of the words of the header that are never 0 is 0, and all words behind the
  * header are zeros. Then povundiri_create_in loses nothing. NULL and a number where there was no memory. No segment is in the room. */
-uint64_t *povundiri_file_words(const struct povundiri_file *file, size_t *count) POVUNDIRI_FILE_CHECKED;
+uint64_t *povundiri_file_words(const struct povundiri_file *file, size_t *count) POVUNDIRI_CHECKED;
 
 /* From now on children of fork have the file, its memory and its lock, or do not have it. With `keep`: of parent and child one goes on with
  * the segment in it, and the other makes no call on it or its recorders, and ends or calls povundiri_file_close. The lock is theirs
@@ -128,7 +122,7 @@ uint64_t *povundiri_file_words(const struct povundiri_file *file, size_t *count)
  * false: what it forks later does not hold the lock.
  *
  * 0, or the number of the system's fault; EINVAL where the file is not open. */
-int povundiri_file_keep_on_fork(struct povundiri_file *file, bool keep) POVUNDIRI_FILE_CHECKED;
+int povundiri_file_keep_on_fork(struct povundiri_file *file, bool keep) POVUNDIRI_CHECKED;
 
 /* Unmaps the file, and lets others open it. No segment is in the room. Where the file is not open, as in a forked child, and for a null,
  * nothing happens. */
@@ -145,10 +139,10 @@ enum povundiri_policy {
 
 /* What happened. */
 enum povundiri_outcome {
-    POVUNDIRI_NOTHING = 0,   /* the call was refused */
-    POVUNDIRI_MADE = 1,      /* there was no segment: a new one was made, of the shape that was asked for */
-    POVUNDIRI_ADOPTED = 2,   /* the segment that stood in the file goes on, of the shape that it has */
-    POVUNDIRI_MADE_ANEW = 3  /* the file was set aside, and a new segment was made in a new file */
+    POVUNDIRI_NOTHING = 0,  /* the call was refused */
+    POVUNDIRI_MADE = 1,     /* there was no segment: a new one was made, of the shape that was asked for */
+    POVUNDIRI_ADOPTED = 2,  /* the segment that stood in the file goes on, of the shape that it has */
+    POVUNDIRI_MADE_ANEW = 3 /* the file was set aside, and a new segment was made in a new file */
 };
 
 /* The bytes of the longest path, with the zero byte behind. */
@@ -190,11 +184,12 @@ struct povundiri_opened {
  *                      fits. EBUSY also where another process was faster to make the new file.
  *   POVUNDIRI_NULL, POVUNDIRI_NOT_EMPTY (`segment` or `file`), POVUNDIRI_BAD_KIND (no such policy)
  *   POVUNDIRI_OPEN_.., POVUNDIRI_NO_MEMORY   as of povundiri_create_in
- *   POVUNDIRI_ADOPT_.., POVUNDIRI_IMAGE_..   as of povundiri_adopt_in: refused, and not set aside
+ *   POVUNDIRI_ADOPT_.., POVUNDIRI_IMAGE_..   as of povundiri_adopt_in: refused, and not set aside: one file is set aside in a call, and
+ *                                            another process was faster with the next
  * Keep: pointers; handles: `file` and `segment` begin as zeros; process. */
 uint32_t povundiri_open(const char *path, struct povundiri_shape shape, enum povundiri_policy policy,
                         const struct povundiri_file_options *options, struct povundiri_file *file, struct povundiri_handle *segment,
-                        struct povundiri_opened *opened) POVUNDIRI_FILE_CHECKED;
+                        struct povundiri_opened *opened) POVUNDIRI_CHECKED;
 
 /* ---- Forks ---- */
 

@@ -13,7 +13,7 @@ static const char *const PATH_NAMES[PATHS] = {"threads_0", "threads_1"};
 struct thread {
     pthread_t thread;
     int number;
-    int busy, counted, set_aside, wrong;
+    int counted, set_aside, wrong;
 };
 
 /* Marks the segment as corrupt, as nothing that records here would: the next open sets the file aside. */
@@ -34,10 +34,8 @@ static int count_once(struct thread *thread, int round) {
     size_t hist;
     const uint32_t status = povundiri_open(path, shape_of(WORDS), POVUNDIRI_ADOPT_OR_SET_ASIDE, NULL, &file, &segment, &opened);
     thread->set_aside += opened.set_aside[0] != 0;
-    if (status == POVUNDIRI_SYSTEM && opened.fault == EBUSY) {
-        thread->busy += 1;
-        return 1;
-    }
+    if (status == POVUNDIRI_SYSTEM && opened.fault == EBUSY) return 1;
+    if (status == POVUNDIRI_ADOPT_CORRUPT && opened.set_aside[0] != 0) return 1; /* another thread damaged the next one meanwhile */
     if (status != POVUNDIRI_DONE || povundiri_recorder(&segment, 1, &recorder) != POVUNDIRI_DONE) return 0;
     if (povundiri_hist_sparse(&recorder, "s", &hist) != POVUNDIRI_DONE) return 0;
     if (povundiri_add(&recorder, hist, 3, 1) != POVUNDIRI_DONE || povundiri_join(&segment, &recorder) != POVUNDIRI_DONE) return 0;

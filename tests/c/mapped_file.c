@@ -129,8 +129,8 @@ static void one_zero(void) {
     static const struct {
         size_t word;
         uint32_t fault;
-    } zeroed[] = {{1, POVUNDIRI_IMAGE_BAD_VERSION}, {2, POVUNDIRI_IMAGE_BAD_SIZE}, {3, POVUNDIRI_IMAGE_BAD_PAGE},
-                  {5, POVUNDIRI_IMAGE_NOT_READY},   {7, POVUNDIRI_IMAGE_BAD_FREE}, {8, POVUNDIRI_ADOPT_DAMAGED},
+    } zeroed[] = {{1, POVUNDIRI_IMAGE_BAD_VERSION}, {2, POVUNDIRI_IMAGE_BAD_SIZE},   {3, POVUNDIRI_IMAGE_BAD_PAGE},
+                  {5, POVUNDIRI_IMAGE_NOT_READY},   {7, POVUNDIRI_IMAGE_BAD_FREE},   {8, POVUNDIRI_ADOPT_DAMAGED},
                   {12, POVUNDIRI_IMAGE_BAD_QUEUE},  {13, POVUNDIRI_IMAGE_BAD_QUEUE}, {15, POVUNDIRI_ADOPT_DAMAGED}};
     const uint64_t zero = 0;
     struct povundiri_opened opened;

@@ -13,6 +13,7 @@ extern inline uint32_t povundiri_adopt_in(struct povundiri_room room, const uint
 extern inline uint32_t povundiri_close(struct povundiri_handle *segment, uint64_t *words, size_t length, size_t *needed);
 extern inline uint32_t povundiri_drop(struct povundiri_handle *handle);
 extern inline uint32_t povundiri_recorder(struct povundiri_handle *segment, uint32_t units, struct povundiri_handle *out);
+extern inline uint32_t povundiri_lend(struct povundiri_handle *segment, struct povundiri_handle *recorder, uint32_t units);
 extern inline uint32_t povundiri_join(struct povundiri_handle *segment, struct povundiri_handle *recorder);
 extern inline uint32_t povundiri_units(struct povundiri_handle *handle, uint32_t *units);
 extern inline uint32_t povundiri_outstanding(struct povundiri_handle *segment, uint32_t *outstanding);

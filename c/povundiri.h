@@ -24,7 +24,7 @@
  *   handles     A handle begins as zeros. Only these calls change it. It is not copied: to move it, copy it and zero the old one.
  *   turns       A handle is given to one call at a time. It goes to another thread in order: by a lock, the start or the join of a
  *               thread, or an atomic of sequential consistency. So each thread has a recorder of its own, and the handle of the
- *               segment is with one thread at a time, which makes recorders and joins them.
+ *               segment is with one thread at a time, which makes recorders, lends to its own and joins those that are done.
  *   room        It is aligned to 16, and a multiple of 16 bytes that is not 0. From the call on it is the segment's: nobody writes
  *               there or unmaps it until the segment is closed or dropped and each of its recorders is joined or dropped. Another
  *               process may read it, word by word.
@@ -135,8 +135,8 @@ enum povundiri_status {
     POVUNDIRI_IN_USE = 11,       /* the segment has recorders */
     POVUNDIRI_LIST_ENDS = 12,    /* behind the cursor there is no record as yet */
     POVUNDIRI_NO_MEMORY = 13,    /* there was no memory for a handle, a name, or a text */
-    POVUNDIRI_ELSEWHERE = 14,    /* the recorder's own segment has met it, as another thread joined one there: its handle is empty */
-    POVUNDIRI_BUSY = 15,         /* another thread joins a recorder of the same segment at this moment: nothing has happened, try again */
+    POVUNDIRI_ELSEWHERE = 14,    /* the recorder's own segment has met it, by a call of another thread there: its handle is empty */
+    POVUNDIRI_BUSY = 15,         /* another thread passes a recorder of the same segment at this moment: nothing has happened, try again */
     POVUNDIRI_SYSTEM = 16,       /* of povundiri_file.h: the system's fault, whose number (errno.h) stands beside it */
 
     /* Why a call is refused. */
@@ -197,6 +197,8 @@ uint32_t povundiri_proved_close(struct povundiri_handle *segment, struct povundi
                                 size_t *needed);
 uint32_t povundiri_proved_drop(struct povundiri_handle *handle, struct povundiri_handle none);
 uint32_t povundiri_proved_recorder(struct povundiri_handle *segment, uint32_t units, struct povundiri_handle *out);
+uint32_t povundiri_proved_lend(struct povundiri_handle *segment, struct povundiri_handle *recorder, uint32_t units,
+                               struct povundiri_handle none);
 uint32_t povundiri_proved_join(struct povundiri_handle *segment, struct povundiri_handle *recorder, struct povundiri_handle none);
 uint32_t povundiri_proved_units(struct povundiri_handle *handle, uint32_t *units);
 uint32_t povundiri_proved_outstanding(struct povundiri_handle *segment, uint32_t *outstanding);
@@ -299,6 +301,22 @@ POVUNDIRI_CHECKED
 inline uint32_t povundiri_recorder(struct povundiri_handle *segment, uint32_t units, struct povundiri_handle *out) {
     if (segment == NULL || out == NULL) return POVUNDIRI_NULL;
     return segment == out ? (uint32_t)POVUNDIRI_NOT_EMPTY : povundiri_proved_recorder(segment, units, out);
+}
+
+/* Lends a recorder so many more of its segment's units, which may be 0, while it runs: what the segment has left it may still spend then,
+ * and nothing else changes. Its histograms keep their numbers. Also where the segment has 256 recorders. It asks for no memory.
+ * Statuses: NULL, EMPTY, OTHER_KIND; REFUSED_NO_UNITS: the segment has fewer, whichever segment the recorder is of; OTHER_SEGMENT. Then
+ * the recorder is in its handle as it was. Where two threads each lend or join a recorder of the other's segment at the same moment: a
+ * lend that is done leaves a recorder of the segment in the handle, and that may be the one of the other thread; or it is answered
+ * ELSEWHERE, and the handle is empty: the recorder was joined to its own segment, or is in the other thread's handle. Either may be
+ * answered BUSY, and so may one that lends rightly beside such a thread: nothing has happened. A program that passes each recorder with
+ * its own segment is not meant to see these; no proof says so. NO_MEMORY is for 2^63 recorders of a segment, which no program has.
+ * Keep: pointers; handles; turns: those of both; process. */
+POVUNDIRI_CHECKED
+inline uint32_t povundiri_lend(struct povundiri_handle *segment, struct povundiri_handle *recorder, uint32_t units) {
+    const struct povundiri_handle none = {false, NULL};
+    if (segment == NULL || recorder == NULL) return POVUNDIRI_NULL;
+    return segment == recorder ? (uint32_t)POVUNDIRI_OTHER_KIND : povundiri_proved_lend(segment, recorder, units, none);
 }
 
 /* Takes a recorder back: its handle is empty then, and the units that it has left are the segment's.

@@ -60,6 +60,8 @@ static void nulls_of_segments(void) {
     ANSWERS(NULL, povundiri_drop(NULL));
     ANSWERS(NULL, povundiri_recorder(NULL, 1, &out));
     ANSWERS(NULL, povundiri_recorder(&segment, 1, NULL));
+    ANSWERS(NULL, povundiri_lend(NULL, &recorder, 1));
+    ANSWERS(NULL, povundiri_lend(&segment, NULL, 1));
     ANSWERS(NULL, povundiri_join(NULL, &recorder));
     ANSWERS(NULL, povundiri_join(&segment, NULL));
     ANSWERS(NULL, povundiri_units(NULL, &number));
@@ -141,6 +143,7 @@ static void asks_for_a_segment(struct povundiri_handle *it, struct povundiri_han
     uint32_t number;
     HOLDS(povundiri_close(it, words, WORDS, NULL) == status);
     HOLDS(povundiri_recorder(it, 1, &out) == status);
+    HOLDS(povundiri_lend(it, recorder, 1) == status);
     HOLDS(povundiri_join(it, recorder) == status);
     HOLDS(povundiri_outstanding(it, &number) == status);
 }
@@ -159,6 +162,9 @@ static void other_handles(void) {
     asks_for_a_recorder(&segment, POVUNDIRI_OTHER_KIND);
     asks_for_a_segment(&none, &recorder, POVUNDIRI_EMPTY);
     asks_for_a_segment(&recorder, &second, POVUNDIRI_OTHER_KIND);
+    ANSWERS(OTHER_KIND, povundiri_lend(&segment, &segment, 1));
+    ANSWERS(OTHER_KIND, povundiri_lend(&segment, &other, 1));
+    ANSWERS(EMPTY, povundiri_lend(&segment, &none, 1));
     ANSWERS(OTHER_KIND, povundiri_join(&segment, &segment));
     ANSWERS(OTHER_KIND, povundiri_join(&segment, &other));
     ANSWERS(OTHER_SEGMENT, povundiri_join(&other, &recorder));
@@ -277,6 +283,93 @@ static void units(void) {
     HOLDS(number == 0);
     DONE(povundiri_units(&segment, &number));
     HOLDS(number == UINT32_MAX);
+    DONE(povundiri_drop(&segment));
+}
+
+static void has_units(struct povundiri_handle *it, uint32_t wanted) {
+    uint32_t units = wanted + 1;
+    DONE(povundiri_units(it, &units));
+    HOLDS(units == wanted);
+}
+
+/* A recorder whose share is used up goes on, with the same histograms at the same numbers. In the end all units are there but those that
+ * were counted. */
+static void lends(void) {
+    struct povundiri_handle segment = segment_of(WORDS, PAGE), recorder = recorder_of(&segment, 2);
+    struct povundiri_totals totals = {0, 0, 0};
+    struct povundiri_count counts[10];
+    size_t first = 9, second = 9, again = 9;
+    DONE(povundiri_hist_linear(&recorder, "latency", 1, 1000, 10, &first));
+    DONE(povundiri_hist_boolean(&recorder, "b", &second));
+    DONE(povundiri_add(&recorder, first, 500, 2));
+    ANSWERS(REFUSED_NO_UNITS, povundiri_add(&recorder, second, 1, 1));
+    DONE(povundiri_lend(&segment, &recorder, 5));
+    has_units(&recorder, 5);
+    has_units(&segment, UINT32_MAX - 7);
+    DONE(povundiri_add(&recorder, second, 1, 1));
+    DONE(povundiri_add(&recorder, first, 500, 3));
+    DONE(povundiri_lend(&segment, &recorder, 0));
+    has_units(&recorder, 1);
+    DONE(povundiri_hist_boolean(&recorder, "b", &again));
+    HOLDS(first == 0 && second == 1 && again == 1);
+    DONE(povundiri_snapshot(&recorder, first, counts, 10, &totals));
+    HOLDS(totals.sum == 2500 && counts[4].key == 376 && counts[4].count == 5);
+    DONE(povundiri_join(&segment, &recorder));
+    has_units(&segment, UINT32_MAX - 6);
+    DONE(povundiri_drop(&segment));
+}
+
+/* All units may be lent, and no more: then all is as it was. */
+static void lends_all(void) {
+    struct povundiri_handle segment = segment_of(WORDS, PAGE), recorder = recorder_of(&segment, 10);
+    ANSWERS(REFUSED_NO_UNITS, povundiri_lend(&segment, &recorder, UINT32_MAX - 9));
+    has_units(&segment, UINT32_MAX - 10);
+    has_units(&recorder, 10);
+    DONE(povundiri_lend(&segment, &recorder, UINT32_MAX - 10));
+    has_units(&segment, 0);
+    has_units(&recorder, UINT32_MAX);
+    ANSWERS(REFUSED_NO_UNITS, povundiri_lend(&segment, &recorder, 1));
+    DONE(povundiri_lend(&segment, &recorder, 0));
+    has_units(&recorder, UINT32_MAX);
+    DONE(povundiri_join(&segment, &recorder));
+    has_units(&segment, UINT32_MAX);
+    DONE(povundiri_drop(&segment));
+}
+
+/* A recorder of another segment is not lent to: both segments and the recorder are as they were. */
+static void lends_to_its_own(void) {
+    struct povundiri_handle segment, recorder, other = segment_of(WORDS, PAGE), all;
+    size_t hist = 9;
+    made(&segment, &recorder);
+    ANSWERS(OTHER_SEGMENT, povundiri_lend(&other, &recorder, 5));
+    ANSWERS(OTHER_SEGMENT, povundiri_lend(&other, &recorder, 0));
+    has_units(&other, UINT32_MAX);
+    has_units(&segment, UINT32_MAX - 1000);
+    has_units(&recorder, 1000);
+    DONE(povundiri_add(&recorder, 0, 500, 1000));
+    DONE(povundiri_hist_sparse(&recorder, "s", &hist));
+    HOLDS(hist == 1);
+    all = recorder_of(&other, UINT32_MAX);
+    ANSWERS(REFUSED_NO_UNITS, povundiri_lend(&other, &recorder, 1));
+    DONE(povundiri_lend(&segment, &recorder, 1));
+    has_units(&recorder, 1);
+    let_go(&segment, &recorder);
+    let_go(&other, &all);
+}
+
+static void lends_to_many(void) {
+    struct povundiri_handle segment = segment_of(WORDS, PAGE), none = {0}, many[256];
+    uint32_t outstanding = 0;
+    size_t i;
+    for (i = 0; i < 256; i += 1) many[i] = recorder_of(&segment, 1);
+    ANSWERS(REFUSED_TOO_MANY, povundiri_recorder(&segment, 0, &none));
+    for (i = 0; i < 256; i += 1) DONE(povundiri_lend(&segment, &many[i], (uint32_t)i));
+    DONE(povundiri_outstanding(&segment, &outstanding));
+    HOLDS(outstanding == 256);
+    for (i = 0; i < 256; i += 1) has_units(&many[i], (uint32_t)i + 1);
+    has_units(&segment, UINT32_MAX - 256 * 257 / 2);
+    for (i = 0; i < 256; i += 1) DONE(povundiri_join(&segment, &many[i]));
+    has_units(&segment, UINT32_MAX);
     DONE(povundiri_drop(&segment));
 }
 
@@ -587,6 +680,10 @@ static const struct test TESTS[] = {
     {"bad_rooms", bad_rooms},
     {"rooms", rooms},
     {"units", units},
+    {"lends", lends},
+    {"lends_all", lends_all},
+    {"lends_to_its_own", lends_to_its_own},
+    {"lends_to_many", lends_to_many},
     {"histograms", histograms},
     {"specs", specs},
     {"names", names},

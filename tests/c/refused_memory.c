@@ -129,6 +129,7 @@ static void each_allocation(void) {
     REFUSE_EACH(povundiri_create_in(room, shape, &segment));
     REFUSE_EACH(povundiri_recorder(&segment, 100, &recorder));
     record(&recorder);
+    ASKS_FOR_NONE(povundiri_lend(&segment, &recorder, 5));
     ASKS_FOR_NONE(povundiri_join(&segment, &recorder));
     ASKS_FOR_NONE(povundiri_close(&segment, words, WORDS, NULL));
     REFUSE_EACH(povundiri_adopt_in(room, words, WORDS, 1, &segment));

@@ -22,6 +22,7 @@ CHECKS = (
     ("every_call.cpp", [NO_EXCEPTIONS], False),
     ("refused_memory.c", [], False),
     ("crossing.cpp", [], False),
+    ("crossing_lends.c", [], False),
     ("recorders.cpp", [], True),
     ("recorders.cpp", [NO_EXCEPTIONS], True),
     ("forked.cpp", [], True),

@@ -3,6 +3,7 @@ pub mod Adopted
 pub mod Allowed
 pub mod Callers
 pub mod GhostNoted
+pub mod Lent
 pub mod Openings
 pub mod Proceeding
 pub mod Seated

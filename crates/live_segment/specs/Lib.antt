@@ -17,6 +17,7 @@ pub mod Desk
 pub mod Steps
 pub mod Names
 pub mod Holders
+pub mod Lending
 pub mod Closing
 pub mod Lists
 pub mod Counts

@@ -2,10 +2,10 @@
 
 ghost use Rattle.std.specs.Prelude.{◌≡◌, ◌≤◌, true, []};
 ghost use Rattle.segment_machine.specs.declared.place.Place.TheVariants.{Idle};
-ghost use Rattle.segment_machine.specs.Actor.{is_opener, outstanding_of};
+ghost use Rattle.segment_machine.specs.Actor.{is_opener, offered_of, outstanding_of};
 ghost use Rattle.std.proofs.Props.{props};
 
-use crate::recorder::Recorder;
+use crate::recorder::{Desk, Recorder};
 use crate::rule::Pass;
 use crate::segment::Segment;
 use segment_calls::Refusal;
@@ -25,21 +25,24 @@ pub struct Opener {
     outstanding: u32,
     ghost opens: { (seat.id ≡ 0) × (is_opener seat.me.0.role ≡ true) × (seat.me.0.hand.place ≡ Idle) × (outstanding_of seat.me.0.role ≤ 256) },
     ghost counted: { (units ≡ seat.me.0.units.share) × (outstanding ≡ outstanding_of seat.me.0.role) },
+    ghost offers_none: { offered_of seat.me.0.role ≡ 0 },
 }
 
 impl Opener {
     ghost use Rattle.std.specs.Prelude.{Ok, Err, IfOk, MatchOption, MatchResult};
     ghost use Rattle.segment_image.specs.Checks.{first_fault};
-    ghost use Rattle.segment_machine.specs.Seats.{offering, parent, newcomer, joined};
+    ghost use Rattle.segment_machine.specs.Seats.{offering, parent, newcomer, giver, getter, purse, joined};
     ghost use Rattle.live_segment.specs.Steps.{recorder_checks, IsSame};
+    ghost use Rattle.live_segment.specs.Lending.{HasUnits};
     ghost use Rattle.live_segment.specs.Lists.Fresh.{given_fresh};
     ghost use Rattle.live_segment.specs.declared.segment.Segment.{Segment};
-    ghost use Rattle.live_segment.specs.Holders.{IsMadeWith, IsRecorderOf, IsSameOpener, RecordsInto, view_of_opener, view_of_recorder};
+    ghost use Rattle.live_segment.specs.Holders.{IsMadeWith, IsRecorderOf, IsSameOpener, IsSameRecorder, RecordsInto, view_of_opener, view_of_recorder};
+    ghost use Rattle.live_segment.specs.Desk.{IsDeskAt, IsSameDesk, view_of_desk};
 
     // The opener of a segment that was just opened, which has these units.
     pub(crate) fn new(alloc: Global, seat: Pass, units: u32) -> Opener
         requires seat { (seat.id ≡ 0) × (is_opener seat.me.0.role ≡ true) × (seat.me.0.hand.place ≡ Idle) }
-        requires new { (units ≡ seat.me.0.units.share) × (outstanding_of seat.me.0.role ≡ 0) }
+        requires new { (units ≡ seat.me.0.units.share) × (outstanding_of seat.me.0.role ≡ 0) × (offered_of seat.me.0.role ≡ 0) }
         ensures { result.seat ≡ seat }
     {
         Opener {
@@ -96,6 +99,61 @@ impl Opener {
         self.units -= units;
         self.outstanding += 1;
         Ok(Recorder::new(self.alloc, segment, seat, units))
+    }
+
+    // A purse with so many of its units, or why there is none.
+    fn fill_purse(&mut self, segment: &Segment, units: u32) -> Result<Pass, Refusal>
+        requires { self.old.seat.table_id ≡ segment.now.table.shared.table_id }
+        ensures mine { MatchResult result (λ _. IsSameOpener self.old self.new × (view_of_opener self.new ≡ giver (view_of_opener self.old) units)) (λ _. self.new ≡ self.old) }
+        ensures filled { IfOk result (λ filled. (filled.table_id ≡ self.old.seat.table_id) × (filled.me ≡ (purse units, []))) }
+        ensures why { HasUnits units (view_of_opener self.old) result }
+    {
+        let Some(left) = self.units.checked_sub(units) else {
+            return Err(Refusal::NoUnits);
+        };
+        segment.offer(&mut self.seat, units);
+        let filled = segment.fill_purse(&mut self.seat);
+        self.units = left;
+        Ok(filled)
+    }
+
+    /// Lends a recorder of the same segment so many units more, which may be 0, while it runs: they move from the opener to the recorder's
+    /// share, and nothing else changes in either. The histograms that the recorder knows stay at their places.
+    ///
+    /// `NoUnits` where the opener has fewer: then all is as before. It takes no memory and no lock, and makes the same few steps each
+    /// time, also where 256 recorders are not joined.
+    pub fn lend(&mut self, recorder: &mut Recorder, units: u32) -> Result<(), Refusal>
+        requires { IsRecorderOf recorder.old self.old }
+        ensures mine { MatchResult result (λ _. IsSameOpener self.old self.new × (view_of_opener self.new ≡ giver (view_of_opener self.old) units)) (λ _. self.new ≡ self.old) }
+        ensures theirs { MatchResult result (λ _. IsSameRecorder recorder.old recorder.new × (view_of_recorder recorder.new ≡ getter (view_of_recorder recorder.old) units)) (λ _. recorder.new ≡ recorder.old) }
+        ensures why { HasUnits units (view_of_opener self.old) result }
+        ensures of { IsRecorderOf recorder.new self.new }
+        ensures made { (segment : Segment) → IsMadeWith segment self.old → IsMadeWith segment self.new }
+    {
+        let filled = self.fill_purse(recorder.segment(), units)?;
+        recorder.get(filled, units);
+        Ok(())
+    }
+
+    /// The same, where the recorder is kept as a [`Desk`]. The segment is the one that it is of.
+    pub fn lend_at_desk(
+        &mut self,
+        segment: &Segment,
+        desk: &mut Desk,
+        units: u32,
+    ) -> Result<(), Refusal>
+        requires at { IsDeskAt segment.now desk.old }
+        requires of { desk.old.seat.table_id ≡ self.old.seat.table_id }
+        ensures at { IsDeskAt segment.now desk.new }
+        ensures mine { MatchResult result (λ _. IsSameOpener self.old self.new × (view_of_opener self.new ≡ giver (view_of_opener self.old) units)) (λ _. self.new ≡ self.old) }
+        ensures theirs { MatchResult result (λ _. IsSameDesk desk.old desk.new × (view_of_desk desk.new ≡ getter (view_of_desk desk.old) units)) (λ _. desk.new ≡ desk.old) }
+        ensures why { HasUnits units (view_of_opener self.old) result }
+        ensures of { desk.new.seat.table_id ≡ self.new.seat.table_id }
+        ensures made { (other : Segment) → IsMadeWith other self.old → IsMadeWith other self.new }
+    {
+        let filled = self.fill_purse(segment, units)?;
+        desk.get(segment, filled, units);
+        Ok(())
     }
 
     /// Takes a recorder of the same segment back: its log, its deltas, its snapshots and what shared cursors gave it stand

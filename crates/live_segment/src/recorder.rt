@@ -1,7 +1,7 @@
 //! What one thread records with.
 
 ghost use Rattle.std.specs.Prelude.{◌≡◌, [], map};
-ghost use Rattle.segment_machine.specs.Seats.{newcomer};
+ghost use Rattle.segment_machine.specs.Seats.{newcomer, getter, purse};
 ghost use Rattle.segment_calls.specs.Blocks.{record_words};
 ghost use Rattle.live_segment.specs.Claims.{ClaimsFor, ClaimsForAll, NamesAtMostOne};
 ghost use Rattle.live_segment.specs.Rule.{IsOf};
@@ -183,6 +183,23 @@ impl<'a> Recorder<'a> {
             samples: _,
         } = self;
         (segment, seat, units)
+    }
+
+    // The segment that it records into.
+    pub(crate) fn segment(&self) -> &'a Segment
+        ensures { result ≡ self.now.segment }
+    {
+        self.segment
+    }
+
+    // Gets the units of a purse of the same segment.
+    pub(crate) fn get(&mut self, filled: Pass, units: u32)
+        requires fits { filled.table_id ≡ self.old.seat.table_id }
+        requires filled { filled.me ≡ (purse units, []) }
+        ensures { IsSameRecorder self.old self.new × (view_of_recorder self.new ≡ getter (view_of_recorder self.old) units) }
+    {
+        self.segment
+            .pour_out(&mut self.seat, &mut self.units, filled, units);
     }
 
     /// The units that it may still spend.

@@ -8,7 +8,7 @@ ghost use Rattle.segment_machine.specs.Reached.{new_state};
 use crate::fault::OpenFault;
 use crate::opener::Opener;
 use crate::rule::{Announcement, Opening, Pass, SegmentRule, Setting};
-use crate::seats::{Bound, Cut, Glue, Offer};
+use crate::seats::{Bound, Cut, Fill, Glue, Offer, Pour};
 use atomic_table::Table;
 use image_adoption::MAX_CURSORS;
 use segment_image::layout::{
@@ -69,12 +69,13 @@ fn opening_words(alloc: Global, setting: &Setting) -> Result<Vec<u64>, AllocErro
 impl Segment {
     ghost use Rattle.std.specs.Prelude.{◌≡◌, ◌≤◌, ◌⊎◌, false, Err, MatchOption, MatchResult};
     ghost use Rattle.segment_image.specs.Checks.{first_fault};
-    ghost use Rattle.segment_machine.specs.Actor.{outstanding_of};
-    ghost use Rattle.segment_machine.specs.Seats.{MayOffer, offering, MaySplit, parent, newcomer, joined};
+    ghost use Rattle.segment_machine.specs.Actor.{offered_of, outstanding_of};
+    ghost use Rattle.segment_machine.specs.Seats.{MayOffer, offering, MaySplit, parent, newcomer, MayFill, lender, purse, MayPour, getter, joined};
     ghost use Rattle.live_segment.specs.Adopted.{MayGoOn};
     ghost use Rattle.live_segment.specs.Closing.{IsImageOf, ReadsJoined, DeltasAddUp, SnapshotsAgree, ReadsStopped};
     ghost use Rattle.live_segment.specs.Rule.{IsKeptOpening, open_checks, opener_for};
-    ghost use Rattle.live_segment.specs.Steps.{IsSame, Joinable};
+    ghost use Rattle.live_segment.specs.Seated.{IsSeated};
+    ghost use Rattle.live_segment.specs.Steps.{IsAtRest, IsSame, Joinable};
     ghost use Rattle.live_segment.specs.Holders.{IsNew, IsOpened, IsMadeWith, view_of_opener};
 
     /// A new segment without records, and its opener, which has all 4,294,967,295 units.
@@ -218,7 +219,7 @@ impl Segment {
         Image::of(image)
     }
 
-    // The opener says how many units its next recorder is to have.
+    // The opener says how many units it is to hand out next.
     pub(crate) fn offer(&self, seat: &mut Pass, units: u32)
         requires fits { seat.old.table_id ≡ self.now.table.shared.table_id }
         requires may { MayOffer seat.old.me.0 units }
@@ -240,6 +241,25 @@ impl Segment {
         self.table.shared.split_seat::<Cut>(seat)
     }
 
+    // A purse with the units that the opener offered.
+    pub(crate) fn fill_purse(&self, seat: &mut Pass) -> Pass
+        requires fits { seat.old.table_id ≡ self.now.table.shared.table_id }
+        requires may { MayFill seat.old.me.0 }
+        ensures mine { IsSame seat.old seat.new × (seat.new.me.0 ≡ lender seat.old.me.0) }
+        ensures theirs { (result.table_id ≡ seat.old.table_id) × (result.me ≡ (purse (offered_of seat.old.me.0.role), [])) }
+    {
+        self.table.shared.split_seat::<Fill>(seat)
+    }
+
+    // The seat of a recorder takes in a purse.
+    pub(crate) fn pour(&self, seat: &mut Pass, filled: Pass)
+        requires fits { (seat.old.table_id ≡ self.now.table.shared.table_id) × (filled.table_id ≡ self.now.table.shared.table_id) × (filled.me.1 ≡ []) }
+        requires may { MayPour seat.old.me.0 filled.me.0 }
+        ensures { IsSame seat.old seat.new × (seat.new.me.0 ≡ getter seat.old.me.0 filled.me.0.units.share) }
+    {
+        self.table.shared.join_seat::<Pour>(seat, filled);
+    }
+
     // The seat of the opener takes in that of a recorder.
     pub(crate) fn join(&self, seat: &mut Pass, other: Pass)
         requires fits { (seat.old.table_id ≡ self.now.table.shared.table_id) × (other.table_id ≡ self.now.table.shared.table_id) × (other.me.1 ≡ []) }
@@ -247,6 +267,19 @@ impl Segment {
         ensures { IsSame seat.old seat.new × (seat.new.me.0 ≡ joined seat.old.me.0 other.me.0) }
     {
         self.table.shared.join_seat::<Glue>(seat, other);
+    }
+
+    // A recorder's seat gets the units of a purse, and so does its count of those.
+    pub(crate) fn pour_out(&self, seat: &mut Pass, held: &mut u32, filled: Pass, units: u32)
+        requires seat { IsSeated self.now seat.old × IsAtRest seat.old.me.0 }
+        requires held { held.old ≡ seat.old.me.0.units.share }
+        requires filled { (filled.table_id ≡ self.now.table.shared.table_id) × (filled.me ≡ (purse units, [])) }
+        ensures seat { IsSame seat.old seat.new × (seat.new.me.0 ≡ getter seat.old.me.0 units) }
+        ensures held { held.new ≡ held.old + units }
+    {
+        self.pour(seat, filled);
+        self.bound(seat);
+        *held += units;
     }
 
     // Nobody has more units than a segment has.

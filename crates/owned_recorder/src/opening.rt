@@ -1,13 +1,14 @@
-//! An opener makes recorders that keep their segment alive, and takes them back.
+//! An opener makes recorders that keep their segment alive, lends them units, and takes them back.
 
 ghost use Rattle.std.specs.Prelude.{◌≡◌, Err, IfOk, MatchOption, MatchResult};
 ghost use Rattle.std.specs.Arc.{arc_value};
 ghost use Rattle.segment_image.specs.Checks.{first_fault};
-ghost use Rattle.segment_machine.specs.Seats.{offering, parent, newcomer, joined};
+ghost use Rattle.segment_machine.specs.Seats.{offering, parent, newcomer, giver, getter, joined};
 ghost use Rattle.live_segment.specs.declared.segment.Segment.{Segment as SomeSegment};
 ghost use Rattle.live_segment.specs.Steps.{recorder_checks};
+ghost use Rattle.live_segment.specs.Lending.{HasUnits};
 ghost use Rattle.live_segment.specs.Holders.{IsMadeWith, IsSameOpener, view_of_opener};
-ghost use Rattle.owned_recorder.specs.Desks.{given_fresh};
+ghost use Rattle.owned_recorder.specs.Desks.{given_fresh, IsSameDesk};
 ghost use Rattle.owned_recorder.specs.Holders.{IsRecorderOf, RecordsInto, view_of_owned};
 
 use crate::owned::OwnedRecorder;
@@ -30,6 +31,19 @@ pub fn owned_recorder(
 {
     let desk = opener.recorder(&segment, units)?.into_desk();
     Ok(OwnedRecorder::of(segment, desk))
+}
+
+/// Lends a recorder so many units more while it runs, as [`Opener::lend`] does.
+pub fn lend(opener: &mut Opener, owned: &mut OwnedRecorder, units: u32) -> Result<(), Refusal>
+    requires { IsRecorderOf owned.old opener.old }
+    ensures kept { owned.new.segment ≡ owned.old.segment }
+    ensures mine { MatchResult result (λ _. IsSameOpener opener.old opener.new × (view_of_opener opener.new ≡ giver (view_of_opener opener.old) units)) (λ _. opener.new ≡ opener.old) }
+    ensures theirs { MatchResult result (λ _. IsSameDesk owned.old.desk owned.new.desk × (view_of_owned owned.new ≡ getter (view_of_owned owned.old) units)) (λ _. owned.new ≡ owned.old) }
+    ensures why { HasUnits units (view_of_opener opener.old) result }
+    ensures of { IsRecorderOf owned.new opener.new }
+    ensures made { (segment : SomeSegment) → IsMadeWith segment opener.old → IsMadeWith segment opener.new }
+{
+    opener.lend_at_desk(&owned.segment, &mut owned.desk, units)
 }
 
 /// Takes a recorder back, as [`Opener::join`] does. Where nobody else keeps the segment alive, it ends.

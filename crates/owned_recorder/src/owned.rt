@@ -24,8 +24,8 @@ use std::sync::Arc;
 /// and lets it go again; `add` and those that only ask what it has go to the desk, which stays where it is.
 #[derive(Drop)]
 pub struct OwnedRecorder {
-    segment: Arc<Segment, Global>,
-    desk: Desk,
+    pub(crate) segment: Arc<Segment, Global>,
+    pub(crate) desk: Desk,
     ghost fits: { IsDeskAt (arc_value segment) desk } by { Prim.hlevel props },
 }
 

@@ -8,8 +8,9 @@ use Rattle.povundiri_c.specs.declared.held.Held.TheVariants as held
 use Rattle.povundiri_c.specs.declared.status.Refused.{Refused}
 use Rattle.povundiri_c.specs.declared.worker.Worker.{Worker}
 use Rattle.povundiri_c.specs.declared.owner.Owner.{Owner}
+use Rattle.povundiri_c.specs.declared.owner.Request.{Request}
 use Rattle.povundiri_c.specs.Calls.{ByRecorder}
-use Rattle.povundiri_c.specs.Joins.{BySegment, Joins, JoinsGuest, worker_of}
+use Rattle.povundiri_c.specs.Joins.{BySegment, Serves, ServesGuest, worker_of}
 use Rattle.povundiri_c.specs.Recorders.{AtPlaceInRoom, Finds, refused_with}
 
 -- a recorder is held
@@ -26,19 +27,19 @@ by_owner other Calls it owner after answer is calls =
     subst (λ (one : Held). BySegment other Calls one answer (held.Owner after)) (sym is) (after, refl, calls)
 
 -- the guest is no recorder
-pub joins_none : (guest left : Held) (owner : Owner) → worker_of guest ≡ None → left ≡ guest → JoinsGuest guest owner (5, Some left) owner
-joins_none guest left owner none same =
+pub serves_none : (request : Request) (guest left : Held) (owner : Owner) → worker_of guest ≡ None → left ≡ guest → ServesGuest request guest owner (5, Some left) owner
+serves_none request guest left owner none same =
     subst (λ (one : Option Worker). MatchOption one (◌≡◌ {A = ℕ × Option Held} (5, Some left) (5, Some guest) × (owner ≡ owner))
-    (λ worker. (back : Option Worker) × (Some left ≡ option_map held.Worker back) × Joins worker owner 5 back owner)) (sym none)
+    (λ worker. (back : Option Worker) × (Some left ≡ option_map held.Worker back) × Serves request worker owner 5 back owner)) (sym none)
     (λ i. (5, Some (same i)), refl)
 
 -- the guest is a recorder
-pub joins_some : (guest : Held) (worker : Worker) (owner after : Owner) (answer : ℕ × Option Held) (back : Option Worker) → worker_of guest ≡ Some worker
-    → answer.1 ≡ option_map held.Worker back → Joins worker owner answer.0 back after → JoinsGuest guest owner answer after
-joins_some guest worker owner after answer back is same joins =
+pub serves_some : (request : Request) (guest : Held) (worker : Worker) (owner after : Owner) (answer : ℕ × Option Held) (back : Option Worker) → worker_of guest ≡ Some worker
+    → answer.1 ≡ option_map held.Worker back → Serves request worker owner answer.0 back after → ServesGuest request guest owner answer after
+serves_some request guest worker owner after answer back is same served =
     subst (λ (one : Option Worker). MatchOption one ((answer ≡ (5, Some guest)) × (after ≡ owner))
-    (λ worker. (back : Option Worker) × (answer.1 ≡ option_map held.Worker back) × Joins worker owner answer.0 back after)) (sym is)
-    (back, same, joins)
+    (λ worker. (back : Option Worker) × (answer.1 ≡ option_map held.Worker back) × Serves request worker owner answer.0 back after)) (sym is)
+    (back, same, served)
 
 -- ---- with room for all keys of a histogram
 

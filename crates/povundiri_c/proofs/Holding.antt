@@ -1,14 +1,19 @@
 -- What a segment's owner and its tray have is of that segment.
-use Rattle.std.proofs.Common.{◌≡◌, ◌<◌, ℕ, refl, sym, ap, ◌∙◌, subst, Option, Some, None, Result, Ok, Err, MatchOption, MatchResult}
+use Rattle.std.proofs.Common.{◌≡◌, ◌<◌, ◌≤◌, ℕ, refl, sym, ap, ◌∙◌, subst, Option, Some, None, Result, Ok, Err, MatchOption, MatchResult, arith}
 use Rattle.std.proofs.Props.{props}
 use Rattle.std.proofs.lemmas.Result.{MatchResult-at_ok}
 use Rattle.std.specs.Arc.{arc_value}
+use Rattle.std.specs.declared.alloc.Global.{Global}
+use Rattle.std.specs.declared.sync.Arc.{Arc}
+use Rattle.segment_calls.specs.declared.refusal.Refusal.{Refusal}
+use Rattle.segment_machine.specs.Seats.{getter, giver}
 use Rattle.live_segment.specs.declared.opener.Opener.{Opener}
 use Rattle.owned_recorder.specs.declared.owned.OwnedRecorder.{OwnedRecorder}
 use Rattle.live_segment.specs.declared.segment.Segment.{Segment}
-use Rattle.live_segment.specs.Holders.{IsMadeWith}
-use Rattle.owned_recorder.specs.Desks.{view_of_desk}
-use Rattle.owned_recorder.specs.Holders.{IsRecorderOf, RecordsInto}
+use Rattle.live_segment.specs.Holders.{IsMadeWith, IsSameOpener, view_of_opener}
+use Rattle.live_segment.specs.Lending.{HasUnits}
+use Rattle.owned_recorder.specs.Desks.{IsSameDesk, view_of_desk}
+use Rattle.owned_recorder.specs.Holders.{IsRecorderOf, RecordsInto, view_of_owned}
 use Rattle.povundiri_c.specs.declared.worker.Worker.{Worker}
 use Rattle.povundiri_c.specs.Tray.{IsGuestOf, cursors_of}
 
@@ -30,6 +35,20 @@ of_tray segment key owned first is into =
 pub of_opener : (segment : Segment) (key opener : Opener) (owned : OwnedRecorder) → IsMadeWith segment key → IsMadeWith segment opener → IsGuestOf owned key
     → IsRecorderOf owned opener
 of_opener segment key opener owned first made of = of.0 ∙ first.table ∙ sym made.table
+
+-- one that was lent units is one of the same opener's segment still
+pub guest_still : (key : Opener) (old new : OwnedRecorder) → new.segment ≡ old.segment → IsSameDesk old.desk new.desk → IsGuestOf old key → IsGuestOf new key
+guest_still key old new kept same of = (same.table ∙ of.0, ap (λ (segment : Arc Segment Global). (arc_value segment).setting.cursors) kept ∙ of.1)
+
+-- units that the opener had were lent
+pub lent : (units : ℕ) (result : Result (Unit {0}) Refusal) (old new : Opener) (before after : OwnedRecorder) → HasUnits units (view_of_opener old) result
+    → units ≤ (view_of_opener old).units.share
+    → MatchResult result (λ _. IsSameOpener old new × (view_of_opener new ≡ giver (view_of_opener old) units)) (λ _. new ≡ old)
+    → MatchResult result (λ _. IsSameDesk before.desk after.desk × (view_of_owned after ≡ getter (view_of_owned before) units)) (λ _. after ≡ before)
+    → (IsSameOpener old new × (view_of_opener new ≡ giver (view_of_opener old) units))
+    × (IsSameDesk before.desk after.desk × (view_of_owned after ≡ getter (view_of_owned before) units))
+lent units (Ok done) old new before after has enough mine theirs = (mine, theirs)
+lent units (Err why) old new before after has enough mine theirs = absurd (omega (arith, has.1, enough))
 
 -- where one was made, nothing was at fault
 pub unrefused : {T : Type 0} (fault : Option T) (result : Result OwnedRecorder T) (owned : OwnedRecorder) (P : OwnedRecorder → Type 0)

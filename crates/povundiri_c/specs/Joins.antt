@@ -1,17 +1,20 @@
--- How a segment that C holds makes recorders and takes them back.
-use Rattle.std.specs.Prelude.{◌≡◌, ◌⊎◌, ℕ, Option, Some, None, Result, Ok, Err, MatchOption, MatchResult, option_map}
+-- How a segment that C holds makes recorders, lends them units and takes them back.
+use Rattle.std.specs.Prelude.{◌≡◌, ◌⊎◌, ◌<◌, ◌≤◌, ℕ, Option, Some, None, Result, Ok, Err, MatchOption, MatchResult, option_map}
 use Rattle.std.specs.Arc.{arc_value}
 use Rattle.segment_calls.specs.declared.refusal.Refusal.{Refusal}
+use Rattle.segment_calls.specs.declared.refusal.Refusal.TheVariants.{NoUnits}
 use Rattle.segment_image.specs.Checks.{first_fault}
-use Rattle.segment_machine.specs.Seats.{joined, newcomer, offering, parent}
+use Rattle.segment_machine.specs.Seats.{getter, giver, joined, newcomer, offering, parent}
 use Rattle.live_segment.specs.Holders.{IsSameOpener, view_of_opener}
 use Rattle.live_segment.specs.Steps.{recorder_checks}
-use Rattle.owned_recorder.specs.Desks.{given_fresh}
+use Rattle.owned_recorder.specs.Desks.{given_fresh, IsSameDesk}
 use Rattle.owned_recorder.specs.Holders.{IsRecorderOf, view_of_owned}
 use Rattle.owned_recorder.specs.declared.owned.OwnedRecorder.{OwnedRecorder}
 use Rattle.povundiri_c.specs.declared.held.Held.{Held}
 use Rattle.povundiri_c.specs.declared.held.Held.TheVariants as held
 use Rattle.povundiri_c.specs.declared.owner.Owner.{Owner}
+use Rattle.povundiri_c.specs.declared.owner.Request.{Request}
+use Rattle.povundiri_c.specs.declared.owner.Request.TheVariants.{Join, Lend}
 use Rattle.povundiri_c.specs.declared.worker.Worker.{Worker}
 use Rattle.povundiri_c.specs.Calls.{ByHandle}
 use Rattle.povundiri_c.specs.Status.{status_of_refusal}
@@ -84,23 +87,74 @@ Joins worker old status back new =
     ⊎ ((status ≡ 14) × (back ≡ None) × (new ≡ old))
     ⊎ ((status ≡ 15) × (back ≡ Some worker) × (new ≡ old))
 
+-- ---- a recorder is lent units
+
+-- a recorder of the segment was lent units of its opener, as `lend` says, and what C holds of it then is this
+abbrev pub HasLent : ℕ → OwnedRecorder → Owner → Worker → Owner → Type 0
+HasLent units owned old worker new =
+    KeepsSegment old new × IsRecorderOf owned old.opener × (arc_value worker.tray ≡ arc_value new.tray) × (worker.recorder.segment ≡ owned.segment)
+    × (view_of_opener new.opener ≡ giver (view_of_opener old.opener) units)
+    × (view_of_owned worker.recorder ≡ getter (view_of_owned owned) units) × IsSameDesk owned.desk worker.recorder.desk
+
+-- the units that a segment has left to give
+abbrev pub units_left : Owner → ℕ
+units_left owner = (view_of_opener owner.opener).units.share
+
+-- Where nobody took the recorder back from its tray, what lay on that of the segment is taken to be it:
+-- 0: it is lent the units, and comes back;
+-- 14: nothing lay there, so that a call of its own segment, by another thread, has met it.
+abbrev pub LendsMet : ℕ → Owner → ℕ → Option Worker → Owner → Type 0
+LendsMet units old status back new =
+    ((status ≡ 0) × ((owned : OwnedRecorder) × (after : Worker) × (back ≡ Some after) × HasLent units owned old after new))
+    ⊎ ((status ≡ 14) × (back ≡ None) × (new ≡ old))
+
+-- What else is answered where the segment has the units:
+-- 6: it comes back, since it is of another segment; one of this segment, which another thread passed to another, may have been met;
+-- 13: it comes back, since no more may share the tray;
+-- 15: it comes back, since another thread passes one of the same segment at the same moment.
+abbrev pub LendsOrNot : ℕ → Worker → Owner → ℕ → Option Worker → Owner → Type 0
+LendsOrNot units worker old status back new =
+    LendsMet units old status back new
+    ⊎ ((status ≡ 6) × (back ≡ Some worker) × ((new ≡ old) ⊎ HasJoined old new))
+    ⊎ (((status ≡ 13) ⊎ (status ≡ 15)) × (back ≡ Some worker) × (new ≡ old))
+
+-- where the segment has fewer, that is answered, whichever segment the recorder is of, and all is as before
+abbrev pub Lends : ℕ → Worker → Owner → ℕ → Option Worker → Owner → Type 0
+Lends units worker old status back new =
+    ((units_left old < units) × (status ≡ status_of_refusal NoUnits) × (back ≡ Some worker) × (new ≡ old))
+    ⊎ ((units ≤ units_left old) × LendsOrNot units worker old status back new)
+
+-- ---- a recorder is passed to a segment
+
+-- what is answered is by what it is passed for
+abbrev pub Serves : Request → Worker → Owner → ℕ → Option Worker → Owner → Type 0
+Serves Join = Joins
+Serves (Lend units) = Lends units
+
 -- the recorder that is held, if it is one
 abbrev pub worker_of : Held → Option Worker
 worker_of (held.Worker worker) = Some worker
 worker_of (held.Owner owner) = None
 worker_of held.Nothing = None
 
--- A guest that is no recorder comes back for that, and the segment is the same; else the recorder is taken back, or comes back. The answer
+-- A guest that is no recorder comes back for that, and the segment is the same; else the recorder is served, and may come back. The answer
 -- is the status, and the guest where it comes back.
-abbrev pub JoinsGuest : Held → Owner → ℕ × Option Held → Owner → Type 0
-JoinsGuest guest old answer new =
+abbrev pub ServesGuest : Request → Held → Owner → ℕ × Option Held → Owner → Type 0
+ServesGuest request guest old answer new =
     MatchOption (worker_of guest) ((answer ≡ (5, Some guest)) × (new ≡ old))
-    (λ worker. (back : Option Worker) × (answer.1 ≡ option_map held.Worker back) × Joins worker old answer.0 back new)
+    (λ worker. (back : Option Worker) × (answer.1 ≡ option_map held.Worker back) × Serves request worker old answer.0 back new)
 
 -- the same of what is held, which comes back too from what is no segment
-abbrev pub JoinsHeld : Held → Held → ℕ × Option Held → Held → Type 0
-JoinsHeld guest = BySegment (5, Some guest) (JoinsGuest guest)
+abbrev pub ServesHeld : Request → Held → Held → ℕ × Option Held → Held → Type 0
+ServesHeld request guest = BySegment (5, Some guest) (ServesGuest request guest)
 
 -- and of a handle, which may be empty
+abbrev pub AnswersGuest : Request → Held → Option Held → ℕ × Option Held → Option Held → Type 0
+AnswersGuest request guest = ByHandle (3, Some guest) (ServesHeld request guest)
+
+-- a recorder is taken back so, or lent units
 abbrev pub AnswersJoinCall : Held → Option Held → ℕ × Option Held → Option Held → Type 0
-AnswersJoinCall guest = ByHandle (3, Some guest) (JoinsHeld guest)
+AnswersJoinCall = AnswersGuest Join
+
+abbrev pub AnswersLendCall : ℕ → Held → Option Held → ℕ × Option Held → Option Held → Type 0
+AnswersLendCall units = AnswersGuest (Lend units)

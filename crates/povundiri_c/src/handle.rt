@@ -3,10 +3,11 @@
 ghost use Rattle.std.specs.Prelude.{◌≡◌, false, true, Err, Some, None, IfErr, MatchResult, option_map};
 ghost use Rattle.std.specs.Fn.{FnOnceReturnsAtMut};
 ghost use Rattle.povundiri_c.specs.Calls.{ByHandle};
-ghost use Rattle.povundiri_c.specs.Joins.{AnswersJoinCall};
+ghost use Rattle.povundiri_c.specs.Joins.{AnswersGuest};
 ghost use Rattle.povundiri_c.specs.Sealed.{is_some};
 
 use crate::held::Held;
+use crate::owner::Request;
 use crate::seal::Seal;
 use crate::status::{EMPTY, NOT_EMPTY};
 use core::mem::{replace, replace_with};
@@ -73,23 +74,24 @@ impl Handle {
         Ok(boxed)
     }
 
-    fn join_within(self, guest: Box<Held>) -> (Handle, (u32, Option<Box<Held>>))
-        ensures { AnswersJoinCall guest.value self.seal.held (result.1.0, option_map (λ back. back.value) result.1.1) result.0.seal.held }
+    fn serve_within(self, asked: (Box<Held>, Request)) -> (Handle, (u32, Option<Box<Held>>))
+        ensures { AnswersGuest asked.1 asked.0.value self.seal.held (result.1.0, option_map (λ back. back.value) result.1.1) result.0.seal.held }
     {
+        let (guest, request) = asked;
         match self.into_box() {
             Ok(mut boxed) => {
-                let answer = boxed.join(guest);
+                let answer = boxed.serve(guest, request);
                 (Handle::of(boxed), answer)
             }
             Err(handle) => (handle, (EMPTY, Some(guest))),
         }
     }
 
-    /// Takes back the recorder that the guest is. The status, and the guest where it comes back.
-    pub(crate) fn join(&mut self, guest: Box<Held>) -> (u32, Option<Box<Held>>)
-        ensures { AnswersJoinCall guest.value self.old.seal.held (result.0, option_map (λ back. back.value) result.1) self.new.seal.held }
+    /// Does what the recorder that the guest is is passed for. The status, and the guest where it comes back.
+    pub(crate) fn serve(&mut self, guest: Box<Held>, request: Request) -> (u32, Option<Box<Held>>)
+        ensures { AnswersGuest request guest.value self.old.seal.held (result.0, option_map (λ back. back.value) result.1) self.new.seal.held }
     {
-        replace_with(self, guest, Handle::join_within)
+        replace_with(self, (guest, request), Handle::serve_within)
     }
 
     // `call`, of a handle by value.

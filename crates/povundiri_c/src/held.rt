@@ -2,11 +2,11 @@
 
 ghost use Rattle.std.specs.Prelude.{◌≡◌, Err, None, MatchResult, option_map};
 ghost use Rattle.povundiri_c.specs.Calls.{ByRecorder, outstanding_in, units_of};
-ghost use Rattle.povundiri_c.specs.Joins.{BySegment, GivesRecorder, JoinsHeld, worker_of};
+ghost use Rattle.povundiri_c.specs.Joins.{BySegment, GivesRecorder, ServesHeld, worker_of};
 ghost use Rattle.povundiri_c.specs.Recorders.{Adds, AtPlace, AtPlaceInRoom, Batches, FindsHist, Marks, refused_with, TakesDelta, TakesNext, TakesSnapshot, WalksAll};
 ghost use Rattle.povundiri_c.specs.Segments.{AnswersClose};
 
-use crate::owner::Owner;
+use crate::owner::{Owner, Request};
 use crate::status::{DONE, IN_USE, OTHER_KIND, Refused, SHORT};
 use crate::worker::Worker;
 use core::mem::replace_with;
@@ -74,9 +74,13 @@ impl Held {
         }
     }
 
-    /// Takes back the recorder that the guest is. The status, and the guest where it comes back.
-    pub(crate) fn join(&mut self, mut guest: Box<Held>) -> (u32, Option<Box<Held>>)
-        ensures { JoinsHeld guest.value self.old (result.0, option_map (λ back. back.value) result.1) self.new }
+    /// Does what the recorder that the guest is is passed for. The status, and the guest where it comes back.
+    pub(crate) fn serve(
+        &mut self,
+        mut guest: Box<Held>,
+        request: Request,
+    ) -> (u32, Option<Box<Held>>)
+        ensures { ServesHeld request guest.value self.old (result.0, option_map (λ back. back.value) result.1) self.new }
     {
         let Held::Owner(owner) = self else {
             return (OTHER_KIND, Some(guest));
@@ -84,7 +88,7 @@ impl Held {
         let Some(worker) = replace_with(guest.as_mut(), (), Held::parted) else {
             return (OTHER_KIND, Some(guest));
         };
-        let (status, back) = owner.join(worker);
+        let (status, back) = owner.serve(worker, request);
         match back {
             Some(worker) => (status, Some(Held::Worker(worker).put_into(guest))),
             None => (status, None),

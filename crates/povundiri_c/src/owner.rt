@@ -7,11 +7,20 @@ ghost use Rattle.segment_machine.specs.Actor.{outstanding_of};
 ghost use Rattle.povundiri_c.specs.Tray.{cursors_of};
 
 mod joins;
+mod lends;
 
 use crate::tray::Tray;
+use crate::worker::Worker;
 use live_segment::{Image, Opener, Segment};
 use std::alloc::{AllocError, Global};
 use std::sync::Arc;
+
+/// What a segment is passed a recorder for: to take it back, or to lend it so many units more.
+#[derive(Clone, Copy)]
+pub(crate) enum Request {
+    Join,
+    Lend(u32),
+}
 
 /// A segment, who makes its recorders, and its tray.
 #[derive(Drop)]
@@ -28,6 +37,7 @@ pub struct Owner {
 
 impl Owner {
     ghost use Rattle.std.specs.Prelude.{IfOk, MatchResult};
+    ghost use Rattle.povundiri_c.specs.Joins.{Serves};
     ghost use Rattle.povundiri_c.specs.Segments.{IsImageFrom, size_of};
 
     /// The owner of a segment and the opener that was made with it.
@@ -69,6 +79,16 @@ impl Owner {
         ensures { result ≡ outstanding_of (view_of_opener self.now.opener).role }
     {
         self.opener.outstanding()
+    }
+
+    /// Does what a recorder is passed for. The status, and the recorder where it comes back.
+    pub(crate) fn serve(&mut self, worker: Worker, request: Request) -> (u32, Option<Worker>)
+        ensures { Serves request worker self.old result.0 result.1 self.new }
+    {
+        match request {
+            Request::Join => self.join(worker),
+            Request::Lend(units) => self.lend(worker, units),
+        }
     }
 
     /// Ends the segment, where no recorder is left.

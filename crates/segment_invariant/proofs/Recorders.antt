@@ -4,5 +4,6 @@ pub mod Joined
 pub mod Joins
 pub mod Lends
 pub mod PassedBlocks
+pub mod Purses
 pub mod Shares
 pub mod Splits

@@ -39,7 +39,7 @@ use Rattle.segment_machine.specs.Made.{AreNameWords, SawSample}
 use Rattle.segment_machine.specs.Note.{is_untouched, SawBucket}
 use Rattle.segment_machine.specs.Actor.{accepted_by, accepted_since}
 use Rattle.segment_invariant.specs.Consistent.{units_taken, IsWithinCounts}
-use Rattle.segment_machine.specs.Seats.{spent}
+use Rattle.segment_machine.specs.Seats.{purse}
 use Rattle.segment_machine.specs.State.{State}
 use Rattle.segment_invariant.specs.Body.{Record, Counts, Sample, Body, held, histogram, counts, sample, other, words_of, is_claimed, Piece, extent_of, Listed, listed, Anatomy, layout_of, order_of, claims_of}
 use Rattle.segment_invariant.specs.Ledger.{form_at, key_of_bucket, noted_held, all_held, IsBalanced}
@@ -201,9 +201,10 @@ MetSample a reference =
     (histogram : ℕ) × (known : Known) × (value : ℤ) × Sparse a histogram known × Contains a.seen.chain reference
     × SawSample a.seen histogram value reference
 
--- what holds where a running call stands: the block in its hands holds just what it stored, and what it loaded it saw
+-- what holds where a running call stands: the block in its hands holds just what it stored, and what it loaded it saw; who is spent is
+-- a purse, of no units where it was a recorder
 abbrev pub StandsRight : Dimensions → Anatomy → ℕ → Actor → Place → Type 0
-StandsRight shape anatomy id a Spent = a ≡ spent
+StandsRight shape anatomy id a Spent = a ≡ purse a.units.share
 StandsRight shape anatomy id a Idle = ⊤
 StandsRight shape anatomy id a FlagsLoaded = ⊤
 StandsRight shape anatomy id a (FreeLoaded free) = a.seen.free ≡ free

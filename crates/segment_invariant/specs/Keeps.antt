@@ -18,7 +18,7 @@ use Rattle.segment_machine.specs.Taking.{TakingEvent}
 use Rattle.segment_machine.specs.Cursors.{CursorEvent}
 use Rattle.segment_machine.specs.State.{State, memory}
 use Rattle.segment_invariant.specs.Consistent.{ListIsChain, FlagsAreSet, UnitsAreKept, RecordsHold, TotalsAreCounted, MarksAreTaken, SumsAreAmounts, TransitIsLocal, IsConsistent, Opening, new_opening}
-use Rattle.segment_machine.specs.Reached.{new_state, IsAnnounced, IsOffered, IsSplit, IsJoin, IsLent, IsReturned}
+use Rattle.segment_machine.specs.Reached.{new_state, IsAnnounced, IsOffered, IsSplit, IsJoin, IsLent, IsReturned, IsFilled, IsPoured}
 use Rattle.segment_invariant.specs.Body.{Anatomy, blank, layout_of, order_of, claims_of}
 use Rattle.segment_invariant.specs.Invariant.{Invariant}
 use Rattle.segment_machine.specs.Note.{Note, MayNote, noted}
@@ -131,6 +131,15 @@ LendsKeep = (shape : Dimensions) (opened : Anatomy) (old new : State) (id other 
 -- and a recorder that gives units back
 abbrev pub ReturnsKeep : Type 0
 ReturnsKeep = (shape : Dimensions) (opened : Anatomy) (old new : State) (id other units : ℕ) → Invariant shape opened old → IsReturned old id other units new
+    → Invariant shape opened new
+
+-- an opener that fills a purse
+abbrev pub FillsKeep : Type 0
+FillsKeep = (shape : Dimensions) (opened : Anatomy) (old new : State) (id : ℕ) → Invariant shape opened old → IsFilled old id new → Invariant shape opened new
+
+-- and a recorder to which one is poured out
+abbrev pub PoursKeep : Type 0
+PoursKeep = (shape : Dimensions) (opened : Anatomy) (old new : State) (id other : ℕ) → Invariant shape opened old → IsPoured old id other new
     → Invariant shape opened new
 
 -- ---- what it has in it

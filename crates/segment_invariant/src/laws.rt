@@ -6,7 +6,7 @@
 ghost use Rattle.segment_invariant.specs.Examples.{PackedThenMounted, StoppedInTransit, PackingLimit, DeltasAndMarks, TwoTakers, SparseSamples, MountedIsConsistent, ListBreaks, RecordsBreak, TotalsBreak, MarksBreak, SumsBreak, TransitBreaks, FlagsBreak, UnitsBreak};
 ghost use Rattle.segment_invariant.specs.Accounts.{MountedAgrees, LimitAgrees, TakersAgree, SparseAgrees, BatchAgrees};
 ghost use Rattle.segment_invariant.specs.Refused.{CountsLoaded, UnitsSpent, CountsOwe, WordsFormed, KindsRead};
-ghost use Rattle.segment_invariant.specs.Keeps.{OpeningIsKept, NewIsOpening, OpeningsAreKept, AllocatingKeeps, PublishingKeeps, WalkingKeeps, CountingKeeps, PackingKeeps, TakingKeeps, CursorsKeep, EventsKeep, OffersKeep, SplitsKeep, JoinsKeep, LendsKeep, ReturnsKeep, AnnouncementsKeep, KeptFlagsAreSet, KeptIsChain, KeptUnitsAreKept, KeptTransitIsLocal, KeptSumsAreAmounts, KeptTotalsAreCounted, KeptMarksAreTaken, NotesKeep, KeptRecordsHold, KeptIsConsistent};
+ghost use Rattle.segment_invariant.specs.Keeps.{OpeningIsKept, NewIsOpening, OpeningsAreKept, AllocatingKeeps, PublishingKeeps, WalkingKeeps, CountingKeeps, PackingKeeps, TakingKeeps, CursorsKeep, EventsKeep, OffersKeep, SplitsKeep, JoinsKeep, LendsKeep, ReturnsKeep, FillsKeep, PoursKeep, AnnouncementsKeep, KeptFlagsAreSet, KeptIsChain, KeptUnitsAreKept, KeptTransitIsLocal, KeptSumsAreAmounts, KeptTotalsAreCounted, KeptMarksAreTaken, NotesKeep, KeptRecordsHold, KeptIsConsistent};
 
 /// Two packed units are moved to the counts, where the next sample is counted: the words become those of the segment, and the
 /// totals, the sum and the redundant count are those of the entries.
@@ -200,7 +200,7 @@ pub fn events_keep()
     ensures { EventsKeep }
 {}
 
-/// What holds between any two events holds on where an opener says how many units its next recorder is to have.
+/// What holds between any two events holds on where an opener says how many units it is to hand out next.
 pub fn offers_keep()
     ensures { OffersKeep }
 {}
@@ -223,6 +223,16 @@ pub fn lends_keep()
 /// What holds between any two events holds on where an opener gets units back from a recorder.
 pub fn returns_keep()
     ensures { ReturnsKeep }
+{}
+
+/// What holds between any two events holds on where an opener puts the units that it offered into a purse.
+pub fn fills_keep()
+    ensures { FillsKeep }
+{}
+
+/// What holds between any two events holds on where a purse is poured out to a recorder.
+pub fn pours_keep()
+    ensures { PoursKeep }
 {}
 
 /// What holds between any two events holds on where a recorder tells notes without an event.

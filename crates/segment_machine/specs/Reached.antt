@@ -1,5 +1,5 @@
 -- The states that are reached: a new segment, and from there steps, announcements, recorders that are made and joined, and units that
--- are lent and given back, in whatever order.
+-- are lent, at once or in a purse, and given back, in whatever order.
 use Rattle.std.specs.Prelude.{◌≡◌, ◌≢◌, ◌⊎◌, ℕ, ◌≤◌, List, [], ◌∷◌, ◌++◌, slice_set, replicate, false}
 use mathlib.Core.Option.{some}
 use lib.ListN.{get_elem?}
@@ -10,8 +10,8 @@ use Rattle.segment_machine.specs.declared.actor.Actor.{Actor}
 use Rattle.segment_machine.specs.Event.{Event}
 use Rattle.segment_machine.specs.Note.{Note, Notes}
 use Rattle.segment_machine.specs.State.{State, IsStep}
-use Rattle.segment_machine.specs.Seats.{opener_of, MayOffer, offering, MaySplit, parent, newcomer, MayLend, MayReturn, giver, getter, MayJoin, joined, spent}
-use Rattle.segment_machine.specs.Actor.{is_opener, outstanding_of}
+use Rattle.segment_machine.specs.Seats.{opener_of, MayOffer, offering, MaySplit, parent, newcomer, MayLend, MayReturn, giver, getter, purse, MayFill, lender, MayPour, MayJoin, joined, spent}
+use Rattle.segment_machine.specs.Actor.{is_opener, offered_of, outstanding_of}
 
 -- ---- the states that are reached
 
@@ -23,14 +23,14 @@ new_state shape version id cursors = record {
   actors = opener_of shape version cursors ∷ [];
 }
 
--- Announcements, which change no word and are steps of their own: a recorder tells notes, and an opener how many units its next
--- recorder is to have.
+-- Announcements, which change no word and are steps of their own: a recorder tells notes, and an opener how many units it is to hand
+-- out next.
 abbrev pub IsAnnounced : State → ℕ → State → Type 0
 IsAnnounced old id new =
     (a b : Actor) × (notes : List Note) × (get_elem? old.actors id ≡ some a) × (is_opener a.role ≡ false) × Notes a notes b
     × (new ≡ record old { actors = slice_set old.actors id b })
 
--- an opener says how many units its next recorder gets
+-- an opener says how many units it is to hand out next
 abbrev pub IsOffered : State → ℕ → ℕ → State → Type 0
 IsOffered old id units new =
     (a : Actor) × (get_elem? old.actors id ≡ some a) × MayOffer a units
@@ -60,6 +60,18 @@ IsReturned old id other units new =
     (a b : Actor) × (id ≢ other) × (get_elem? old.actors id ≡ some a) × (get_elem? old.actors other ≡ some b) × MayReturn a b units
     × (new ≡ record old { actors = slice_set (slice_set old.actors id (getter a units)) other (giver b units) })
 
+-- an opener fills a purse, which comes behind all actors
+abbrev pub IsFilled : State → ℕ → State → Type 0
+IsFilled old id new =
+    (a : Actor) × (get_elem? old.actors id ≡ some a) × MayFill a
+    × (new ≡ record old { actors = slice_set old.actors id (lender a) ++ purse (offered_of a.role) ∷ [] })
+
+-- a purse is poured out to a recorder
+abbrev pub IsPoured : State → ℕ → ℕ → State → Type 0
+IsPoured old id other new =
+    (b c : Actor) × (id ≢ other) × (get_elem? old.actors id ≡ some b) × (get_elem? old.actors other ≡ some c) × MayPour b c
+    × (new ≡ record old { actors = slice_set (slice_set old.actors id (getter b c.units.share)) other spent })
+
 -- from one state steps, announcements, recorders that are made and joined, and units that are lent and given back lead to another, in
 -- whatever order
 pub data IsReached (version : ℕ) (start : State) : State → Type 0 where
@@ -70,6 +82,8 @@ pub data IsReached (version : ℕ) (start : State) : State → Type 0 where
   split : (old new : State) (id : ℕ) → IsReached version start old → IsSplit old id new → IsReached version start new
   lent : (old new : State) (id other units : ℕ) → IsReached version start old → IsLent old id other units new → IsReached version start new
   returned : (old new : State) (id other units : ℕ) → IsReached version start old → IsReturned old id other units new → IsReached version start new
+  purse_filled : (old new : State) (id : ℕ) → IsReached version start old → IsFilled old id new → IsReached version start new
+  purse_poured : (old new : State) (id other : ℕ) → IsReached version start old → IsPoured old id other new → IsReached version start new
   joined_in : (old new : State) (id other : ℕ) → IsReached version start old → IsJoin old id other new → IsReached version start new
 
 -- a state of a new segment of version 1 or 2

@@ -1,5 +1,5 @@
 -- Runs that would break what holds, each refused: what an actor may not do.
-use Rattle.std.specs.Prelude.{◌≡◌, ◌≢◌, true, false, ℕ, ℤ, pos, negsuc, List, [], ◌∷◌, map, Some}
+use Rattle.std.specs.Prelude.{◌≡◌, ◌≢◌, true, false, ℕ, ◌+◌, ℤ, pos, negsuc, List, [], ◌∷◌, map, Some}
 use Rattle.bucket_ranges.specs.declared.spec.Spec.TheVariants as spec
 use Rattle.segment_machine.specs.declared.actor.Actor.{Actor}
 use Rattle.segment_machine.specs.declared.actor.Made.TheVariants as made
@@ -17,7 +17,7 @@ use Rattle.segment_machine.specs.Taking.{TakingEvent, operation, load_sum, load_
 use Rattle.segment_machine.specs.Counting.{add_count, add_sum, add_redundant}
 use Rattle.segment_machine.specs.Cursors.{load_cursor}
 use Rattle.segment_machine.specs.Made.{IsPayload}
-use Rattle.segment_machine.specs.Seats.{nothing_seen, opener_of, newcomer, joined, MayJoin, MayLend, MayReturn}
+use Rattle.segment_machine.specs.Seats.{nothing_seen, opener_of, newcomer, joined, spent, purse, lender, getter, MayOffer, MayFill, MayPour, MayJoin, MayLend, MayReturn}
 use Rattle.segment_machine.specs.Actor.{accepted_by, accepted_since}
 use Rattle.segment_machine.specs.Examples.{at_place, shape, letter_a, one, whole, maker, AreReady, run, sampler, takes_all, letter_s, known_a}
 use Rattle.segment_machine.specs.declared.actor.Role.TheVariants.{Opener, Recorder}
@@ -96,6 +96,17 @@ abbrev pub OffersStay : Type 0
 OffersStay =
     let opener = record (opener_of shape 1 1) { units = record { share = 5; costs = []; held = [] }; role = Opener 0 0 3 } in
     MayLend opener recorder 2 × (¬ (MayLend opener recorder 3)) × (¬ (MayReturn opener (record recorder { units = record recorder.units { share = 1 } }) 2))
+
+-- An opener of 256 recorders that offers three of its five units fills a purse with them, and they are poured out to a recorder, but
+-- neither to an opener nor to one that was joined. No purse gets more than the opener has, and a recorder is none.
+abbrev pub PursesCarry : Type 0
+PursesCarry =
+    let before = record (opener_of shape 1 1) { units = record { share = 5; costs = []; held = [] }; role = Opener 256 256 0 } in
+    let opener = record before { role = Opener 256 256 3 } in
+    MayOffer before 3 × MayFill opener × ((lender opener).units.share ≡ 2) × ((lender opener).role ≡ Opener 256 256 0)
+    × MayPour recorder (purse 3) × ((getter recorder 3).units.share ≡ recorder.units.share + 3)
+    × (¬ (MayFill (record before { role = Opener 256 256 6 }))) × (¬ (MayPour opener (purse 3))) × (¬ (MayPour spent (purse 3)))
+    × (¬ (MayPour recorder recorder))
 
 -- who owes an answer is not joined
 abbrev pub DebtsStay : Type 0

@@ -1,5 +1,5 @@
 -- How recorders are made and joined, and how units are offered, lent and given back. These change no word of a segment, and the
--- records of two actors at most: an opener and a recorder. In the running segment they load a word beside it that never changes.
+-- records of two actors at most. In the running segment they load a word beside it that never changes.
 use Rattle.std.specs.Prelude.{◌≡◌, ◌≢◌, ℕ, ◌+◌, ◌-◌, ◌<◌, ◌≤◌, max, false, ◌||◌, nat_lt, if◌then◌else◌, List, [], ◌++◌, map, length, replicate, true}
 use Rattle.segment_image.specs.declared.layout.TheConstants.{HEADER_WORDS}
 use Rattle.segment_image.specs.Shape.{Dimensions}
@@ -44,15 +44,17 @@ idle shape version cursors free share = record {
 abbrev pub opener_of : Dimensions → ℕ → ℕ → Actor
 opener_of shape version cursors = record (idle shape version cursors HEADER_WORDS 4294967295) { role = Opener 0 0 0 }
 
--- ---- a recorder is made
+-- ---- units are offered
 
--- before, its opener says how many of its units it is to have
+-- an opener says how many of its units it is to hand out next: to a recorder that it makes, or in a purse
 abbrev pub MayOffer : Actor → ℕ → Type 0
-MayOffer a units = (a.hand.place ≡ Idle) × (is_opener a.role ≡ true) × (units ≤ a.units.share) × (outstanding_of a.role < 256)
+MayOffer a units = (a.hand.place ≡ Idle) × (is_opener a.role ≡ true) × (units ≤ a.units.share)
 
 -- the opener once it has said so
 abbrev pub offering : Actor → ℕ → Actor
 offering a units = record a { role = Opener (made_of a.role) (outstanding_of a.role) units }
+
+-- ---- a recorder is made
 
 -- an opener may make the recorder whose units it offered
 abbrev pub MaySplit : Actor → Type 0
@@ -87,6 +89,26 @@ giver a units = record a { units = record a.units { share = a.units.share - unit
 
 abbrev pub getter : Actor → ℕ → Actor
 getter a units = record a { units = record a.units { share = a.units.share + units } }
+
+-- ---- units go from an opener to a recorder in a purse
+
+-- A purse is no recorder: it has units, and nothing else. The running segment, where no step has both an opener and a recorder in
+-- its hands, lends units in two steps: the opener fills a purse, and this is poured out to the recorder.
+abbrev pub purse : ℕ → Actor
+purse units = record (idle (record { size = 0; page = 0 }) 0 0 0 units) { hand = record { place = Spent; own = [] } }
+
+-- an opener may put the units that it offered into a purse, however many recorders are outstanding
+abbrev pub MayFill : Actor → Type 0
+MayFill a = (a.hand.place ≡ Idle) × (is_opener a.role ≡ true) × (offered_of a.role ≤ a.units.share)
+
+-- what the opener is then: it has the units no longer, and offers none
+abbrev pub lender : Actor → Actor
+lender a = record a { units = record a.units { share = a.units.share - offered_of a.role }; role = Opener (made_of a.role) (outstanding_of a.role) 0 }
+
+-- A purse may be poured out to a recorder that was not joined, which gets its units, at any place of a call. What was a purse is then
+-- spent.
+abbrev pub MayPour : Actor → Actor → Type 0
+MayPour b c = (is_opener b.role ≡ false) × (b.hand.place ≢ Spent) × (c ≡ purse c.units.share)
 
 -- ---- a recorder is joined
 
@@ -148,6 +170,6 @@ joined a b = record a {
   role = Opener (made_of a.role) (outstanding_of a.role - 1) (offered_of a.role);
 }
 
--- what the recorder is then
+-- what the recorder is then: it has no units either
 abbrev pub spent : Actor
-spent = record (idle (record { size = 0; page = 0 }) 0 0 0 0) { hand = record { place = Spent; own = [] } }
+spent = purse 0

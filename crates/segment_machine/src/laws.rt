@@ -9,7 +9,7 @@ ghost use Rattle.segment_machine.specs.Lives.{RecorderIsJoined};
 ghost use Rattle.segment_machine.specs.Worked.{WorkedRun, FrozenRun};
 ghost use Rattle.segment_machine.specs.Looks.{SnapshotRun, CursorRun};
 ghost use Rattle.segment_machine.specs.Races.{StoppedRun, StalledRun, LostRun, RaceRun};
-ghost use Rattle.segment_machine.specs.Refused.{ValuesApart, MovesFirst, CursorsThere, SamplesMet, WordsSince, SwapsAdd, RecordsAlone, EntriesEndFirst, OffersStay, DebtsStay, TailsStay, CorruptStays, FirstEntriesApart, WordsOffFirst, UnitsRemembered, SumsStay, FirstSamplesCount, CountsBound, SingleMarksApart, MarksRise, HonestAnswers};
+ghost use Rattle.segment_machine.specs.Refused.{ValuesApart, MovesFirst, CursorsThere, SamplesMet, WordsSince, SwapsAdd, RecordsAlone, EntriesEndFirst, OffersStay, PursesCarry, DebtsStay, TailsStay, CorruptStays, FirstEntriesApart, WordsOffFirst, UnitsRemembered, SumsStay, FirstSamplesCount, CountsBound, SingleMarksApart, MarksRise, HonestAnswers};
 
 /// A step changes one word and one actor at most.
 pub fn steps_change_one()
@@ -116,6 +116,11 @@ pub fn entries_end_first()
 /// Units that are offered to the next recorder are not lent, and a recorder gives none back that it does not have.
 pub fn offers_stay()
     ensures { OffersStay }
+{}
+
+/// A purse carries the units that were offered from an opener to a recorder, also beside 256 recorders, and to nobody else.
+pub fn purses_carry()
+    ensures { PursesCarry }
 {}
 
 /// Who owes an answer is not joined.

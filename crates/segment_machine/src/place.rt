@@ -13,7 +13,7 @@ pub struct Look {
 /// Where a running call stands: what it has loaded and stored, as far as what it may do next rests on that. A walk has no
 /// place of its own, since what it has met is in what the actor has seen.
 pub enum Place {
-    /// The actor has been joined with another, and never does anything again.
+    /// The actor has been joined with another, or is a purse that carries units to one. It never does anything.
     Spent,
     /// No call is going on, or it stands at the begin of one of its parts.
     Idle,

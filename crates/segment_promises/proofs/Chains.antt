@@ -6,7 +6,7 @@ use Rattle.segment_image.specs.Head.{head_of}
 use Rattle.list_core.specs.Chain.{IsChain}
 use Rattle.segment_machine.specs.Event.{Event}
 use Rattle.segment_machine.specs.State.{State}
-use Rattle.segment_machine.specs.Reached.{IsReached, started, stepped, announced, offered, split, lent, returned, joined_in}
+use Rattle.segment_machine.specs.Reached.{IsReached, started, stepped, announced, offered, split, lent, returned, purse_filled, purse_poured, joined_in}
 use Rattle.segment_invariant.specs.Keeps.{found_at}
 use Rattle.segment_promises.specs.Lists.{chain_behind, links_of, ChainsAreLinks}
 use Rattle.segment_promises.proofs.Links.{links_or_not, links_append}
@@ -44,4 +44,6 @@ chains_are_links shape opened start state chain kept reached is = go state reach
     go state (split old new id before made) = same old new _ (ap (λ (s : State). s.words) made.3) (go old before)
     go state (lent old new id other units before made) = same old new _ (ap (λ (s : State). s.words) made.6) (go old before)
     go state (returned old new id other units before made) = same old new _ (ap (λ (s : State). s.words) made.6) (go old before)
+    go state (purse_filled old new id before made) = same old new _ (ap (λ (s : State). s.words) made.3) (go old before)
+    go state (purse_poured old new id other before made) = same old new _ (ap (λ (s : State). s.words) made.6) (go old before)
     go state (joined_in old new id other before made) = same old new _ (ap (λ (s : State). s.words) made.6) (go old before)

@@ -23,7 +23,7 @@ use Rattle.segment_machine.specs.Entry.{is_counted, has_ended, tally_units}
 use Rattle.segment_machine.specs.Actor.{accepted_by, counted_of, bucket_key, SawCount, is_opener}
 use Rattle.segment_machine.specs.Made.{SawSample}
 use Rattle.segment_machine.specs.Note.{SawBucket}
-use Rattle.segment_machine.specs.Seats.{spent}
+use Rattle.segment_machine.specs.Seats.{purse}
 use Rattle.segment_machine.specs.State.{State}
 use Rattle.segment_invariant.specs.Body.{Anatomy}
 use Rattle.segment_invariant.specs.Seen.{IsFirst, IsFirstOf, Knows, WasMet}
@@ -47,7 +47,7 @@ module _ (shape : Dimensions) (opened : Anatomy) (state : State) (kept : Invaria
   -- who knows a histogram is not spent
   pub knower_lives : a.hand.place ≢ Spent
   knower_lives is =
-      let nobody : a ≡ spent = subst (StandsRight shape kept.anatomy id a) is (kept.standing id a mine) in
+      let nobody : a ≡ purse a.units.share = subst (StandsRight shape kept.anatomy id a) is (kept.standing id a mine) in
       none_in known (subst (λ (names : List Known). Contains names known) (ap (λ (a : Actor). a.answers.names) nobody) has)
 
   fits : Fits shape kept.anatomy state.cursors state.actors kept.roles.opener id a

@@ -16,7 +16,7 @@ use Rattle.segment_machine.specs.declared.actor.Taken.{Taken}
 use Rattle.segment_machine.specs.Entry.{is_counted, is_summed, is_noted, has_ended, is_of, tally_units, tally_sum, tally_noted}
 use Rattle.segment_machine.specs.Actor.{log_of, counted_of, summed_of, noted_of, all_counted, all_summed, all_noted, all_taken, portion_of, taken_of, taken_units, taken_sum, made_of, outstanding_of}
 use Rattle.segment_machine.specs.Note.{is_untouched}
-use Rattle.segment_machine.specs.Seats.{spent}
+use Rattle.segment_machine.specs.Seats.{purse}
 use Rattle.segment_machine.specs.State.{State}
 use Rattle.segment_machine.specs.Reached.{IsJoined}
 use Rattle.segment_invariant.specs.Body.{Anatomy}
@@ -80,8 +80,8 @@ module _ (shape : Dimensions) (opened : Anatomy) (state : State) (a : Actor) (ke
   at_rest : (a.entries.running ≡ []) × (a.deltas.taking ≡ false)
   at_rest = rests shape opened state a kept joins.0
 
-  -- the others are spent
-  pub others_spent : (k : ℕ) (c : Actor) → get_elem? state.actors k ≡ some c → k ≢ 0 → c ≡ spent
+  -- the others were joined, or are purses
+  pub others_spent : (k : ℕ) (c : Actor) → get_elem? state.actors k ≡ some c → k ≢ 0 → c ≡ purse c.units.share
   others_spent k c there ne = ⊎_elim
       (λ is_spent. subst (StandsRight shape kept.anatomy k c) is_spent (kept.standing k c there))
       (λ lives.
@@ -94,15 +94,15 @@ module _ (shape : Dimensions) (opened : Anatomy) (state : State) (a : Actor) (ke
       (spent_or_not c.hand.place)
 
   -- so what all have is what the opener has
-  pub gathered : {B : Type 0} (f : Actor → List B) → f spent ≡ [] → flat_map f state.actors ≡ f a
+  pub gathered : {B : Type 0} (f : Actor → List B) → ((units : ℕ) → f (purse units) ≡ []) → flat_map f state.actors ≡ f a
   gathered f nothing = of_opener state.actors joins.0 others_spent
     where
-      of_others : (list : List Actor) → ((k : ℕ) (c : Actor) → get_elem? list k ≡ some c → c ≡ spent) → flat_map f list ≡ []
+      of_others : (list : List Actor) → ((k : ℕ) (c : Actor) → get_elem? list k ≡ some c → c ≡ purse c.units.share) → flat_map f list ≡ []
       of_others [] all = refl
       of_others (c ∷ rest) all =
-          ap (λ (xs : List _). xs ++ flat_map f rest) (ap f (all 0 c refl) ∙ nothing) ∙ of_others rest (λ k d there. all (suc k) d there)
+          ap (λ (xs : List _). xs ++ flat_map f rest) (ap f (all 0 c refl) ∙ nothing c.units.share) ∙ of_others rest (λ k d there. all (suc k) d there)
 
-      of_opener : (list : List Actor) → get_elem? list 0 ≡ some a → ((k : ℕ) (c : Actor) → get_elem? list k ≡ some c → k ≢ 0 → c ≡ spent)
+      of_opener : (list : List Actor) → get_elem? list 0 ≡ some a → ((k : ℕ) (c : Actor) → get_elem? list k ≡ some c → k ≢ 0 → c ≡ purse c.units.share)
           → flat_map f list ≡ f a
       of_opener [] first all = absurd (some-ne-none a (sym first))
       of_opener (c ∷ rest) first all =
@@ -111,13 +111,13 @@ module _ (shape : Dimensions) (opened : Anatomy) (state : State) (a : Actor) (ke
 
   pub all_is_log : (all_counted state.actors ≡ log_of a) × (all_summed state.actors ≡ log_of a) × (all_noted state.actors ≡ map (λ c. c.entry) a.entries.log)
   all_is_log = (
-    gathered counted_of refl ∙ own_log shape opened state a kept joins.0,
-    gathered summed_of refl ∙ summed_is_log a its.calls.ended at_rest.0,
-    gathered noted_of refl ∙ noted_is_log a its.calls.ended at_rest.0,
+    gathered counted_of (λ units. refl) ∙ own_log shape opened state a kept joins.0,
+    gathered summed_of (λ units. refl) ∙ summed_is_log a its.calls.ended at_rest.0,
+    gathered noted_of (λ units. refl) ∙ noted_is_log a its.calls.ended at_rest.0,
   )
 
   pub all_is_taken : all_taken state.actors ≡ taken_of a
-  all_is_taken = gathered taken_of refl
+  all_is_taken = gathered taken_of (λ units. refl)
 
   -- where nothing of a name was counted behind a moment, nothing is
   quiet : (name : List ℕ) (n : ℕ) → All (λ entry. is_of name entry ≡ false) (drop n (log_of a)) → IsQuiet a name n

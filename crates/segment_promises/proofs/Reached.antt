@@ -1,7 +1,7 @@
 -- Every state that is reached from a kept one is kept; one that is reached from a new segment is consistent.
 use Rattle.std.proofs.Common.{subst}
 use Rattle.segment_machine.specs.State.{State}
-use Rattle.segment_machine.specs.Reached.{new_state, IsReached, started, stepped, announced, offered, split, lent, returned, joined_in}
+use Rattle.segment_machine.specs.Reached.{new_state, IsReached, started, stepped, announced, offered, split, lent, returned, purse_filled, purse_poured, joined_in}
 use Rattle.segment_invariant.specs.Body.{blank}
 use Rattle.segment_invariant.specs.Consistent.{Opening, IsConsistent}
 use Rattle.segment_invariant.specs.Invariant.{Invariant}
@@ -10,7 +10,8 @@ use Rattle.segment_invariant.proofs.Consistency.Whole.{is_consistent}
 use Rattle.segment_invariant.proofs.Notes.Announcements.{announcements_keep}
 use Rattle.segment_invariant.proofs.Recorders.Splits.{splits_keep}
 use Rattle.segment_invariant.proofs.Recorders.Joins.{joins_keep}
-use Rattle.segment_invariant.proofs.Recorders.Lends.{offers_keep, lends_keep, returns_keep}
+use Rattle.segment_invariant.proofs.Recorders.Lends.{offers_keep, lends_keep, returns_keep, pours_keep}
+use Rattle.segment_invariant.proofs.Recorders.Purses.{fills_keep}
 use Rattle.segment_promises.specs.States.{ReachedStatesFollow, StatesAreKept, StatesAreConsistent}
 use Rattle.segment_promises.proofs.Steps.{steps_follow}
 
@@ -26,6 +27,8 @@ reached_states_follow shape opened start state kept reached = go state reached
     go state (split old new id before made) = splits_keep shape opened old new id (go old before) made
     go state (lent old new id other units before made) = lends_keep shape opened old new id other units (go old before) made
     go state (returned old new id other units before made) = returns_keep shape opened old new id other units (go old before) made
+    go state (purse_filled old new id before made) = fills_keep shape opened old new id (go old before) made
+    go state (purse_poured old new id other before made) = pours_keep shape opened old new id other (go old before) made
     go state (joined_in old new id other before made) = joins_keep shape opened old new id other (go old before) made
 
 pub states_are_kept : StatesAreKept

@@ -23,8 +23,8 @@ use Rattle.segment_machine.specs.Taking.{load_count, raise_mark, load_sum, swap_
 use Rattle.segment_machine.specs.Packing.{load_single, pack, mount_counts, purge_block, disable, add_moved, after_pack, after_mount, after_disable}
 use Rattle.segment_machine.specs.Cursors.{load_cursor, move_cursor, after_cursor}
 use Rattle.segment_machine.specs.Note.{Note, Notes, noted, begins, goes_on, amounts, asks, knows, takes, has_taken, looks, answers, ends, refused, declines}
-use Rattle.segment_machine.specs.Reached.{IsReached, started, stepped, announced, offered, split, lent, returned, joined_in}
-use Rattle.segment_machine.specs.Seats.{joined, newcomer, offering, parent, spent}
+use Rattle.segment_machine.specs.Reached.{IsReached, started, stepped, announced, offered, split, lent, returned, purse_filled, purse_poured, joined_in}
+use Rattle.segment_machine.specs.Seats.{joined, lender, newcomer, offering, parent, purse, spent}
 use Rattle.segment_machine.specs.State.{State, IsStep}
 use Rattle.segment_invariant.specs.Body.{Anatomy}
 use Rattle.segment_invariant.specs.Invariant.{Invariant}
@@ -347,6 +347,13 @@ spoilers_claim_nothing shape opened start state who a b kept there records spoil
         all old new _ (ap (λ (s : State). s.actors) is)
         (another claimed _ other who y _ (set_else old.actors id other _ (λ e. apart (sym e)) ∙ beside) (λ still. still)
         (another claimed old.actors id who x _ stands_there (λ still. still) (go old before)))
+    go state (purse_filled old new id before (x, stands_there, may, is)) =
+        let (c, here, still) = another claimed old.actors id who x (lender x) stands_there (λ still. still) (go old before) in
+        all old new _ (ap (λ (s : State). s.actors) is) (c, at_longer (set old.actors id (lender x)) _ who c here, still)
+    go state (purse_poured old new id other before (x, y, apart, stands_there, beside, may, is)) =
+        all old new _ (ap (λ (s : State). s.actors) is)
+        (another claimed _ other who y _ (set_else old.actors id other _ (λ e. apart (sym e)) ∙ beside) (λ still. inl refl)
+        (another claimed old.actors id who x _ stands_there (λ still. still) (go old before)))
     go state (joined_in old new id other before (x, y, apart, stands_there, beside, may, is)) =
         let (c, here, still) = go old before in
         let other_one : who ≢ id = λ same.
@@ -410,6 +417,13 @@ module _ (shape : Dimensions) (opened : Anatomy) (start : State) (kept : Invaria
   all_rest state (returned old new who other units before (x, y, apart, there, beside, may, is)) =
       let all = all_rest old before in
       subst (All RecorderRests) (sym (ap (λ (s : State). s.actors) is)) (All-set RecorderRests _ other _ (all_at RecorderRests old.actors other y all beside)
+      (All-set RecorderRests old.actors who _ (all_at RecorderRests old.actors who x all there) all))
+  all_rest state (purse_filled old new who before (x, there, may, is)) =
+      subst (All RecorderRests) (sym (ap (λ (s : State). s.actors) is)) (All-push RecorderRests _ (purse _)
+      (All-set RecorderRests old.actors who _ (opens (lender x) refl) (all_rest old before)) (λ records spoiled. refl))
+  all_rest state (purse_poured old new who other before (x, y, apart, there, beside, may, is)) =
+      let all = all_rest old before in
+      subst (All RecorderRests) (sym (ap (λ (s : State). s.actors) is)) (All-set RecorderRests _ other spent (λ records spoiled. refl)
       (All-set RecorderRests old.actors who _ (all_at RecorderRests old.actors who x all there) all))
   all_rest state (joined_in old new who other before (x, y, apart, there, beside, may, is)) =
       subst (All RecorderRests) (sym (ap (λ (s : State). s.actors) is)) (All-set RecorderRests _ other spent (λ records spoiled. refl)

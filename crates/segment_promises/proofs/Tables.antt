@@ -7,17 +7,19 @@ use Rattle.atomic_table.specs.Table as table
 use Rattle.atomic_table.proofs.Lists.{set_else}
 use Rattle.alloc_core.proofs.Layouts.{length_shown}
 use Rattle.segment_machine.specs.declared.actor.Actor.{Actor}
+use Rattle.segment_machine.specs.Actor.{offered_of}
 use Rattle.segment_machine.specs.Event.{spot, change, after, next}
-use Rattle.segment_machine.specs.Seats.{offering, parent, newcomer, joined, spent}
+use Rattle.segment_machine.specs.Seats.{offering, parent, newcomer, getter, purse, lender, joined, spent}
 use Rattle.segment_machine.specs.State.{State, memory}
 use Rattle.segment_image.specs.Shape.{Dimensions}
 use Rattle.segment_invariant.specs.Body.{Anatomy, layout_of}
 use Rattle.segment_invariant.specs.Invariant.{Invariant}
 use Rattle.segment_invariant.specs.Keeps.{found_at}
-use Rattle.segment_invariant.proofs.Recorders.Lends.{offers_keep}
+use Rattle.segment_invariant.proofs.Recorders.Lends.{offers_keep, pours_keep}
+use Rattle.segment_invariant.proofs.Recorders.Purses.{fills_keep}
 use Rattle.segment_invariant.proofs.Recorders.Splits.{splits_keep}
 use Rattle.segment_invariant.proofs.Recorders.Joins.{joins_keep}
-use Rattle.segment_promises.specs.Follows.{GhostNoted, TablesOpen, TablesClose, TablesFollow, TablesAnnounce, TablesOffer, TablesSplit, TablesJoin, Running, noted_by}
+use Rattle.segment_promises.specs.Follows.{GhostNoted, TablesOpen, TablesClose, TablesFollow, TablesAnnounce, TablesOffer, TablesSplit, TablesJoin, TablesFill, TablesPour, Running, noted_by}
 use Rattle.segment_invariant.proofs.Notes.Announcements.{with_actor, notes_follow}
 use Rattle.segment_promises.proofs.Steps.{happens}
 
@@ -120,4 +122,32 @@ tables_join S shape opened id other a b may s run mine apart theirs =
       views = ap all run.views;
       kept = joins_keep shape opened seg (record seg { actors = all seg.actors }) id other run.kept
           (a, b, (λ e. apart (sym e)), there, beside, may, refl);
+    }
+
+pub tables_fill : (S : Type 0) → TablesFill S
+tables_fill S shape opened id a may s run mine =
+    let seg : State = run.segment in
+    let both = λ (list : List Actor). set list id (lender a) ++ purse (offered_of a.role) ∷ [] in
+    let there : get_elem? seg.actors id ≡ some a = ap (λ list. get_elem? list id) (sym run.views) ∙ mine in record {
+      anchor = run.anchor;
+      segment = record seg { actors = both seg.actors };
+      words = run.words;
+      views = ap both run.views;
+      kept = fills_keep shape opened seg (record seg { actors = both seg.actors }) id run.kept (a, there, may, refl);
+    }
+
+pub tables_pour : (S : Type 0) → TablesPour S
+tables_pour S shape opened id other b c may s run mine apart theirs =
+    let seg : State = run.segment in
+    let richer : Actor = getter b c.units.share in
+    let all = λ (list : List Actor). set (set list id richer) other spent in
+    let view = λ (k : ℕ). ap (λ (list : List Actor). get_elem? list k) (sym run.views) in
+    let there : get_elem? seg.actors id ≡ some b = view id ∙ mine in
+    let beside : get_elem? seg.actors other ≡ some c = view other ∙ (sym (set_else s.views id other richer apart) ∙ theirs) in record {
+      anchor = run.anchor;
+      segment = record seg { actors = all seg.actors };
+      words = run.words;
+      views = ap all run.views;
+      kept = pours_keep shape opened seg (record seg { actors = all seg.actors }) id other run.kept
+          (b, c, (λ e. apart (sym e)), there, beside, may, refl);
     }

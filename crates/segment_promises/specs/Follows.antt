@@ -7,12 +7,12 @@ use Rattle.segment_image.specs.Shape.{Dimensions}
 use Rattle.segment_machine.specs.declared.actor.Actor.{Actor}
 use Rattle.segment_machine.specs.Event.{Event, spot, change, next, Ready, Learned}
 use Rattle.segment_machine.specs.Note.{Note, Notes, noted}
-use Rattle.segment_machine.specs.Seats.{MayOffer, offering, MaySplit, parent, newcomer, MayJoin, joined, spent}
+use Rattle.segment_machine.specs.Seats.{MayOffer, offering, MaySplit, parent, newcomer, getter, purse, MayFill, lender, MayPour, MayJoin, joined, spent}
 use Rattle.segment_machine.specs.State.{State, memory, IsStep}
 use Rattle.segment_invariant.specs.Body.{Anatomy}
 use Rattle.segment_invariant.specs.Invariant.{Invariant}
 use Rattle.segment_invariant.specs.Keeps.{found_at}
-use Rattle.segment_machine.specs.Actor.{is_opener}
+use Rattle.segment_machine.specs.Actor.{is_opener, offered_of}
 
 -- ---- a step
 
@@ -79,7 +79,7 @@ TablesAnnounce S = (shape : Dimensions) (opened : Anatomy) (notes : List Note) (
     → ((n : ℕ) → becomes n ≡ n) → is_opener me.0.role ≡ false → MayNoteAll me.0 notes
     → table.Allows (Running S shape opened) slots id me 0 becomes (λ found me'. (me'.0 ≡ noted_by me.0 notes) × (me'.1 ≡ me.1))
 
--- an opener says so how many units its next recorder is to have
+-- an opener says so how many units it is to hand out next
 abbrev pub TablesOffer : Type 0 → Type 0
 TablesOffer S = (shape : Dimensions) (opened : Anatomy) (units slots id : ℕ) (me : table.Me S Actor) (becomes : ℕ → ℕ)
     → ((n : ℕ) → becomes n ≡ n) → MayOffer me.0 units
@@ -96,3 +96,13 @@ TablesSplit S = (shape : Dimensions) (opened : Anatomy) (id : ℕ) (a : Actor) �
 abbrev pub TablesJoin : Type 0 → Type 0
 TablesJoin S = (shape : Dimensions) (opened : Anatomy) (id other : ℕ) (a b : Actor) → MayJoin a b
     → table.Joins (Running S shape opened) id a other b (joined a b) spent
+
+-- an opener's seat may be cut in two where it may fill a purse
+abbrev pub TablesFill : Type 0 → Type 0
+TablesFill S = (shape : Dimensions) (opened : Anatomy) (id : ℕ) (a : Actor) → MayFill a
+    → table.Splits (Running S shape opened) id a (lender a) (purse (offered_of a.role))
+
+-- and a recorder's may take in the purse's
+abbrev pub TablesPour : Type 0 → Type 0
+TablesPour S = (shape : Dimensions) (opened : Anatomy) (id other : ℕ) (b c : Actor) → MayPour b c
+    → table.Joins (Running S shape opened) id b other c (getter b c.units.share) spent

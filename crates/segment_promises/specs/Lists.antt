@@ -21,7 +21,7 @@ use Rattle.segment_machine.specs.Event.{Event, publishing_event}
 use Rattle.segment_machine.specs.Publishing.{link}
 use Rattle.segment_machine.specs.Walking.{records_met}
 use Rattle.segment_machine.specs.State.{State, IsStep}
-use Rattle.segment_machine.specs.Reached.{IsReached, started, stepped, announced, offered, split, lent, returned, joined_in}
+use Rattle.segment_machine.specs.Reached.{IsReached, started, stepped, announced, offered, split, lent, returned, purse_filled, purse_poured, joined_in}
 use Rattle.segment_invariant.specs.Body.{Anatomy}
 use Rattle.segment_invariant.specs.Consistent.{IsHistogram}
 use Rattle.segment_invariant.specs.Seen.{IsFirst}
@@ -52,6 +52,8 @@ links_of version start state (offered old new id units before made) = links_of v
 links_of version start state (split old new id before made) = links_of version start old before
 links_of version start state (lent old new id other units before made) = links_of version start old before
 links_of version start state (returned old new id other units before made) = links_of version start old before
+links_of version start state (purse_filled old new id before made) = links_of version start old before
+links_of version start state (purse_poured old new id other before made) = links_of version start old before
 links_of version start state (joined_in old new id other before made) = links_of version start old before
 
 -- so the chain of a state that is reached is that of the state from which it is reached, and behind it the records whose link was done

@@ -3,7 +3,7 @@
 //! The functions do nothing. What each promises is a law of the definitions in `specs/`.
 
 ghost use Rattle.segment_promises.specs.States.{ReachedStatesFollow, StatesAreKept, StatesAreConsistent};
-ghost use Rattle.segment_promises.specs.Follows.{StepsFollow, TablesOpen, TablesClose, TablesFollow, TablesAnnounce, TablesOffer, TablesSplit, TablesJoin};
+ghost use Rattle.segment_promises.specs.Follows.{StepsFollow, TablesOpen, TablesClose, TablesFollow, TablesAnnounce, TablesOffer, TablesSplit, TablesJoin, TablesFill, TablesPour};
 ghost use Rattle.segment_promises.specs.Tallies.{PartsAddUp, TalliesAreCounts};
 ghost use Rattle.segment_promises.specs.Deltas.{FinalDeltasTakeAll, LoneDeltasTakeAll, FinalSnapshotsAreExact, SnapshotsStayBelow, DeltasTakeAccepted, SnapshotsSeeAccepted};
 ghost use Rattle.segment_promises.specs.Reads.{StoppedReads, JoinedReads};
@@ -53,7 +53,7 @@ pub fn tables_announce<S>()
     ensures { TablesAnnounce S }
 {}
 
-/// On that word an opener may also say how many units its next recorder is to have.
+/// On that word an opener may also say how many units it is to hand out next.
 pub fn tables_offer<S>()
     ensures { TablesOffer S }
 {}
@@ -66,6 +66,16 @@ pub fn tables_split<S>()
 /// It may take in the seat of a recorder that it may join.
 pub fn tables_join<S>()
     ensures { TablesJoin S }
+{}
+
+/// An opener's seat may be cut in two where it may fill a purse with the units that it offered.
+pub fn tables_fill<S>()
+    ensures { TablesFill S }
+{}
+
+/// A recorder's seat may take in the purse's, which is poured out to it.
+pub fn tables_pour<S>()
+    ensures { TablesPour S }
 {}
 
 /// The tallies of the parts of a list by number add up to that of the list.

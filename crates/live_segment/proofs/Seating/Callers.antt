@@ -1,10 +1,10 @@
--- What those who call an opener and its recorders rest on: an opener is of its segment still when it has made or joined a recorder; a
+-- What those who call an opener and its recorders rest on: an opener is of its segment still when it has made, lent to or joined a recorder; a
 -- histogram that a recorder knows it knows still behind any of its calls; and what threads give back has what each call promises.
 use Rattle.std.proofs.Common.{◌≡◌, ℕ, ◌<◌, List, [], ◌∷◌, All, map, length, slice_index_or, sym, ap, ◌∙◌, subst, arith}
 use Rattle.std.proofs.lemmas.List.{length-append}
 use Rattle.segment_machine.specs.declared.actor.Actor.{Actor}
 use Rattle.segment_machine.specs.declared.actor.Known.{Known}
-use Rattle.segment_machine.specs.Seats.{joined, offering, parent}
+use Rattle.segment_machine.specs.Seats.{giver, joined, offering, parent}
 use Rattle.live_segment.specs.declared.opener.Opener.{Opener}
 use Rattle.live_segment.specs.declared.recorder.Hist.{Hist}
 use Rattle.live_segment.specs.declared.recorder.Recorder.{Recorder}
@@ -35,6 +35,14 @@ knows_on old new histogram on knows =
 pub made_still : (segment : Segment) (old new : Opener) (units : ℕ) → IsMadeWith segment old → IsSameOpener old new
     → view_of_opener new ≡ parent (offering (view_of_opener old) units) → IsMadeWith segment new
 made_still segment old new units made same view = record {
+  table = same.table ∙ made.table;
+  of = subst (IsOf segment.setting) (sym view) (let of = made.of in record { shape = of.shape; version = of.version; cursors = of.cursors });
+}
+
+-- it has lent one units
+pub lent_still : (segment : Segment) (old new : Opener) (units : ℕ) → IsMadeWith segment old → IsSameOpener old new
+    → view_of_opener new ≡ giver (view_of_opener old) units → IsMadeWith segment new
+lent_still segment old new units made same view = record {
   table = same.table ∙ made.table;
   of = subst (IsOf segment.setting) (sym view) (let of = made.of in record { shape = of.shape; version = of.version; cursors = of.cursors });
 }

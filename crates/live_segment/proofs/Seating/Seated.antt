@@ -1,4 +1,5 @@
--- That the rule of a segment's table allows what becomes of seats: a table is opened, units are offered, a recorder is made and joined.
+-- That the rule of a segment's table allows what becomes of seats: a table is opened, units are offered, a recorder is made and joined, a
+-- purse is filled and poured out.
 use Rattle.std.proofs.Common.{◌≡◌, ◌≢◌, ◌⊎◌, ℕ, ◌≤◌, Bool, false, true, true≢false, if◌then◌else◌, sum_by, ◌==◌, ◌+◌, slice_index, List, [], ◌∷◌, length, take, drop, replicate, refl, sym, ap, subst, ◌∙◌, arith}
 use Rattle.std.proofs.lemmas.List.{length-append, length-replicate}
 use mathlib.Core.Option.{none, some, some-injective}
@@ -12,8 +13,10 @@ use Rattle.alloc_core.specs.Layout.{IsShape}
 use Rattle.alloc_core.proofs.Layouts.{length_shown}
 use Rattle.segment_machine.specs.declared.actor.Actor.{Actor}
 use Rattle.segment_machine.specs.declared.place.Place.TheVariants.{Spent}
-use Rattle.segment_machine.specs.Actor.{is_bound, is_opener, outstanding_of, cost_total, units_of}
-use Rattle.segment_machine.specs.Seats.{MayOffer, offering, MaySplit, parent, newcomer, joined, spent}
+use Rattle.segment_machine.specs.declared.actor.Role.{Role}
+use Rattle.segment_machine.specs.declared.actor.Role.TheVariants as role
+use Rattle.segment_machine.specs.Actor.{is_bound, is_opener, made_of, offered_of, outstanding_of, cost_total, units_of}
+use Rattle.segment_machine.specs.Seats.{MayOffer, offering, MaySplit, parent, newcomer, giver, getter, purse, MayFill, lender, MayPour, joined, spent}
 use Rattle.segment_machine.specs.State.{State, memory}
 use Rattle.segment_machine.specs.Reached.{new_state}
 use Rattle.segment_invariant.specs.Body.{Anatomy, blank, layout_of}
@@ -23,7 +26,7 @@ use Rattle.segment_invariant.proofs.Frames.OneActor.{lives_on}
 use Rattle.segment_invariant.proofs.Frames.Roles.{opens_first}
 use Rattle.segment_invariant.proofs.Lists.Elements.{sum_at_least}
 use Rattle.segment_promises.specs.Follows.{Running}
-use Rattle.segment_promises.proofs.Tables.{tables_open, tables_close, tables_offer, tables_split, tables_join}
+use Rattle.segment_promises.proofs.Tables.{tables_open, tables_close, tables_offer, tables_split, tables_join, tables_fill, tables_pour}
 use Rattle.live_segment.specs.declared.rule.Announcement.{Announcement}
 use Rattle.live_segment.specs.declared.rule.Announcement.TheVariants.{Units}
 use Rattle.live_segment.specs.declared.rule.Opening.{Opening}
@@ -159,6 +162,29 @@ module _ (setting : Setting) (slots id : ℕ) (me : Sat) where
 
 pub splits : (setting : Setting) (id : ℕ) (a : Actor) → MaySplit a → Splits (Runs setting) id a (parent a) (newcomer a)
 splits setting id a may = splits_all setting id a (parent a) (newcomer a) (λ opened. tables_split Announcement setting.shape opened id a may)
+
+pub fills : (setting : Setting) (id : ℕ) (a : Actor) → MayFill a → Splits (Runs setting) id a (lender a) (purse (offered_of a.role))
+fills setting id a may =
+    splits_all setting id a (lender a) (purse (offered_of a.role)) (λ opened. tables_fill Announcement setting.shape opened id a may)
+
+pub pours : (setting : Setting) (id other : ℕ) (b c : Actor) → MayPour b c → Joins (Runs setting) id b other c (getter b c.units.share) spent
+pours setting id other b c may =
+    joins_all setting id other b c (getter b c.units.share) spent (λ opened. tables_pour Announcement setting.shape opened id other b c may)
+
+-- a recorder that stands at rest may get what is in a purse
+pub may_get : (a c : Actor) (units : ℕ) → IsAtRest a → c ≡ purse units → MayPour a c
+may_get a c units rest is =
+    (rest.recorder, λ e. true≢false (sym (ap is_bound e) ∙ rest.free), subst (λ (x : Actor). x ≡ purse x.units.share) (sym is) refl)
+
+-- an opener that offers nothing has no other role when it has offered units and put them into a purse
+same_role : (r : Role) → is_opener r ≡ true → offered_of r ≡ 0 → role.Opener (made_of r) (outstanding_of r) 0 ≡ r
+same_role (role.Opener made outstanding offered) opens none = ap (role.Opener made outstanding) (sym none)
+same_role (role.Recorder before outstanding) opens none = absurd (cc opens)
+
+-- so it has given them, and nothing else
+pub gives : (a b c : Actor) (units : ℕ) → is_opener a.role ≡ true → offered_of a.role ≡ 0 → b ≡ offering a units → c ≡ lender b → c ≡ giver a units
+gives a b c units opens none offered filled =
+    filled ∙ (ap lender offered ∙ ap (λ (r : Role). record (giver a units) { role = r }) (same_role a.role opens none))
 
 -- who stands beside a recorder that lives has one outstanding
 stands_out : (actors : List Actor) (roles : RolesAreKept actors) (id other : ℕ) (a b : Actor) → get_elem? actors id ≡ some a

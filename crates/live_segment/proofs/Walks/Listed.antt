@@ -12,7 +12,7 @@ use Rattle.segment_machine.specs.Actor.{is_opener}
 use Rattle.segment_machine.specs.Allocating.{store_payload}
 use Rattle.segment_machine.specs.Calls.{sight}
 use Rattle.segment_machine.specs.Event.{change, Ready, allocating_event, walking_event}
-use Rattle.segment_machine.specs.Seats.{spent}
+use Rattle.segment_machine.specs.Seats.{purse}
 use Rattle.segment_machine.specs.State.{State}
 use Rattle.segment_machine.specs.Walking.{load_published}
 use Rattle.segment_invariant.specs.Body.{Anatomy, Piece, held, own_words}
@@ -39,7 +39,7 @@ module _ (shape : Dimensions) (opened : Anatomy) (state : State) (kept : Invaria
   -- an actor with a block lives
   with_block : (own : Own) → Contains a.hand.own own → a.hand.place ≢ Spent
   with_block own has is_spent =
-      let nobody : a ≡ spent = subst (StandsRight shape kept.anatomy id a) is_spent (kept.standing id a mine) in
+      let nobody : a ≡ purse a.units.share = subst (StandsRight shape kept.anatomy id a) is_spent (kept.standing id a mine) in
       let (i, there) = at_from a.hand.own own has in
       some-ne-none own (sym there ∙ ap (λ (b : Actor). get_elem? b.hand.own i) nobody)
 

@@ -1,6 +1,7 @@
 //! What a recorder has beside its segment, for whoever holds the segment otherwise than by a borrow.
 
-ghost use Rattle.std.specs.Prelude.{◌≡◌};
+ghost use Rattle.std.specs.Prelude.{◌≡◌, []};
+ghost use Rattle.segment_machine.specs.Seats.{getter, purse};
 ghost use Rattle.live_segment.specs.Desk.{IsDeskAt, desk_of};
 ghost use Rattle.live_segment.specs.declared.segment.Segment.{Segment as SomeSegment};
 
@@ -99,6 +100,16 @@ impl Desk {
             value,
             count,
         )
+    }
+
+    // Gets the units of a purse of the segment, which is the one that it is of.
+    pub(crate) fn get(&mut self, segment: &Segment, filled: Pass, units: u32)
+        requires at { IsDeskAt segment.now self.old }
+        requires filled { (filled.table_id ≡ self.old.seat.table_id) × (filled.me ≡ (purse units, [])) }
+        ensures at { IsDeskAt segment.now self.new }
+        ensures view { IsSameDesk self.old self.new × (view_of_desk self.new ≡ getter (view_of_desk self.old) units) }
+    {
+        segment.pour_out(&mut self.seat, &mut self.units, filled, units);
     }
 }
 

@@ -4,13 +4,13 @@ ghost use Rattle.std.specs.Prelude.{◌≡◌, ◌⊎◌, true, false, Some, Non
 ghost use Rattle.live_segment.specs.Holders.{IsMadeWith};
 ghost use Rattle.povundiri_c.specs.declared.held.Held.{Held as SomeHeld};
 ghost use Rattle.povundiri_c.specs.Calls.{asked_of, IsGiven, outstanding_in, units_of};
-ghost use Rattle.povundiri_c.specs.Joins.{AnswersJoinCall, AnswersRecorderCall};
+ghost use Rattle.povundiri_c.specs.Joins.{AnswersGuest, AnswersJoinCall, AnswersLendCall, AnswersRecorderCall};
 ghost use Rattle.povundiri_c.specs.Sealed.{is_some};
 ghost use Rattle.povundiri_c.specs.Segments.{AnswersCloseCall, InLentRoom, IntoEmpty, IsCreated, IsFilledWith, IsTakenUp};
 
 use crate::handle::Handle;
 use crate::held::Held;
-use crate::owner::Owner;
+use crate::owner::{Owner, Request};
 use crate::status::{DONE, EMPTY, NO_MEMORY, NOT_EMPTY, of_adopt_fault, of_open_fault};
 use crate::types::SegmentShape;
 use live_segment::{Lender, Memory, Opener, Room, Segment};
@@ -219,6 +219,41 @@ pub extern "C" fn povundiri_proved_recorder(
     }
 }
 
+// Passes a recorder to a segment. `none` stands in the recorder's place, and the recorder there again where it comes back.
+fn pass(segment: &mut Handle, recorder: &mut Handle, none: Handle, request: Request) -> u32
+    ensures full { is_some none.seal.held ≡ true → (result ≡ 4) × (segment.new ≡ segment.old) × (recorder.new ≡ recorder.old) }
+    ensures empty { is_some none.seal.held ≡ false → recorder.old.seal.held ≡ None → (result ≡ 3) × (segment.new ≡ segment.old) × (recorder.new ≡ recorder.old) }
+    ensures answer { is_some none.seal.held ≡ false → (guest : SomeHeld) → recorder.old.seal.held ≡ Some guest → AnswersGuest request guest segment.old.seal.held (result, recorder.new.seal.held) segment.new.seal.held }
+{
+    let guest = match recorder.take(none) {
+        Ok(guest) => guest,
+        Err(status) => return status,
+    };
+    match segment.serve(guest, request) {
+        (status, Some(guest)) => {
+            recorder.put(guest);
+            status
+        }
+        (status, None) => status,
+    }
+}
+
+/// Lends a recorder units of its segment, while it runs. Where it has none of them, it is in its handle still, unless its own segment has
+/// met it by another thread.
+#[unsafe(no_mangle)]
+pub extern "C" fn povundiri_proved_lend(
+    segment: &mut Handle,
+    recorder: &mut Handle,
+    units: u32,
+    none: Handle,
+) -> u32
+    ensures full { is_some none.seal.held ≡ true → (result ≡ 4) × (segment.new ≡ segment.old) × (recorder.new ≡ recorder.old) }
+    ensures empty { is_some none.seal.held ≡ false → recorder.old.seal.held ≡ None → (result ≡ 3) × (segment.new ≡ segment.old) × (recorder.new ≡ recorder.old) }
+    ensures answer { is_some none.seal.held ≡ false → (guest : SomeHeld) → recorder.old.seal.held ≡ Some guest → AnswersLendCall units guest segment.old.seal.held (result, recorder.new.seal.held) segment.new.seal.held }
+{
+    pass(segment, recorder, none, Request::Lend(units))
+}
+
 /// Takes a recorder back: its handle is empty then, and `none` stands in its place. Where it is not joined, it is in its handle still,
 /// unless its own segment has met it by another thread.
 #[unsafe(no_mangle)]
@@ -231,17 +266,7 @@ pub extern "C" fn povundiri_proved_join(
     ensures empty { is_some none.seal.held ≡ false → recorder.old.seal.held ≡ None → (result ≡ 3) × (segment.new ≡ segment.old) × (recorder.new ≡ recorder.old) }
     ensures answer { is_some none.seal.held ≡ false → (guest : SomeHeld) → recorder.old.seal.held ≡ Some guest → AnswersJoinCall guest segment.old.seal.held (result, recorder.new.seal.held) segment.new.seal.held }
 {
-    let guest = match recorder.take(none) {
-        Ok(guest) => guest,
-        Err(status) => return status,
-    };
-    match segment.join(guest) {
-        (status, Some(guest)) => {
-            recorder.put(guest);
-            status
-        }
-        (status, None) => status,
-    }
+    pass(segment, recorder, none, Request::Join)
 }
 
 /// The units that no recorder has; or those that a recorder may still spend.

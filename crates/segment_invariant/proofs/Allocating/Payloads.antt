@@ -15,7 +15,7 @@ use Rattle.segment_machine.specs.declared.actor.Own.{Own}
 use Rattle.segment_machine.specs.declared.place.Place.{Place}
 use Rattle.segment_machine.specs.declared.place.Place.TheVariants.{Spent}
 use Rattle.segment_machine.specs.State.{State}
-use Rattle.segment_machine.specs.Seats.{spent}
+use Rattle.segment_machine.specs.Seats.{purse}
 use Rattle.segment_machine.specs.Allocating.{store_payload, stored}
 use Rattle.segment_machine.specs.Event.{allocating_event, Ready}
 use Rattle.segment_machine.specs.Calls.{change_first, change_own}
@@ -86,7 +86,7 @@ module _ (shape : Dimensions) (opened : Anatomy) (state : State) (kept : Invaria
   -- an actor with a block lives
   pub has_lived : (i : ℕ) (x : Own) → get_elem? a.hand.own i ≡ some x → a.hand.place ≢ Spent
   has_lived i x there is_spent =
-      let nobody : a ≡ spent = subst (StandsRight shape anatomy id a) is_spent (kept.standing id a mine) in
+      let nobody : a ≡ purse a.units.share = subst (StandsRight shape anatomy id a) is_spent (kept.standing id a mine) in
       some-ne-none x (sym there ∙ ap (λ (b : Actor). get_elem? b.hand.own i) nobody)
 
   module _ (i : ℕ) (x y : Own) (j v : ℕ) (there : get_elem? a.hand.own i ≡ some x) (same_at : y.at ≡ x.at) (same_size : y.size ≡ x.size) (tagged : y.tag ≤ 3)

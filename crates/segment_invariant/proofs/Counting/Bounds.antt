@@ -13,7 +13,7 @@ use Rattle.segment_machine.specs.declared.actor.Actor.{Actor}
 use Rattle.segment_machine.specs.declared.actor.Cost.{Cost}
 use Rattle.segment_machine.specs.Entry.{is_of, tally_units, tally_noted}
 use Rattle.segment_machine.specs.Actor.{counted_of, noted_of, all_counted, all_noted, all_costs, cost_of, cost_total, units_of}
-use Rattle.segment_machine.specs.Seats.{spent}
+use Rattle.segment_machine.specs.Seats.{purse}
 use Rattle.segment_machine.specs.State.{State}
 use Rattle.segment_invariant.specs.Body.{Record, Anatomy}
 use Rattle.segment_invariant.specs.Seen.{HasRecord}
@@ -65,17 +65,17 @@ module _ (shape : Dimensions) (opened : Anatomy) (state : State) (kept : Invaria
       omega (arith, all, pool)
 
   -- what an actor does holds of a spent one where it holds of one that did nothing
-  each_one : (holds : Actor → Type 0) → holds spent → ((a : Actor) → CallsRight kept.anatomy a → holds a) → (a : Actor) → Contains state.actors a → holds a
+  each_one : (holds : Actor → Type 0) → ((units : ℕ) → holds (purse units)) → ((a : Actor) → CallsRight kept.anatomy a → holds a) → (a : Actor) → Contains state.actors a → holds a
   each_one holds nothing lives a among =
       let (who, there) = at_from state.actors a among in
       ⊎_elim
-      (λ gone. subst holds (sym (subst (StandsRight shape kept.anatomy who a) gone (kept.standing who a there))) nothing)
+      (λ gone. subst holds (sym (subst (StandsRight shape kept.anatomy who a) gone (kept.standing who a there))) (nothing a.units.share))
       (λ alive. lives a (kept.each who a there alive).calls)
       (spent_or_not a.hand.place)
 
   -- units that an actor has counted are spent, or held by the call that counted them
   pub each_covered : (a : Actor) → Contains state.actors a → tally_noted (counted_of a) name ≤ cost_of a.units.costs name + cost_of a.units.held name
-  each_covered = each_one (λ a. tally_noted (counted_of a) name ≤ cost_of a.units.costs name + cost_of a.units.held name) (omega arith) (λ a calls. counted_spent kept.anatomy a calls name)
+  each_covered = each_one (λ a. tally_noted (counted_of a) name ≤ cost_of a.units.costs name + cost_of a.units.held name) (λ units. omega arith) (λ a calls. counted_spent kept.anatomy a calls name)
 
   -- so are those of all
   pub counted_covered : tally_noted (all_counted state.actors) name ≤ all_costs state.actors name
@@ -93,7 +93,7 @@ module _ (shape : Dimensions) (opened : Anatomy) (state : State) (kept : Invaria
   pub noted_covered : cost_of kept.roles.opener.entries.first_noted name + tally_noted (all_noted state.actors) name ≤ all_costs state.actors name
   noted_covered =
       let all = all_within state.actors name
-      (each_one (λ a. cost_of a.entries.first_noted name + tally_noted (noted_of a) name ≤ cost_of a.units.costs name + cost_of a.units.held name) (omega arith)
+      (each_one (λ a. cost_of a.entries.first_noted name + tally_noted (noted_of a) name ≤ cost_of a.units.costs name + cost_of a.units.held name) (λ units. omega arith)
       (λ a calls. noted_within kept.anatomy a calls name)) in
       let one = sum_at_least (λ (a : Actor). cost_of a.entries.first_noted name) state.actors 0 kept.roles.opener kept.roles.stands in
       omega (arith, all, one)

@@ -16,7 +16,7 @@ use Rattle.segment_machine.specs.declared.seen.Sighting.{Sighting}
 use Rattle.segment_machine.specs.Actor.{word_seen}
 use Rattle.segment_machine.specs.Form.{is_off}
 use Rattle.segment_invariant.specs.Body.{Record, Anatomy, order_of, Piece}
-use Rattle.segment_machine.specs.Seats.{spent}
+use Rattle.segment_machine.specs.Seats.{purse}
 use Rattle.segment_invariant.specs.Seen.{IsReachedAt, HasPlain, HasOwn, HasRecord, WasMet}
 use Rattle.segment_invariant.specs.Invariant.{LooksRight, StandsRight, HoldsOwn}
 use Rattle.segment_machine.specs.declared.seen.Seen.{Seen}
@@ -50,7 +50,7 @@ pub record Follows (x y : Actor) : Type 0 where
   pub seen : (at word : ℕ) → word_seen x.seen.words at ≡ Some word → word_seen y.seen.words at ≡ Some word
   pub chain : (at : ℕ) → Contains x.seen.chain at → Contains y.seen.chain at
   pub own : (block : Own) → Contains x.hand.own block → (still : Own) × Contains y.hand.own still × (still.at ≡ block.at) × (still.tag ≡ block.tag)
-  pub spent : x ≡ spent → y ≡ spent
+  pub spent : x ≡ purse x.units.share → y ≡ purse y.units.share
 
 pub follows_itself : (x : Actor) → Follows x x
 follows_itself x = record {

@@ -31,7 +31,7 @@ use Rattle.segment_machine.specs.declared.actor.Published.{Published}
 use Rattle.segment_machine.specs.declared.actor.Made.TheVariants as made
 use Rattle.segment_machine.specs.Actor.{word_seen, all_published}
 use Rattle.segment_machine.specs.State.{State}
-use Rattle.segment_machine.specs.Seats.{spent}
+use Rattle.segment_machine.specs.Seats.{purse}
 use Rattle.segment_invariant.proofs.Lists.Elements.{all_of, split_map, row_in}
 use Rattle.segment_invariant.proofs.Lists.Maps.{contains_map}
 use Rattle.segment_machine.specs.Made.{AreNameWords, SawName, SawOtherName, SawSpec, SawOtherSpec, IsFirstNamed}
@@ -287,7 +287,7 @@ module _ (shape : Dimensions) (opened : Anatomy) (state : State) (kept : Invaria
 saw_lives : (shape : Dimensions) (opened : Anatomy) (state : State) (id : ℕ) (a : Actor) (kept : Invariant shape opened state)
     → get_elem? state.actors id ≡ some a → (name : List ℕ) (at : ℕ) → IsFirstNamed a.seen name at → a.hand.place ≢ Spent
 saw_lives shape opened state id a kept mine name at named is_spent =
-    let nobody : a ≡ spent = subst (StandsRight shape kept.anatomy id a) is_spent (kept.standing id a mine) in
+    let nobody : a ≡ purse a.units.share = subst (StandsRight shape kept.anatomy id a) is_spent (kept.standing id a mine) in
     let none : named.0 ++ at ∷ named.1 ≡ [] = sym named.2 ∙ ap (λ (a : Actor). a.seen.chain) nobody in
     let long = ap length none in
     let sum = length-append named.0 (at ∷ named.1) in

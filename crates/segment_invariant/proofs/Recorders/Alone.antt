@@ -18,7 +18,7 @@ use Rattle.segment_machine.specs.declared.actor.Actor.{Actor}
 use Rattle.segment_machine.specs.Entry.{is_counted, is_summed, is_noted, has_ended, is_of, tally_units, tally_noted}
 use Rattle.segment_machine.specs.Actor.{log_of, summed_of, all_counted, all_summed, all_noted, accepted_by, accepted_since, is_opener, made_of}
 use Rattle.segment_machine.specs.Note.{is_untouched}
-use Rattle.segment_machine.specs.Seats.{spent}
+use Rattle.segment_machine.specs.Seats.{purse}
 use Rattle.segment_machine.specs.State.{State}
 use Rattle.segment_invariant.specs.Body.{Anatomy}
 use Rattle.segment_invariant.specs.Invariant.{IsAlone, StandsRight, Invariant}
@@ -57,8 +57,8 @@ module _ (shape : Dimensions) (opened : Anatomy) (state : State) (kept : Invaria
   not_first : id ≢ 0
   not_first = not_opener shape opened state kept id a mine records
 
-  -- all others were joined
-  gone : (k : ℕ) (c : Actor) → get_elem? state.actors k ≡ some c → (k ≢ 0) × (k ≢ id) → c ≡ spent
+  -- all others are purses, or were joined
+  gone : (k : ℕ) (c : Actor) → get_elem? state.actors k ≡ some c → (k ≢ 0) × (k ≢ id) → c ≡ purse c.units.share
   gone k c there (past, other) = ⊎_elim
       (λ is. subst (StandsRight shape kept.anatomy k c) is (kept.standing k c there))
       (λ live.
@@ -96,7 +96,7 @@ module _ (shape : Dimensions) (opened : Anatomy) (state : State) (kept : Invaria
 
   -- What all come to is what the logs of these two come to, with what stands in front of them, where nothing of the running entries counts.
   module _ (total : List Entry → ℕ) (sums : IsTotal ◌+◌ total) (none : total [] ≡ 0) (test : EntryProgress → Bool)
-      (passes : (c : EntryProgress) → has_ended c ≡ true → test c ≡ true) (front : Actor → List Entry) (nothing : front spent ≡ [])
+      (passes : (c : EntryProgress) → has_ended c ≡ true → test c ≡ true) (front : Actor → List Entry) (nothing : (units : ℕ) → front (purse units) ≡ [])
       (still : (c : EntryProgress) → Contains a.entries.running c → test c ≡ true → total (c.entry ∷ []) ≡ total []) where
     abbrev entries : Actor → List Entry
     entries c = front c ++ map (λ c. c.entry) (filter test (c.entries.log ++ c.entries.running))
@@ -115,7 +115,7 @@ module _ (shape : Dimensions) (opened : Anatomy) (state : State) (kept : Invaria
     two_logs =
         let all = total_rows total sums none entries state.actors in
         let both = sum_pair (λ c. total (entries c)) state.actors 0 id opener a (λ e. not_first (sym e)) kept.roles.stands mine
-        (λ j c there others. ap (λ (c : Actor). total (entries c)) (gone j c there others) ∙ (ap (λ list. total (list ++ [])) nothing ∙ none)) in
+        (λ j c there others. ap (λ (c : Actor). total (entries c)) (gone j c there others) ∙ (ap (λ list. total (list ++ [])) (nothing c.units.share) ∙ none)) in
         let first = one opener ended (ap (λ (list : List EntryProgress). total (map (λ (c : EntryProgress). c.entry) (filter test list))) kept.roles.rests.0 ∙ none) in
         let second = one a (kept.each id a mine lives).calls.ended (nothing_among ◌+◌ total sums test a.entries.running still ∙ none) in
         omega (arith, all, both, first, second)
@@ -127,7 +127,7 @@ module _ (shape : Dimensions) (opened : Anatomy) (state : State) (kept : Invaria
     pub counted_accepted : (key : ℤ) → tally_units (all_counted state.actors) name key ≡ tally_units (accepted_by a) name key
     counted_accepted key =
         let total : List Entry → ℕ = λ entries. tally_units entries name key in
-        let all = two_logs total (units_total name key) refl is_counted ended_counted (λ (c : Actor). c.entries.first) refl
+        let all = two_logs total (units_total name key) refl is_counted ended_counted (λ (c : Actor). c.entries.first) (λ units. refl)
         (λ c has passes. ⊎_elim
         (λ other. (λ i. 0 + (if other i && int_eq c.entry.key key then c.entry.units else 0)))
         (λ untouched. no_units name key c.entry (counted_none c untouched passes))
@@ -140,7 +140,7 @@ module _ (shape : Dimensions) (opened : Anatomy) (state : State) (kept : Invaria
     pub noted_accepted : tally_noted (all_noted state.actors) name ≡ tally_noted (accepted_since opener a) name
     noted_accepted =
         let total : List Entry → ℕ = λ entries. tally_noted entries name in
-        let all = two_logs total (noted_total name) refl is_noted ended_noted (λ (c : Actor). []) refl
+        let all = two_logs total (noted_total name) refl is_noted ended_noted (λ (c : Actor). []) (λ units. refl)
         (λ c has passes. ⊎_elim
         (λ other. (λ i. 0 + (if other i then c.entry.units else 0)))
         (λ untouched. no_noted name c.entry (noted_none c untouched passes))

@@ -1,4 +1,4 @@
--- Units that are offered, lent or given back keep what holds: of actors only their shares become other ones, and what an opener offers.
+-- Units that are offered, lent, poured out of a purse or given back keep what holds: of actors only their shares become other ones, and what an opener offers.
 use Rattle.std.proofs.Common.{Bool, true≢false, ◌≡◌, ◌≢◌, ℕ, suc, ◌+◌, ◌-◌, ◌≤◌, true, false, ◌||◌, fold, List, [], ◌∷◌, ◌++◌, map, length, set, inl, inr, refl, sym, ap, ◌∙◌, subst, subst₂, sum_by, arith, length-set}
 use mathlib.Core.Option.{some, some-injective}
 use lib.ListN.{get_elem?}
@@ -14,14 +14,15 @@ use Rattle.segment_machine.specs.declared.actor.Role.{Role}
 use Rattle.segment_machine.specs.Entry.{tally_sum}
 use Rattle.segment_machine.specs.Actor.{counted_of, summed_of, noted_of, given_by, taken_sum, units_of, taken_of, is_opener, made_of, offered_of}
 use Rattle.segment_machine.specs.State.{State}
-use Rattle.segment_machine.specs.Seats.{offering, giver, getter}
-use Rattle.segment_invariant.specs.Keeps.{OffersKeep, LendsKeep, ReturnsKeep}
+use Rattle.segment_machine.specs.Seats.{offering, giver, getter, purse, spent}
+use Rattle.segment_invariant.specs.Keeps.{OffersKeep, LendsKeep, ReturnsKeep, PoursKeep}
 use Rattle.segment_invariant.specs.Body.{Anatomy, order_of}
 use Rattle.segment_invariant.specs.Ledger.{moving_at}
 use Rattle.segment_invariant.specs.Invariant.{is_living, summed_cost, RolesAreKept, StandsRight, Fits, Invariant}
 use Rattle.segment_invariant.proofs.Lists.Elements.{sum_beside, below_length}
 use Rattle.segment_invariant.proofs.Lists.Maps.{each_of_two}
 use Rattle.segment_invariant.proofs.Frames.Deeds.{Deeds, sums_of}
+use Rattle.segment_invariant.proofs.Frames.GoesOn.{not_opener}
 use Rattle.segment_invariant.proofs.Frames.Together.{LoadedBefore}
 use Rattle.segment_invariant.proofs.Frames.Books.{GivenInOrder, books_of, books_by, kept_by}
 use Rattle.segment_invariant.proofs.Frames.Roles.{same_living, Stood, AllStood, still_younger, still_apart, still_eldest, opens_first, still_heirs, fits_beside}
@@ -30,11 +31,11 @@ use Rattle.segment_invariant.proofs.Frames.Standing.{grounds_itself, stands_on}
 
 -- ---- actors that share anew
 
--- an actor became another in its share and its offer alone; only an opener offers, and one that was joined has nothing
+-- an actor became another in its share and its offer alone; only an opener offers
 pub record Shares (a b : Actor) : Type 0 where
   pub same : b ≡ sharing a b.units.share b.role
   pub offers : OffersAnew a.role b.role
-  pub spent : a.hand.place ≡ Spent → b ≡ a
+  pub spent : a.hand.place ≡ Spent → b.role ≡ a.role
 
 pub record ShareAnew (old new : List Actor) : Type 0 where
   pub long : length new ≡ length old
@@ -123,11 +124,11 @@ module _ (shape : Dimensions) (opened : Anatomy) (old : State) (kept : Invariant
   -- what holds of each that it was holds of each that it is now
   each_shared : (holds : ℕ → Actor → Type 0)
       → ((k : ℕ) (a : Actor) (share : ℕ) (role : Role) → get_elem? old.actors k ≡ some a → OffersAnew a.role role
-      → (a.hand.place ≡ Spent → sharing a share role ≡ a) → holds k (sharing a share role))
+      → (a.hand.place ≡ Spent → role ≡ a.role) → holds k (sharing a share role))
       → (k : ℕ) (b : Actor) → get_elem? new k ≡ some b → holds k b
   each_shared holds was k b at =
       let (a, there, shares) = anew.each k b at in
-      subst (holds k) (sym shares.same) (was k a b.units.share b.role there shares.offers (λ is. sym shares.same ∙ shares.spent is))
+      subst (holds k) (sym shares.same) (was k a b.units.share b.role there shares.offers shares.spent)
 
   stood : AllStood old.actors new
   stood = each_shared (λ k c. is_living c ≡ true → Stood old.actors k c)
@@ -171,7 +172,7 @@ module _ (shape : Dimensions) (opened : Anatomy) (old : State) (kept : Invariant
         seen = λ at word has. has;
         chain = λ at has. has;
         own = λ block has. (block, has, refl, refl);
-        spent = λ is. spent (ap (λ (c : Actor). c.hand.place) is) ∙ is;
+        spent = λ is. ap (λ (c : Actor). sharing c s o) is ∙ ap (sharing (purse 0) s) (spent (ap (λ (c : Actor). c.hand.place) is) ∙ ap (λ (c : Actor). c.role) is);
       })
       a.hand.place (kept.standing k a at))
 
@@ -255,10 +256,53 @@ returns_keep shape opened old new id other units kept (a, b, apart, stands, ther
     moved_kept shape opened old kept other b (λ e. apart (opener.0 ∙ e)) there records live (kept.roles.opener.units.share + units) (b.units.share - units)
     (omega (arith, offers)) (omega (arith, enough))))
 
+-- ---- a purse is poured out
+
+-- what was a purse has no units then
+emptied : (units : ℕ) → Shares (purse units) spent
+emptied units = record { same = refl; offers = offers_itself spent.role; spent = λ is. refl }
+
+module _ (shape : Dimensions) (opened : Anatomy) (old : State) (kept : Invariant shape opened old) (id other : ℕ) (b c : Actor) (apart : id ≢ other)
+    (stands : get_elem? old.actors id ≡ some b) (there : get_elem? old.actors other ≡ some c) (records : is_opener b.role ≡ false)
+    (carries : c ≡ purse c.units.share) where
+  abbrev richer : Actor
+  richer = getter b c.units.share
+
+  abbrev poured : List Actor
+  poured = set (set old.actors id richer) other spent
+
+  not_first : id ≢ 0
+  not_first = not_opener shape opened old kept id b stands records
+
+  nor_other : other ≢ 0
+  nor_other = not_opener shape opened old kept other c there (ap (λ (a : Actor). is_opener a.role) carries)
+
+  pub pour_kept : Invariant shape opened (record old { actors = poured })
+  pour_kept =
+      let opener : Actor = kept.roles.opener in
+      let now = sum_beside units_of (set old.actors id richer) other c spent (set_else old.actors id other richer (λ e. apart (sym e)) ∙ there) in
+      let before = sum_beside units_of old.actors id b richer stands in
+      let carried = ap units_of carries in
+      shared_kept shape opened old kept poured
+      (record {
+        long = length-set (set old.actors id richer) other spent ∙ length-set old.actors id richer;
+        each = each_of_two (λ k x. (a : Actor) × (get_elem? old.actors k ≡ some a) × Shares a x) old.actors id other richer spent
+            (b, stands, record { same = refl; offers = offers_itself b.role; spent = λ is. refl })
+            (c, there, subst (λ (a : Actor). Shares a spent) (sym carries) (emptied c.units.share))
+            (λ k x past front at. (x, at, shares_itself x));
+      })
+      opener.units.share opener.role
+      (set_else (set old.actors id richer) other 0 spent (λ e. nor_other (sym e)) ∙ (set_else old.actors id 0 richer (λ e. not_first (sym e)) ∙ kept.roles.stands))
+      (offers_itself opener.role) kept.roles.offers (omega (arith, now, before, carried))
+
+pub pours_keep : PoursKeep
+pours_keep shape opened old new id other kept (b, c, apart, stands, there, (records, live, carries), is) =
+    subst (Invariant shape opened) (sym is) (pour_kept shape opened old kept id other b c apart stands there records carries)
+
 -- ---- units are offered
 
 pub offers_keep : OffersKeep
-offers_keep shape opened old new id units kept (a, stands, (idle, opens, enough, few), is) =
+offers_keep shape opened old new id units kept (a, stands, (idle, opens, enough), is) =
     let opener : Actor = kept.roles.opener in
     let (front, same) = opens_first old.actors kept.roles id a stands opens in
     let later : Actor = offering opener units in

@@ -101,7 +101,7 @@ may_do version state (acts id before event behind) =
 may_do version state (offers units) =
     let a = actor_of state 0 in
     then (there state 0) (λ is. then (idles a.hand.place) (λ idle. then (is_true (is_opener a.role)) (λ opener. then (at_most units a.units.share) (λ fits.
-    then (below (outstanding_of a.role) 256) (λ few. Some (offers_more version state units is (idle, opener, fits, few)))))))
+    Some (offers_more version state units is (idle, opener, fits))))))
 may_do version state makes =
     let a = actor_of state 0 in
     then (there state 0) (λ is. then (idles a.hand.place) (λ idle. then (is_true (is_opener a.role)) (λ opener. then (at_most (offered_of a.role) a.units.share) (λ fits.

@@ -16,7 +16,7 @@ use Rattle.segment_machine.specs.declared.actor.Known.{Known}
 use Rattle.segment_machine.specs.declared.actor.Portion.{Portion}
 use Rattle.segment_machine.specs.Entry.{tally_units, tally_sum, tally_noted}
 use Rattle.segment_machine.specs.Actor.{taken_units, taken_sum, all_owed}
-use Rattle.segment_machine.specs.Seats.{spent}
+use Rattle.segment_machine.specs.Seats.{purse}
 use Rattle.segment_machine.specs.State.{State}
 use Rattle.segment_machine.specs.Reached.{IsJoined}
 use Rattle.segment_invariant.specs.Body.{Anatomy}
@@ -40,13 +40,13 @@ none_set f b (c ∷ rest) none =
 
 module _ (shape : Dimensions) (opened : Anatomy) (state : State) (a : Actor) (kept : Invariant shape opened state) (joins : IsJoined state a) where
   -- a flag is set where the opener has set it
-  flag_is : (f : Actor → Bool) → f spent ≡ false → fold ◌||◌ false (map f state.actors) ≡ f a
+  flag_is : (f : Actor → Bool) → ((units : ℕ) → f (purse units) ≡ false) → fold ◌||◌ false (map f state.actors) ≡ f a
   flag_is f unset = of_opener state.actors joins.0 (others_spent shape opened state a kept joins)
     where
-      of_opener : (l : List Actor) → get_elem? l 0 ≡ some a → ((k : ℕ) (c : Actor) → get_elem? l k ≡ some c → k ≢ 0 → c ≡ spent) → fold ◌||◌ false (map f l) ≡ f a
+      of_opener : (l : List Actor) → get_elem? l 0 ≡ some a → ((k : ℕ) (c : Actor) → get_elem? l k ≡ some c → k ≢ 0 → c ≡ purse c.units.share) → fold ◌||◌ false (map f l) ≡ f a
       of_opener [] first others = absurd (some-ne-none a (sym first))
       of_opener (c ∷ rest) first others =
-          none_set f (f c) rest (λ k d there. ap f (others (suc k) d there (λ e. omega (arith, e))) ∙ unset) ∙ ap f (some-injective c a first)
+          none_set f (f c) rest (λ k d there. ap f (others (suc k) d there (λ e. omega (arith, e))) ∙ unset d.units.share) ∙ ap f (some-injective c a first)
 
   -- nothing is in transit
   none_moves : (name : List ℕ) (key : ℤ) → all_moving name key state.actors ≡ 0
@@ -62,14 +62,14 @@ module _ (shape : Dimensions) (opened : Anatomy) (state : State) (a : Actor) (ke
   -- the first record of each name was an answer
   answered : (name : List ℕ) (kind : Spec) (at : ℕ) → IsFirst kept.anatomy.records name kind at → (known : Known) × Contains a.answers.names known × (known.name ≡ name)
   answered name kind at first = ⊎_elim
-      (λ (known, among, named). (known, subst (λ (l : List Known). Contains l known) (gathered shape opened state a kept joins (λ c. c.answers.names) refl) among, named))
+      (λ (known, among, named). (known, subst (λ (l : List Known). Contains l known) (gathered shape opened state a kept joins (λ c. c.answers.names) (λ units. refl)) among, named))
       (λ owed. let mine : Known = record { name = name; spec = kind; reference = at } in
       absurd (none_owed mine (subst (λ (l : List Known). Contains l mine) owes_none owed)))
       (kept.answered name kind at first)
     where
       owes_none : all_owed state.actors ≡ []
       owes_none =
-          gathered shape opened state a kept joins (λ c. c.answers.owed) refl
+          gathered shape opened state a kept joins (λ c. c.answers.owed) (λ units. refl)
           ∙ (sym (ap (λ (c : Actor). c.answers.owed) (opener_is shape opened state a kept joins.0)) ∙ kept.roles.rests.4)
 
       none_owed : (known : Known) → Contains [] known → ⊥
@@ -121,6 +121,6 @@ joined_reads shape opened state a reading kept joins is =
       answers_read shape opened state a kept joins reading names,
       λ h there. let (units, amounts) = reads h there in log_read shape opened state a kept joins h units amounts,
       head.id,
-      head.corrupt ∙ ap (λ (set : Bool). opened.corrupt || set) (flag_is shape opened state a kept joins (λ c. c.done.spoiled) refl),
-      head.full ∙ ap (λ (set : Bool). opened.full || set) (flag_is shape opened state a kept joins (λ c. c.done.filled) refl),
+      head.corrupt ∙ ap (λ (set : Bool). opened.corrupt || set) (flag_is shape opened state a kept joins (λ c. c.done.spoiled) (λ units. refl)),
+      head.full ∙ ap (λ (set : Bool). opened.full || set) (flag_is shape opened state a kept joins (λ c. c.done.filled) (λ units. refl)),
     )

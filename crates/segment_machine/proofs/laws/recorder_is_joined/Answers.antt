@@ -37,7 +37,7 @@ abbrev looked : State
 looked = lives.with_actors (opener ∷ lives.looked ∷ [])
 
 offers : IsOffered lives.opened 0 5 said
-offers = (opener_of shape 1 1, refl, (refl, refl, omega arith, omega arith), refl)
+offers = (opener_of shape 1 1, refl, (refl, refl, omega arith), refl)
 
 splits : IsSplit said 0 made
 splits = (lives.offers, refl, (refl, refl, omega arith, omega arith), refl)

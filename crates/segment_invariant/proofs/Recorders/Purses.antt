@@ -1,0 +1,152 @@
+-- A purse that an opener fills keeps what holds: it is one actor more, which has units and nothing else.
+use Rattle.std.proofs.Common.{◌≡◌, ◌≢◌, ℕ, ◌-◌, ◌≤◌, Bool, true, false, true≢false, List, [], ◌∷◌, ◌++◌, set, refl, sym, ap, subst, subst₂, arith}
+use Rattle.std.specs.Prelude.{if◌then◌else◌}
+use mathlib.Core.Option.{some}
+use lib.ListN.{get_elem?}
+use Rattle.std.specs.List.{flat_map, Contains, All}
+use Rattle.std.proofs.Math.Bool.{or-false}
+use Rattle.std.proofs.lemmas.List.Elements.{All-nil}
+use Rattle.std.proofs.lemmas.List.Sums.{sum_by-append}
+use Rattle.std.proofs.lemmas.List.Sorted.{IsPermutation-refl}
+use Rattle.atomic_table.proofs.Lists.{at_longer, set_here}
+use Rattle.segment_image.specs.Shape.{Dimensions}
+use Rattle.segment_machine.specs.declared.place.Place.TheVariants.{Spent, SumLoaded}
+use Rattle.segment_machine.specs.declared.actor.Actor.{Actor}
+use Rattle.segment_machine.specs.declared.actor.Given.{Given}
+use Rattle.segment_machine.specs.Actor.{all_counted, all_noted, all_published, all_given, all_names, all_owed, all_taken, is_opener, made_of, offered_of, outstanding_of}
+use Rattle.segment_machine.specs.State.{State}
+use Rattle.segment_machine.specs.Seats.{MayFill, lender, purse}
+use Rattle.segment_invariant.specs.Keeps.{FillsKeep}
+use Rattle.segment_invariant.specs.Body.{Anatomy, order_of}
+use Rattle.segment_invariant.specs.Invariant.{is_living, RolesAreKept, StandsRight, Fits, Invariant}
+use Rattle.segment_invariant.proofs.Lists.Elements.{none_at, sum_beside, below_length}
+use Rattle.segment_invariant.proofs.Lists.Maps.{each_of_more}
+use Rattle.segment_invariant.proofs.Frames.Deeds.{Deeds, deeds_more, sums_of}
+use Rattle.segment_invariant.proofs.Frames.Together.{LoadedBefore}
+use Rattle.segment_invariant.proofs.Frames.Books.{GivenInOrder, books_of, books_by, kept_by}
+use Rattle.segment_invariant.proofs.Frames.Roles.{no_recorder, opens_nothing, AllStood, Stood, still_younger, still_apart, still_eldest, still_heirs, opens_first, fits_beside}
+use Rattle.segment_invariant.proofs.Recorders.Shares.{opener_fits}
+
+-- what both did together
+fill_deeds : (a : Actor) → offered_of a.role ≤ a.units.share → Deeds (a ∷ []) (lender a ∷ purse (offered_of a.role) ∷ [])
+fill_deeds a enough = record {
+  counted = IsPermutation-refl (all_counted (a ∷ []));
+  summed = λ name. refl;
+  noted = IsPermutation-refl (all_noted (a ∷ []));
+  claimed = IsPermutation-refl (flat_map (λ (c : Actor). c.done.claimed) (a ∷ []));
+  published = IsPermutation-refl (all_published (a ∷ []));
+  names = IsPermutation-refl (all_names (a ∷ []));
+  owed = IsPermutation-refl (all_owed (a ∷ []));
+  given = λ k. IsPermutation-refl (all_given (a ∷ []) k);
+  taken = IsPermutation-refl (all_taken (a ∷ []));
+  taken_sums = λ name. refl;
+  moving = λ name key. omega arith;
+  costs = λ name. omega arith;
+  units = omega (arith, enough);
+  spoiled = or-false a.done.spoiled;
+  filled = or-false a.done.filled;
+  noticed = or-false a.seen.corrupt;
+}
+
+module _ (shape : Dimensions) (opened : Anatomy) (old : State) (kept : Invariant shape opened old) (may : MayFill kept.roles.opener) where
+  abbrev opener : Actor
+  opener = kept.roles.opener
+
+  abbrev later : Actor
+  later = lender opener
+
+  abbrev carrier : Actor
+  carrier = purse (offered_of opener.role)
+
+  abbrev more : List Actor
+  more = set old.actors 0 later ++ carrier ∷ []
+
+  deeds : Deeds old.actors more
+  deeds = deeds_more old.actors opener later carrier kept.roles.stands (fill_deeds opener may.2)
+
+  first : get_elem? more 0 ≡ some later
+  first = at_longer (set old.actors 0 later) (carrier ∷ []) 0 later (set_here old.actors 0 later (below_length old.actors 0 opener kept.roles.stands))
+
+  -- the same recorders live
+  stood : AllStood old.actors more
+  stood = each_of_more (λ k c. is_living c ≡ true → Stood old.actors k c) old.actors 0 later carrier
+      (λ lives. absurd (opens_nothing later refl lives))
+      (λ lives. absurd (true≢false (sym lives)))
+      (λ k c within front at lives. record { was = c; at = at; lives = lives; made = refl; outstanding = refl; inherited = refl })
+
+  roles : RolesAreKept more
+  roles = record {
+    opener = later;
+    stands = first;
+    opens = refl;
+    idle = kept.roles.idle;
+    rests = kept.roles.rests;
+    only = each_of_more (λ k c. k ≢ 0 → (is_opener c.role ≡ false) × (c.entries.first ≡ []) × (c.entries.first_noted ≡ []) × (c.deltas.first_taken ≡ []) × (offered_of c.role ≡ 0)) old.actors 0 later carrier
+        (λ away. absurd (away refl))
+        (λ away. (refl, refl, refl, refl, refl))
+        (λ k c within front at away. kept.roles.only k c at away);
+    offers = omega arith;
+    living = (
+        let one : Actor → ℕ = λ c. if is_living c then 1 else 0 in
+        let all = sum_by-append one (set old.actors 0 later) (carrier ∷ []) in
+        let now = sum_beside one old.actors 0 opener later kept.roles.stands in
+        let was = kept.roles.living in
+        let opens : one opener ≡ 0 = ap (λ (lives : Bool). if lives then 1 else 0) (no_recorder opener kept.roles.opens) in
+        omega (arith, all, now, was, opens));
+    few = kept.roles.few;
+    younger = still_younger old.actors more kept.roles stood (made_of later.role) (omega arith);
+    apart = still_apart old.actors more kept.roles stood;
+    eldest = still_eldest old.actors more kept.roles stood;
+    heirs = still_heirs old.actors more kept.roles stood later refl refl;
+  }
+
+  ordered : (k : ℕ) (c : Actor) → get_elem? more k ≡ some c → is_opener c.role ≡ false → GivenInOrder (order_of kept.anatomy) c.done.given
+  ordered = each_of_more (λ k c. is_opener c.role ≡ false → GivenInOrder (order_of kept.anatomy) c.done.given) old.actors 0 later carrier
+      (λ records. absurd (true≢false records))
+      (λ records i j k l x y below here. absurd (none_at i x here))
+      (λ k c within front at. kept.cursors.ordered k c at)
+
+  given : (k : ℕ) (c : Actor) → get_elem? more k ≡ some c → All (λ g. Contains (order_of kept.anatomy) g.reference) c.done.given
+  given = each_of_more (λ k c. All (λ g. Contains (order_of kept.anatomy) g.reference) c.done.given) old.actors 0 later carrier
+      (kept.cursors.given 0 opener kept.roles.stands)
+      (All-nil (λ (g : Given). Contains (order_of kept.anatomy) g.reference))
+      (λ k c within front at. kept.cursors.given k c at)
+
+  standing : (k : ℕ) (c : Actor) → get_elem? more k ≡ some c → StandsRight shape kept.anatomy k c c.hand.place
+  standing = each_of_more (λ k c. StandsRight shape kept.anatomy k c c.hand.place) old.actors 0 later carrier
+      (subst (StandsRight shape kept.anatomy 0 later) (sym kept.roles.idle) tt)
+      refl
+      (λ k c within front at. kept.standing k c at)
+
+  beside : (k : ℕ) (c : Actor) → Fits shape kept.anatomy old.cursors old.actors opener k c → Fits shape kept.anatomy old.cursors more later k c
+  beside k c = fits_beside shape kept.anatomy old.cursors old.actors more opener later k c kept.roles.stands first refl (refl, refl) (sums_of old.actors more deeds) stood
+
+  each : (k : ℕ) (c : Actor) → get_elem? more k ≡ some c → c.hand.place ≢ Spent → Fits shape kept.anatomy old.cursors more later k c
+  each = each_of_more (λ k c. c.hand.place ≢ Spent → Fits shape kept.anatomy old.cursors more later k c) old.actors 0 later carrier
+      (λ live. opener_fits shape kept.anatomy old.cursors more later 0 opener (opener.units.share - offered_of opener.role) 0 (made_of opener.role) (outstanding_of opener.role)
+      kept.roles.rests.2 (beside 0 opener (kept.each 0 opener kept.roles.stands live)))
+      (λ live. absurd (live refl))
+      (λ k c within front at live. beside k c (kept.each k c at live))
+
+  loaded : LoadedBefore old.actors more
+  loaded at sum = each_of_more
+      (λ k c. c.hand.place ≡ SumLoaded at sum → (j : ℕ) × (d : Actor) × (get_elem? old.actors j ≡ some d) × (d.hand.place ≡ SumLoaded at sum))
+      old.actors 0 later carrier
+      (λ stands. (0, opener, kept.roles.stands, stands))
+      (λ stands. absurd (cc stands))
+      (λ k c within front is stands. (k, c, is, stands))
+
+  pub fill_kept : Invariant shape opened (record old { actors = more })
+  unfolding roles
+  fill_kept = kept_by shape opened kept.anatomy old.words old.cursors more
+      (books_by shape opened kept.anatomy old.words old.cursors old.actors more deeds loaded (books_of shape opened old kept))
+      roles kept.first_noted ordered given standing each
+
+pub fills_keep : FillsKeep
+fills_keep shape opened old new id kept (a, stands, may, is) =
+    let opener = opens_first old.actors kept.roles id a stands may.1 in
+    subst (Invariant shape opened) (sym is)
+    (subst₂
+    (λ (k : ℕ) (c : Actor). Invariant shape opened (record old { actors = set old.actors k (lender c) ++ purse (offered_of c.role) ∷ [] }))
+    (sym opener.0) opener.1
+    (fill_kept shape opened old kept (subst MayFill (sym opener.1) may)))

@@ -1,0 +1,105 @@
+/* Two threads pass recorders to segments at the same moment, one or both of them to a segment that is not the recorder's own. Whatever they
+ * are answered, no recorder and no unit is lost: in the end both segments have all their units again. */
+#define _POSIX_C_SOURCE 200809L
+
+#include <pthread.h>
+
+#include "checks.h"
+
+enum { SHARE = 1000, LENT = 50, ROUNDS = 3000 };
+
+/* What a thread does: it lends, or joins, a recorder by a handle to a segment by a handle. */
+struct pass {
+    struct povundiri_handle *segment;
+    struct povundiri_handle *recorder;
+    bool joins;
+    uint32_t status;
+};
+
+static pthread_barrier_t meeting;
+
+static void *passed(void *argument) {
+    struct pass *pass = argument;
+    pthread_barrier_wait(&meeting);
+    pass->status = pass->joins ? povundiri_join(pass->segment, pass->recorder) : povundiri_lend(pass->segment, pass->recorder, LENT);
+    return NULL;
+}
+
+static void pass_together(struct pass *one, struct pass *other) {
+    pthread_t thread;
+    HOLDS(pthread_barrier_init(&meeting, NULL, 2) == 0);
+    HOLDS(pthread_create(&thread, NULL, passed, one) == 0);
+    passed(other);
+    HOLDS(pthread_join(thread, NULL) == 0);
+    HOLDS(pthread_barrier_destroy(&meeting) == 0);
+}
+
+static bool is_empty(const struct pass *pass) {
+    return pass->status == POVUNDIRI_ELSEWHERE || (pass->joins && pass->status == POVUNDIRI_DONE);
+}
+
+/* It was answered what it may be, and its handle holds a recorder or none, as that says. */
+static void answered(const struct pass *pass) {
+    HOLDS(pass->status == POVUNDIRI_DONE || pass->status == POVUNDIRI_OTHER_SEGMENT || pass->status == POVUNDIRI_ELSEWHERE ||
+          pass->status == POVUNDIRI_BUSY);
+    HOLDS(pass->recorder->full != is_empty(pass));
+}
+
+/* The recorder of a handle, if there is one, is joined to the segment that it is of. */
+static void come_home(struct povundiri_handle *recorder, struct povundiri_handle *here, struct povundiri_handle *there) {
+    uint32_t status;
+    if (!recorder->full) return;
+    status = povundiri_join(here, recorder);
+    if (status == POVUNDIRI_OTHER_SEGMENT) status = povundiri_join(there, recorder);
+    HOLDS(status == POVUNDIRI_DONE);
+}
+
+static void is_whole(struct povundiri_handle *segment) {
+    uint32_t units = 0, outstanding = 1;
+    DONE(povundiri_units(segment, &units));
+    DONE(povundiri_outstanding(segment, &outstanding));
+    HOLDS(units == UINT32_MAX && outstanding == 0);
+}
+
+/* The first thread lends a recorder of the other segment. The second lends or joins one to the other segment: one of the first, where both
+ * cross, else its own, and then it is answered rightly, or BUSY. */
+static void cross(bool both, bool joins) {
+    const struct povundiri_shape shape = {1024, 256, 7, 0, 2};
+    struct povundiri_handle here = {0}, there = {0};
+    int round;
+    DONE(povundiri_create(shape, &here));
+    DONE(povundiri_create(shape, &there));
+    for (round = 0; round < ROUNDS && failed_here == 0; round += 1) {
+        struct povundiri_handle one = {0}, other = {0};
+        struct pass wrong = {&here, &one, false, POVUNDIRI_NULL};
+        struct pass beside = {&there, &other, joins, POVUNDIRI_NULL};
+        DONE(povundiri_recorder(&there, SHARE, &one));
+        DONE(povundiri_recorder(both ? &here : &there, SHARE, &other));
+        pass_together(&wrong, &beside);
+        answered(&wrong);
+        answered(&beside);
+        if (!both) {
+            HOLDS(wrong.status != POVUNDIRI_DONE);
+            HOLDS(beside.status == POVUNDIRI_DONE || beside.status == POVUNDIRI_BUSY);
+        }
+        come_home(&one, &here, &there);
+        come_home(&other, &here, &there);
+        is_whole(&here);
+        is_whole(&there);
+    }
+    DONE(povundiri_drop(&here));
+    DONE(povundiri_drop(&there));
+}
+
+static void lends_beside_a_lend(void) { cross(false, false); }
+
+static void joins_beside_a_lend(void) { cross(false, true); }
+
+static void lends_cross(void) { cross(true, false); }
+
+static void a_join_and_a_lend_cross(void) { cross(true, true); }
+
+int main(void) {
+    return group("a right lend beside a wrong one", lends_beside_a_lend) + group("a right join beside a wrong lend", joins_beside_a_lend) +
+           group("both lends cross", lends_cross) + group("a join and a lend cross", a_join_and_a_lend_cross);
+}

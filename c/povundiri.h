@@ -315,6 +315,7 @@ inline uint32_t povundiri_recorder(struct povundiri_handle *segment, uint32_t un
  * answered BUSY, and so may one that lends rightly beside such a thread: nothing has happened. A program that passes each recorder with
  * its own segment is not meant to see these; no proof says so. NO_MEMORY is for 2^63 recorders of a segment, which no program has.
  * Keep: pointers; handles; turns: those of both; process. */
+POVUNDIRI_CHECKED
 inline uint32_t povundiri_lend(struct povundiri_handle *segment, struct povundiri_handle *recorder, uint32_t units) {
     const struct povundiri_handle none = {false, NULL};
     if (segment == NULL || recorder == NULL) return POVUNDIRI_NULL;

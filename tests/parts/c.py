@@ -32,7 +32,8 @@ CHECKS = (
 
 EXAMPLES = ROOT / "examples"
 PAGES = ("README.md", "docs/C.md")
-# What examples/c/record.c records when it is run twice: where each bucket begins and the last one ends, and the units of each.
+# What examples/c/record.c and each program of a page record when they are run twice: where each bucket begins and the last one ends, and
+# the units of each.
 ENDS = (0, 1, 126, 251, 376, 501, 625, 750, 875, 1000)
 UNITS = (2, 250, 250, 250, 250, 248, 250, 250, 250)
 RECORDED = "".join(f"latency,linear,{low},{high},{units}\n" for low, high, units in zip(ENDS, ENDS[1:], UNITS)) + "latency,total,2000,999000\n"
@@ -83,14 +84,15 @@ def report_in(program, file):
     return answer(program, ["report", image]) if found == Answer(b"8\n") else found
 
 
-def record_example(installed, program, folder):
-    """`examples/c/record.c`, run twice: the second time it goes on with what stands in the file."""
-    record, file = installed.program(EXAMPLES / "c" / "record.c"), folder / "record.seg"
+def recorded_twice(installed, program, source, home):
+    """A program that records a thousand samples into latency.seg, run twice: the second time it goes on with what stands there."""
+    built = installed.program(source)
+    home.mkdir()
     for _ in range(2):
-        wrong = difference(Answer(), answer(record, [file]))
-        if wrong is not None:
-            return wrong
-    return difference(Answer(RECORDED.encode()), report_in(program, file))
+        came = answer(built, ["latency.seg"], cwd=home)
+        if came.error or came.status != 0:
+            return f"status {came.status}: {came.error[-1500:]!r}"
+    return difference(Answer(RECORDED.encode()), report_in(program, home / "latency.seg"))
 
 
 def shown_programs(folder):
@@ -107,9 +109,13 @@ def shown_programs(folder):
 
 def examples(installed, program, folder):
     """The example in C, and what the pages show."""
-    yield "record.c", lambda: record_example(installed, program, folder)
-    for name, source in shown_programs(folder):
-        yield name, lambda source=source: installed.program(source) and None
+    record = EXAMPLES / "c" / "record.c"
+    yield "record.c", lambda: recorded_twice(installed, program, record, folder / "record")
+    shown = dict(shown_programs(folder))
+    same = any(record.read_text().endswith(source.read_text()) for source in shown.values())
+    yield "record.c is shown", lambda: None if same else "no page shows it as it stands"
+    for name, source in shown.items():
+        yield name, lambda source=source: recorded_twice(installed, program, source, source.with_suffix(""))
 
 
 def wrong_of(test):

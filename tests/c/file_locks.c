@@ -234,7 +234,7 @@ static void signal_storm_in_memory(void) {
 /* Each call to the system is interrupted three times before it is made. */
 static void interrupted_calls(void) {
     struct povundiri_opened opened;
-    const uint64_t wrong = 99;
+    const uint64_t wrong = 16; /* the free pointer, before the record */
     interruptions = 3;
     unlink(path_of("interrupted"));
     DONE(open_and_count("interrupted", POVUNDIRI_ADOPT_OR_FAIL, 5, &opened));

@@ -203,7 +203,7 @@ static const struct damage {
     uint64_t value;
     uint32_t fault;
 } DAMAGES[] = {
-    {1, 1, POVUNDIRI_ADOPT_OLD_VERSION},    {6, 1, POVUNDIRI_ADOPT_CORRUPT},     {7, 99, POVUNDIRI_ADOPT_DAMAGED},
+    {1, 1, POVUNDIRI_ADOPT_OLD_VERSION},    {6, 1, POVUNDIRI_ADOPT_CORRUPT},     {7, 16, POVUNDIRI_ADOPT_DAMAGED},
     {2, 8, POVUNDIRI_IMAGE_TOO_SHORT},      {1, 3, POVUNDIRI_IMAGE_BAD_VERSION}, {3, 65, POVUNDIRI_IMAGE_BAD_PAGE},
     {2, 512 + 1, POVUNDIRI_IMAGE_BAD_SIZE}, {5, 3, POVUNDIRI_IMAGE_NOT_READY},   {5, 2, POVUNDIRI_IMAGE_DELETED},
     {7, 5, POVUNDIRI_IMAGE_BAD_FREE},       {12, 5, POVUNDIRI_IMAGE_BAD_QUEUE},
@@ -247,41 +247,44 @@ static void refused_and_set_aside(void) {
     }
 }
 
-/* More units than a segment has. */
+/* Has each value of 's' counted so often in the file; how many values it has. */
+static int set_counts(const char *name, uint64_t count) {
+    size_t length, i;
+    unsigned char *bytes = bytes_at(path_of(name), &length);
+    const uint64_t *image = (const uint64_t *)bytes + 1;
+    int values = 0;
+    for (i = 16; i + 7 < length / 8; i += 1) {
+        /* the cookie and the type of a sample's block, in its words 1 and 2; its count is word 6 */
+        if (image[i + 1] != 0xC8799269 || image[i + 2] != 3) continue;
+        store_at(name, 8 + 8 * (off_t)(i + 6), &count, 8);
+        values += 1;
+    }
+    free(bytes);
+    return values;
+}
+
+/* As many units as a segment has, and more. */
 static void too_many_units(void) {
     struct povundiri_file file = {0};
-    struct povundiri_handle segment = {0};
+    struct povundiri_handle segment = {0}, recorder = {0};
     struct povundiri_opened opened;
-    const struct povundiri_shape shape = shape_of(WORDS);
-    const uint64_t most = UINT32_MAX;
-    uint64_t *words;
-    size_t count, i, changed = 0;
+    size_t hist;
     make_segment("units", 5);
+    HOLDS(set_counts("units", UINT32_MAX) == 1);
     DONE(open_and_count("units", POVUNDIRI_ADOPT_OR_FAIL, 0, &opened));
-    HOLDS(povundiri_file_open(&file, path_of("units"), 16, NULL) == 0);
-    words = povundiri_file_words(&file, &count);
-    for (i = 16; i + 6 < count; i += 1) {
-        /* the sample of 3: its block's cookie and type, then the histogram, the value and the count */
-        if (words[i + 1] == 0xC8799269 && words[i + 2] == 3 && words[i + 6] == 5) {
-            changed = i + 6;
-            break;
-        }
-    }
-    free(words);
-    povundiri_file_close(&file);
-    HOLDS(changed != 0);
-    store_at("units", 8 + 8 * (off_t)changed, &most, 8);
-    DONE(povundiri_open(path_of("units"), shape, POVUNDIRI_ADOPT_OR_FAIL, NULL, &file, &segment, &opened));
     HOLDS(opened.spent && opened.units == 0);
+    make_segment("units", 5);
+    DONE(povundiri_open(path_of("units"), shape_of(WORDS), POVUNDIRI_ADOPT_OR_FAIL, NULL, &file, &segment, &opened));
+    DONE(povundiri_recorder(&segment, 1, &recorder));
+    DONE(povundiri_hist_sparse(&recorder, "s", &hist));
+    DONE(povundiri_add(&recorder, hist, 4, 1));
+    DONE(povundiri_join(&segment, &recorder));
     DONE(povundiri_drop(&segment));
     povundiri_file_close(&file);
-    {
-        const uint64_t more = most + 1;
-        store_at("units", 8 + 8 * (off_t)changed, &more, 8);
-        ANSWERS(ADOPT_NO_UNITS, open_and_count("units", POVUNDIRI_ADOPT_OR_FAIL, 1, &opened));
-        DONE(open_and_count("units", POVUNDIRI_ADOPT_OR_SET_ASIDE, 1, &opened));
-        HOLDS(opened.refused == POVUNDIRI_ADOPT_NO_UNITS && opened.outcome == POVUNDIRI_MADE_ANEW);
-    }
+    HOLDS(set_counts("units", UINT32_MAX) == 2);
+    ANSWERS(ADOPT_NO_UNITS, open_and_count("units", POVUNDIRI_ADOPT_OR_FAIL, 1, &opened));
+    DONE(open_and_count("units", POVUNDIRI_ADOPT_OR_SET_ASIDE, 1, &opened));
+    HOLDS(opened.refused == POVUNDIRI_ADOPT_NO_UNITS && opened.outcome == POVUNDIRI_MADE_ANEW);
 }
 
 /* A file that is cut keeps its length under its new name. */

@@ -202,7 +202,7 @@ static void cut_headers(void) {
 
 /* What is refused is as long as it was, also where room for more cursors would have been made. */
 static void refused_as_it_was(void) {
-    const uint64_t wrong = 99;
+    const uint64_t wrong = 16; /* the free pointer, before the record */
     struct povundiri_opened opened;
     unsigned char *before;
     size_t length;

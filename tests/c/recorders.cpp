@@ -66,11 +66,14 @@ bool counts_one(Segment& segment) {
     return segment.try_recorder(recorder) == Status::Done && recorder.try_boolean("b", hist) == Status::Done && recorder.add(hist, 1);
 }
 
-// Threads that come and go, of four at a time; fewer where the thread sanitizer remembers each.
-#if defined(__SANITIZE_THREAD__)
+// Threads that come and go, of four at a time; fewer where the thread sanitizer remembers each. There a stand-in takes the place of the
+// proved functions, whose segments have no words.
+#if defined(STAND_IN)
 constexpr int kComing = 8'000;
+constexpr bool kHasWords = false;
 #else
 constexpr int kComing = 100'000;
+constexpr bool kHasWords = true;
 #endif
 
 // Every second has its recorder as a thread_local.
@@ -271,7 +274,7 @@ void outlives_its_segment() {
     HOLDS(Segment::try_open(path.c_str(), kShape, Policy::AdoptOrFail, opened) == std::errc::device_or_resource_busy && !opened.segment);
     recorder.reset();
     HOLDS(!Segment::try_open(path.c_str(), kShape, Policy::AdoptOrFail, opened));
-    HOLDS(opened.outcome() != povundiri::Outcome::Nothing && total_of(opened.segment) <= 100);
+    if (kHasWords) HOLDS(opened.outcome() == povundiri::Outcome::Adopted && total_of(opened.segment) == 100);
 
     Segment heap;
     DONE(Segment::try_create(kShape, heap));

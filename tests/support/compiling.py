@@ -121,7 +121,7 @@ def mixed(installed, folder):
 
 def thread_sanitized(folder):
     """What is in `c/` alone, with a stand-in for the proved functions: the sanitizer cannot see into those."""
-    flags = ["-fsanitize=thread"]
+    flags = ["-fsanitize=thread", "-DSTAND_IN"]
     sources = [native.LIBRARY / name for name in ("povundiri.c", "povundiri_file.c", "povundiri_raise.cpp")]
     sources += [native.PROGRAMS / "stand_in.cpp", native.PROGRAMS / "recorders.cpp"]
     objects = [compiled(folder, source, *flags) for source in sources]

@@ -555,18 +555,22 @@ static uint32_t make(const struct task *task) {
     return povundiri_units(task->segment, &opened->units);
 }
 
-static uint32_t adopt(const struct task *task, const uint64_t *words, size_t count) {
-    const struct povundiri_shape *asked = &task->shape;
-    const uint32_t status = povundiri_adopt_in(povundiri_file_room(task->file), words, count, asked->cursors, task->segment);
-    const struct povundiri_shape shape = {words[SIZE_AT], words[PAGE_AT], words[ID_AT], asked->cursors, words[VERSION_AT]};
-    struct povundiri_opened *opened = task->opened;
-    if (status != POVUNDIRI_DONE) return status;
+/* What is said of an adopted segment with this header. */
+static void describe(struct povundiri_opened *opened, const uint64_t *image, const struct povundiri_shape *asked) {
+    const struct povundiri_shape shape = {image[SIZE_AT], image[PAGE_AT], image[ID_AT], asked->cursors, image[VERSION_AT]};
     opened->outcome = POVUNDIRI_ADOPTED;
     opened->shape = shape;
     opened->other_shape =
         shape.size != asked->size || shape.page != asked->page || shape.id != asked->id || shape.version != asked->version;
-    opened->spent = (words[FLAGS_AT] & FULL) != 0;
-    return povundiri_units(task->segment, &opened->units);
+    opened->spent = (image[FLAGS_AT] & FULL) != 0;
+}
+
+static uint32_t adopt(const struct task *task, const uint64_t *words, size_t count) {
+    const struct povundiri_room room = povundiri_file_room(task->file);
+    const uint32_t status = povundiri_adopt_in(room, words, count, task->shape.cursors, task->segment);
+    if (status != POVUNDIRI_DONE) return status;
+    describe(task->opened, words, &task->shape);
+    return povundiri_units(task->segment, &task->opened->units);
 }
 
 static uint32_t adopt_or_make(const struct task *task) {

@@ -595,9 +595,9 @@ static int refuse_each_allocation(enum start start) {
         status = povundiri_open(path_of("at_each"), shape_of(WORDS), POVUNDIRI_ADOPT_OR_BEGIN_ANEW, NULL, &file, &segment, &opened);
         refused_at = 0;
         if (allocations < at) at = 1000;
+        HOLDS(opened.set_aside[0] == 0 || start == IS_DAMAGED || start == IS_SPENT);
         if (status != POVUNDIRI_DONE) {
             HOLDS(is_no_memory(status, opened.fault) && is_as_before(&opened, before, length));
-            HOLDS(opened.set_aside[0] == 0 || start == IS_DAMAGED || start == IS_SPENT);
             HOLDS(!segment.full && !povundiri_file_is_open(&file));
             refused += 1;
             next_start(start, before, length);

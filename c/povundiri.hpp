@@ -13,7 +13,7 @@
 //
 // THREADS. A recorder is used by one thread at a time, and goes to another in order. A segment is shared: its calls come from any threads,
 // as long as none moves, assigns or ends that object meanwhile. 'recorder', 'join', 'lend', 'units', 'outstanding' and 'close' take its
-// mutex; so does an 'add' that has to borrow units, once for some hundred thousand, and a recorder's end. Nothing else waits.
+// mutex; so does an 'add' that has to borrow units, once for a lease of them, and a recorder's end. Nothing else waits.
 //
 // ENDS. The words of a segment, and the file where they lie in one, live until the Segment and all its recorders have ended, in any order:
 // also of statics and of thread_locals. A recorder that ends gives back its place and its units. std::quick_exit, _exit and a kill end no
@@ -272,7 +272,7 @@ private:
 
 }  // namespace detail
 
-// So many units a recorder borrows at once, where nothing else is asked: for some milliseconds of adds, and 256 recorders have a sixteenth
+// So many units a recorder borrows at once, where nothing else is asked: enough for a million samples, and 256 recorders have a sixteenth
 // of all.
 inline constexpr std::uint32_t kUsualLease = 1U << 20U;
 

@@ -202,4 +202,10 @@ std::uint32_t povundiri_proved_report(const std::uint64_t*, std::size_t, std::ui
     *needed = 0;
     return POVUNDIRI_DONE;
 }
+
+std::uint32_t povundiri_proved_report_bounded(const std::uint64_t*, std::size_t, std::uint8_t*, std::size_t, std::size_t* needed,
+                                              std::uint64_t) {
+    *needed = 0;
+    return POVUNDIRI_DONE;
+}
 }

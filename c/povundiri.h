@@ -487,6 +487,7 @@ inline uint32_t povundiri_report(const uint64_t *words, size_t length, char *tex
  * Then povundiri_report takes 24 bytes and more for each key, and of the report a line at most for each, with a name of up to 128 bytes.
  * Statuses: those of povundiri_report; TOO_MANY_KEYS: exactly where it has more, if the header has no fault and memory suffices.
  * Keep: pointers; process. */
+POVUNDIRI_CHECKED
 inline uint32_t povundiri_report_bounded(const uint64_t *words, size_t length, char *text, size_t text_length, size_t *needed,
                                          uint64_t most_keys) {
     size_t own = 0;

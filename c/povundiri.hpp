@@ -750,6 +750,21 @@ inline std::string report(Span<const std::uint64_t> words) {
     return text;
 }
 
+// The same of an image that has no more keys than so many; of one that has more TooManyKeys. For words that are not trusted: a report
+// without a bound may take gigabytes (povundiri_report_bounded).
+[[nodiscard]] inline Status try_report(Span<const std::uint64_t> words, std::string& text, std::uint64_t most_keys) {
+    text.resize(kUsualReport);
+    return detail::filled(text, [&](char* data, std::size_t size, std::size_t* needed) {
+        return povundiri_report_bounded(words.data(), words.size(), data, size, needed, most_keys);
+    });
+}
+
+inline std::string report(Span<const std::uint64_t> words, std::uint64_t most_keys) {
+    std::string text;
+    detail::need(try_report(words, text, most_keys), "report, most keys", most_keys);
+    return text;
+}
+
 }  // namespace povundiri
 
 #endif

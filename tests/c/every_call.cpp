@@ -88,6 +88,10 @@ void statuses() {
     DONE(segment.try_close(image));
     DONE(povundiri::try_report(image, text));
     HOLDS(image.size() == kWords && text == kReport);
+    // Three buckets of the boolean histogram, four of the custom one, ten of the linear one, and one value.
+    DONE(povundiri::try_report(image, text, 18));
+    HOLDS(text == kReport);
+    RETURNS(TooManyKeys, povundiri::try_report(image, text, 17));
     RETURNS(ImageTooShort, povundiri::try_report({image.data(), 15}, text));
     RETURNS(Empty, segment.try_close(image));
 }
@@ -202,6 +206,7 @@ void exceptions() {
     const std::vector<std::uint64_t> image = segment.close();
     HOLDS(povundiri::report(image) == kReport);
     THROWS(ImageTooShort, "report, words 0: TooShort", povundiri::report({}));
+    THROWS(TooManyKeys, "report, most keys 3: TooManyKeys", povundiri::report(image, 3));
     THROWS(ImageTooShort, "adopt, words 0: TooShort", Segment::adopt({}));
     Segment again = Segment::adopt(image, memory.room(), 1), heap = Segment::adopt(image);
     HOLDS(again.units() == heap.units() && heap.units() == UINT32_MAX - 10);

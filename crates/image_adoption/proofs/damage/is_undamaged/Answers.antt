@@ -19,7 +19,7 @@ pub returns-then-not-is_faultless : goal.returns-then-not-is_faultless
 returns-then-not-is_faultless c = (
   λ found. absurd (true≢false (sym found)),
   λ (undamaged : IsUndamaged c.args.words.now c.args.survey.now.references.items
-  (reading_along c.args.words.now c.args.head.now c.args.survey.now.references.items)).
+      (reading_along c.args.words.now c.args.head.now c.args.survey.now.references.items)).
       absurd (true≢false (sym (c.is_faultless.ensures.1 (
         none_made c.args.survey.now.bad.items (c.requires.survey.bad_are ∙ undamaged.lawful.0),
         c.requires.survey.stopped_is ∙ undamaged.lawful.1,

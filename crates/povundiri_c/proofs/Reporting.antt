@@ -45,7 +45,7 @@ pub keys_said : (words : List ℕ) (outer : Result SegmentHead ImageFault) (resu
     → MatchResult outer (λ head. MatchResult result (HasMoreKeys words head most) (λ fault. fault ≡ NoMemory)) (λ fault. result ≡ Err fault)
     → result ≡ Ok more → SayKeys words most more
 keys_said words (Ok head) result most more same held is =
-    (head, same, MatchResult-at_ok (HasMoreKeys words head most) (λ fault. fault ≡ NoMemory) is held)
+    (head, same, MatchResult-at_ok (HasMoreKeys words head most) (λ fault. fault ≡ NoMemory) more is held)
 keys_said words (Err fault) result most more same held is =
     absurd (subst (λ (read : Result Bool ImageFault). MatchResult read (λ _. Unit {0}) (λ _. ⊥)) (sym is ∙ held) tt)
 

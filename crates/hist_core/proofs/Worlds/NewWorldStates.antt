@@ -51,7 +51,7 @@ module _ (shape : Dimensions) (version : ℕ) (start : Start) (role : start.open
       let same : start.opener.units.share ≡ start.opener.units.share - 0 = omega arith in
       subst (λ (k : ℕ). IsReached version (start_state start) (record (start_state start) { actors = opener k ∷ recorders (suc n) })) (add-one n)
       (split (made n) (record (start_state start) { actors = opener (n + 1) ∷ recorders (suc n) }) 0
-      (offered (made n) (made n) 0 0 (reaches n before) (opener n, refl, (idle, refl, none, may), refl)) (
+      (offered (made n) (made n) 0 0 (reaches n before) (opener n, refl, (idle, refl, none), refl)) (
         opener n,
         refl,
         (idle, refl, none, may),

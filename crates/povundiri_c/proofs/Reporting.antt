@@ -1,6 +1,6 @@
 -- What was read of words is what their report is of.
-use Rattle.std.proofs.Common.{◌≡◌, Bool, ℕ, List, length, drop, ◌++◌, sym, ap, ◌∙◌, subst, Result, Ok, Err, MatchResult, IfErr}
-use Rattle.std.proofs.lemmas.Result.{MatchResult-at_ok}
+use Rattle.std.proofs.Common.{◌≡◌, ◌⊎◌, Bool, ℕ, List, length, drop, ◌++◌, sym, ap, ◌∙◌, subst, Result, Ok, Err, MatchResult, IfOk, IfErr, inr}
+use Rattle.std.proofs.lemmas.Result.{MatchResult-at_ok, MatchResult-at_err}
 use Rattle.bucket_ranges.specs.Reading.{IsReading}
 use Rattle.segment_image.specs.Head.{header_of}
 use Rattle.segment_image.specs.declared.head.SegmentHead.{SegmentHead}
@@ -10,7 +10,7 @@ use Rattle.image_reader.specs.Keys.{HasMoreKeys}
 use Rattle.image_reader.specs.declared.reading.Reading.{Reading}
 use Rattle.image_reader.specs.Views.{reading_view}
 use Rattle.reading_texts.specs.Text.{IsTextOf}
-use Rattle.povundiri_c.specs.Reports.{IsReportOfWords, SayKeys}
+use Rattle.povundiri_c.specs.Reports.{IsReportOfWords, IsSaidOfLawful, SayKeys}
 use Rattle.povundiri_c.specs.Status.{status_of_image_fault}
 
 -- words without a reading, for whose header's fault the reader answered another
@@ -54,3 +54,16 @@ pub no_fault_of : (words : List ℕ) (most : ℕ) (more : Bool) (status : ℕ) �
     → IfErr (header_of words) (λ fault. status ≡ status_of_image_fault fault)
 no_fault_of words most more status (head, lawful, said) =
     subst (λ (outer : Result SegmentHead ImageFault). IfErr outer (λ fault. status ≡ status_of_image_fault fault)) (sym lawful) tt
+
+-- words whose header is lawful are refused for want of memory alone
+pub said_of_lawful : {X : Type 0} (outer : Result SegmentHead ImageFault) (result : Result X ImageFault) (why : ImageFault) (status : ℕ) (P : SegmentHead → X → Type 0)
+    → MatchResult outer (λ head. MatchResult result (P head) (λ fault. fault ≡ NoMemory)) (λ fault. result ≡ Err fault) → result ≡ Err why → status ≡ status_of_image_fault why
+    → IfOk outer (λ _. IsSaidOfLawful status)
+said_of_lawful (Ok head) result why status P held is says =
+    inr (inr (inr (says ∙ ap status_of_image_fault (MatchResult-at_err (P head) (λ fault. fault ≡ NoMemory) why is held))))
+said_of_lawful (Err fault) result why status P held is says = tt
+
+pub or_lawful : (outer : Result SegmentHead ImageFault) (status : ℕ) → IfOk outer (λ _. IsSaidOfLawful status)
+    → IfOk outer (λ _. (status ≡ 17) ⊎ IsSaidOfLawful status)
+or_lawful (Ok head) status said = inr said
+or_lawful (Err fault) status said = tt

@@ -1,5 +1,5 @@
 -- The report that C is given.
-use Rattle.std.specs.Prelude.{◌≡◌, ◌<◌, Bool, ℕ, List, length, drop, ◌++◌, Ok}
+use Rattle.std.specs.Prelude.{◌≡◌, ◌⊎◌, ◌<◌, Bool, ℕ, List, length, drop, ◌++◌, Ok}
 use Rattle.bucket_ranges.specs.Reading.{Reading, IsReading}
 use Rattle.segment_image.specs.Head.{header_of}
 use Rattle.segment_image.specs.declared.head.SegmentHead.{SegmentHead}
@@ -25,3 +25,8 @@ IsReportTooLong words old needed = (text : List ℕ) × IsReportOfWords words te
 -- the header of the words is lawful, and they read as more keys than so many, or as no more
 abbrev pub SayKeys : List ℕ → ℕ → Bool → Type 0
 SayKeys words most more = (head : SegmentHead) × (header_of words ≡ Ok head) × HasMoreKeys words head most more
+
+-- what is said of words with a lawful header: their report was written, the array is too short for it, or there was no memory for the
+-- text or for the reading
+abbrev pub IsSaidOfLawful : ℕ → Type 0
+IsSaidOfLawful status = (status ≡ 0) ⊎ (status ≡ 7) ⊎ (status ≡ 13) ⊎ (status ≡ 513)

@@ -1,8 +1,8 @@
 //! The report of an image.
 
-ghost use Rattle.std.specs.Prelude.{◌≡◌, ◌≢◌, ◌⊎◌, true, false, IfErr};
+ghost use Rattle.std.specs.Prelude.{◌≡◌, ◌≢◌, ◌⊎◌, true, false, IfOk, IfErr};
 ghost use Rattle.segment_image.specs.Head.{header_of};
-ghost use Rattle.povundiri_c.specs.Reports.{IsReportTooLong, IsReportWritten, SayKeys};
+ghost use Rattle.povundiri_c.specs.Reports.{IsReportTooLong, IsReportWritten, IsSaidOfLawful, SayKeys};
 ghost use Rattle.povundiri_c.specs.Status.{status_of_image_fault};
 
 use crate::status::{DONE, NO_MEMORY, SHORT, TOO_MANY_KEYS, of_image_fault};
@@ -21,6 +21,7 @@ pub extern "C" fn povundiri_proved_report(
     ensures fault { IfErr (header_of words.now) (λ fault. result ≡ status_of_image_fault fault) }
     ensures done { result ≡ 0 → IsReportWritten words.now text.old text.new needed.new }
     ensures short { result ≡ 7 → IsReportTooLong words.now text.old needed.new }
+    ensures lawful { IfOk (header_of words.now) (λ _. IsSaidOfLawful result) }
     ensures untouched { result ≢ 0 → text.new ≡ text.old }
     ensures alone { result ≢ 0 → result ≢ 7 → needed.new ≡ needed.old }
 {
@@ -42,6 +43,7 @@ pub extern "C" fn povundiri_proved_report_bounded(
     ensures short { result ≡ 7 → IsReportTooLong words.now text.old needed.new }
     ensures many { result ≡ 17 → SayKeys words.now most_keys true }
     ensures few { (result ≡ 0) ⊎ (result ≡ 7) → SayKeys words.now most_keys false }
+    ensures lawful { IfOk (header_of words.now) (λ _. (result ≡ 17) ⊎ IsSaidOfLawful result) }
     ensures untouched { result ≢ 0 → text.new ≡ text.old }
     ensures alone { result ≢ 0 → result ≢ 7 → needed.new ≡ needed.old }
 {
@@ -60,6 +62,7 @@ fn write_report(alloc: Global, words: &[u64], text: &mut [u8], needed: &mut usiz
     ensures fault { IfErr (header_of words.now) (λ fault. result ≡ status_of_image_fault fault) }
     ensures done { result ≡ 0 → IsReportWritten words.now text.old text.new needed.new }
     ensures short { result ≡ 7 → IsReportTooLong words.now text.old needed.new }
+    ensures lawful { IfOk (header_of words.now) (λ _. IsSaidOfLawful result) }
     ensures others { result ≢ 17 }
     ensures untouched { result ≢ 0 → text.new ≡ text.old }
     ensures alone { result ≢ 0 → result ≢ 7 → needed.new ≡ needed.old }

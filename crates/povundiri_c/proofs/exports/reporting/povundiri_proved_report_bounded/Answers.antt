@@ -1,11 +1,11 @@
 -- The keys are counted first.
-use Rattle.std.proofs.Common.{◌≡◌, ◌⊎◌, Bool, ℕ, inl, inr, refl, subst, arith}
+use Rattle.std.proofs.Common.{◌≡◌, Bool, inl, inr, refl, subst, arith}
 use Rattle.segment_image.specs.Head.{header_of}
 use Rattle.segment_image.specs.declared.fault.ImageFault.TheVariants.{NoMemory}
 use Rattle.segment_image.specs.declared.head.SegmentHead.{SegmentHead}
 use Rattle.image_reader.specs.Keys.{HasMoreKeys}
 use Rattle.povundiri_c.specs.Reports.{SayKeys}
-use Rattle.povundiri_c.proofs.Reporting.{fault_of, keys_said, no_fault_of}
+use Rattle.povundiri_c.proofs.Reporting.{fault_of, keys_said, no_fault_of, or_lawful, said_of_lawful}
 use Rattle.povundiri_c.proofs.exports.reporting.povundiri_proved_report_bounded.Goals as goal
 
 pub returns-in-Err-clause-fault : goal.returns-in-Err-clause-fault
@@ -13,6 +13,12 @@ returns-in-Err-clause-fault c =
     fault_of (header_of c.args.words.now) c.has_more_keys.result c.in-Err.fault c.of_image_fault.result
     (λ (head : SegmentHead) (more : Bool). HasMoreKeys c.args.words.now head c.args.most_keys more) (λ fault. fault ≡ NoMemory)
     c.has_more_keys.ensures.answer c.in-Err.is c.of_image_fault.ensures
+
+pub returns-in-Err-clause-lawful : goal.returns-in-Err-clause-lawful
+returns-in-Err-clause-lawful c = or_lawful (header_of c.args.words.now) c.of_image_fault.result (
+    said_of_lawful (header_of c.args.words.now) c.has_more_keys.result c.in-Err.fault c.of_image_fault.result
+    (λ (head : SegmentHead) (more : Bool). HasMoreKeys c.args.words.now head c.args.most_keys more)
+    c.has_more_keys.ensures.answer c.in-Err.is c.of_image_fault.ensures)
 
 pub returns-in-Err-clause-many : goal.returns-in-Err-clause-many
 returns-in-Err-clause-many c = λ same. absurd (omega (arith, c.of_image_fault.ensures, same))

@@ -178,13 +178,13 @@ may_get a c units rest is =
 
 -- an opener that offers nothing has no other role when it has offered units and put them into a purse
 same_role : (r : Role) → is_opener r ≡ true → offered_of r ≡ 0 → role.Opener (made_of r) (outstanding_of r) 0 ≡ r
-same_role (role.Opener made outstanding offered) opens none = ap (role.Opener made outstanding) (sym none)
-same_role (role.Recorder before outstanding) opens none = absurd (cc opens)
+same_role (role.Opener made outstanding offered) opens nothing = ap (role.Opener made outstanding) (sym nothing)
+same_role (role.Recorder before outstanding) opens nothing = absurd (cc opens)
 
 -- so it has given them, and nothing else
 pub gives : (a b c : Actor) (units : ℕ) → is_opener a.role ≡ true → offered_of a.role ≡ 0 → b ≡ offering a units → c ≡ lender b → c ≡ giver a units
-gives a b c units opens none offered filled =
-    filled ∙ (ap lender offered ∙ ap (λ (r : Role). record (giver a units) { role = r }) (same_role a.role opens none))
+gives a b c units opens nothing offered filled =
+    filled ∙ (ap lender offered ∙ ap (λ (r : Role). record (giver a units) { role = r }) (same_role a.role opens nothing))
 
 -- who stands beside a recorder that lives has one outstanding
 stands_out : (actors : List Actor) (roles : RolesAreKept actors) (id other : ℕ) (a b : Actor) → get_elem? actors id ≡ some a

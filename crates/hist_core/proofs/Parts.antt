@@ -4,6 +4,7 @@ pub mod Allocations
 pub mod Claims
 pub mod Compares
 pub mod Comparisons
+pub mod Deeds
 pub mod Differences
 pub mod Makings
 pub mod Records

@@ -1,5 +1,5 @@
 -- An actor of a world at run time, and the actor of the machine that it stands for.
-use Rattle.std.specs.Prelude.{◌≡◌, ◌≢◌, ◌≤◌, ◌<◌, ℕ, ℤ, pos, ◌+◌, ◌-◌, ◌*◌, ◌⊎◌, true, false, List, [], ◌∷◌, ◌++◌, map, take, drop, length, Option, Some, None, option_to_list, bit_or, ⊤, Result, Ok, Err, vec_len, vec_capacity, unsigned_abs}
+use Rattle.std.specs.Prelude.{◌≡◌, ◌≢◌, ◌≤◌, ◌<◌, ℕ, ℤ, pos, ◌+◌, ◌-◌, ◌*◌, ◌⊎◌, Bool, true, false, List, [], ◌∷◌, ◌++◌, map, take, drop, length, Option, Some, None, option_to_list, bit_or, ⊤, Result, Ok, Err, vec_len, vec_capacity, unsigned_abs}
 use Rattle.std.specs.List.{All, AllZip, Contains}
 use mathlib.Core.Option.{some}
 use lib.ListN.{get_elem?}
@@ -14,6 +14,7 @@ use Rattle.segment_image.specs.Shape.{Dimensions}
 use Rattle.segment_image.specs.declared.layout.TheConstants.{BLOCK_HEADER, FLAG_CORRUPT, FLAGS_WORD, HEADER_WORDS, HISTOGRAM_NAME}
 use Rattle.segment_machine.specs.declared.entry.Entry.{Entry as MachineEntry}
 use Rattle.segment_machine.specs.declared.actor.Actor.{Actor}
+use Rattle.segment_machine.specs.declared.actor.Made.{Made}
 use Rattle.segment_machine.specs.declared.place.Place.TheVariants.{Spent}
 use Rattle.segment_machine.specs.declared.actor.Taken.{Taken as MachineTaken}
 use Rattle.segment_machine.specs.Actor.{is_opener, units_listed}
@@ -22,17 +23,19 @@ use Rattle.segment_machine.specs.Note.{MayNote, SawAll, TookAll, noted, begins}
 use Rattle.segment_machine.specs.Seats.{giver}
 use Rattle.segment_machine.specs.declared.actor.Answered.{Answered}
 use Rattle.segment_machine.specs.declared.actor.Known.{Known as MachineKnown}
-use Rattle.hist_core.specs.StepsBy.{StepsBy, HasMet, IsFree}
+use Rattle.hist_core.specs.StepsBy.{DoesOnly, StepsBy, HasMet, IsFree}
 use Rattle.hist_core.specs.Add.{HasMetNoCounts, IsAdd, alone, block_words, counted_entry, IsStarted}
+use Rattle.hist_core.specs.Add.{links_counted as add_links}
 use Rattle.hist_core.specs.Batch.{IsBatch, IsSameBatch, counted_entries}
+use Rattle.hist_core.specs.Batch.{links_counted as batch_links}
 use Rattle.hist_core.specs.declared.batch.Batch.{Batch as BatchCall}
 use Rattle.hist_core.specs.declared.batch.BatchStep.{BatchStep}
 use Rattle.hist_core.specs.declared.batch.BatchStep.TheVariants as batch
 use Rattle.hist_core.specs.declared.add.Add.{Add as AddCall}
 use Rattle.hist_core.specs.declared.add.AddStep.{AddStep}
 use Rattle.hist_core.specs.declared.add.AddStep.TheVariants as add
-use Rattle.hist_core.specs.Hist.{IsHist, IsBegun, IsCause as IsHistCause}
-use Rattle.hist_core.specs.Making.{IsCause}
+use Rattle.hist_core.specs.Hist.{IsHist, IsBegun, IsCause as IsHistCause, links_asked}
+use Rattle.hist_core.specs.Making.{IsCause, is_full}
 use Rattle.hist_core.specs.SnapshotCall.{IsSnapshotCall, IsStarted as IsSnapshotCallStarted, LooksAnew}
 use Rattle.segment_calls.specs.declared.answer.Snapshot.{Snapshot as SnapshotAnswer}
 use Rattle.hist_core.specs.declared.snapshot_call.SnapshotCall.{SnapshotCall}
@@ -319,10 +322,33 @@ abbrev pub LooksSince : Option Running → Actor → Actor → Type 0
 LooksSince (Some (Snapshot snapshot_call)) a b = LooksAnew snapshot_call.stage a b
 LooksSince running a b = ⊤
 
+-- its step says that it has set the corrupt flag
+abbrev pub is_flagged : Stepped → Bool
+is_flagged (Done answer.Flagged) = true
+is_flagged said = false
+
+-- its step says that a block was refused since the segment is full
+abbrev pub lacks_room : Stepped → Bool
+lacks_room (Done (answer.Refused cause)) = is_full cause
+lacks_room (Done (answer.BatchRefused refusal)) = is_full refusal.why
+lacks_room said = false
+
+-- the records that a running call may link: a `hist` one of the name and the spec that it asks for, and a call that counts a sample of a
+-- value that it counts, in its histogram
+abbrev pub MayLink : Option Running → Made → Type 0
+MayLink (Some (Hist hist)) made = links_asked hist made
+MayLink (Some (Add add)) made = add_links add made
+MayLink (Some (Batch batch)) made = batch_links batch made
+MayLink running made = ⊥
+
+-- Its event sets the corrupt flag only with `Flagged`, and the full one only with a refusal `Full`; and links a record that its call is for.
+abbrev pub DoesAsSaid : Option Running → Stepped → Actor → Actor → Type 0
+DoesAsSaid running said a b = DoesOnly (is_flagged said) (lacks_room said) (MayLink running) a b
+
 -- It goes on by one event, as the actor does for which it stands.
 abbrev pub Advances : Dimensions → ℕ → ActorRun → List ℕ → ActorRun → List ℕ → Stepped → Actor → Type 0
-Advances shape version old words new new_words said a =
-    StepsBy shape.size version a words new_words (λ b. Lands shape version old new said a b × LooksSince old.running a b)
+Advances shape version old words new new_words said a = StepsBy shape.size version a words new_words
+    (λ b. Lands shape version old new said a b × LooksSince old.running a b × DoesAsSaid old.running said a b)
 
 -- it asks for the same histogram as before
 abbrev pub AsksOn : Option Running → Option Running → Type 0

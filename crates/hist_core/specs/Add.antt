@@ -19,6 +19,8 @@ use Rattle.segment_machine.specs.declared.actor.Known.{Known}
 use Rattle.segment_machine.specs.declared.entry.EntryProgress.{EntryProgress}
 use Rattle.segment_machine.specs.declared.entry.Entry.{Entry}
 use Rattle.segment_machine.specs.declared.place.Look.{Look}
+use Rattle.segment_machine.specs.declared.actor.Made.{Made}
+use Rattle.segment_machine.specs.declared.actor.Made.TheVariants.{Sample}
 use Rattle.segment_machine.specs.declared.actor.Own.{Own}
 use Rattle.segment_machine.specs.declared.place.Place.TheVariants.{Looking, Losing, Moving as PlaceMoving}
 use Rattle.segment_machine.specs.declared.seen.Sighting.{Sighting}
@@ -35,8 +37,8 @@ use Rattle.hist_core.specs.declared.add.AddStep.TheVariants.{More, Done, Refused
 use Rattle.hist_core.specs.declared.add.Stage.{Stage}
 use Rattle.hist_core.specs.declared.add.Stage.TheVariants.{LoadingSingle, Packing, LoadingCounts, SeekingCounts, Allocating, Mounting, Purging, LoadingAgain, Disabling, Moving, Sampling, Counting, Summing, Noting}
 use Rattle.segment_calls.specs.declared.refusal.Refusal.TheVariants as why
-use Rattle.hist_core.specs.Making.{IsCause}
-use Rattle.hist_core.specs.StepsBy.{StepsBy, IsFree}
+use Rattle.hist_core.specs.Making.{IsCause, is_full}
+use Rattle.hist_core.specs.StepsBy.{DoesOnly, StepsBy, IsFree}
 use Rattle.hist_core.specs.Sampling.{IsSampling, IsStarted as BeginsToSearch}
 use Rattle.hist_core.specs.declared.sampling.SamplingStep.{SamplingStep}
 use Rattle.hist_core.specs.declared.sampling.SamplingStep.TheVariants as found
@@ -200,6 +202,10 @@ pub record FrameOfAdd (a b : Actor) : Type 0 where
   pub chain : IsPrefix a.seen.chain b.seen.chain
   pub words : (more : List Sighting) × (b.seen.words ≡ a.seen.words ++ more)
 
+-- the record that it may link: the sample of its value in its histogram
+abbrev pub links_counted : Add → Made → Type 0
+links_counted add made = made ≡ Sample add.histogram add.value
+
 -- the words of the block that counting in a histogram may need: its counts and their marks, or the sample of a value
 abbrev pub block_words : Known → ℕ
 block_words known = if has_buckets known.spec then BLOCK_HEADER + 2 * buckets_of known.spec else SAMPLE_LEAST
@@ -211,10 +217,11 @@ StaysOpen a b = (b.units ≡ a.units) × (b.entries ≡ record a.entries { runni
 -- What a step says: it goes on; all of its entry has happened; or its block is refused, and nothing has happened, and it has met no counts.
 -- Its actor may turn to another entry or another call then.
 abbrev pub AddGives : Dimensions → Known → Amid → Add → AddStep → Actor → Actor → Type 0
-AddGives shape known amid new More a b = FrameOfAdd a b × StaysOpen a b × IsAdd shape known amid new b
-AddGives shape known amid new Done a b = FrameOfAdd a b × StaysOpen a b × IsFree b × HasEnded known amid new b
+AddGives shape known amid new More a b = FrameOfAdd a b × StaysOpen a b × DoesOnly false false (links_counted new) a b × IsAdd shape known amid new b
+AddGives shape known amid new Done a b = FrameOfAdd a b × StaysOpen a b × DoesOnly false false (links_counted new) a b × IsFree b × HasEnded known amid new b
 AddGives shape known amid new (Refused cause) a b =
-    FrameOfAdd a b × StaysOpen a b × IsFree b × IsCause cause (block_words known) a b × HasEntry known amid new b false false × HasMetNoCounts known b
+    FrameOfAdd a b × StaysOpen a b × DoesOnly false (is_full cause) (links_counted new) a b × IsFree b × IsCause cause (block_words known) a b
+    × HasEntry known amid new b false false × HasMetNoCounts known b
 
 -- what a step makes of the words, and of whatever actor stands so
 abbrev pub AddSteps : Add → List ℕ → Add → List ℕ → AddStep → Type 0

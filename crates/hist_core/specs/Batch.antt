@@ -8,6 +8,8 @@ use Rattle.alloc_core.specs.Layout.{IsShape}
 use Rattle.list_core.specs.Chain.{is_reference}
 use Rattle.segment_machine.specs.declared.actor.Actor.{Actor}
 use Rattle.segment_machine.specs.declared.actor.Known.{Known}
+use Rattle.segment_machine.specs.declared.actor.Made.{Made}
+use Rattle.segment_machine.specs.declared.actor.Made.TheVariants.{Sample}
 use Rattle.segment_machine.specs.declared.entry.Entry.{Entry}
 use Rattle.segment_machine.specs.Actor.{known_at}
 use Rattle.segment_machine.specs.Calls.{MayTurn}
@@ -20,8 +22,8 @@ use Rattle.hist_core.specs.declared.batch.Batch.{Batch}
 use Rattle.hist_core.specs.declared.batch.BatchStep.{BatchStep}
 use Rattle.hist_core.specs.declared.batch.BatchStep.TheVariants.{More, Done, Refused}
 use Rattle.hist_core.specs.Add.{Amid, IsAdd, IsCounting, FrameOfAdd, HasMetNoCounts, StaysOpen, block_words, counted_entry, ended_entry, OpensWith}
-use Rattle.hist_core.specs.Making.{IsCause}
-use Rattle.hist_core.specs.StepsBy.{StepsBy, IsFree}
+use Rattle.hist_core.specs.Making.{IsCause, is_full}
+use Rattle.hist_core.specs.StepsBy.{DoesOnly, StepsBy, IsFree}
 
 -- ---- what it counts
 
@@ -121,13 +123,17 @@ pub record IsCutAt (added : ℕ) (entries : List Entry) (a : Actor) : Type 0 whe
   pub untouched : All (λ c. is_untouched c ≡ true) (drop added a.entries.running)
   pub unsummed : All (λ c. c.summed ≡ false) (take added a.entries.running)
 
+-- the records that it may link: a sample of the value of an item in its histogram
+abbrev pub links_counted : Batch → Made → Type 0
+links_counted batch made = (sample : ℤ × ℕ) × Contains (map sample_of batch.items.items) sample × (made ≡ Sample batch.histogram sample.0)
+
 -- What a step says: it goes on; all of it is counted; or the block of its next item is refused, and it has met no counts. Its actor may turn to another
 -- call then.
 abbrev pub BatchGives : Dimensions → Known → Batch → BatchStep → Actor → Actor → Type 0
-BatchGives shape known new More a b = FrameOfAdd a b × StaysOpen a b × IsBatch shape known new b
-BatchGives shape known new Done a b = FrameOfAdd a b × StaysOpen a b × IsFree b × HaveEnded (counted_entries known new) b
+BatchGives shape known new More a b = FrameOfAdd a b × StaysOpen a b × DoesOnly false false (links_counted new) a b × IsBatch shape known new b
+BatchGives shape known new Done a b = FrameOfAdd a b × StaysOpen a b × DoesOnly false false (links_counted new) a b × IsFree b × HaveEnded (counted_entries known new) b
 BatchGives shape known new (Refused refusal) a b =
-    FrameOfAdd a b × StaysOpen a b × IsFree b × IsCause refusal.why (block_words known) a b × IsCutAt refusal.added (counted_entries known new) b
+    FrameOfAdd a b × StaysOpen a b × DoesOnly false (is_full refusal.why) (links_counted new) a b × IsFree b × IsCause refusal.why (block_words known) a b × IsCutAt refusal.added (counted_entries known new) b
     × (refusal.added ≤ length new.items.items) × (new.left + units_among (take refusal.added new.items.items) ≡ new.cost) × HasMetNoCounts known b
 
 -- what a step makes of the words, and of whatever actor stands so

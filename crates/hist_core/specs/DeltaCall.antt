@@ -164,8 +164,8 @@ pub record IsStarted (shape : Dimensions) (version : ℕ) (known : Known) (delta
 
 -- ---- what a step makes of its actor
 
--- What it leaves as it was: its role, its segment, its units and entries, the names that it was answered with, and its snapshots. Of the
--- chain and of the words of records it has seen no less.
+-- What it leaves as it was: its role, its segment, its units and entries, the names that it was answered with, its snapshots, and what it has
+-- done to the segment for all to see. Of the chain and of the words of records it has seen no less.
 pub record FrameOfDelta (a b : Actor) : Type 0 where
   pub role : b.role ≡ a.role
   pub segment : b.segment ≡ a.segment
@@ -176,6 +176,7 @@ pub record FrameOfDelta (a b : Actor) : Type 0 where
   pub first : b.deltas.first_taken ≡ a.deltas.first_taken
   pub chain : IsPrefix a.seen.chain b.seen.chain
   pub words : (more : List Sighting) × (b.seen.words ≡ a.seen.words ++ more)
+  pub done : b.done ≡ a.done
 
 -- It has ended: it is the last of what its actor's deltas took, with the units that it lists and this of the sum, and took all that its
 -- actor saw of the histogram since it began.

@@ -1,5 +1,5 @@
 -- The making of a record: its words are claimed, its payload is stored there, and it is put on the list.
-use Rattle.std.specs.Prelude.{◌≡◌, ◌≢◌, ℕ, ◌+◌, ◌-◌, ◌<◌, ◌≤◌, nat_lt, true, List, [], ◌∷◌, ◌++◌, length, replicate, take, slice_index, is_some, ⊤, Some, if◌then◌else◌}
+use Rattle.std.specs.Prelude.{◌≡◌, ◌≢◌, ℕ, ◌+◌, ◌-◌, ◌<◌, ◌≤◌, nat_lt, Bool, true, false, List, [], ◌∷◌, ◌++◌, length, replicate, take, slice_index, is_some, ⊤, Some, if◌then◌else◌}
 use Rattle.segment_image.specs.declared.layout.TheConstants.{BLOCK_HEADER, HEADER_WORDS, TYPE_HISTOGRAM, TYPE_SAMPLE}
 use Rattle.segment_image.specs.Shape.{Dimensions}
 use Rattle.alloc_core.specs.Layout.{IsShape}
@@ -24,7 +24,7 @@ use Rattle.hist_core.specs.declared.making.MakingStep.{MakingStep}
 use Rattle.hist_core.specs.declared.making.MakingStep.TheVariants.{More, Done, Refused}
 use Rattle.hist_core.specs.declared.making.Stage.{Stage}
 use Rattle.hist_core.specs.declared.making.Stage.TheVariants.{Allocating, Filling, Publishing}
-use Rattle.hist_core.specs.StepsBy.{FrameOfStep, StepsBy, IsFree}
+use Rattle.hist_core.specs.StepsBy.{DoesOnly, FrameOfStep, StepsBy, IsFree}
 
 -- ---- what it makes
 
@@ -101,11 +101,21 @@ IsCause why.Full words a b =
 IsCause why.Corrupt words a b = (b.done ≡ a.done) × (b.seen.corrupt ≡ true) × (b.seen.warned ≡ a.seen.warned + 1)
 IsCause cause words a b = ⊥
 
+-- it is refused since the segment is full
+abbrev pub is_full : Refusal → Bool
+is_full why.Full = true
+is_full cause = false
+
+-- the record that it may link
+abbrev pub links_wanted : Wanted → Made → Type 0
+links_wanted wanted made = made ≡ wanted.made
+
 -- what a step says: it goes on; the record is on the list; or it is refused. Its actor may turn to another call then
 abbrev pub MakingGives : Dimensions → Wanted → Making → MakingStep → Actor → Actor → Type 0
-MakingGives shape wanted new More a b = FrameOfStep a b × IsMaking shape wanted new b
-MakingGives shape wanted new Done a b = FrameOfStep a b × IsFree b
-MakingGives shape wanted new (Refused cause) a b = FrameOfStep a b × IsFree b × IsCause cause (BLOCK_HEADER + wanted.room) a b
+MakingGives shape wanted new More a b = FrameOfStep a b × DoesOnly false false (links_wanted wanted) a b × IsMaking shape wanted new b
+MakingGives shape wanted new Done a b = FrameOfStep a b × DoesOnly false false (links_wanted wanted) a b × IsFree b
+MakingGives shape wanted new (Refused cause) a b =
+    FrameOfStep a b × DoesOnly false (is_full cause) (links_wanted wanted) a b × IsFree b × IsCause cause (BLOCK_HEADER + wanted.room) a b
 
 -- what a step makes of the words, and of whatever actor stands so
 abbrev pub MakingSteps : List ℕ → Making → List ℕ → Making → List ℕ → MakingStep → Type 0

@@ -157,10 +157,10 @@ pub record HasLooked (known : Known) (snapshot_call : SnapshotCall) (sum : ℤ) 
   pub saw : SawAll b known answered
   pub values : known.spec ≡ Sparse → AreUnits snapshot_call.totals.items
 
--- What a step says: it goes on; or it has ended, and its actor may turn to another call.
+-- What a step says: it goes on; or it has ended, and its actor may turn to another call. It does nothing to the segment for all to see.
 abbrev pub SnapshotCallGives : Dimensions → Known → Stage → SnapshotCall → SnapshotCallStep → Actor → Actor → Type 0
-SnapshotCallGives shape known stage new More a b = FrameOfStep a b × LooksAnew stage a b × IsSnapshotCall shape known new b
-SnapshotCallGives shape known stage new (Done sum redundant) a b = IsFree b × LooksAnew stage a b × HasLooked known new sum redundant a b
+SnapshotCallGives shape known stage new More a b = FrameOfStep a b × (b.done ≡ a.done) × LooksAnew stage a b × IsSnapshotCall shape known new b
+SnapshotCallGives shape known stage new (Done sum redundant) a b = IsFree b × (b.done ≡ a.done) × LooksAnew stage a b × HasLooked known new sum redundant a b
 
 -- what a step makes of the words, and of whatever actor stands so
 abbrev pub SnapshotCallSteps : SnapshotCall → List ℕ → SnapshotCall → List ℕ → SnapshotCallStep → Type 0

@@ -1,10 +1,12 @@
 -- How an actor goes on by one event.
 use Rattle.std.specs.Prelude.{◌≡◌, ◌≢◌, Bool, true, false, ◌||◌, ℕ, List, ◌++◌}
-use Rattle.std.specs.List.{Contains}
+use Rattle.std.specs.List.{All, Contains}
 use Rattle.segment_image.specs.Words.{word_at}
 use Rattle.list_core.specs.Walk.{IsPrefix}
 use Rattle.segment_machine.specs.declared.actor.Actor.{Actor}
 use Rattle.segment_machine.specs.declared.actor.Known.{Known}
+use Rattle.segment_machine.specs.declared.actor.Made.{Made}
+use Rattle.segment_machine.specs.declared.actor.Published.{Published}
 use Rattle.segment_machine.specs.declared.place.Place.{Place}
 use Rattle.segment_machine.specs.declared.place.Place.TheVariants.{FreeLoaded, Spent}
 use Rattle.segment_machine.specs.Actor.{AreApart, is_bound}
@@ -26,6 +28,13 @@ pub record FrameOfStep (a b : Actor) : Type 0 where
   pub names : b.answers.names ≡ a.answers.names
   pub chain : IsPrefix a.seen.chain b.seen.chain
   pub words : (more : List Sighting) × (b.seen.words ≡ a.seen.words ++ more)
+
+-- What an event does to the segment for all to see: it sets the corrupt flag and the full one where that is said and not else, and a record
+-- that it links is to hold what it may link.
+pub record DoesOnly (corrupt full : Bool) (links : Made → Type 0) (a b : Actor) : Type 0 where
+  pub spoiled : b.done.spoiled ≡ (corrupt || a.done.spoiled)
+  pub filled : b.done.filled ≡ (full || a.done.filled)
+  pub linked : (more : List Published) × (b.done.published ≡ a.done.published ++ more) × All (λ (p : Published). links p.made) more
 
 -- An actor goes on by one event in words of a segment: it does an event that it may do, with notes before it and, once it has learned of
 -- the number that was found, behind it; the words become what the event makes of them; and then something holds of it.

@@ -16,8 +16,8 @@ use Rattle.segment_machine.specs.Event.{Event}
 use Rattle.segment_machine.specs.State.{State, IsStep}
 use Rattle.segment_machine.specs.Reached.{IsLent, IsReturned}
 use Rattle.segment_machine.specs.Reached as machine
-use Rattle.bucket_ranges.specs.Reading.{spec_of}
-use Rattle.bucket_ranges.specs.Spec.{SameSpec}
+use Rattle.bucket_ranges.specs.Reading.{is_name, spec_of}
+use Rattle.bucket_ranges.specs.Spec.{SameSpec, spec_fault}
 use Rattle.list_core.specs.Chain.{IsChain}
 use Rattle.segment_invariant.specs.Consistent.{IsConsistent, IsHistogram, units_taken}
 use Rattle.segment_promises.specs.Adoption.{IsAdoptable, used_of}
@@ -41,8 +41,8 @@ use Rattle.hist_core.specs.declared.hist.Known.{Known}
 use Rattle.segment_calls.specs.declared.refusal.Refusal.TheVariants as refusal
 use Rattle.hist_core.specs.declared.actor_run.Running.{Running}
 use Rattle.hist_core.specs.declared.actor_run.Running.TheVariants.{Hist, Add, Delta, Snapshot, Batch, SetCorrupt}
-use Rattle.segment_calls.specs.Asked.{IsRefusedFor}
-use Rattle.hist_core.specs.ActorRun.{IsFresh, IsRun, IsAsItWas, IsAnswer, IsTook, IsKnownAnswer, IsRefusedBy, LooksSince, NoneHasName, Answers, entry_of, looked_by, pending_by, ended_by, begun_by}
+use Rattle.segment_calls.specs.Asked.{IsRefusedFor, IsTooLarge}
+use Rattle.hist_core.specs.ActorRun.{IsFresh, IsRun, IsAsItWas, IsAnswer, IsTook, IsKnownAnswer, IsRefusedBy, DoesAsSaid, LooksSince, NoneHasName, Answers, entry_of, looked_by, pending_by, ended_by, begun_by}
 use Rattle.segment_machine.specs.Entry.{batch_cost, batch_entries, sample_entry, tally_noted}
 use Rattle.segment_machine.specs.declared.entry.Entry.{Entry as MachineEntry}
 use Rattle.hist_core.specs.Batch.{sample_of}
@@ -197,6 +197,12 @@ abbrev pub LoadsPointer : ℕ → List ℕ → State → State → Type 0
 LoadsPointer actor words state last = (a b : Actor) → get_elem? state.actors (actor + 1) ≡ some a → get_elem? last.actors (actor + 1) ≡ some b
     → (free : ℕ) → b.hand.place ≡ FreeLoaded free → (a.hand.place ≡ FreeLoaded free) ⊎ (word_at words FREE_WORD ≡ free)
 
+-- The event of the actor's call sets the corrupt flag only with `Flagged`, and the full one only with a refusal `Full`; and a record that it
+-- links is one that the call is for.
+abbrev pub DoesOnlySo : WorldState → ℕ → State → Stepped → State → Type 0
+DoesOnlySo old actor state said last = (before : ActorRun) (a b : Actor) → get_elem? old.actor_runs.items actor ≡ some before
+    → get_elem? state.actors (actor + 1) ≡ some a → get_elem? last.actors (actor + 1) ≡ some b → DoesAsSaid before.running said a b
+
 -- what an answer promises of the states before and behind it, by what the call was to do
 abbrev pub IsPromised : WorldState → ℕ → State → Stepped → (start : Start) (new : WorldState) (last : State) → IsReachedAs start new last → Type 0
 IsPromised old actor state (Done (answer.Delta delta)) start new last reach =
@@ -217,13 +223,13 @@ LooksFrom old actor state last = (before : ActorRun) (a b : Actor) → get_elem?
 
 -- One event of the actor leads from a state to another; then the units of a call that is refused come back. What the call says is as it
 -- promises, of the state that it leads to. A snapshot looks since its first event. Behind its own corrupt flag an actor claims nothing, and
--- it stands at no free pointer that it has not loaded.
+-- it stands at no free pointer that it has not loaded. It sets a flag only as the call says, and links what the call is for alone.
 abbrev pub StepsTo : WorldState → ℕ → Start → State → WorldState → Stepped → Type 0
 StepsTo old actor start state new said =
     (event : Event) × (then_is : State) × IsStep old.version state (actor + 1) event then_is
     × ((last : State) × GivesBack actor then_is last
     × ((reach : IsReachedAs start new last) × IsPromised old actor state said start new last reach × LooksFrom old actor state last × ClaimsNothing actor state last
-    × LoadsPointer actor old.words.items state last))
+    × LoadsPointer actor old.words.items state last × DoesOnlySo old actor state said last))
 
 -- the shape and the version stay, and so do all other actors
 pub record OthersStay (actor : ℕ) (old new : WorldState) : Type 0 where
@@ -265,13 +271,18 @@ LacksName world_state actor name = (actor_run : ActorRun) → get_elem? world_st
 
 -- ---- how a `hist` begins
 
--- What it is answered without an event, and why: the name or the spec is unlawful, or a record or its counts would be too large; or the
--- actor knows a histogram of that name, with the same spec or with another.
+-- a histogram may be asked for in a segment of a shape: name and spec are lawful, and its record and its counts fit in a page
+abbrev pub MayBeAsked : Dimensions → List ℕ → Spec → Type 0
+MayBeAsked shape name spec = (is_name name ≡ true) × (spec_fault spec ≡ None) × ¬ (IsTooLarge shape.page name spec)
+
+-- What it is answered without an event, and why: the name or the spec is unlawful, or a record or its counts would be too large; or it may
+-- be asked for, and the actor knows a histogram of that name, with the same spec or with another.
 abbrev pub IsAnsweredAtOnce : Dimensions → List Known → List ℕ → Spec → Answer → Type 0
-IsAnsweredAtOnce shape known name spec (answer.Refused refusal.OtherSpec) = IsKnownAnswer known name spec (answer.Refused refusal.OtherSpec)
+IsAnsweredAtOnce shape known name spec (answer.Refused refusal.OtherSpec) =
+    IsKnownAnswer known name spec (answer.Refused refusal.OtherSpec) × MayBeAsked shape name spec
 IsAnsweredAtOnce shape known name spec (answer.Refused refusal.NoMemory) = ⊥
 IsAnsweredAtOnce shape known name spec (answer.Refused why) = IsRefusedFor shape name spec why
-IsAnsweredAtOnce shape known name spec answered = IsKnownAnswer known name spec answered
+IsAnsweredAtOnce shape known name spec answered = IsKnownAnswer known name spec answered × MayBeAsked shape name spec
 
 -- the histogram of a name and a spec that a running call asks for
 abbrev pub AsksFor : List ℕ → Spec → Option Running → Type 0

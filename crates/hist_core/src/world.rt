@@ -165,7 +165,8 @@ impl World {
     ///
     /// `NoActor` where there is no such actor, then `Busy` where a call of it is going on, then `Unknown` where the call is of a
     /// histogram and no `Hist` of the actor was answered with one of that name, then `NoMemory`. Where the call needs no event it
-    /// has ended: a `Hist` that is refused `BadName`, `BadSpec` or `TooLarge`, and one of a name that the actor knows; an `Add`
+    /// has ended: a `Hist` that is refused `BadName`, `BadSpec` or `TooLarge`, and only then one of a name that the actor knows, which
+    /// returns its reference or is refused `OtherSpec`; an `Add`
     /// that is refused `ZeroCount`, or `NoUnits` where it counts more units than the pool has; a `Batch` that is refused so, with
     /// no item counted, and one of no items and sum 0, which is `Added`. All actors draw on one pool of 4,294,967,295 units: a call
     /// takes its units with its begin, and gives them back where it is refused later. A `Batch` costs the units of its items, and
@@ -240,7 +241,10 @@ impl World {
     /// seen that the first record of the name has another spec. `Refused` is answered by a `Hist` or an `Add` alone, `BatchRefused` by a
     /// `Batch`, with 0 where no item is counted. An `Add` or a `Batch` that is refused has met no counts of its histogram, so it has moved
     /// no units of other calls. A `SetCorrupt` ends with its one event, as `Flagged`, which nothing else answers; from then on no call of
-    /// the actor claims a block.
+    /// the actor claims a block. No other event sets the corrupt flag, and none but that of a refusal `Full` the full one.
+    ///
+    /// A record that an event links is one that its call is for: of the name and the spec with which a `Hist` began; or a sample of a value
+    /// that an `Add` or a `Batch` counts, in its histogram. The other calls link none.
     ///
     /// A `Snapshot` answers what the actor saw since its first event: of each key at least the units that it had accepted and those that
     /// it had seen before; so does its redundant count. Of a sparse histogram the values ascend, each with a count above 0.

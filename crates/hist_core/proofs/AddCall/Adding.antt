@@ -17,15 +17,18 @@ use Rattle.hist_core.specs.declared.add.AddStep.{AddStep}
 use Rattle.hist_core.specs.declared.add.AddStep.TheVariants.{More, Done, Refused}
 use Rattle.hist_core.specs.declared.add.Stage.{Stage}
 use Rattle.hist_core.specs.declared.add.Stage.TheVariants as stage
+use Rattle.hist_core.specs.declared.call.Answer.TheVariants as answer
 use Rattle.hist_core.specs.declared.call.Stepped.{Stepped}
+use Rattle.hist_core.specs.declared.call.Stepped.TheVariants as stepped
+use Rattle.segment_promises.proofs.Spoilers.{notes_leave}
 use Rattle.hist_core.specs.declared.actor_run.Running.{Running}
 use Rattle.hist_core.specs.declared.actor_run.Running.TheVariants.{Add}
 use Rattle.hist_core.specs.declared.actor_run.ActorRun.{ActorRun}
-use Rattle.hist_core.specs.Add.{Amid, alone, block_words, counted_entry, ended_entry, FrameOfAdd, HasEntry, HasMetNoCounts, HasEnded, StandsAtStage, IsAdd, IsSomeAdd, AddSteps, AddGives}
+use Rattle.hist_core.specs.Add.{Amid, alone, block_words, counted_entry, ended_entry, FrameOfAdd, HasEntry, HasMetNoCounts, HasEnded, StandsAtStage, IsAdd, IsSomeAdd, AddSteps, AddGives, links_counted}
 use Rattle.hist_core.specs.Batch.{Runs, HaveEnded, IsCutAt}
-use Rattle.hist_core.specs.StepsBy.{StepsBy}
-use Rattle.hist_core.proofs.Worlds.Landing.{Landing}
-use Rattle.hist_core.specs.ActorRun.{ended_by, begun_by, pending_by, held_by, IsGhostNoting, IsAdding, StandsIn, IsRun, IsAddAnnounced, LandsBack, MayBeRefused, Answers, IsRefusedBy}
+use Rattle.hist_core.specs.StepsBy.{DoesOnly, StepsBy}
+use Rattle.hist_core.proofs.Worlds.Landing.{Landing, does_as_said}
+use Rattle.hist_core.specs.ActorRun.{ended_by, begun_by, pending_by, held_by, IsGhostNoting, IsAdding, StandsIn, IsRun, IsAddAnnounced, LandsBack, MayBeRefused, Answers, DoesAsSaid, IsRefusedBy, MayLink, is_flagged, lacks_room}
 use Rattle.segment_calls.specs.declared.refusal.Refusal.{Refusal}
 use Rattle.hist_core.specs.Making.{IsCause}
 use Rattle.hist_core.proofs.AddCall.Refusals.{HasOnlyNoted, cause_noted}
@@ -83,7 +86,7 @@ module _ (shape : Dimensions) (version : ℕ) (old : ActorRun) (add : AddCall) (
       -- it goes on
       goes_on : (b : Actor) → AddGives shape known (alone add) now More a b
           → IsRun shape version (record old { begun = length old.entries.items; running = Some (Add now) }) b
-      goes_on b (aside, stays, counting) =
+      goes_on b (aside, stays, does, counting) =
           still_counts shape version old known.name add.units entries standing runs into a counts b aside stays (Add now)
           (ap (map (λ (c : EntryProgress). c.entry)) (has_entry shape known (alone add) now b at counting.stands).2)
           (known, record { pending_are = counts.pending_are; stands = inr (ap (λ u. u.share) stays.0 ∙ counts.share, counting) })
@@ -107,6 +110,11 @@ module _ (shape : Dimensions) (version : ℕ) (old : ActorRun) (add : AddCall) (
                 (All-cons (λ c. is_untouched c ≡ true) (record { entry = counted_entry known add; counted = false; summed = false; noted = false }) [] refl (All-nil (λ c. is_untouched c ≡ true)));
             unsummed = subst (All (λ (c : EntryProgress). c.summed ≡ false)) (sym none) (All-nil (λ (c : EntryProgress). c.summed ≡ false));
           }
+
+      -- a record that it links is the sample of its value
+      does_it : (said : Stepped) (first b d : Actor) → a.done ≡ first.done → d.done ≡ b.done → DoesOnly (is_flagged said) (lacks_room said) (links_counted now) a b
+          → DoesAsSaid old.running said first d
+      does_it said first b d before behind = does_as_said old.running said (links_counted now) (λ made it. subst (λ running. MayLink running made) (sym is) it) first a b d before behind
 
       -- why it is refused
       refused_by : (first b : Actor) → HasOnlyNoted first a → FrameOfAdd a b → (why : Refusal) → IsCause why (block_words known) a b → HasMetNoCounts known b
@@ -138,18 +146,25 @@ module _ (shape : Dimensions) (version : ℕ) (old : ActorRun) (add : AddCall) (
         → IsAddAnnounced (record old { running = Some (Add (record add { stage = at })) }) said new result → Landing shape version old words new new_words result a
     goes_so More result steps (new_is, result_is) =
         subst (λ said. Landing shape version old words new new_words said a) (sym result_is) (goes (λ b from counts. goes_with (its_steps its at b counts words new_words More long steps)
-        (λ c gives. subst (λ (r : ActorRun). IsRun shape version r c) (sym new_is) (goes_on its at b counts c gives))))
+        (λ c (aside, stays, does, counting). (
+          subst (λ (r : ActorRun). IsRun shape version r c) (sym new_is) (goes_on its at b counts c (aside, stays, does, counting)),
+          does_it its at b counts stepped.More a c c from.2 refl does,
+        ))))
     goes_so Done result steps (new_is, result_is) =
         subst (λ said. Landing shape version old words new new_words said a) (sym result_is) (goes (λ b from counts. goes_noting (its_steps its at b counts words new_words Done long steps)
-        (λ c (aside, stays, turns, over). subst (λ (r : ActorRun). (notes : List Note) × (d : Actor) × Notes c notes d × IsRun shape version r d) (sym new_is)
-        (has_counted shape version old its.name add.units (entries its) (standing its) (runs its) (into its) b counts c aside stays turns counts.counting.rests (ends_so its at b counts c over)))))
+        (λ c (aside, stays, does, turns, over).
+        let (notes, d, told, run_then) = subst (λ (r : ActorRun). (notes : List Note) × (d : Actor) × Notes c notes d × IsRun shape version r d) (sym new_is)
+        (has_counted shape version old its.name add.units (entries its) (standing its) (runs its) (into its) b counts c aside stays turns counts.counting.rests (ends_so its at b counts c over)) in
+        (notes, d, told, (run_then, does_it its at b counts (stepped.Done answer.Added) a c d from.2 (notes_leave notes c d told).1 does)))))
     goes_so (Refused why) result steps (new_is, items, result_is) =
         subst (λ said. Landing shape version old words new new_words said a) (sym result_is) (goes (λ b from counts. goes_noting (its_steps its at b counts words new_words (Refused why) long steps)
-        (λ c (aside, stays, turns, cause, has, met). subst (λ (units : ℕ). (notes : List Note) × (d : Actor) × Notes c notes d
+        (λ c (aside, stays, does, turns, cause, has, met).
+        let (notes, d, told, lands) = subst (λ (units : ℕ). (notes : List Note) × (d : Actor) × Notes c notes d
         × (LandsBack shape version units new d × IsRefusedBy old.running why a d)) (sym (ap held_by is))
         (is_cut shape version old its.name add.units (entries its) (standing its) (runs its) (into its) b counts c aside stays turns counts.counting.rests counts.counting.held
         0 add.units (omega arith) (nothing_yet its at b counts c has) (let none : tally_noted (take 0 (entries its)) its.name ≡ 0 = refl in omega (arith, none)) new old.ended (omega arith) new_is items
-        (λ d. IsRefusedBy old.running why a d) (refused_by its at b counts a c from aside why cause met)))))
+        (λ d. IsRefusedBy old.running why a d) (refused_by its at b counts a c from aside why cause met)) in
+        (notes, d, told, (lands, does_it its at b counts (stepped.Done (answer.Refused why)) a c d from.2 (notes_leave notes c d told).1 does)))))
 
   pub add_goes : (a : Actor) (run : IsRun shape version old a) (now : AddCall) → now ≡ record add { stage = now.stage } → (words new_words : List ℕ) → length words ≡ shape.size
       → (said : AddStep) (new : ActorRun) (result : Stepped) → AddSteps add words now new_words said → IsAddAnnounced (record old { running = Some (Add now) }) said new result

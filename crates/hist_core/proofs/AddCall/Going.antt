@@ -11,8 +11,9 @@ use Rattle.segment_machine.specs.Packing.{PackingEvent, load_single, pack, mount
 use Rattle.hist_core.specs.declared.add.Add.{Add}
 use Rattle.hist_core.specs.declared.add.AddStep.TheVariants.{More}
 use Rattle.hist_core.specs.declared.add.Stage.{Stage}
-use Rattle.hist_core.specs.StepsBy.{StepsBy}
-use Rattle.hist_core.specs.Add.{Amid, FrameOfAdd, StaysOpen, StandsAtStage, IsAdd, AddGives}
+use Rattle.hist_core.specs.StepsBy.{DoesOnly, StepsBy}
+use Rattle.hist_core.specs.Add.{Amid, FrameOfAdd, StaysOpen, StandsAtStage, IsAdd, AddGives, links_counted}
+use Rattle.hist_core.proofs.Parts.Deeds.{does_nothing}
 use Rattle.hist_core.proofs.AddCall.Counts.{counts_on}
 use Rattle.std.specs.List.{Contains}
 use Rattle.segment_machine.specs.Actor.{known_at}
@@ -44,36 +45,40 @@ aside_counts a b histogram found role segment deltas names chain words = record 
 }
 
 -- packing leaves aside what no call of `add` changes
-pub packing_aside : (a : Actor) (e : PackingEvent) (found : ℕ) → FrameOfAdd a (next a (packing_event e) found) × StaysOpen a (next a (packing_event e) found)
-packing_aside a (load_single histogram) found = (aside_still a (next a (packing_event (load_single histogram)) found) refl refl refl refl refl refl, (refl, refl))
+pub packing_aside : (a : Actor) (e : PackingEvent) (found : ℕ) → FrameOfAdd a (next a (packing_event e) found) × StaysOpen a (next a (packing_event e) found) × ((next a (packing_event e) found).done ≡ a.done)
+packing_aside a (load_single histogram) found = (aside_still a (next a (packing_event (load_single histogram)) found) refl refl refl refl refl refl, (refl, refl), refl)
 packing_aside a (pack histogram old new) found = by (found == old)
   where
     by : (same : Bool) → FrameOfAdd a (after_pack same a histogram new found) × StaysOpen a (after_pack same a histogram new found)
-    by true = (aside_still a (after_pack true a histogram new found) refl refl refl refl refl refl, (refl, refl))
-    by false = (aside_still a (after_pack false a histogram new found) refl refl refl refl refl refl, (refl, refl))
+        × ((after_pack same a histogram new found).done ≡ a.done)
+    by true = (aside_still a (after_pack true a histogram new found) refl refl refl refl refl refl, (refl, refl), refl)
+    by false = (aside_still a (after_pack false a histogram new found) refl refl refl refl refl refl, (refl, refl), refl)
 packing_aside a (mount_counts histogram at) found = by (found == 0)
   where
     by : (none : Bool) → FrameOfAdd a (after_mount none a histogram at found) × StaysOpen a (after_mount none a histogram at found)
-    by true = (aside_counts a (after_mount true a histogram at found) histogram at refl refl refl refl refl refl, (refl, refl))
-    by false = (aside_counts a (after_mount false a histogram at found) histogram found refl refl refl refl refl refl, (refl, refl))
-packing_aside a (purge_block at) found = (aside_still a (next a (packing_event (purge_block at)) found) refl refl refl refl refl refl, (refl, refl))
+        × ((after_mount none a histogram at found).done ≡ a.done)
+    by true = (aside_counts a (after_mount true a histogram at found) histogram at refl refl refl refl refl refl, (refl, refl), refl)
+    by false = (aside_counts a (after_mount false a histogram at found) histogram found refl refl refl refl refl refl, (refl, refl), refl)
+packing_aside a (purge_block at) found = (aside_still a (next a (packing_event (purge_block at)) found) refl refl refl refl refl refl, (refl, refl), refl)
 packing_aside a (disable histogram old) found = by (found == old)
   where
     by : (same : Bool) → FrameOfAdd a (after_disable same a histogram old found) × StaysOpen a (after_disable same a histogram old found)
-    by true = (aside_still a (after_disable true a histogram old found) refl refl refl refl refl refl, (refl, refl))
-    by false = (aside_still a (after_disable false a histogram old found) refl refl refl refl refl refl, (refl, refl))
+        × ((after_disable same a histogram old found).done ≡ a.done)
+    by true = (aside_still a (after_disable true a histogram old found) refl refl refl refl refl refl, (refl, refl), refl)
+    by false = (aside_still a (after_disable false a histogram old found) refl refl refl refl refl refl, (refl, refl), refl)
 packing_aside a (add_moved counts bucket units) found =
-    (aside_still a (next a (packing_event (add_moved counts bucket units)) found) refl refl refl refl refl refl, (refl, refl))
+    (aside_still a (next a (packing_event (add_moved counts bucket units)) found) refl refl refl refl refl refl, (refl, refl), refl)
 
 -- ---- a step
 
 module _ (shape : Dimensions) (known : Known) (amid : Amid) (add : Add) (a : Actor) (is : IsAdd shape known amid add a) (stage : Stage) where
   -- it goes on from another stage
-  pub goes_still : (b : Actor) → FrameOfAdd a b → StaysOpen a b → StandsAtStage shape known amid (record add { stage = stage }) b stage
+  pub goes_still : (b : Actor) → FrameOfAdd a b → StaysOpen a b → DoesOnly false false (links_counted add) a b → StandsAtStage shape known amid (record add { stage = stage }) b stage
       → AddGives shape known amid (record add { stage = stage }) More a b
-  goes_still b beside (units, entries) stands = (
+  goes_still b beside (units, entries) does stands = (
     beside,
     (units, entries),
+    does,
     record {
       counting = counts_on shape known add stage is.counting;
       segment = ap (λ s. s.shape) beside.segment ∙ is.segment;
@@ -96,7 +101,7 @@ module _ (shape : Dimensions) (known : Known) (amid : Amid) (add : Add) (a : Act
     abbrev acted : Actor
     acted = next a event found
 
-    pub acts_on : Ready a event → new_words ≡ after shape.size add.version event words → FrameOfAdd a acted × StaysOpen a acted
+    pub acts_on : Ready a event → new_words ≡ after shape.size add.version event words → FrameOfAdd a acted × StaysOpen a acted × (acted.done ≡ a.done)
         → (Learned a event found → StandsAtStage shape known amid (record add { stage = stage }) acted stage)
         → StepsBy shape.size add.version a words new_words (AddGives shape known amid (record add { stage = stage }) More a)
     acts_on ready are beside stands = record {
@@ -106,7 +111,7 @@ module _ (shape : Dimensions) (known : Known) (amid : Amid) (add : Add) (a : Act
       event = event;
       ready = ready;
       words_are = are;
-      goes = λ learned apart. ([], acted, refl, goes_still acted beside.0 beside.1 (stands learned));
+      goes = λ learned apart. ([], acted, refl, goes_still acted beside.0 beside.1 (does_nothing (links_counted add) a acted beside.2) (stands learned));
     }
 
   pub packs_on : (words new_words : List ℕ) (e : PackingEvent) → Ready a (packing_event e) → new_words ≡ after shape.size add.version (packing_event e) words

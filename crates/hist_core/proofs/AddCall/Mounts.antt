@@ -34,8 +34,8 @@ use Rattle.hist_core.specs.declared.add.Stage.{Stage}
 use Rattle.hist_core.specs.declared.add.Stage.TheVariants.{SeekingCounts, Allocating, Mounting, Purging, LoadingAgain}
 use Rattle.segment_calls.specs.declared.refusal.Refusal.{Refusal}
 use Rattle.segment_calls.specs.declared.refusal.Refusal.TheVariants as why
-use Rattle.hist_core.specs.StepsBy.{FrameOfStep, StepsBy, is_tied}
-use Rattle.hist_core.specs.Add.{Amid, HasEntry, HasMetNoCounts, AreCounts, StandsAtStage, IsAdd, AddGives, BeginsToAllocate, IsAllocated, block_words}
+use Rattle.hist_core.specs.StepsBy.{DoesOnly, FrameOfStep, StepsBy, is_tied}
+use Rattle.hist_core.specs.Add.{Amid, HasEntry, HasMetNoCounts, AreCounts, StandsAtStage, IsAdd, AddGives, BeginsToAllocate, IsAllocated, block_words, links_counted}
 use Rattle.hist_core.specs.Making.{IsCause}
 use Rattle.hist_core.proofs.AddCall.Counts.{counts_in}
 use Rattle.hist_core.proofs.AddCall.Entries.{counting_of}
@@ -45,6 +45,7 @@ use Rattle.hist_core.proofs.AddCall.Refusals.{refuses, beside_aside}
 use Rattle.hist_core.proofs.Parts.Allocations.{allocates_on, goes_with}
 use Rattle.hist_core.proofs.Parts.Alone.{makes_so}
 use Rattle.hist_core.proofs.Parts.Claims.{IsEnd, claimed_suits, claimed_of, goes_noting, rests_at}
+use Rattle.hist_core.proofs.Parts.Deeds.{is_full_end}
 use Rattle.std.proofs.lemmas.Bool.{eq-eqb}
 
 module _ (shape : Dimensions) (known : Known) (amid : Amid) (add : Add) (a : Actor) (words : List ℕ) (is : IsAdd shape known amid add a) where
@@ -79,7 +80,7 @@ module _ (shape : Dimensions) (known : Known) (amid : Amid) (add : Add) (a : Act
     seeks_on stage stands = acts_on shape known amid add a is stage words words load
         (stood_seeking.2, (known, has_them shape known amid add a words is stood_seeking.0))
         (sym (set-get_or words (known.reference + 8) 0))
-        (aside_counts a loaded known.reference sought refl refl refl refl refl refl, (refl, refl))
+        (aside_counts a loaded known.reference sought refl refl refl refl refl refl, (refl, refl), refl)
         (λ learned. stands learned.0 learned.1)
 
     -- there are some
@@ -141,11 +142,11 @@ module _ (shape : Dimensions) (known : Known) (amid : Amid) (add : Add) (a : Act
     stood_allocating = subst (StandsAtStage shape known amid add a) allocates is.stands
 
     module _ (long : length words ≡ shape.size) (y : Allocation) (new_words : List ℕ) (says : AllocStep) (step : alloc.IsStep x words y new_words says) where
-      claims : StepsBy shape.size add.version a words new_words (λ b. FrameOfStep a b × AreApart b × Allocates b y × (b.seen.words ≡ a.seen.words) × IsEnd says x.size a b)
+      claims : StepsBy shape.size add.version a words new_words (λ b. FrameOfStep a b × DoesOnly false (is_full_end says) (links_counted add) a b × AreApart b × Allocates b y × (b.seen.words ≡ a.seen.words) × IsEnd says x.size a b)
       claims =
           let size = ap (λ (d : Dimensions). d.size) is.segment in
-          subst (λ (n : ℕ). StepsBy n add.version a words new_words (λ b. FrameOfStep a b × AreApart b × Allocates b y × (b.seen.words ≡ a.seen.words) × IsEnd says x.size a b)) size
-          (allocates_on add.version a x y words new_words says stood_allocating.2.0 (long ∙ sym size) step)
+          subst (λ (n : ℕ). StepsBy n add.version a words new_words (λ b. FrameOfStep a b × DoesOnly false (is_full_end says) (links_counted add) a b × AreApart b × Allocates b y × (b.seen.words ≡ a.seen.words) × IsEnd says x.size a b)) size
+          (allocates_on (links_counted add) add.version a x y words new_words says stood_allocating.2.0 (long ∙ sym size) step)
 
       -- its entry is as it was
       entry_still : (b : Actor) → FrameOfStep a b → HasEntry known amid add b false false
@@ -156,17 +157,18 @@ module _ (shape : Dimensions) (known : Known) (amid : Amid) (add : Add) (a : Act
       none_still b same bucketed counts seen =
           stood_allocating.2.4 bucketed counts (ap (λ (l : List Sighting). word_seen l (known.reference + 8)) (sym same) ∙ seen)
 
-      still : (b : Actor) → FrameOfStep a b → (stage : Stage) → StandsAtStage shape known amid (record add { stage = stage }) b stage
+      still : (b : Actor) → FrameOfStep a b → DoesOnly false false (links_counted add) a b → (stage : Stage) → StandsAtStage shape known amid (record add { stage = stage }) b stage
           → AddGives shape known amid (record add { stage = stage }) More a b
-      still b beside stage stands = goes_still shape known amid add a is stage b (beside_aside a b beside) (beside.units, beside.entries ∙ ap (λ e. record a.entries { running = e.running }) (sym beside.entries)) stands
+      still b beside does stage stands =
+          goes_still shape known amid add a is stage b (beside_aside a b beside) (beside.units, beside.entries ∙ ap (λ e. record a.entries { running = e.running }) (sym beside.entries)) does stands
 
       -- it goes on
-      still_claims : is_some (alloc.next_event y) ≡ true → StepsBy shape.size add.version a words new_words (AddGives shape known amid (record add { stage = Allocating y }) More a)
-      still_claims more = goes_noting claims (λ b (beside, apart, goes, same, ends). (
+      still_claims : says ≡ said.More → is_some (alloc.next_event y) ≡ true → StepsBy shape.size add.version a words new_words (AddGives shape known amid (record add { stage = Allocating y }) More a)
+      still_claims goes_on more = goes_noting claims (λ b (beside, does, apart, goes, same, ends). (
         [],
         b,
         refl,
-        still b beside (Allocating y) (
+        still b beside (subst (λ (s : AllocStep). DoesOnly false (is_full_end s) (links_counted add) a b) goes_on does) (Allocating y) (
           stood_allocating.0,
           entry_still b beside,
           (
@@ -181,11 +183,11 @@ module _ (shape : Dimensions) (known : Known) (amid : Amid) (add : Add) (a : Act
 
       -- it has a block, which it mounts
       has_claimed : (at : ℕ) → says ≡ said.Done at → StepsBy shape.size add.version a words new_words (AddGives shape known amid (record add { stage = Mounting at }) More a)
-      has_claimed at done = goes_noting claims (λ b (beside, apart, goes, same, ends). claimed b beside goes (claimed_of y.stage at (sym done ∙ step.answers)))
+      has_claimed at done = goes_noting claims (λ b (beside, does, apart, goes, same, ends). claimed b beside (subst (λ (s : AllocStep). DoesOnly false (is_full_end s) (links_counted add) a b) done does) goes (claimed_of y.stage at (sym done ∙ step.answers)))
         where
-          claimed : (b : Actor) → FrameOfStep a b → Allocates b y → (size : ℕ) × (y.stage ≡ Claimed at size)
+          claimed : (b : Actor) → FrameOfStep a b → DoesOnly false false (links_counted add) a b → Allocates b y → (size : ℕ) × (y.stage ≡ Claimed at size)
               → (notes : List Note) × (c : Actor) × Notes b notes c × AddGives shape known amid (record add { stage = Mounting at }) More a c
-          claimed b beside goes (size, ends) =
+          claimed b beside does goes (size, ends) =
               let has = subst (StandsAt b y) ends goes.stands in
               let place = subst (IsAimed y) ends goes.lawful.aimed in
               let suits : x.size ≤ size = claimed_suits x x.stage (word_at words (atomic.spot step.event)) at size step.event step.next stood_allocating.2.0.lawful.aimed
@@ -195,7 +197,7 @@ module _ (shape : Dimensions) (known : Known) (amid : Amid) (add : Add) (a : Act
                 [],
                 b,
                 refl,
-                still b beside (Mounting at) (
+                still b beside does (Mounting at) (
                   stood_allocating.0,
                   entry_still b beside,
                   (
@@ -221,19 +223,19 @@ module _ (shape : Dimensions) (known : Known) (amid : Amid) (add : Add) (a : Act
         → StepsBy shape.size add.version a words new_words (AddGives shape known amid new result a)
     allocates_so long y new_words said.More new result step more (new_is, result_is) =
         subst (λ (p : Add × AddStep). StepsBy shape.size add.version a words new_words (AddGives shape known amid p.0 p.1 a)) (λ i. (sym new_is i, sym result_is i))
-        (still_claims long y new_words said.More step (more refl))
+        (still_claims long y new_words said.More step refl (more refl))
     allocates_so long y new_words (said.Done at) new result step more (new_is, result_is) =
         subst (λ (p : Add × AddStep). StepsBy shape.size add.version a words new_words (AddGives shape known amid p.0 p.1 a)) (λ i. (sym new_is i, sym result_is i))
         (has_claimed long y new_words (said.Done at) step at refl)
     allocates_so long y new_words said.Full new result step more (new_is, result_is) =
         subst (λ (r : AddStep). StepsBy shape.size add.version a words new_words (AddGives shape known amid new r a)) (sym result_is)
-        (goes_with (claims long y new_words said.Full step) (λ b (beside, apart, goes, same, ends).
-        refuses shape known amid add new a stood_allocating.1 b beside (none_still long y new_words said.Full step b same) why.Full (ap (λ (n : Add). counting_of known n false false) new_is)
+        (goes_with (claims long y new_words said.Full step) (λ b (beside, does, apart, goes, same, ends).
+        refuses shape known amid add new a stood_allocating.1 b beside why.Full (subst (λ (n : Add). DoesOnly false true (links_counted n) a b) (sym new_is) does) (none_still long y new_words said.Full step b same) (ap (λ (n : Add). counting_of known n false false) new_is)
         (ap is_tied (rests_at b y y.stage (λ e. cc (step.answers ∙ e)) goes.stands)) (needed why.Full b ends)))
     allocates_so long y new_words said.Corrupt new result step more (new_is, result_is) =
         subst (λ (r : AddStep). StepsBy shape.size add.version a words new_words (AddGives shape known amid new r a)) (sym result_is)
-        (goes_with (claims long y new_words said.Corrupt step) (λ b (beside, apart, goes, same, ends).
-        refuses shape known amid add new a stood_allocating.1 b beside (none_still long y new_words said.Corrupt step b same) why.Corrupt (ap (λ (n : Add). counting_of known n false false) new_is)
+        (goes_with (claims long y new_words said.Corrupt step) (λ b (beside, does, apart, goes, same, ends).
+        refuses shape known amid add new a stood_allocating.1 b beside why.Corrupt (subst (λ (n : Add). DoesOnly false false (links_counted n) a b) (sym new_is) does) (none_still long y new_words said.Corrupt step b same) (ap (λ (n : Add). counting_of known n false false) new_is)
         (ap is_tied (rests_at b y y.stage (λ e. cc (step.answers ∙ e)) goes.stands)) (needed why.Corrupt b ends)))
 
     -- what the step of its allocation asks for

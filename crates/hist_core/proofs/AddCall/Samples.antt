@@ -7,6 +7,7 @@ use Rattle.alloc_core.specs.Layout.{IsShape}
 use Rattle.list_core.specs.Chain.{is_reference}
 use Rattle.segment_machine.specs.declared.actor.Actor.{Actor}
 use Rattle.segment_machine.specs.declared.actor.Known.{Known}
+use Rattle.segment_machine.specs.declared.actor.Made.TheVariants.{Sample}
 use Rattle.segment_machine.specs.Actor.{has_buckets}
 use Rattle.segment_machine.specs.Made.{IsFirstSample}
 use Rattle.hist_core.specs.declared.add.Add.{Add}
@@ -16,16 +17,17 @@ use Rattle.hist_core.specs.declared.add.Stage.TheVariants as stage
 use Rattle.hist_core.specs.declared.sampling.Sampling.{Sampling}
 use Rattle.hist_core.specs.declared.sampling.SamplingStep.{SamplingStep}
 use Rattle.hist_core.specs.declared.sampling.SamplingStep.TheVariants as found
-use Rattle.hist_core.specs.Add.{Amid, HasEntry, IsAdd, IsSampled, OpensWith, StandsAtStage, StaysOpen, AddGives}
-use Rattle.hist_core.specs.StepsBy.{FrameOfStep, StepsBy, IsFree}
-use Rattle.hist_core.specs.Sampling.{SamplingGives}
-use Rattle.hist_core.specs.Making.{IsCause}
+use Rattle.hist_core.specs.Add.{Amid, HasEntry, IsAdd, IsSampled, OpensWith, StandsAtStage, StaysOpen, AddGives, links_counted}
+use Rattle.hist_core.specs.StepsBy.{DoesOnly, FrameOfStep, StepsBy, IsFree}
+use Rattle.hist_core.specs.Sampling.{SamplingGives, links_sample}
+use Rattle.hist_core.specs.Making.{IsCause, is_full}
 use Rattle.bucket_ranges.specs.Spec.{buckets_of}
 use Rattle.hist_core.proofs.AddCall.Entries.{counting_of}
 use Rattle.hist_core.proofs.AddCall.Going.{goes_still}
 use Rattle.hist_core.proofs.AddCall.Refusals.{beside_aside, refuses}
 use Rattle.hist_core.proofs.Worlds.Free.{free_turns}
 use Rattle.hist_core.proofs.Parts.Allocations.{goes_with}
+use Rattle.hist_core.proofs.Parts.Deeds.{does_less}
 use Rattle.hist_core.proofs.AddCall.Searches.{begins_at}
 
 -- ---- it begins
@@ -71,13 +73,20 @@ module _ (shape : Dimensions) (known : Known) (amid : Amid) (add : Add) (a : Act
   has_still : (b : Actor) → FrameOfStep a b → HasEntry known amid add b false false
   has_still b beside = ap (λ e. e.running) beside.entries ∙ stood_sampling.0
 
+  -- the sample that its search may link is that of its value
+  links_of : (full : Bool) (x : Sampling) → x ≡ record s { walk = x.walk; stage = x.stage } → (b : Actor) → DoesOnly false full (links_sample x) a b
+      → DoesOnly false full (links_counted add) a b
+  links_of full x same b does = does_less false full (links_sample x) (links_counted add) a b (λ made it. it ∙ (λ i. Sample
+      ((ap (λ (y : Sampling). y.histogram) same ∙ (stood_sampling.2 ∙ is.counting.reference)) i)
+      ((ap (λ (y : Sampling). y.value) same ∙ stood_sampling.3) i))) does
+
   -- whatever the step of the search says
   pub samples_so : (x : Sampling) → x ≡ record s { walk = x.walk; stage = x.stage } → (new_words : List ℕ) (says : SamplingStep) (new : Add) (result : AddStep)
       → StepsBy shape.size add.version a words new_words (SamplingGives shape x says a) → IsSampled (record add { stage = stage.Sampling x }) says new result
       → StepsBy shape.size add.version a words new_words (AddGives shape known amid new result a)
   samples_so x same new_words found.More new result goes (new_is, result_is) =
       subst (λ (p : Add × AddStep). StepsBy shape.size add.version a words new_words (AddGives shape known amid p.0 p.1 a)) (λ i. (sym new_is i, sym result_is i))
-      (goes_with goes (λ b (beside, searches). goes_still shape known amid add a is (stage.Sampling x) b (beside_aside a b beside) (still_open b beside) (
+      (goes_with goes (λ b (beside, does, searches). goes_still shape known amid add a is (stage.Sampling x) b (beside_aside a b beside) (still_open b beside) (links_of false x same b does) (
         has_still b beside,
         stood_sampling.1,
         ap (λ (y : Sampling). y.histogram) same ∙ stood_sampling.2,
@@ -86,10 +95,10 @@ module _ (shape : Dimensions) (known : Known) (amid : Amid) (add : Add) (a : Act
       )))
   samples_so x same new_words (found.Found sample) new result goes (new_is, result_is) =
       subst (λ (p : Add × AddStep). StepsBy shape.size add.version a words new_words (AddGives shape known amid p.0 p.1 a)) (λ i. (sym new_is i, sym result_is i))
-      (goes_with goes (λ b (beside, free, first, within).
+      (goes_with goes (λ b (beside, does, free, first, within).
       let many = is.lawful_shape.many in
       let here : (sample + 6) % 2 ^ 64 ≡ sample + 6 = omega (arith, within, many) in
-      goes_still shape known amid add a is (stage.Counting ((sample + 6) % 2 ^ 64)) b (beside_aside a b beside) (still_open b beside) (
+      goes_still shape known amid add a is (stage.Counting ((sample + 6) % 2 ^ 64)) b (beside_aside a b beside) (still_open b beside) (links_of false x same b does) (
         has_still b beside,
         inr (
           sample,
@@ -103,6 +112,6 @@ module _ (shape : Dimensions) (known : Known) (amid : Amid) (add : Add) (a : Act
       )))
   samples_so x same new_words (found.Refused cause) new result goes (new_is, result_is) =
       subst (λ (r : AddStep). StepsBy shape.size add.version a words new_words (AddGives shape known amid new r a)) (sym result_is)
-      (goes_with goes (λ b (beside, free, is_cause).
-      refuses shape known amid add new a stood_sampling.0 b beside (λ bucketed. absurd (true≢false (sym bucketed ∙ ap has_buckets stood_sampling.1))) cause (ap (λ (n : Add). counting_of known n false false) new_is) free
+      (goes_with goes (λ b (beside, does, free, is_cause).
+      refuses shape known amid add new a stood_sampling.0 b beside cause (subst (λ (n : Add). DoesOnly false (is_full cause) (links_counted n) a b) (sym new_is) (links_of (is_full cause) x same b does)) (λ bucketed. absurd (true≢false (sym bucketed ∙ ap has_buckets stood_sampling.1))) (ap (λ (n : Add). counting_of known n false false) new_is) free
       (subst (λ (n : ℕ). IsCause cause n a b) (sym (ap (λ (t : Bool). if t then 4 + 2 * buckets_of known.spec else 8) (ap has_buckets stood_sampling.1))) is_cause)))

@@ -32,13 +32,14 @@ use Rattle.hist_core.specs.declared.sampling.SamplingStep.{SamplingStep}
 use Rattle.hist_core.specs.declared.sampling.SamplingStep.TheVariants.{More, Found}
 use Rattle.hist_core.specs.declared.sampling.Stage.{Stage}
 use Rattle.hist_core.specs.declared.sampling.Stage.TheVariants.{Walking, LoadingType, LoadingHistogram, LoadingValue, Making}
-use Rattle.hist_core.specs.StepsBy.{FrameOfStep, StepsBy, IsFree}
+use Rattle.hist_core.specs.StepsBy.{DoesOnly, FrameOfStep, StepsBy, IsFree}
 use Rattle.hist_core.specs.Making.{MakingGives, MayMake}
 use Rattle.hist_core.specs.Making as making
-use Rattle.hist_core.specs.Sampling.{HaveOthers, IsIts, IsMade, IsSampling, IsSomeSampling, IsStarted, MetRecord, SamplingGives, StandsAtStage, behind_type, wanted_of}
+use Rattle.hist_core.specs.Sampling.{HaveOthers, IsIts, IsMade, IsSampling, IsSomeSampling, IsStarted, MetRecord, SamplingGives, StandsAtStage, behind_type, links_sample, wanted_of}
 use Rattle.hist_core.proofs.Worlds.Free.{free_turns}
 use Rattle.hist_core.proofs.Makes.Drafts.{begins}
 use Rattle.hist_core.proofs.Parts.Allocations.{goes_with, walks_saying}
+use Rattle.hist_core.proofs.Parts.Deeds.{does_nothing}
 use Rattle.hist_core.proofs.Walks.Walking.{walk_beside}
 
 -- ---- it begins
@@ -107,7 +108,7 @@ module _ (shape : Dimensions) (version : ℕ) (s : Sampling) (a : Actor) (words 
     stood = subst (StandsAtStage shape s a is.behind) walks is.stands
 
     loads : (said : WalkStep) → said ≡ said_of (length words) (word_at words (s.walk + 3))
-        → StepsBy shape.size version a words words (λ b. FrameOfStep a b × IsFree b × IsPrefix (given_after given said) b.seen.chain)
+        → StepsBy shape.size version a words words (λ b. FrameOfStep a b × (b.done ≡ a.done) × IsFree b × IsPrefix (given_after given said) b.seen.chain)
     loads = walks_saying shape version a given words s.walk is.segment long is.walk stood.0 is.chain
 
     -- it met a record, whose type it loads next
@@ -117,8 +118,9 @@ module _ (shape : Dimensions) (version : ℕ) (s : Sampling) (a : Actor) (words 
     meets reference walk says walked reach here =
         let onward = append_assoc is.front (s.histogram ∷ is.behind) (reference ∷ []) in
         let within = reference_within shape reference is.lawful_shape (subst (λ (p : ℕ × ℕ). is_reference p.0 p.1 ≡ true) (λ i. (long i, here i)) reach) in
-        goes_with (loads (Record reference) says) (λ b (beside, free, front). (
+        goes_with (loads (Record reference) says) (λ b (beside, done, free, front). (
           beside,
+          does_nothing (links_sample s) a b done,
           goes_further walk (is.behind ++ reference ∷ []) (LoadingType reference) b beside (walked ∙ ap stands_behind onward)
               (subst (λ (n : ℕ). is_reference n walk ≡ true) long reach) (subst (λ (l : List ℕ). IsPrefix l b.seen.chain) onward front)
               (record { free = free; passed = is.behind; are = refl; others = others_on b beside is.behind stood.1; within = within }),
@@ -127,8 +129,9 @@ module _ (shape : Dimensions) (version : ℕ) (s : Sampling) (a : Actor) (words 
     -- a word that no list has: it stands where it stood
     pub strays : (walk : ℕ) → Stray ≡ said_of (length words) (word_at words (s.walk + 3)) → walk ≡ s.walk
         → StepsBy shape.size version a words words (SamplingGives shape (record s { walk = walk }) More a)
-    strays walk says here = goes_with (loads Stray says) (λ b (beside, free, front). (
+    strays walk says here = goes_with (loads Stray says) (λ b (beside, done, free, front). (
       beside,
+      does_nothing (links_sample s) a b done,
       goes_further walk is.behind s.stage b beside (here ∙ is.walk) (ap (is_reference shape.size) here ∙ is.reach) front
           (subst (StandsAtStage shape (record s { walk = walk }) b is.behind) (sym walks) (free, others_on b beside is.behind stood.1)),
     ))
@@ -149,8 +152,9 @@ module _ (shape : Dimensions) (version : ℕ) (s : Sampling) (a : Actor) (words 
     -- at the end of the list it begins to make a sample
     pub ends : (walk : ℕ) (makes : MakingOf) → End ≡ said_of (length words) (word_at words (s.walk + 3)) → walk ≡ s.walk → making.IsStarted s.shape 4 3 makes
         → StepsBy shape.size version a words words (SamplingGives shape (record s { walk = walk; stage = Making makes }) More a)
-    ends walk makes says here starts = goes_with (loads End says) (λ b (beside, free, front). (
+    ends walk makes says here starts = goes_with (loads End says) (λ b (beside, done, free, front). (
       beside,
+      does_nothing (links_sample s) a b done,
       goes_further walk is.behind (Making makes) b beside (here ∙ is.walk) (ap (is_reference shape.size) here ∙ is.reach) front (
         others_on b beside is.behind stood.1,
         begins shape (wanted_of s) makes b (ap (λ x. x.shape) beside.segment ∙ is.segment) is.lawful_shape (may_make b beside) (free_turns b.hand.place free)
@@ -188,6 +192,10 @@ module _ (shape : Dimensions) (version : ℕ) (s : Sampling) (a : Actor) (words 
 
       beside : FrameOfStep a acted
       beside = walk_beside a event found
+
+      -- nothing is done to the segment
+      none : DoesOnly false false (links_sample s) a acted
+      none = does_nothing (links_sample s) a acted refl
 
       -- its actor has seen that word then
       seen_there : Learned a (walking_event event) found → word_seen acted.seen.words (at + index) ≡ Some found
@@ -235,6 +243,7 @@ module _ (shape : Dimensions) (version : ℕ) (s : Sampling) (a : Actor) (words 
     pub loads_type : StepsBy shape.size version a words words (SamplingGives shape (record s { stage = behind_type at tag }) More a)
     loads_type = does_load at met_type 2 (inl refl) (record s { stage = behind_type at tag }) More (λ learned. (
       beside at met_type 2 (inl refl),
+      none at met_type 2 (inl refl),
       goes_still (behind_type at tag) typed (beside at met_type 2 (inl refl)) (by (tag == 3) refl learned),
     ))
       where
@@ -266,6 +275,7 @@ module _ (shape : Dimensions) (version : ℕ) (s : Sampling) (a : Actor) (words 
         let its_beside = beside at met_sample.0 4 fixed_histogram in
         does_load at met_sample.0 4 fixed_histogram (record s { stage = LoadingValue at of }) More (λ learned. (
           its_beside,
+          none at met_sample.0 4 fixed_histogram,
           goes_still (LoadingValue at of) b its_beside (
             met_still at met_sample.0 4 fixed_histogram (LoadingValue at of),
             (seen_still at met_sample.0 4 fixed_histogram (at + 2) 3 met_sample.1.0, met_sample.1.1),
@@ -297,6 +307,7 @@ module _ (shape : Dimensions) (version : ℕ) (s : Sampling) (a : Actor) (words 
         let its_beside = beside at met 5 fixed_value in
         does_load at met 5 fixed_value s (Found at) (λ learned. (
           its_beside,
+          none at met 5 fixed_value,
           met.free,
           (
             is.front,
@@ -325,6 +336,7 @@ module _ (shape : Dimensions) (version : ℕ) (s : Sampling) (a : Actor) (words 
         let its_beside = beside at met 5 fixed_value in
         does_load at met 5 fixed_value (record s { stage = Walking }) More (λ learned. (
           its_beside,
+          none at met 5 fixed_value,
           goes_still Walking valued its_beside (passes_it at met 5 fixed_value (saw_other learned other)),
         ))
       where
@@ -347,12 +359,12 @@ module _ (shape : Dimensions) (version : ℕ) (s : Sampling) (a : Actor) (words 
         → StepsBy shape.size version a words new_words (SamplingGives shape new result a)
     makes_so x new_words made.More new result goes (new_is, result_is) =
         subst (λ (p : Sampling × SamplingStep). StepsBy shape.size version a words new_words (SamplingGives shape p.0 p.1 a)) (λ i. (sym new_is i, sym result_is i))
-        (goes_with goes (λ b (beside, makes_on). (beside, goes_still (Making x) b beside (others_on b beside is.behind stood_making.0, makes_on))))
+        (goes_with goes (λ b (beside, does, makes_on). (beside, does, goes_still (Making x) b beside (others_on b beside is.behind stood_making.0, makes_on))))
     makes_so x new_words made.Done new result goes (new_is, result_is) =
         subst (λ (p : Sampling × SamplingStep). StepsBy shape.size version a words new_words (SamplingGives shape p.0 p.1 a)) (λ i. (sym new_is i, sym result_is i))
-        (goes_with goes (λ b (beside, turns). (beside, goes_still Walking b beside (turns, others_on b beside is.behind stood_making.0))))
+        (goes_with goes (λ b (beside, does, turns). (beside, does, goes_still Walking b beside (turns, others_on b beside is.behind stood_making.0))))
     makes_so x new_words (made.Refused cause) new result goes (new_is, result_is) =
-        subst (λ (r : SamplingStep). StepsBy shape.size version a words new_words (SamplingGives shape new r a)) (sym result_is) goes
+        subst (λ (p : Sampling × SamplingStep). StepsBy shape.size version a words new_words (SamplingGives shape p.0 p.1 a)) (λ i. (sym new_is i, sym result_is i)) goes
 
 -- ---- where it loads
 

@@ -1,5 +1,5 @@
 -- What becomes of an actor by what its `batch` says.
-use Rattle.std.proofs.Common.{◌≡◌, ◌≤◌, ◌+◌, ◌-◌, ℕ, List, ◌++◌, map, length, take, inr, refl, sym, ap, subst, ◌∙◌, arith, length-append}
+use Rattle.std.proofs.Common.{◌≡◌, ◌≤◌, ◌+◌, ◌-◌, ℕ, ℤ, List, ◌++◌, map, length, take, inr, refl, sym, ap, subst, ◌∙◌, arith, length-append}
 use Rattle.std.specs.Prelude.{Option, Some, vec_len}
 use Rattle.std.proofs.lemmas.List.{length-map, length-drop, take-append-drop, take-take, take_all, drop-take}
 use Rattle.segment_image.specs.Shape.{Dimensions}
@@ -10,17 +10,21 @@ use Rattle.segment_machine.specs.Note.{Note, Notes, noted, refused}
 use Rattle.hist_core.specs.declared.batch.Batch.{Batch as BatchCall}
 use Rattle.hist_core.specs.declared.batch.BatchStep.{BatchStep}
 use Rattle.hist_core.specs.declared.batch.BatchStep.TheVariants.{More, Done, Refused}
+use Rattle.hist_core.specs.declared.call.Answer.TheVariants as answer
 use Rattle.hist_core.specs.declared.call.Stepped.{Stepped}
+use Rattle.hist_core.specs.declared.call.Stepped.TheVariants as stepped
+use Rattle.segment_promises.proofs.Spoilers.{notes_leave}
+use Rattle.segment_machine.specs.declared.actor.Made.TheVariants.{Sample}
 use Rattle.hist_core.specs.declared.actor_run.Running.{Running}
 use Rattle.hist_core.specs.declared.actor_run.Running.TheVariants.{Batch}
 use Rattle.hist_core.specs.declared.actor_run.ActorRun.{ActorRun}
 use Rattle.std.specs.List.{Contains}
 use Rattle.hist_core.specs.Add.{FrameOfAdd, HasMetNoCounts, block_words, counted_entry}
 use Rattle.segment_machine.specs.Entry.{tally_noted}
-use Rattle.hist_core.specs.Batch.{IsBatch, IsCutAt, HaveEnded, IsSomeBatch, IsSameBatch, IsRefusedAt, BatchSteps, BatchGives, added_of, counted_entries, sum_entries, units_among}
-use Rattle.hist_core.specs.StepsBy.{StepsBy}
-use Rattle.hist_core.proofs.Worlds.Landing.{Landing}
-use Rattle.hist_core.specs.ActorRun.{ended_by, begun_by, pending_by, entry_of, held_by, IsGhostNoting, IsBatching, StandsIn, IsRun, IsBatchAnnounced, LandsBack, Answers, IsRefusedBy}
+use Rattle.hist_core.specs.Batch.{IsBatch, IsCutAt, HaveEnded, IsSomeBatch, IsSameBatch, IsRefusedAt, BatchSteps, BatchGives, added_of, counted_entries, links_counted, sum_entries, units_among}
+use Rattle.hist_core.specs.StepsBy.{DoesOnly, StepsBy}
+use Rattle.hist_core.proofs.Worlds.Landing.{Landing, does_as_said}
+use Rattle.hist_core.specs.ActorRun.{ended_by, begun_by, pending_by, entry_of, held_by, IsGhostNoting, IsBatching, StandsIn, IsRun, IsBatchAnnounced, LandsBack, Answers, DoesAsSaid, IsRefusedBy, MayLink, is_flagged, lacks_room}
 use Rattle.segment_calls.specs.declared.refusal.Refusal.{Refusal}
 use Rattle.hist_core.specs.Making.{IsCause}
 use Rattle.hist_core.proofs.AddCall.Refusals.{HasOnlyNoted, cause_noted}
@@ -56,11 +60,18 @@ module _ (shape : Dimensions) (version : ℕ) (old : ActorRun) (batch : BatchCal
     module _ (now : BatchCall) (same : IsSameBatch batch now) (same_entries : counted_entries known now ≡ entries) (a : Actor) (counts : Tells a) where
       -- it goes on
       goes_on : (b : Actor) → BatchGives shape known now More a b → IsRun shape version (record old { begun = length old.entries.items; running = Some (Batch now) }) b
-      goes_on b (aside, stays, counting) =
+      goes_on b (aside, stays, does, counting) =
           still_counts shape version old known.name batch.cost entries standing runs into a counts b aside stays (Batch now)
           (runs_so shape known now b counting ∙ same_entries)
           (known, record { pending_are = counts.pending_are ∙ sym same_entries; stands = inr (ap (λ u. u.share) stays.0 ∙ counts.share, counting) })
           tt tt
+
+      -- a record that it links is a sample of the value of an item
+      does_it : (said : Stepped) (first b d : Actor) → a.done ≡ first.done → d.done ≡ b.done → DoesOnly (is_flagged said) (lacks_room said) (links_counted now) a b
+          → DoesAsSaid old.running said first d
+      does_it said first b d before behind = does_as_said old.running said (links_counted now)
+          (λ made (sample, inside, it). subst (λ running. MayLink running made) (sym is)
+          (sample, subst (λ (l : List (ℤ × ℕ)). Contains l sample) same.samples inside, it ∙ ap (λ (histogram : ℕ). Sample histogram sample.0) same.histogram)) first a b d before behind
 
       -- why it is refused
       refused_by : (added : ℕ) (first b : Actor) → HasOnlyNoted first a → FrameOfAdd a b → (why : Refusal) → IsCause why (block_words known) a b → HasMetNoCounts known b
@@ -109,19 +120,26 @@ module _ (shape : Dimensions) (version : ℕ) (old : ActorRun) (batch : BatchCal
         → IsBatchAnnounced (record old { running = Some (Batch now) }) said new result → Landing shape version old words new new_words result a
     batch_goes More result steps at (new_is, result_is) =
         subst (λ said. Landing shape version old words new new_words said a) (sym result_is) (goes (λ b from counts. goes_with (its_steps its now same still_same b counts words new_words More long steps)
-        (λ c gives. subst (λ (r : ActorRun). IsRun shape version r c) (sym new_is) (goes_on its now same still_same b counts c gives))))
+        (λ c (aside, stays, does, counting). (
+          subst (λ (r : ActorRun). IsRun shape version r c) (sym new_is) (goes_on its now same still_same b counts c (aside, stays, does, counting)),
+          does_it its now same still_same b counts stepped.More a c c from.2 refl does,
+        ))))
     batch_goes Done result steps at (new_is, result_is) =
         subst (λ said. Landing shape version old words new new_words said a) (sym result_is) (goes (λ b from counts. goes_noting (its_steps its now same still_same b counts words new_words Done long steps)
-        (λ c (aside, stays, turns, over). subst (λ (r : ActorRun). (notes : List Note) × (d : Actor) × Notes c notes d × IsRun shape version r d) (sym new_is)
+        (λ c (aside, stays, does, turns, over).
+        let (notes, d, told, run_then) = subst (λ (r : ActorRun). (notes : List Note) × (d : Actor) × Notes c notes d × IsRun shape version r d) (sym new_is)
         (has_counted shape version old its.name batch.cost (entries its) (standing its) (runs its) (into its) b counts c aside stays turns counts.counting.rests
-        (subst (λ (l : List MachineEntry). HaveEnded l c) still_same over)))))
+        (subst (λ (l : List MachineEntry). HaveEnded l c) still_same over)) in
+        (notes, d, told, (run_then, does_it its now same still_same b counts (stepped.Done answer.Added) a c d from.2 (notes_leave notes c d told).1 does)))))
     batch_goes (Refused refusal) result steps at (new_is, items, result_is) =
         subst (λ said. Landing shape version old words new new_words said a) (sym result_is) (goes (λ b from counts. goes_noting (its_steps its now same still_same b counts words new_words (Refused refusal) long steps)
-        (λ c (aside, stays, turns, cause, cut, few, spent, met). subst (λ (units : ℕ). (notes : List Note) × (d : Actor) × Notes c notes d
+        (λ c (aside, stays, does, turns, cause, cut, few, spent, met).
+        let (notes, d, told, lands) = subst (λ (units : ℕ). (notes : List Note) × (d : Actor) × Notes c notes d
         × (LandsBack shape version units new d × IsRefusedBy old.running refusal.why a d)) (sym (ap held_by is))
         (is_cut shape version old its.name batch.cost (entries its) (standing its) (runs its) (into its) b counts c aside stays turns counts.counting.rests counts.counting.held
         refusal.added batch.left (few_entries few) (subst (λ (l : List MachineEntry). IsCutAt refusal.added l c) still_same cut) (left_so few spent) new (old.ended + refusal.added) refl new_is items
-        (λ d. IsRefusedBy old.running refusal.why a d) (refused_by its now same still_same b counts refusal.added a c from aside refusal.why cause met)))))
+        (λ d. IsRefusedBy old.running refusal.why a d) (refused_by its now same still_same b counts refusal.added a c from aside refusal.why cause met)) in
+        (notes, d, told, (lands, does_it its now same still_same b counts (stepped.Done (answer.BatchRefused refusal)) a c d from.2 (notes_leave notes c d told).1 does)))))
       where
         few_entries : refusal.added ≤ length now.items.items → refusal.added ≤ length (entries its)
         few_entries few =

@@ -224,6 +224,7 @@ module _ (shape : Dimensions) (known : Known) (earlier : List Taken) (delta_call
           first = refl;
           chain = ([], sym (append-nil a.seen.chain));
           words = (sight_counts known.reference found, refl);
+          done = refl;
         } in record {
           before = [];
           at = a;

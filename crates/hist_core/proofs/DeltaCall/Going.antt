@@ -32,12 +32,12 @@ pub taking_aside : (a : Actor) (e : TakingEvent) (found : ℕ) → FrameOfDelta 
 taking_aside a e found = by e
   where
     by : (e : TakingEvent) → FrameOfDelta a (next a (taking_event e) found)
-    by (load_count at) = record { role = refl; segment = refl; units = refl; entries = refl; names = refl; snapshots = refl; first = refl; chain = grows_not a.seen.chain; words = grows_not a.seen.words }
-    by (raise_mark at least) = record { role = refl; segment = refl; units = refl; entries = refl; names = refl; snapshots = refl; first = refl; chain = grows_not a.seen.chain; words = grows_not a.seen.words }
-    by (raise_single_mark histogram least) = record { role = refl; segment = refl; units = refl; entries = refl; names = refl; snapshots = refl; first = refl; chain = grows_not a.seen.chain; words = grows_not a.seen.words }
-    by (load_sum histogram) = record { role = refl; segment = refl; units = refl; entries = refl; names = refl; snapshots = refl; first = refl; chain = grows_not a.seen.chain; words = grows_not a.seen.words }
-    by (swap_sum_mark histogram sum) = record { role = refl; segment = refl; units = refl; entries = refl; names = refl; snapshots = refl; first = refl; chain = grows_not a.seen.chain; words = grows_not a.seen.words }
-    by (load_redundant histogram) = record { role = refl; segment = refl; units = refl; entries = refl; names = refl; snapshots = refl; first = refl; chain = grows_not a.seen.chain; words = grows_not a.seen.words }
+    by (load_count at) = record { role = refl; segment = refl; units = refl; entries = refl; names = refl; snapshots = refl; first = refl; chain = grows_not a.seen.chain; words = grows_not a.seen.words; done = refl }
+    by (raise_mark at least) = record { role = refl; segment = refl; units = refl; entries = refl; names = refl; snapshots = refl; first = refl; chain = grows_not a.seen.chain; words = grows_not a.seen.words; done = refl }
+    by (raise_single_mark histogram least) = record { role = refl; segment = refl; units = refl; entries = refl; names = refl; snapshots = refl; first = refl; chain = grows_not a.seen.chain; words = grows_not a.seen.words; done = refl }
+    by (load_sum histogram) = record { role = refl; segment = refl; units = refl; entries = refl; names = refl; snapshots = refl; first = refl; chain = grows_not a.seen.chain; words = grows_not a.seen.words; done = refl }
+    by (swap_sum_mark histogram sum) = record { role = refl; segment = refl; units = refl; entries = refl; names = refl; snapshots = refl; first = refl; chain = grows_not a.seen.chain; words = grows_not a.seen.words; done = refl }
+    by (load_redundant histogram) = record { role = refl; segment = refl; units = refl; entries = refl; names = refl; snapshots = refl; first = refl; chain = grows_not a.seen.chain; words = grows_not a.seen.words; done = refl }
 
 pub taking_sees : (a : Actor) (e : TakingEvent) (found : ℕ) → SeesMore a (next a (taking_event e) found)
 taking_sees a (load_count at) found = record { segment = refl; since = refl; singles = grows_not a.seen.singles; counts = (sight at found, refl); words = grows_not a.seen.words }

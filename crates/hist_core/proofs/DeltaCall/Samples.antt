@@ -132,8 +132,8 @@ module _ (shape : Dimensions) (known : Known) (earlier : List Taken) (delta_call
 
   -- what a walk leaves as it was, from where its call has begun
   aside_of : (begun b : Actor) → record begun { since = a.since; deltas = a.deltas } ≡ a → begun.deltas.snapshots ≡ a.deltas.snapshots
-      → begun.deltas.first_taken ≡ a.deltas.first_taken → FrameOfStep begun b → FrameOfDelta a b
-  aside_of begun b same snapshots first beside = record {
+      → begun.deltas.first_taken ≡ a.deltas.first_taken → FrameOfStep begun b → b.done ≡ begun.done → FrameOfDelta a b
+  aside_of begun b same snapshots first beside done = record {
     role = beside.role ∙ ap (λ (x : Actor). x.role) same;
     segment = beside.segment ∙ ap (λ (x : Actor). x.segment) same;
     units = beside.units ∙ ap (λ (x : Actor). x.units) same;
@@ -143,6 +143,7 @@ module _ (shape : Dimensions) (known : Known) (earlier : List Taken) (delta_call
     first = ap (λ d. d.first_taken) beside.deltas ∙ first;
     chain = subst (λ (x : Actor). IsPrefix x.seen.chain b.seen.chain) same beside.chain;
     words = subst (λ (x : Actor). (more : List Sighting) × (b.seen.words ≡ x.seen.words ++ more)) same beside.words;
+    done = done ∙ ap (λ (x : Actor). x.done) same;
   }
 
   module _ (met : Met) where
@@ -160,8 +161,8 @@ module _ (shape : Dimensions) (known : Known) (earlier : List Taken) (delta_call
         → StepsBy shape.size delta_call.version a words words (DeltaCallGives shape known earlier (behind met) More a)
     further walk way stands room set_out meets =
         goes_with (walks_so shape delta_call.version known (ListsTaken known delta_call) (taken_along known delta_call) a words is.segment is.turns walk stands
-        (began_before shape known (ListsTaken known delta_call) walk a set_out stands) met meets) (λ b (beside, since, turns, comes).
-        goes_behind b (aside_of a b refl refl refl beside) turns (way_beside known earlier delta_call a b beside.deltas way) room comes)
+        (began_before shape known (ListsTaken known delta_call) walk a set_out stands) met meets) (λ b (beside, since, done, turns, comes).
+        goes_behind b (aside_of a b refl refl refl beside done) turns (way_beside known earlier delta_call a b beside.deltas way) room comes)
 
     -- with its first event it begins to take
     sets_out : StandsAtStage shape known earlier delta_call a (Walking LoadingFirst)
@@ -186,8 +187,8 @@ module _ (shape : Dimensions) (known : Known) (earlier : List Taken) (delta_call
         )
         (goes_with (walks_so shape delta_call.version known (ListsTaken known delta_call) (taken_along known delta_call) begun words is.segment is.turns LoadingFirst
         (record { sparse = stands.1.0.sparse; apart = stands.1.0.apart; met = stands.1.0.met }, stands.1.1)
-        (record { singles = omega arith; counts = omega arith }) met meets) (λ b (beside, since, turns, comes).
-        goes_behind b (aside_of begun b refl refl refl beside) turns (way_beside known earlier delta_call begun b beside.deltas way) stands.2 comes))
+        (record { singles = omega arith; counts = omega arith }) met meets) (λ b (beside, since, done, turns, comes).
+        goes_behind b (aside_of begun b refl refl refl beside done) turns (way_beside known earlier delta_call begun b beside.deltas way) stands.2 comes))
 
     pub walks_further : (walk : Walk) → delta_call.stage ≡ Walking walk → Meets walk delta_call.histogram (word_at words (spot_of delta_call.histogram walk)) met
         → StepsBy shape.size delta_call.version a words words (DeltaCallGives shape known earlier (behind met) More a)

@@ -98,6 +98,7 @@ module _ (shape : Dimensions) (known : Known) (earlier : List Taken) (delta_call
       first = refl;
       chain = ([], sym (append-nil a.seen.chain));
       words = ([], sym (append-nil a.seen.words));
+      done = refl;
     }
 
     module _ (learned : IsSingleOf begun known.reference found) where

@@ -123,6 +123,7 @@ module _ (shape : Dimensions) (known : Known) (earlier : List Taken) (delta_call
       first = first.first;
       chain = first.chain;
       words = first.words;
+      done = first.done;
     }
 
     pub swaps_so : (amount : ℤ) → (Learned a event (word_at words (known.reference + 12)) → amount ≡ sum -ℤ mark) → (new_words : List ℕ)

@@ -19,6 +19,8 @@ use Rattle.atomic_table.proofs.Lists.{at_snoc}
 use Rattle.segment_image.specs.Shape.{Dimensions}
 use Rattle.segment_machine.specs.declared.actor.Actor.{Actor}
 use Rattle.segment_machine.specs.declared.actor.Known.{Known as MachineKnown}
+use Rattle.segment_machine.specs.declared.actor.Made.{Made}
+use Rattle.segment_machine.specs.declared.actor.Made.TheVariants.{Histogram}
 use Rattle.segment_machine.specs.Actor.{is_opener}
 use Rattle.segment_machine.specs.Note.{Note, Notes, MayNote, noted, knows}
 use Rattle.hist_core.specs.declared.call.Answer.TheVariants as answer
@@ -37,11 +39,11 @@ use Rattle.hist_core.proofs.Worlds.Apart.{adds_not, looks_not, batches_not, sets
 use Rattle.hist_core.proofs.Worlds.Free.{free_turns}
 use Rattle.hist_core.proofs.Worlds.Quiet.{met_on, quiet_on, gives_none, begun_there, takes_none, takes_not}
 use Rattle.hist_core.specs.declared.actor_run.ActorRun.{ActorRun}
-use Rattle.hist_core.specs.StepsBy.{FrameOfStep, StepsBy, IsFree}
-use Rattle.hist_core.specs.Hist.{IsCause, IsSomeHist, HistSteps, asked_of}
+use Rattle.hist_core.specs.StepsBy.{DoesOnly, FrameOfStep, StepsBy, IsFree}
+use Rattle.hist_core.specs.Hist.{IsCause, IsSomeHist, HistSteps, asked_of, links_asked}
 use Rattle.segment_calls.specs.declared.refusal.Refusal.{Refusal}
-use Rattle.hist_core.proofs.Worlds.Landing.{Landing}
-use Rattle.hist_core.specs.ActorRun.{known_of, AreShown, HasDraft, IsKnown, NoneHasName, HaveOwnNames, StandsIn, HasRoom, IsRun, IsSomeRun, IsHistAnnounced, IsRefusedBy, MayBeRefused, BeginsHist, IsAsItWas, IsQuiet, Answers, held_by, entry_of, ended_by, begun_by, pending_by}
+use Rattle.hist_core.proofs.Worlds.Landing.{Landing, does_as_said}
+use Rattle.hist_core.specs.ActorRun.{known_of, AreShown, HasDraft, IsKnown, NoneHasName, HaveOwnNames, StandsIn, HasRoom, IsRun, IsSomeRun, IsHistAnnounced, IsRefusedBy, MayBeRefused, BeginsHist, IsAsItWas, IsQuiet, Answers, DoesAsSaid, MayLink, is_flagged, lacks_room, held_by, entry_of, ended_by, begun_by, pending_by}
 
 -- ---- a note more
 
@@ -166,28 +168,41 @@ module _ (shape : Dimensions) (version : ℕ) (old : ActorRun) (a : Actor) (run 
   refused_by : (cause : Refusal) (b : Actor) → IsCause now.asked.name.items now.asked.spec cause a b → IsRefusedBy old.running cause a b
   refused_by cause b its = subst (λ running. IsRefusedBy running cause a b) (sym is) (subst (λ (k : Known). IsCause k.name.items k.spec cause a b) same its)
 
+  -- a record that it links is one that it asks for
+  does_it : (said : Stepped) (b c : Actor) → c.done ≡ b.done → DoesOnly (is_flagged said) (lacks_room said) (links_asked now) a b → DoesAsSaid old.running said a c
+  does_it said b c same_done = does_as_said old.running said (links_asked now)
+      (λ made it. subst (λ running. MayLink running made) (sym is) (it ∙ ap (λ (k : Known). Histogram k.name.items k.spec) same)) a a b c refl same_done
+
   -- what the machine's actor does, and what becomes of that at run time
   pub hist_goes : (said : HistStep) (new : ActorRun) (result : Stepped) → HistSteps h words now new_words said
       → IsHistAnnounced (record old { running = Some (Hist now) }) said new result → Landing shape version old words new new_words result a
   hist_goes More new result steps (new_is, result_is) =
-      subst (λ said. Landing shape version old words new new_words said a) (sym result_is) (goes_with (steps shape version a long stands.0) (λ b (beside, is_hist).
-      subst (λ (r : ActorRun). IsRun shape version r b) (sym new_is)
-      (runs_on shape version old a run b (Some (Hist now)) beside (is_hist, still_quiet b beside, none) room tt)))
+      subst (λ said. Landing shape version old words new new_words said a) (sym result_is) (goes_with (steps shape version a long stands.0) (λ b (beside, does, is_hist). (
+        subst (λ (r : ActorRun). IsRun shape version r b) (sym new_is)
+            (runs_on shape version old a run b (Some (Hist now)) beside (is_hist, still_quiet b beside, none) room tt),
+        does_it stepped.More b b refl does,
+      )))
   hist_goes Done new result steps (asked, is_asked, new_is, items, result_is) =
       let here : asked ≡ now = sym (ap (asked_by now) is_asked) in
       let then_items : new.known.items ≡ old.known.items ++ (let k = now.asked in record k { reference = now.reference }) ∷ [] =
       items ∙ ap (λ (x : HistCall). old.known.items ++ (let k = x.asked in record k { reference = x.reference }) ∷ []) here in
-      subst (λ said. Landing shape version old words new new_words said a) (sym result_is) (goes_noting (steps shape version a long stands.0) (λ b (beside, may, may_note, asking, within). (
+      subst (λ said. Landing shape version old words new new_words said a) (sym result_is) (goes_noting (steps shape version a long stands.0) (λ b (beside, does, may, may_note, asking, within). (
         knows (asked_of now),
         may_note,
-        knows_more shape version old a run b new (let k = now.asked in record k { reference = now.reference }) beside may (still_quiet b beside) (met_first b (asked_of now) may_note) new_is then_items
-            (record { name = asking.name; lawful = asking.lawful; ranges = asking.ranges; fits = asking.fits; within = within }) none,
+        (
+          knows_more shape version old a run b new (let k = now.asked in record k { reference = now.reference }) beside may (still_quiet b beside) (met_first b (asked_of now) may_note) new_is then_items
+              (record { name = asking.name; lawful = asking.lawful; ranges = asking.ranges; fits = asking.fits; within = within }) none,
+          does_it (stepped.Done (answer.Hist asked.reference)) b (noted b (knows (asked_of now))) refl does,
+        ),
       )))
   hist_goes (Refused why) new result steps (new_is, result_is) =
-      subst (λ said. Landing shape version old words new new_words said a) (sym result_is) (goes_with (steps shape version a long stands.0) (λ b (beside, may, cause). (
-        gives_none shape version new b (held_by old.running) (ap held_by is) (free_turns b.hand.place may) (subst (λ (r : ActorRun). IsRun shape version r b) (sym new_is)
-            (runs_on shape version old a run b None beside (may, still_quiet b beside) tt tt)),
-        refused_by why b cause,
+      subst (λ said. Landing shape version old words new new_words said a) (sym result_is) (goes_with (steps shape version a long stands.0) (λ b (beside, does, may, cause). (
+        (
+          gives_none shape version new b (held_by old.running) (ap held_by is) (free_turns b.hand.place may) (subst (λ (r : ActorRun). IsRun shape version r b) (sym new_is)
+              (runs_on shape version old a run b None beside (may, still_quiet b beside) tt tt)),
+          refused_by why b cause,
+        ),
+        does_it (stepped.Done (answer.Refused why)) b b refl does,
       )))
 
 -- what is answered

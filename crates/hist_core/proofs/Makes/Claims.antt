@@ -1,5 +1,5 @@
 -- The words of a record that is made are claimed.
-use Rattle.std.proofs.Common.{◌≡◌, ℕ, ◌+◌, ◌≤◌, true, List, [], ◌∷◌, length, refl, sym, ap, subst, ◌∙◌, arith}
+use Rattle.std.proofs.Common.{◌≡◌, ℕ, ◌+◌, ◌≤◌, Bool, true, false, List, [], ◌∷◌, length, refl, sym, ap, subst, ◌∙◌, arith}
 use Rattle.std.specs.Prelude.{Some, is_some}
 use Rattle.segment_image.specs.Shape.{Dimensions}
 use Rattle.segment_image.specs.Words.{word_at}
@@ -24,10 +24,11 @@ use Rattle.hist_core.specs.declared.making.Making.{Making}
 use Rattle.hist_core.specs.declared.making.MakingStep.{MakingStep}
 use Rattle.hist_core.specs.declared.making.MakingStep.TheVariants.{More, Refused}
 use Rattle.hist_core.specs.declared.making.Stage.TheVariants.{Allocating, Filling}
-use Rattle.hist_core.specs.StepsBy.{FrameOfStep, StepsBy, is_tied}
-use Rattle.hist_core.specs.Making.{Wanted, IsMaking, StandsAtStage, MakingGives, IsAllocated, IsCause}
+use Rattle.hist_core.specs.StepsBy.{DoesOnly, FrameOfStep, StepsBy, is_tied}
+use Rattle.hist_core.specs.Making.{Wanted, IsMaking, StandsAtStage, MakingGives, IsAllocated, IsCause, is_full, links_wanted}
 use Rattle.hist_core.proofs.Makes.Drafts.{may_still}
 use Rattle.hist_core.proofs.Parts.Allocations.{allocates_on, goes_with}
+use Rattle.hist_core.proofs.Parts.Deeds.{does_still, is_full_end}
 use Rattle.hist_core.proofs.Parts.Claims.{IsEnd, changed_at, claimed_of, claimed_suits, goes_noting, rests_at}
 
 module _ (shape : Dimensions) (version : ℕ) (wanted : Wanted) (m : Making) (a : Actor) (words : List ℕ) (long : length words ≡ shape.size)
@@ -36,16 +37,17 @@ module _ (shape : Dimensions) (version : ℕ) (wanted : Wanted) (m : Making) (a 
   stands = subst (StandsAtStage shape wanted a) allocates is.stands
 
   module _ (y : Allocation) (new_words : List ℕ) (says : AllocStep) (step : alloc.IsStep x words y new_words says) where
-    claims : StepsBy shape.size version a words new_words (λ b. FrameOfStep a b × AreApart b × Allocates b y × (b.seen.words ≡ a.seen.words) × IsEnd says x.size a b)
+    claims : StepsBy shape.size version a words new_words (λ b. FrameOfStep a b × DoesOnly false (is_full_end says) (links_wanted wanted) a b × AreApart b × Allocates b y × (b.seen.words ≡ a.seen.words) × IsEnd says x.size a b)
     claims =
         let size = ap (λ (d : Dimensions). d.size) is.segment in
-        subst (λ (n : ℕ). StepsBy n version a words new_words (λ b. FrameOfStep a b × AreApart b × Allocates b y × (b.seen.words ≡ a.seen.words) × IsEnd says x.size a b)) size
-        (allocates_on version a x y words new_words says stands.0 (long ∙ sym size) step)
+        subst (λ (n : ℕ). StepsBy n version a words new_words (λ b. FrameOfStep a b × DoesOnly false (is_full_end says) (links_wanted wanted) a b × AreApart b × Allocates b y × (b.seen.words ≡ a.seen.words) × IsEnd says x.size a b)) size
+        (allocates_on (links_wanted wanted) version a x y words new_words says stands.0 (long ∙ sym size) step)
 
     -- it goes on
-    still_claims : is_some (alloc.next_event y) ≡ true → StepsBy shape.size version a words new_words (MakingGives shape wanted (record { stage = Allocating y }) More a)
-    still_claims more = goes_with claims (λ b (beside, apart, goes, words_same, ends). (
+    still_claims : says ≡ said.More → is_some (alloc.next_event y) ≡ true → StepsBy shape.size version a words new_words (MakingGives shape wanted (record { stage = Allocating y }) More a)
+    still_claims goes_on more = goes_with claims (λ b (beside, does, apart, goes, words_same, ends). (
       beside,
+      subst (λ (s : AllocStep). DoesOnly false (is_full_end s) (links_wanted wanted) a b) goes_on does,
       record {
         segment = ap (λ s. s.shape) beside.segment ∙ is.segment;
         lawful_shape = is.lawful_shape;
@@ -60,18 +62,18 @@ module _ (shape : Dimensions) (version : ℕ) (wanted : Wanted) (m : Making) (a 
     ))
 
     -- it is refused
-    is_refused : (why : Refusal) (new : Making) → ((b : Actor) → Allocates b y → b.hand.place ≡ Idle) → ((b : Actor) → IsEnd says x.size a b → IsCause why x.size a b)
+    is_refused : (why : Refusal) (new : Making) → is_full_end says ≡ is_full why → ((b : Actor) → Allocates b y → b.hand.place ≡ Idle) → ((b : Actor) → IsEnd says x.size a b → IsCause why x.size a b)
         → StepsBy shape.size version a words new_words (MakingGives shape wanted new (Refused why) a)
-    is_refused why new idle cause = goes_with claims (λ b (beside, apart, goes, words_same, ends).
-        (beside, ap is_tied (idle b goes), subst (λ (n : ℕ). IsCause why n a b) stands.3 (cause b ends)))
+    is_refused why new fills idle cause = goes_with claims (λ b (beside, does, apart, goes, words_same, ends).
+        (beside, subst (λ (full : Bool). DoesOnly false full (links_wanted wanted) a b) fills does, ap is_tied (idle b goes), subst (λ (n : ℕ). IsCause why n a b) stands.3 (cause b ends)))
 
     -- it has a block, which is to be the record: it stores the payload there
     has_claimed : (at : ℕ) → says ≡ said.Done at → StepsBy shape.size version a words new_words (MakingGives shape wanted (record { stage = Filling at 0 }) More a)
-    has_claimed at done = goes_noting claims (λ b (beside, apart, goes, words_same, ends). claimed b beside apart goes (claimed_of y.stage at (sym done ∙ step.answers)))
+    has_claimed at done = goes_noting claims (λ b (beside, does, apart, goes, words_same, ends). claimed b beside does apart goes (claimed_of y.stage at (sym done ∙ step.answers)))
       where
-        claimed : (b : Actor) → FrameOfStep a b → AreApart b → Allocates b y → (size : ℕ) × (y.stage ≡ Claimed at size)
+        claimed : (b : Actor) → FrameOfStep a b → DoesOnly false (is_full_end says) (links_wanted wanted) a b → AreApart b → Allocates b y → (size : ℕ) × (y.stage ≡ Claimed at size)
             → (notes : List Note) × (c : Actor) × Notes b notes c × MakingGives shape wanted (record { stage = Filling at 0 }) More a c
-        claimed b beside apart goes (size, ends) =
+        claimed b beside does apart goes (size, ends) =
             let has = subst (StandsAt b y) ends goes.stands in
             let place = subst (IsAimed y) ends goes.lawful.aimed in
             let suits : x.size ≤ size = claimed_suits x x.stage (word_at words (atomic.spot step.event)) at size step.event step.next stands.0.lawful.aimed
@@ -97,6 +99,8 @@ module _ (shape : Dimensions) (version : ℕ) (wanted : Wanted) (m : Making) (a 
               ((own, has.1, refl, refl), refl),
               (
                 then_beside,
+                does_still false false (links_wanted wanted) a a b c refl refl
+                    (subst (λ (s : AllocStep). DoesOnly false (is_full_end s) (links_wanted wanted) a b) done does),
                 record {
                   segment = ap (λ s. s.shape) beside.segment ∙ is.segment;
                   lawful_shape = is.lawful_shape;
@@ -128,16 +132,16 @@ module _ (shape : Dimensions) (version : ℕ) (wanted : Wanted) (m : Making) (a 
       → StepsBy shape.size version a words new_words (MakingGives shape wanted new result a)
   allocates_so y new_words said.More new result step more (new_is, result_is) =
       subst (λ (p : Making × MakingStep). StepsBy shape.size version a words new_words (MakingGives shape wanted p.0 p.1 a)) (λ i. (sym new_is i, sym result_is i))
-      (still_claims y new_words said.More step (more refl))
+      (still_claims y new_words said.More step refl (more refl))
   allocates_so y new_words (said.Done at) new result step more (new_is, result_is) =
       subst (λ (p : Making × MakingStep). StepsBy shape.size version a words new_words (MakingGives shape wanted p.0 p.1 a)) (λ i. (sym new_is i, sym result_is i))
       (has_claimed y new_words (said.Done at) step at refl)
   allocates_so y new_words said.Full new result step more result_is =
       subst (λ (r : MakingStep). StepsBy shape.size version a words new_words (MakingGives shape wanted new r a)) (sym result_is)
-      (is_refused y new_words said.Full step why.Full new (λ b goes. rests_at b y y.stage (λ e. cc (step.answers ∙ e)) goes.stands) (λ b ends. ends))
+      (is_refused y new_words said.Full step why.Full new refl (λ b goes. rests_at b y y.stage (λ e. cc (step.answers ∙ e)) goes.stands) (λ b ends. ends))
   allocates_so y new_words said.Corrupt new result step more result_is =
       subst (λ (r : MakingStep). StepsBy shape.size version a words new_words (MakingGives shape wanted new r a)) (sym result_is)
-      (is_refused y new_words said.Corrupt step why.Corrupt new (λ b goes. rests_at b y y.stage (λ e. cc (step.answers ∙ e)) goes.stands) (λ b ends. ends))
+      (is_refused y new_words said.Corrupt step why.Corrupt new refl (λ b goes. rests_at b y y.stage (λ e. cc (step.answers ∙ e)) goes.stands) (λ b ends. ends))
 
   -- what the step of its allocation asks for
   pub asks_long : length words ≡ x.shape.size

@@ -19,11 +19,12 @@ use Rattle.hist_core.specs.declared.making.Making.{Making}
 use Rattle.hist_core.specs.declared.making.MakingStep.TheVariants.{More}
 use Rattle.hist_core.specs.declared.making.Stage.TheVariants.{Filling, Publishing}
 use Rattle.hist_core.specs.StepsBy.{FrameOfStep, StepsBy}
-use Rattle.hist_core.specs.Making.{Wanted, IsMaking, IsFilledTo, IsNextFilled, IsFilled, StandsAtStage, MakingGives}
+use Rattle.hist_core.specs.Making.{Wanted, IsMaking, IsFilledTo, IsNextFilled, IsFilled, StandsAtStage, MakingGives, links_wanted}
 use Rattle.hist_core.proofs.Worlds.Free.{free_turns}
 use Rattle.hist_core.proofs.Makes.Drafts.{is_wide, may_still}
 use Rattle.hist_core.proofs.Parts.Alone.{makes_so, allocating_beside}
 use Rattle.hist_core.proofs.Parts.Claims.{changed_at}
+use Rattle.hist_core.proofs.Parts.Deeds.{stores_payload}
 
 -- ---- the words that are stored
 
@@ -125,6 +126,7 @@ module _ (shape : Dimensions) (version : ℕ) (wanted : Wanted) (m : Making) (a 
       refl,
       (
         beside,
+        stores_payload (links_wanted wanted) a at index value 0,
         record {
           segment = is.segment;
           lawful_shape = is.lawful_shape;

@@ -8,7 +8,7 @@ use Rattle.list_core.specs.declared.walk.WalkStep.{WalkStep}
 use Rattle.segment_image.specs.Shape.{Dimensions}
 use Rattle.list_core.specs.Walk.{IsPrefix, said_of, given_after, stands_behind}
 use Rattle.segment_image.specs.Words.{word_at}
-use Rattle.alloc_core.specs.Alloc.{Allocation, answer}
+use Rattle.alloc_core.specs.Alloc.{Allocation, answer, stage_after}
 use Rattle.alloc_core.specs.Alloc as alloc
 use Rattle.alloc_core.specs.declared.alloc.AllocStep.{AllocStep}
 use Rattle.list_core.specs.Publish.{Publishing}
@@ -25,8 +25,9 @@ use Rattle.segment_machine.proofs.Stages.Allocations.{allocations_agree}
 use Rattle.segment_machine.proofs.Stages.Publishes.{publishes_agree}
 use Rattle.segment_machine.proofs.Stages.Walks.{walks_agree}
 use Rattle.hist_core.proofs.Parts.Alone.{acts_there, makes_so, allocating_beside, allocating_words, publishing_beside}
-use Rattle.hist_core.specs.StepsBy.{FrameOfStep, StepsBy, IsFree}
+use Rattle.hist_core.specs.StepsBy.{DoesOnly, FrameOfStep, StepsBy, IsFree}
 use Rattle.hist_core.proofs.Parts.Claims.{IsEnd, stage_ends}
+use Rattle.hist_core.proofs.Parts.Deeds.{is_full_end, publish_does, stage_does}
 use Rattle.hist_core.proofs.Worlds.Free.{free_behind, free_turns}
 use Rattle.segment_machine.specs.Actor.{AreApart}
 
@@ -65,10 +66,10 @@ allocating_alike (store_payload at index value) size version = refl
 allocating_alike set_corrupt size version = refl
 allocating_alike (set_full wanted) size version = refl
 
-pub allocates_on : (version : ℕ) (a : Actor) (old new : Allocation) (words new_words : List ℕ) (said : AllocStep) → Allocates a old
+pub allocates_on : (links : Made → Type 0) (version : ℕ) (a : Actor) (old new : Allocation) (words new_words : List ℕ) (said : AllocStep) → Allocates a old
     → length words ≡ a.segment.shape.size → alloc.IsStep old words new new_words said
-    → StepsBy a.segment.shape.size version a words new_words (λ b. FrameOfStep a b × AreApart b × Allocates b new × (b.seen.words ≡ a.seen.words) × IsEnd said old.size a b)
-allocates_on version a old new words new_words said goes long step =
+    → StepsBy a.segment.shape.size version a words new_words (λ b. FrameOfStep a b × DoesOnly false (is_full_end said) links a b × AreApart b × Allocates b new × (b.seen.words ≡ a.seen.words) × IsEnd said old.size a b)
+allocates_on links version a old new words new_words said goes long step =
     let size : ℕ = a.segment.shape.size in
     let agrees = allocations_agree size 1 a old step.event goes step.next in
     let act : AllocatingEvent = agrees.0 in
@@ -76,6 +77,8 @@ allocates_on version a old new words new_words said goes long step =
     let changes = allocating_alike act size version ∙ acts in
     let there = acts_there size version (allocating_event act) step.event acts changes in
     let found : ℕ = word_at words (spot size (allocating_event act)) in
+    let ends : answer (stage_after old found old.stage) ≡ said =
+    ap (λ (n : ℕ). answer (alloc.moved old (word_at words n)).stage) there ∙ (ap (λ (y : Allocation). answer y.stage) (sym step.new_is) ∙ sym step.answers) in
     record {
       before = [];
       at = a;
@@ -89,12 +92,13 @@ allocates_on version a old new words new_words said goes long step =
         refl,
         (
           allocating_beside a act found,
+          subst (λ (s : AllocStep). DoesOnly false (is_full_end s) links a (next a (allocating_event act) found)) ends (stage_does links a old found old.stage act agrees.1),
           apart,
           subst (Allocates (next a (allocating_event act) found))
               (ap (λ (n : ℕ). alloc.moved old (word_at words n)) there ∙ sym step.new_is) (agrees.4 found learned),
           allocating_words a act found,
           subst (λ (s : AllocStep). IsEnd s old.size a (next a (allocating_event act) found))
-              (ap (λ (n : ℕ). answer (alloc.moved old (word_at words n)).stage) there ∙ (ap (λ (y : Allocation). answer y.stage) (sym step.new_is) ∙ sym step.answers))
+              ends
               (stage_ends a old goes.shape found old.stage act agrees.1 agrees.3 learned),
         ),
       );
@@ -110,7 +114,7 @@ publishing_alike (move_tail old new) size version = refl
 
 pub publishes_on : (version : ℕ) (a : Actor) (made : Made) (old new : Publishing) (words new_words : List ℕ) (said : PubStep)
     → PublishesAt a old.reference made old.stage → length words ≡ a.segment.shape.size → publish.IsStep old words new new_words said
-    → StepsBy a.segment.shape.size version a words new_words (λ b. FrameOfStep a b × PublishesAt b new.reference made new.stage)
+    → StepsBy a.segment.shape.size version a words new_words (λ b. FrameOfStep a b × DoesOnly false false (λ (m : Made). m ≡ made) a b × PublishesAt b new.reference made new.stage)
 publishes_on version a made old new words new_words said stands long step =
     let size : ℕ = a.segment.shape.size in
     let agrees = publishes_agree size 1 a made old step.event stands step.next in
@@ -132,6 +136,7 @@ publishes_on version a made old new words new_words said stands long step =
         refl,
         (
           publishing_beside a act found,
+          publish_does a old.reference made old.stage act found agrees.1 stands,
           subst (λ (p : Publishing). PublishesAt (next a (publishing_event act) found) p.reference made p.stage)
               ((λ i. publish.moved (sym long i) old (word_at words (there i))) ∙ sym step.new_is) (agrees.4 found learned),
         ),
@@ -143,7 +148,7 @@ publishes_on version a made old new words new_words said stands long step =
 -- the next of the record where a walk stands
 pub walks_on : (version : ℕ) (a : Actor) (given words : List ℕ) → Walks a given → length words ≡ a.segment.shape.size
     → StepsBy a.segment.shape.size version a words words
-    (λ b. FrameOfStep a b × (IsFree a → IsFree b) × Walks b (given_after given (said_of (length words) (word_at words (stands_behind given + 3)))))
+    (λ b. FrameOfStep a b × (b.done ≡ a.done) × (IsFree a → IsFree b) × Walks b (given_after given (said_of (length words) (word_at words (stands_behind given + 3)))))
 walks_on version a given words walks long =
     let size : ℕ = a.segment.shape.size in
     let agrees = walks_agree size 1 a given walks in
@@ -171,6 +176,7 @@ walks_on version a given words walks long =
             chain = extended_behind a.seen.chain (stands_behind given) found;
             words = ([], sym (append-nil a.seen.words));
           },
+          refl,
           free_behind a.hand.place (stands_behind given) found,
           subst (λ (n : ℕ). Walks (next a event found) (given_after given (said_of n found))) (sym long) (agrees.2 found learned),
         ),
@@ -180,11 +186,11 @@ walks_on version a given words walks long =
 -- whatever a walk says that stands behind these records
 pub walks_saying : (shape : Dimensions) (version : ℕ) (a : Actor) (given words : List ℕ) (walk : ℕ) → a.segment.shape ≡ shape → length words ≡ shape.size
     → walk ≡ stands_behind given → IsFree a → IsPrefix given a.seen.chain → (said : WalkStep) → said ≡ said_of (length words) (word_at words (walk + 3))
-    → StepsBy shape.size version a words words (λ b. FrameOfStep a b × IsFree b × IsPrefix (given_after given said) b.seen.chain)
+    → StepsBy shape.size version a words words (λ b. FrameOfStep a b × (b.done ≡ a.done) × IsFree b × IsPrefix (given_after given said) b.seen.chain)
 walks_saying shape version a given words walk segment long stands free front said says =
     let size = ap (λ (d : Dimensions). d.size) segment in
     let same : said_of (length words) (word_at words (stands_behind given + 3)) ≡ said =
     ap (λ (w : ℕ). said_of (length words) (word_at words (w + 3))) (sym stands) ∙ sym says in
-    goes_with (subst (λ (p : ℕ × WalkStep). StepsBy p.0 version a words words (λ b. FrameOfStep a b × (IsFree a → IsFree b) × Walks b (given_after given p.1))) (λ i. (size i, same i))
+    goes_with (subst (λ (p : ℕ × WalkStep). StepsBy p.0 version a words words (λ b. FrameOfStep a b × (b.done ≡ a.done) × (IsFree a → IsFree b) × Walks b (given_after given p.1))) (λ i. (size i, same i))
     (walks_on version a given words (free_turns a.hand.place free, front) (long ∙ sym size)))
-    (λ b (beside, stays, walks). (beside, stays free, walks.1))
+    (λ b (beside, same_done, stays, walks). (beside, same_done, stays free, walks.1))

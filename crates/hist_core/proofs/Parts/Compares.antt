@@ -1,5 +1,5 @@
 -- A `hist` loads one more word of the record where its walk stands, and compares it with its own.
-use Rattle.std.proofs.Common.{◌≡◌, ◌≢◌, ◌⊎◌, ℕ, ◌+◌, ◌-◌, ◌<◌, ◌≤◌, ◌^◌, List, [], ◌∷◌, ◌++◌, length, inl, inr, refl, sym, ap, subst, ◌∙◌, arith}
+use Rattle.std.proofs.Common.{◌≡◌, ◌≢◌, ◌⊎◌, ℕ, ◌+◌, ◌-◌, ◌<◌, ◌≤◌, ◌^◌, Bool, false, List, [], ◌∷◌, ◌++◌, length, inl, inr, refl, sym, ap, subst, ◌∙◌, arith}
 use Rattle.std.specs.Prelude.{Some, slice_index}
 use Rattle.std.specs.List.{Contains}
 use Rattle.std.proofs.lemmas.List.Elements.{All-push, Contains-append_left, Contains-append_right}
@@ -18,15 +18,17 @@ use Rattle.segment_machine.specs.Note.{MayNote, knows}
 use Rattle.segment_machine.specs.Event.{Event, next, walking_event}
 use Rattle.segment_machine.specs.Walking.{load_published, IsFixed, EndsWithin, IsSame}
 use Rattle.segment_promises.proofs.Calls.SeenWords.{seen_now}
+use Rattle.hist_core.specs.Making.{is_full}
 use Rattle.hist_core.proofs.Parts.Alone.{seen_words}
+use Rattle.hist_core.proofs.Parts.Deeds.{does_nothing}
 use Rattle.hist_core.specs.declared.hist.Hist.{Hist}
 use Rattle.hist_core.specs.declared.hist.HistStep.{HistStep}
 use Rattle.hist_core.specs.declared.hist.HistStep.TheVariants.{More, Done, Refused}
 use Rattle.hist_core.specs.declared.hist.Stage.TheVariants.{Walking, Comparing}
 use Rattle.segment_calls.specs.declared.refusal.Refusal.{Refusal}
-use Rattle.hist_core.specs.StepsBy.{FrameOfStep, StepsBy}
+use Rattle.hist_core.specs.StepsBy.{DoesOnly, FrameOfStep, StepsBy}
 use Rattle.hist_core.proofs.Worlds.Free.{free_turns}
-use Rattle.hist_core.specs.Hist.{IsHist, StandsAtStage, HaveOtherNames, AreSame, Reaches, HistGives, IsMatched, IsDifferent, IsCause, HasOtherSpec, asked_of, compared_place, compared_index, compared_word}
+use Rattle.hist_core.specs.Hist.{IsHist, StandsAtStage, HaveOtherNames, AreSame, Reaches, HistGives, IsMatched, IsDifferent, IsCause, HasOtherSpec, asked_of, links_asked, compared_place, compared_index, compared_word}
 use Rattle.segment_invariant.proofs.Walking.Words.{letters_long}
 use Rattle.hist_core.proofs.Parts.Comparisons.{Part, part_of, index_of_rest, then_length, letter_word, field_word, range_word, ranges_if_custom, payload_long, compared_all}
 use Rattle.hist_core.proofs.Parts.Differences.{saw_word, saw_spec, first_named, saw_other_name, saw_other_spec}
@@ -228,6 +230,10 @@ module _ (shape : Dimensions) (h : Hist) (a : Actor) (is : IsHist shape h a) (k 
     beside : FrameOfStep a acted
     beside = seen_words a acted (sight (h.reference + compared_index h.letters k) found) refl refl refl refl refl refl refl refl
 
+    -- nothing is done to the segment
+    none : (new : Hist) → DoesOnly false false (links_asked new) a acted
+    none new = does_nothing (links_asked new) a acted refl
+
     abbrev Learns : Type 0
     Learns = EndsWithin a h.reference (compared_index h.letters k) found × IsSame a (h.reference + compared_index h.letters k) found
 
@@ -248,7 +254,7 @@ module _ (shape : Dimensions) (h : Hist) (a : Actor) (is : IsHist shape h a) (k 
 
     -- it was the same: the next is compared, or all were the same
     pub matches_so : (new : Hist) (said : HistStep) → found ≡ compared_word h k → IsMatched h k new said → StepsBy shape.size version a words words (HistGives shape new said a)
-    matches_so new More same (more, new_is) = does new More (λ learned. (beside, subst (λ (n : Hist). IsHist shape n acted) (sym new_is) (goes_on learned)))
+    matches_so new More same (more, new_is) = does new More (λ learned. (beside, none new, subst (λ (n : Hist). IsHist shape n acted) (sym new_is) (goes_on learned)))
       where
         goes_on : Learns → IsHist shape (record h { stage = Comparing (k + 1) }) acted
         goes_on learned = record {
@@ -269,7 +275,7 @@ module _ (shape : Dimensions) (h : Hist) (a : Actor) (is : IsHist shape h a) (k 
           );
         }
     matches_so new Done same (all, new_is) =
-        does new Done (λ learned. subst (λ (n : Hist). HistGives shape n Done a acted) (sym new_is) (beside, stands.0, known learned, is.asking, there))
+        does new Done (λ learned. subst (λ (n : Hist). HistGives shape n Done a acted) (sym new_is) (beside, none h, stands.0, known learned, is.asking, there))
       where
         known : Learns → MayNote acted (knows (asked_of h))
         known learned =
@@ -287,7 +293,7 @@ module _ (shape : Dimensions) (h : Hist) (a : Actor) (is : IsHist shape h a) (k 
     -- it was another: the record has another name, or it is the first of the name and has another spec
     pub differs_so : (new : Hist) (said : HistStep) → found ≢ compared_word h k → found < 2 ^ 64 → compared_word h k < 2 ^ 64 → IsDifferent h k new said
         → StepsBy shape.size version a words words (HistGives shape new said a)
-    differs_so new More other small small_own (early, new_is) = does new More (λ learned. (beside, subst (λ (n : Hist). IsHist shape n acted) (sym new_is) (walks_on learned)))
+    differs_so new More other small small_own (early, new_is) = does new More (λ learned. (beside, none new, subst (λ (n : Hist). IsHist shape n acted) (sym new_is) (walks_on learned)))
       where
         walks_on : Learns → IsHist shape (record h { stage = Walking }) acted
         walks_on learned = record {
@@ -309,6 +315,7 @@ module _ (shape : Dimensions) (h : Hist) (a : Actor) (is : IsHist shape h a) (k 
     differs_so new (Refused cause) other small small_own (late, new_is, why_is) =
         does new (Refused cause) (λ learned. (
           beside,
+          subst (λ (c : Refusal). DoesOnly false (is_full c) (links_asked new) a acted) (sym why_is) (none new),
           stands.0,
           subst (λ (p : Hist × Refusal). IsCause p.0.asked.name.items p.0.asked.spec p.1 a acted) (λ i. (sym new_is i, sym why_is i)) (inr (refl, declined learned)),
         ))

@@ -39,11 +39,11 @@ module _ (shape : Dimensions) (version : ℕ) (h : Hist) (a : Actor) (words : Li
       → StepsBy shape.size version a words new_words (HistGives shape new result a)
   makes_so x new_words made.More new result goes (new_is, result_is) =
       subst (λ (p : Hist × HistStep). StepsBy shape.size version a words new_words (HistGives shape p.0 p.1 a)) (λ i. (sym new_is i, sym result_is i))
-      (goes_with goes (λ b (beside, makes_on). (beside, on (Making x) b beside (others_still a b beside h is.given stood_making.0, makes_on))))
+      (goes_with goes (λ b (beside, does, makes_on). (beside, does, on (Making x) b beside (others_still a b beside h is.given stood_making.0, makes_on))))
   makes_so x new_words made.Done new result goes (new_is, result_is) =
       subst (λ (p : Hist × HistStep). StepsBy shape.size version a words new_words (HistGives shape p.0 p.1 a)) (λ i. (sym new_is i, sym result_is i))
-      (goes_with goes (λ b (beside, turns). (beside, on Walking b beside (turns, others_still a b beside h is.given stood_making.0))))
+      (goes_with goes (λ b (beside, does, turns). (beside, does, on Walking b beside (turns, others_still a b beside h is.given stood_making.0))))
   makes_so x new_words (made.Refused cause) new result goes (new_is, result_is) =
       subst (λ (p : Hist × HistStep). StepsBy shape.size version a words new_words (HistGives shape p.0 p.1 a)) (λ i. (sym new_is i, sym result_is i))
-      (goes_with goes (λ b (beside, turns, is_cause).
-      (beside, turns, inl (is.asking.letters, is.asking.spells, subst (λ (l : List ℕ). IsCause cause (4 + length l) a b) is.asking.payload is_cause))))
+      (goes_with goes (λ b (beside, does, turns, is_cause).
+      (beside, does, turns, inl (is.asking.letters, is.asking.spells, subst (λ (l : List ℕ). IsCause cause (4 + length l) a b) is.asking.payload is_cause))))

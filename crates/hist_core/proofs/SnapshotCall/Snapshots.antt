@@ -207,7 +207,7 @@ module _ (shape : Dimensions) (known : Known) (snapshot_call : SnapshotCall) (a 
       goes = λ learned apart.
           let there : IsBehindSingle snapshot_call found new new.stage = subst (λ (h : ℕ). IsBehindSingle snapshot_call (word_at words (h + 9)) new new.stage) (sym is.reference) behind in
           let same = same_behind learned new new.stage there in
-          ([], acted, refl, (beside, subst (λ (stage : Stage). LooksAnew stage a acted) (sym loads) refl, goes_still new acted same.version same.histogram beside refl (stands_behind learned new new.stage there)));
+          ([], acted, refl, (beside, refl, subst (λ (stage : Stage). LooksAnew stage a acted) (sym loads) refl, goes_still new acted same.version same.histogram beside refl (stands_behind learned new new.stage there)));
     }
 
   -- ---- the counts reference is loaded
@@ -248,6 +248,7 @@ module _ (shape : Dimensions) (known : Known) (snapshot_call : SnapshotCall) (a 
             refl,
             (
               beside,
+              refl,
               subst (λ (stage : Stage). LooksAnew stage a acted) (sym loads) refl,
               goes_still new acted refl refl beside refl (
                 keys_still known snapshot_call new (record { version = refl; histogram = refl; keys = refl; long = refl }) has_counts,
@@ -349,6 +350,7 @@ module _ (shape : Dimensions) (known : Known) (snapshot_call : SnapshotCall) (a 
               refl,
               (
                 beside,
+                refl,
                 subst (λ (stage : Stage). LooksAnew stage a counted) (sym loads) refl,
                 goes_still new counted same.version same.histogram beside (ap is_bound (count_placed known mounted word a are bucket stands.2 count))
                     (subst (StandsAtStage shape known new counted) (sym (ap (λ (l : SnapshotCall). l.stage) put.same)) (stands_then learned.0)),
@@ -380,6 +382,7 @@ module _ (shape : Dimensions) (known : Known) (snapshot_call : SnapshotCall) (a 
             refl,
             (
               beside,
+              refl,
               subst (λ (stage : Stage). LooksAnew stage a acted) (sym loads) refl,
               goes_still (record snapshot_call { stage = LoadingRedundant sum }) acted refl refl beside refl (
                 ⊎_elim (λ (has, totals). inl (keys_still known snapshot_call (record snapshot_call { stage = LoadingRedundant sum }) (record { version = refl; histogram = refl; keys = refl; long = refl }) has, totals))
@@ -460,6 +463,7 @@ module _ (shape : Dimensions) (known : Known) (snapshot_call : SnapshotCall) (a 
         ((known, is.knows, refl, saw, refl), refl),
         (
           ap is_tied before_last.2,
+          refl,
           subst (λ (stage : Stage). LooksAnew stage a (noted loaded (answers answered))) (sym loads) refl,
           record {
             beside = record {

@@ -92,9 +92,9 @@ module _ (shape : Dimensions) (known : Known) (snapshot_call : SnapshotCall) (a 
         → StepsBy shape.size snapshot_call.version a words words (SnapshotCallGives shape known (Walking walk) new More a)
     further walk anew stands set_out meets =
         goes_with (walks_so shape snapshot_call.version known (ListsSeen known snapshot_call) (lists_along known snapshot_call) a words is.segment is.turns walk stands.1
-        (began_before shape known (ListsSeen known snapshot_call) walk a set_out stands.1) met meets) (λ b (beside, since, turns, comes).
+        (began_before shape known (ListsSeen known snapshot_call) walk a set_out stands.1) met meets) (λ b (beside, since, done, turns, comes).
         let then_is = stands_behind met new b stands.0 behind comes in
-        (beside, anew b since, goes_still shape known snapshot_call a words is new b then_is.0 then_is.1 beside turns then_is.2))
+        (beside, done, anew b since, goes_still shape known snapshot_call a words is new b then_is.0 then_is.1 beside turns then_is.2))
 
     -- with its first event it begins to look
     sets_out : StandsAtStage shape known snapshot_call a (Walking LoadingFirst) → Meets LoadingFirst known.reference (word_at words (known.reference + 3)) met
@@ -103,7 +103,7 @@ module _ (shape : Dimensions) (known : Known) (snapshot_call : SnapshotCall) (a 
         goes_after looks (λ e. true≢false (sym (ap is_bound e) ∙ is.turns), is.recorder, is.counts_nothing, is.takes_nothing)
         (goes_with (walks_so shape snapshot_call.version known (ListsSeen known snapshot_call) (lists_along known snapshot_call) (noted a looks) words is.segment is.turns LoadingFirst
         (record { sparse = stands.1.0.sparse; apart = stands.1.0.apart; met = stands.1.0.met }, stands.1.1)
-        (record { singles = omega arith; counts = omega arith }) met meets) (λ b (beside, since, turns, comes).
+        (record { singles = omega arith; counts = omega arith }) met meets) (λ b (beside, since, done, turns, comes).
         let then_is = stands_behind met new b stands.0 behind comes in
         let aside : FrameOfStep a b = record {
           role = beside.role;
@@ -115,7 +115,7 @@ module _ (shape : Dimensions) (known : Known) (snapshot_call : SnapshotCall) (a 
           chain = beside.chain;
           words = beside.words;
         } in
-        (aside, since, goes_still shape known snapshot_call a words is new b then_is.0 then_is.1 aside turns then_is.2)))
+        (aside, done, since, goes_still shape known snapshot_call a words is new b then_is.0 then_is.1 aside turns then_is.2)))
 
     pub walks_further : (walk : Walk) → snapshot_call.stage ≡ Walking walk → Meets walk snapshot_call.histogram (word_at words (spot_of snapshot_call.histogram walk)) met
         → StepsBy shape.size snapshot_call.version a words words (SnapshotCallGives shape known snapshot_call.stage new More a)
@@ -221,6 +221,7 @@ module _ (shape : Dimensions) (known : Known) (snapshot_call : SnapshotCall) (a 
         refl,
         (
           counted_beside,
+          refl,
           subst (λ (stage : Stage). LooksAnew stage a counted) (sym loads) refl,
           goes_still shape known snapshot_call a words is new counted (ap (λ (l : SnapshotCall). l.version) listed.same) (ap (λ (l : SnapshotCall). l.histogram) listed.same) counted_beside
               (at_sample a.hand.place (at + 6) count its_way.apart).1

@@ -17,7 +17,7 @@ use Rattle.hist_core.specs.declared.actor_run.Running.TheVariants.{Snapshot}
 use Rattle.hist_core.specs.declared.actor_run.ActorRun.{ActorRun}
 use Rattle.hist_core.specs.StepsBy.{StepsBy, IsFree, WalksInOrder}
 use Rattle.hist_core.specs.SnapshotCall.{HasJustBegun, HasLooked, IsSnapshotCall, IsSomeSnapshotCall, LooksAnew, SnapshotCallGives, SnapshotCallSteps}
-use Rattle.hist_core.specs.ActorRun.{Advances, Answers, AreShown, BeginsSnapshot, IsKnown, known_of, IsAnswer, IsQuiet, IsRun, IsSnapshotAnnounced, IsSomeRun, LooksSince, StandsIn, begun_by, ended_by, looked_by, pending_by}
+use Rattle.hist_core.specs.ActorRun.{Advances, Answers, AreShown, BeginsSnapshot, IsKnown, known_of, IsAnswer, IsQuiet, IsRun, IsSnapshotAnnounced, IsSomeRun, LooksSince, MayLink, StandsIn, begun_by, ended_by, looked_by, pending_by}
 use Rattle.std.specs.List.{range_with_len}
 use mathlib.Core.Option.{some}
 use lib.ListN.{get_elem?}
@@ -40,6 +40,7 @@ use Rattle.hist_core.specs.declared.snapshot_call.Stage.TheVariants.{LoadingSing
 use Rattle.hist_core.specs.declared.walk.Walk.TheVariants.{LoadingFirst, LoadingType, LoadingHistogram, LoadingValue, LoadingNext}
 use Rattle.segment_promises.proofs.ListedValues.{lists_nothing}
 use Rattle.hist_core.proofs.Parts.Allocations.{goes_with}
+use Rattle.hist_core.proofs.Parts.Deeds.{does_nothing}
 use Rattle.hist_core.proofs.HistCall.Asking.{place_below, runs_on}
 use Rattle.hist_core.proofs.Worlds.WorldStates.{same_there}
 use Rattle.hist_core.proofs.AddCall.Opening.{alone_there}
@@ -124,18 +125,20 @@ module _ (shape : Dimensions) (version : ℕ) (old : ActorRun) (a : Actor) (run 
   pub snapshot_goes : (said : SnapshotCallStep) (new : ActorRun) (result : Stepped) → SnapshotCallSteps snapshot_call words now new_words said
       → IsSnapshotAnnounced (record old { running = Some (Snapshot now) }) said new result → Advances shape version old words new new_words result a
   snapshot_goes More new result steps (new_is, result_is) =
-      subst (λ said. Advances shape version old words new new_words said a) (sym result_is) (goes_with (its_steps More steps) (λ b (beside, anew, looks_on). (
+      subst (λ said. Advances shape version old words new new_words said a) (sym result_is) (goes_with (its_steps More steps) (λ b (beside, done, anew, looks_on). (
         subst (λ (r : ActorRun). IsRun shape version r b) (sym new_is)
             (runs_on shape version old a run b (Some (Snapshot now)) beside (quiet_on (pending_by old) a b beside.units beside.entries beside.deltas stands.0, (known, looks_on)) tt tt),
         looks_since b anew,
+        does_nothing (MayLink old.running) a b done,
       )))
   snapshot_goes (Done sum redundant) new result steps (other, is_other, new_is, result_is) =
       let here : other ≡ now = sym (ap (looks_by now) is_other) in
       let said_is : result ≡ stepped.Done (answer.Snapshot (record { counts = now.totals; sum = sum; redundant = redundant })) =
       result_is ∙ ap (λ (x : SnapshotCall). stepped.Done (answer.Snapshot (record { counts = x.totals; sum = sum; redundant = redundant }))) here in
-      subst (λ said. Advances shape version old words new new_words said a) (sym said_is) (goes_with (its_steps (Done sum redundant) steps) (λ b (turns, anew, looked). (
+      subst (λ said. Advances shape version old words new new_words said a) (sym said_is) (goes_with (its_steps (Done sum redundant) steps) (λ b (turns, done, anew, looked). (
         (subst (λ (r : ActorRun). IsRun shape version r b) (sym new_is) (rests_then b sum redundant turns looked), is_answer b sum redundant looked),
         looks_since b anew,
+        does_nothing (MayLink old.running) a b done,
       )))
 
 -- ---- what is answered

@@ -76,7 +76,7 @@ began_before shape known holds (LoadingNext at) a set_out stands = stands.way.be
 module _ (shape : Dimensions) (version : ℕ) (known : Known) (holds : OfPassed) (along : GoesAlong known holds) (a : Actor) (words : List ℕ)
     (here : a.segment.shape ≡ shape) (turns : MayTurn a) where
   abbrev Gives : Met → Actor → Type 0
-  Gives met b = FrameOfStep a b × (b.since ≡ a.since) × MayTurn b × HasComeTo shape known holds met b
+  Gives met b = FrameOfStep a b × (b.since ≡ a.since) × (b.done ≡ a.done) × MayTurn b × HasComeTo shape known holds met b
 
   -- ---- the next of a record is loaded
 
@@ -111,6 +111,7 @@ module _ (shape : Dimensions) (version : ℕ) (known : Known) (holds : OfPassed)
           (
             walk_beside a event found,
             refl,
+            refl,
             behind_free a.hand.place known.reference found turns,
             subst (λ (m : Met). HasComeTo shape known holds m acted) (sym is) (comes_to found [] acted (record {
               sparse = may.sparse;
@@ -144,6 +145,7 @@ module _ (shape : Dimensions) (version : ℕ) (known : Known) (holds : OfPassed)
           refl,
           (
             walk_beside a event found,
+            refl,
             refl,
             behind_free a.hand.place at found turns,
             subst (λ (m : Met). HasComeTo shape known holds m acted) (sym is) (comes_to found (passed ++ at ∷ []) acted (record {
@@ -208,7 +210,7 @@ module _ (shape : Dimensions) (version : ℕ) (known : Known) (holds : OfPassed)
         event = walking_event event;
         ready = (turns, there, fixed);
         words_are = sym (set-get_or words (at + index) 0);
-        goes = λ learned apart. ([], acted, refl, (walk_beside a event found, refl, turns, comes learned));
+        goes = λ learned apart. ([], acted, refl, (walk_beside a event found, refl, refl, turns, comes learned));
       }
 
   -- the type

@@ -1,17 +1,20 @@
 -- How the running call of an actor goes on, by what its next event is.
-use Rattle.std.proofs.Common.{◌≡◌, ◌≤◌, ℕ, List, [], refl, subst}
+use Rattle.std.proofs.Common.{◌≡◌, ◌≤◌, ℕ, List, [], refl, sym, subst}
 use Rattle.std.specs.Prelude.{Some, None}
+use Rattle.std.proofs.lemmas.List.{append-nil}
+use Rattle.std.proofs.lemmas.List.Elements.{All-nil}
 use Rattle.segment_image.specs.Shape.{Dimensions}
 use Rattle.segment_image.specs.Words.{word_at}
 use Rattle.segment_image.specs.declared.layout.TheConstants.{HEADER_WORDS}
 use Rattle.alloc_core.specs.Event as atomic
 use Rattle.segment_machine.specs.declared.actor.Actor.{Actor}
+use Rattle.segment_machine.specs.declared.actor.Published.{Published}
 use Rattle.segment_machine.specs.Event.{allocating_event, next}
 use Rattle.segment_machine.specs.Allocating.{set_corrupt}
 use Rattle.hist_core.specs.declared.actor_run.Running.TheVariants.{SetCorrupt}
 use Rattle.hist_core.specs.declared.actor_run.ActorRun.{ActorRun}
 use Rattle.hist_core.proofs.Worlds.Landing.{Landing}
-use Rattle.hist_core.specs.ActorRun.{IsRun, StandsIn, pending_by}
+use Rattle.hist_core.specs.ActorRun.{IsRun, MayLink, StandsIn, pending_by}
 use Rattle.hist_core.specs.declared.call.Answer.TheVariants.{Flagged}
 use Rattle.hist_core.specs.declared.call.Stepped.TheVariants.{Done}
 use Rattle.hist_core.proofs.Worlds.Free.{free_turns}
@@ -35,23 +38,26 @@ sets_corrupt shape version a old words new_words long run is stored =
         next a (allocating_event set_corrupt) (word_at words 6),
         refl,
         (
-          record {
-            records = run.records;
-            segment = run.segment;
-            first = run.first;
-            within = run.within;
-            ended = run.ended;
-            begun = run.begun;
-            taken = run.taken;
-            names = run.names;
-            lawful = run.lawful;
-            once = run.once;
-            met = run.met;
-            stands = (refl, quiet_on (pending_by old) a (next a (allocating_event set_corrupt) (word_at words 6)) refl refl refl stands.1);
-            room = tt;
-            draft = tt;
-          },
-          refl,
+          (
+            record {
+              records = run.records;
+              segment = run.segment;
+              first = run.first;
+              within = run.within;
+              ended = run.ended;
+              begun = run.begun;
+              taken = run.taken;
+              names = run.names;
+              lawful = run.lawful;
+              once = run.once;
+              met = run.met;
+              stands = (refl, quiet_on (pending_by old) a (next a (allocating_event set_corrupt) (word_at words 6)) refl refl refl stands.1);
+              room = tt;
+              draft = tt;
+            },
+            refl,
+          ),
+          record { spoiled = refl; filled = refl; linked = ([], sym (append-nil a.done.published), All-nil (λ (p : Published). MayLink old.running p.made)) },
         ),
       );
     }

@@ -3,6 +3,7 @@ use Rattle.std.proofs.Common.{◌≡◌, ◌∙◌}
 use Rattle.std.specs.Prelude.{ℕ, List, Option, Some, None}
 use Rattle.segment_image.specs.Shape.{Dimensions}
 use Rattle.segment_machine.specs.declared.actor.Actor.{Actor}
+use Rattle.segment_machine.specs.declared.actor.Made.{Made}
 use Rattle.hist_core.specs.declared.call.Stepped.{Stepped}
 use Rattle.hist_core.specs.declared.actor_run.ActorRun.{ActorRun}
 use Rattle.hist_core.specs.declared.actor_run.Running.{Running}
@@ -11,14 +12,23 @@ use Rattle.hist_core.specs.declared.snapshot_call.Stage.{Stage}
 use Rattle.hist_core.specs.declared.snapshot_call.Stage.TheVariants.{LoadingSingle, LoadingCounts, LoadingCount, Walking, LoadingSample, LoadingSum, LoadingRedundant}
 use Rattle.hist_core.specs.declared.walk.Walk.TheVariants.{LoadingFirst, LoadingType, LoadingHistogram, LoadingValue, LoadingNext}
 use Rattle.hist_core.specs.SnapshotCall.{LooksAnew}
-use Rattle.hist_core.specs.StepsBy.{StepsBy}
-use Rattle.hist_core.specs.ActorRun.{Advances, Lands, LooksSince}
+use Rattle.hist_core.specs.StepsBy.{DoesOnly, StepsBy}
+use Rattle.hist_core.specs.ActorRun.{Advances, DoesAsSaid, Lands, LooksSince, MayLink, is_flagged, lacks_room}
 use Rattle.hist_core.proofs.Parts.Allocations.{goes_with}
+use Rattle.hist_core.proofs.Parts.Deeds.{does_less, does_still}
 use Rattle.hist_core.proofs.Worlds.Apart.{looks_not}
 
--- it goes on by one event, and lands so
+-- it goes on by one event, lands so, and has done what it says
 abbrev pub Landing : Dimensions → ℕ → ActorRun → List ℕ → ActorRun → List ℕ → Stepped → Actor → Type 0
-Landing shape version old words new new_words said a = StepsBy shape.size version a words new_words (Lands shape version old new said a)
+Landing shape version old words new new_words said a =
+    StepsBy shape.size version a words new_words (λ b. Lands shape version old new said a b × DoesAsSaid old.running said a b)
+
+-- what it has done is so still, whatever is noted before and behind
+pub does_as_said : (running : Option Running) (said : Stepped) (links : Made → Type 0) → ((made : Made) → links made → MayLink running made) → (a b c d : Actor)
+    → b.done ≡ a.done → d.done ≡ c.done → DoesOnly (is_flagged said) (lacks_room said) links b c → DoesAsSaid running said a d
+does_as_said running said links linked a b c d first last does =
+    does_still (is_flagged said) (lacks_room said) (MayLink running) a b c d first last
+    (does_less (is_flagged said) (lacks_room said) links (MayLink running) b c linked does)
 
 looks_none : (running : Option Running) (a b : Actor) → looks_not running → LooksSince running a b
 looks_none None a b none = tt
@@ -31,7 +41,7 @@ looks_none (Some (Snapshot snapshot_call)) a b none = absurd none
 
 pub lands_apart : (shape : Dimensions) (version : ℕ) (old : ActorRun) (words : List ℕ) (new : ActorRun) (new_words : List ℕ) (said : Stepped) (a : Actor) → looks_not old.running
     → Landing shape version old words new new_words said a → Advances shape version old words new new_words said a
-lands_apart shape version old words new new_words said a none go = goes_with go (λ b lands. (lands, looks_none old.running a b none))
+lands_apart shape version old words new new_words said a none go = goes_with go (λ b (lands, does). (lands, looks_none old.running a b none, does))
 
 -- since when it looks is as before where its actor is
 anew_still : (stage : Stage) (a b c : Actor) → c.since ≡ b.since → LooksAnew stage a b → LooksAnew stage a c

@@ -56,12 +56,13 @@ use Rattle.hist_core.specs.declared.call.Stepped.TheVariants.{More, Done}
 use Rattle.hist_core.specs.declared.call.Answer.TheVariants as answer
 use Rattle.hist_core.specs.Start.{MayStart, Start, start_state}
 use Rattle.hist_core.specs.StepsBy.{StepsBy, WalksInOrder, has_pointer}
-use Rattle.hist_core.specs.ActorRun.{IsAnswer, IsTook, IsKnown, IsRun, IsSomeRun, Lands, Advances, held_by, looked_by, returned_by, LooksSince, StandsIn, known_of, pending_by, IsRefusedBy}
-use Rattle.hist_core.specs.WorldState.{AreRun, IsReachedAs, IsReached, IsConsistentAs, IsReadAs, MayBeAdopted, AreKnownFirst, HasSeen, HasTaken, ClaimsNothing, HoldsNoPointer, LoadsPointer, IsPromised, StepsTo, Rests, BeginsFrom, IsDue, LooksFrom}
+use Rattle.hist_core.specs.ActorRun.{IsAnswer, IsTook, IsKnown, IsRun, IsSomeRun, Lands, Advances, held_by, looked_by, returned_by, DoesAsSaid, LooksSince, MayLink, is_flagged, lacks_room, StandsIn, known_of, pending_by, IsRefusedBy}
+use Rattle.hist_core.specs.WorldState.{AreRun, IsReachedAs, IsReached, IsConsistentAs, IsReadAs, MayBeAdopted, AreKnownFirst, HasSeen, HasTaken, ClaimsNothing, DoesOnlySo, HoldsNoPointer, LoadsPointer, IsPromised, StepsTo, Rests, BeginsFrom, IsDue, LooksFrom}
 use Rattle.bucket_ranges.specs.Ranges.{boundaries_of}
 use Rattle.bucket_ranges.specs.Spec.{spec_fault}
 use Rattle.std.specs.Prelude.{None, Ok}
 use Rattle.hist_core.specs.World.{of_actor}
+use Rattle.hist_core.proofs.Parts.Deeds.{does_still}
 use Rattle.hist_core.proofs.Walks.Orders.{walks_in_order}
 use Rattle.hist_core.proofs.Worlds.Free.{free_holds_none, free_turns}
 use Rattle.hist_core.proofs.Worlds.Pointers.{pointer_from}
@@ -286,11 +287,20 @@ module _ (start : Start) (old : WorldState) (state : State) (reach : IsReachedAs
         (ap (λ (x : Actor). x.done.spoiled) first ∙ spoiled) in
         (ap (λ (x : Deeds). x.spoiled) ends ∙ sets, ap (λ (x : Deeds). x.claimed) ends ∙ (claimed ∙ ap (λ (x : Actor). x.done.claimed) first))
 
+    -- what it has done is as its call says
+    does_so : (said : Stepped) (b : Actor) → DoesAsSaid r.running said its.0 b → (last : State) (c : Actor) → get_elem? last.actors (actor + 1) ≡ some c → c.done ≡ b.done
+        → DoesOnlySo old actor state said last
+    does_so said b does last c is_last done before x d was is_x is_d =
+        let so : DoesAsSaid r.running said its.0 d =
+        does_still (is_flagged said) (lacks_room said) (MayLink r.running) its.0 its.0 b d refl (ap (λ (y : Actor). y.done) (sym (some-injective c d (sym is_last ∙ is_d))) ∙ done) does in
+        subst (λ (p : ActorRun × Actor). DoesAsSaid p.0.running said p.1 d)
+        (λ i. (some-injective r before (sym at ∙ was) i, some-injective its.0 x (sym there ∙ is_x) i)) so
+
     -- it lands there, where no units come back
     lands : (event : Event) (b : Actor) (step : IsStep old.version state (actor + 1) event (changed b)) (pooled : new.units ≡ old.units)
-        (run : IsRun old.shape old.version r' b) → LooksSince r.running its.0 b → (said : Stepped)
+        (run : IsRun old.shape old.version r' b) → LooksSince r.running its.0 b → (said : Stepped) → DoesAsSaid r.running said its.0 b
         → IsPromised old actor state said start new (changed b) (reached_so event b step pooled run) → StepsTo old actor start state new said
-    lands event b step pooled run looks said promised = (
+    lands event b step pooled run looks said does promised = (
       event,
       changed b,
       step,
@@ -303,6 +313,7 @@ module _ (start : Start) (old : WorldState) (state : State) (reach : IsReachedAs
           looks_from (changed b) b (set_at state.actors (actor + 1) its.0 b there) looks,
           claims_none event b step (changed b) b (set_at state.actors (actor + 1) its.0 b there) refl,
           loads_pointer event b step (changed b) b (set_at state.actors (actor + 1) its.0 b there) refl,
+          does_so said b does (changed b) b (set_at state.actors (actor + 1) its.0 b there) refl,
         ),
       ),
     )
@@ -332,9 +343,9 @@ module _ (start : Start) (old : WorldState) (state : State) (reach : IsReachedAs
 
     -- it lands there once its units have come back
     lands_back : (event : Event) (b : Actor) (units : ℕ) → IsStep old.version state (actor + 1) event (changed b) → new.units ≡ old.units + units
-        → b.hand.place ≢ Spent → is_opener b.role ≡ false → units ≤ b.units.share → IsRun old.shape old.version r' (giver b units) → LooksSince r.running its.0 b → (said : Stepped)
+        → b.hand.place ≢ Spent → is_opener b.role ≡ false → units ≤ b.units.share → IsRun old.shape old.version r' (giver b units) → LooksSince r.running its.0 b → (said : Stepped) → DoesAsSaid r.running said its.0 b
         → ((there : IsReachedAs start new (traded b (getter reach.shows.opener units) (giver b units))) → IsPromised old actor state said start new _ there) → StepsTo old actor start state new said
-    lands_back event b units step pooled living recorder fits run looks said promised =
+    lands_back event b units step pooled living recorder fits run looks said does promised =
         let opener : Actor = reach.shows.opener in
         let last : State = traded b (getter opener units) (giver b units) in
         let back : IsReturned (changed b) 0 (actor + 1) units last =
@@ -370,6 +381,7 @@ module _ (start : Start) (old : WorldState) (state : State) (reach : IsReachedAs
               looks_from last (giver b units) (mine_last b units) (looks_still r.running its.0 b (giver b units) refl looks),
               claims_none event b step last (giver b units) (mine_last b units) refl,
               loads_pointer event b step last (giver b units) (mine_last b units) refl,
+              does_so said b does last (giver b units) (mine_last b units) refl,
             ),
           ),
         )
@@ -392,26 +404,26 @@ module _ (start : Start) (old : WorldState) (state : State) (reach : IsReachedAs
 
     -- where its actor lands by what its call says
     lands_so : (event : Event) (b : Actor) → IsStep old.version state (actor + 1) event (changed b) → (said : Stepped)
-        → new.units ≡ old.units + returned_by said (held_by r.running) → Lands old.shape old.version r r' said its.0 b → LooksSince r.running its.0 b → StepsTo old actor start state new said
-    lands_so event b step More pooled run looks = lands event b step (omega (arith, pooled)) run looks More tt
-    lands_so event b step (Done answer.Added) pooled run looks = lands event b step (omega (arith, pooled)) run looks (Done answer.Added) tt
-    lands_so event b step (Done answer.Flagged) pooled (run, spoiled) looks =
-        lands event b step (omega (arith, pooled)) run looks (Done answer.Flagged) (b, set_at state.actors (actor + 1) its.0 b there, spoiled)
-    lands_so event b step (Done (answer.Hist reference)) pooled run looks = lands event b step (omega (arith, pooled)) run looks (Done (answer.Hist reference)) tt
-    lands_so event b step (Done (answer.Delta delta)) pooled (run, is) looks =
+        → new.units ≡ old.units + returned_by said (held_by r.running) → Lands old.shape old.version r r' said its.0 b → LooksSince r.running its.0 b → DoesAsSaid r.running said its.0 b → StepsTo old actor start state new said
+    lands_so event b step More pooled run looks does = lands event b step (omega (arith, pooled)) run looks More does tt
+    lands_so event b step (Done answer.Added) pooled run looks does = lands event b step (omega (arith, pooled)) run looks (Done answer.Added) does tt
+    lands_so event b step (Done answer.Flagged) pooled (run, spoiled) looks does =
+        lands event b step (omega (arith, pooled)) run looks (Done answer.Flagged) does (b, set_at state.actors (actor + 1) its.0 b there, spoiled)
+    lands_so event b step (Done (answer.Hist reference)) pooled run looks does = lands event b step (omega (arith, pooled)) run looks (Done (answer.Hist reference)) does tt
+    lands_so event b step (Done (answer.Delta delta)) pooled (run, is) looks does =
         let same : new.units ≡ old.units = omega (arith, pooled) in
-        lands event b step same run looks (Done (answer.Delta delta)) (λ before was.
+        lands event b step same run looks (Done (answer.Delta delta)) does (λ before was.
         subst (λ (x : ActorRun). HasTaken actor (looked_by x.running) delta start new (changed b) (reached_so event b step same run)) (some-injective r before (sym at ∙ was))
         (has_taken start new (changed b) (reached_so event b step same run) actor b (set_at state.actors (actor + 1) its.0 b there) run.records (looked_by r.running) delta is))
-    lands_so event b step (Done (answer.Snapshot snapshot)) pooled (run, is) looks =
+    lands_so event b step (Done (answer.Snapshot snapshot)) pooled (run, is) looks does =
         let same : new.units ≡ old.units = omega (arith, pooled) in
-        lands event b step same run looks (Done (answer.Snapshot snapshot)) (λ before was.
+        lands event b step same run looks (Done (answer.Snapshot snapshot)) does (λ before was.
         subst (λ (x : ActorRun). HasSeen actor (looked_by x.running) snapshot start new (changed b) (reached_so event b step same run)) (some-injective r before (sym at ∙ was))
         (has_seen start new (changed b) (reached_so event b step same run) actor b (set_at state.actors (actor + 1) its.0 b there) run.records (looked_by r.running) snapshot is))
-    lands_so event b step (Done (answer.BatchRefused refused)) pooled ((living, fits, run), cause) looks =
-        lands_back event b (held_by r.running) step pooled living run.records fits run looks (Done (answer.BatchRefused refused)) (due_back b (held_by r.running) refused.why living cause)
-    lands_so event b step (Done (answer.Refused why)) pooled ((living, fits, run), cause) looks =
-        lands_back event b (held_by r.running) step pooled living run.records fits run looks (Done (answer.Refused why)) (due_back b (held_by r.running) why living cause)
+    lands_so event b step (Done (answer.BatchRefused refused)) pooled ((living, fits, run), cause) looks does =
+        lands_back event b (held_by r.running) step pooled living run.records fits run looks (Done (answer.BatchRefused refused)) does (due_back b (held_by r.running) refused.why living cause)
+    lands_so event b step (Done (answer.Refused why)) pooled ((living, fits, run), cause) looks does =
+        lands_back event b (held_by r.running) step pooled living run.records fits run looks (Done (answer.Refused why)) does (due_back b (held_by r.running) why living cause)
 
     -- an actor that goes on by an event leads to the next state
     pub steps : (said : Stepped) → ((a : Actor) → WalksInOrder a → IsRun old.shape old.version r a → Advances old.shape old.version r words r' new.words.items said a)
@@ -419,7 +431,7 @@ module _ (start : Start) (old : WorldState) (state : State) (reach : IsReachedAs
     steps said advances pooled =
         let kept = kept_there start old state reach in
         let order = walks_in_order old.shape start.opened state kept (actor + 1) its.0 there in
-        let did = does_step (advances its.0 order its.2) in lands_so did.0 did.1 did.2 said pooled did.3.0 did.3.1
+        let did = does_step (advances its.0 order its.2) in lands_so did.0 did.1 did.2 said pooled did.3.0 did.3.1 did.3.2
 
     -- its actor is lent units, and may begin a call with them
     pub lends : (units : ℕ) → new.words.items ≡ old.words.items → new.units + units ≡ old.units

@@ -1,6 +1,6 @@
 -- What an event does to the segment for all to see.
 use Rattle.std.proofs.Common.{◌≡◌, ◌≢◌, ℕ, ◌==◌, Bool, true, false, List, [], ◌∷◌, ◌++◌, refl, sym, ap, subst, ◌∙◌}
-use Rattle.std.specs.Prelude.{Option, Some, None, if◌then◌else◌, bit_and}
+use Rattle.std.specs.Prelude.{Option, Some, None, if◌then◌else◌, bit_and, ◌||◌, ◌-◌}
 use Rattle.std.proofs.lemmas.List.{append-nil}
 use Rattle.std.proofs.lemmas.List.Elements.{All-nil, All-cons, All-weaker}
 use Rattle.alloc_core.specs.declared.alloc.AllocStep.{AllocStep}

@@ -27,7 +27,7 @@ same_memory actor old new (inr (units, (a, b, apart, there, other, may, is))) = 
 pub one_word : (start : Start) (old : WorldState) (actor : ℕ) (state : State) (new : WorldState) (said : Stepped) → IsReachedAs start old state
     → StepsTo old actor start state new said
     → ChangesOneWord old.words.items new.words.items
-one_word start old actor state new said reach (event, then_is, step, (last, gives, (reached, promised, looks, claims, loads))) =
+one_word start old actor state new said reach (event, then_is, step, (last, gives, (reached, promised, looks, claims, loads, does))) =
     let at = spot (length state.words) event in let word = change old.version event (word_at (memory state) at) in (
       at,
       word,

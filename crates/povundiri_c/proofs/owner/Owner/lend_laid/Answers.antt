@@ -38,3 +38,6 @@ returns-in-Some c =
 
 pub lend_met-requires-clause-met : goal.lend_met-requires-clause-met
 lend_met-requires-clause-met c = subst (λ (tray : Tray). IsOfOpener tray.table.shared.key c.take-met.result) c.deref-2.ensures c.take-met.ensures
+
+pub returns-in-None : goal.returns-in-None
+returns-in-None c = inl c.lend_met.ensures

@@ -12,6 +12,9 @@ lend-requires c =
     of_opener (arc_value c.args.self.now.segment) key c.args.self.now.opener c.in-Some.recorder c.args.self.now.first c.args.self.now.made
     (subst (λ (met : Option OwnedRecorder). IsOfOpener key met) c.in-Some.is c.requires.met)
 
+pub invariant_of-self-clause-made : goal.invariant_of-self-clause-made
+invariant_of-self-clause-made c = c.lend.ensures.made (arc_value c.args.self.now.segment) c.args.self.now.made
+
 pub invariant_of-worker : goal.invariant_of-worker
 invariant_of-worker c =
     let key = (arc_value c.args.self.now.tray).table.shared.key in

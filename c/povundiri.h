@@ -470,7 +470,7 @@ inline uint32_t povundiri_next_shared(struct povundiri_handle *recorder, size_t 
 
 /* The report of an image as CSV, without a zero byte behind. Any words may be given. `needed`, which may be null, is how many bytes it
  * has, also on SHORT. It costs as much as it says: a reading of the image is held in memory, of 24 bytes and more for each key, and the
- * report beside it. A lawful image of 8 MiB may have 65 million keys, 1.6 GiB, and a forged one may have a report of more than 5 GiB.
+ * report beside it. A lawful image of 8 MiB may have 65 million keys, 1.5 GiB, and a forged one may have a report of more than 5 GiB.
  * Of words that you do not trust, call povundiri_report_bounded.
  * Statuses: NULL; IMAGE_..: its header has this fault; IMAGE_NO_MEMORY, NO_MEMORY; SHORT.
  * Keep: pointers; process. */

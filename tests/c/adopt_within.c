@@ -1,9 +1,10 @@
 /* Adopts the image in the file FILE, and then asks for its report with no key at all. Of each call it prints the status, and the most bytes
  * that the library had from its heap at a time. The heap is replaced by the three functions below, which count. */
 #include <malloc.h>
+#include <povundiri.h>
+#include <stdbool.h>
+#include <stdio.h>
 #include <stdlib.h>
-
-#include "checks.h"
 
 static size_t had, most;
 

@@ -121,7 +121,7 @@ def commands(program, folder):
     yield "report under `ulimit -v`", difference(fault("NoMemory", 5), answer("sh", ["-c", line, program, base]))
     base.write_bytes(one_block())
     said = f'"{base}", all records are read; other words are none that a segment can have'
-    wrong = both(program, ["resume", base, script, out], "Damaged", 3, [said], **limited(MOST_KILOBYTES))
+    wrong = both(program, ["resume", base, script, out], "Adopt Damaged", 3, [said], **limited(MOST_KILOBYTES))
     yield "resume of an image whose blocks overlap", wrong or (None if not out.exists() else "OUT was written")
 
 

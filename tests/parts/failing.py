@@ -2,7 +2,7 @@
 none was begun, and OUT and its folder as they were. And the program is killed at each call that makes a file: OUT is the
 old file or the whole new one.
 
-For this the program is traced (tracer.py). Where that is not allowed, nothing is tried, and a line says so.
+For this the program is traced (tracer.py).
 """
 
 import errno
@@ -13,7 +13,7 @@ import signal
 import tempfile
 
 from support import tracer
-from support.program import EXAMPLE, Answer, answer, difference, fault
+from support.program import EXAMPLE, Answer, answer, difference, fault, untried
 
 PROGRAM = "persist_report"
 READ_FAULT, WRITE_FAULT = fault("Read", 4), fault("Write", 4)
@@ -289,10 +289,9 @@ def checks(command):
         yield wrong_threads
 
 
-def cases(program, _options):
+def cases(program, options):
     if not tracer.can_trace():
-        print("failing: NOTHING WAS TRIED, since no program may be traced here")
-        yield "nothing", None
+        yield untried(tracer.NOT_ALLOWED, options)
         return
     with tempfile.TemporaryDirectory() as scratch:
         for command in commands(program, pathlib.Path(scratch).resolve()):

@@ -37,6 +37,7 @@ EACH_BY_ITSELF = {"MALLOC_MMAP_THRESHOLD_": "0", "MALLOC_TOP_PAD_": "0", "MALLOC
 SYNC, CHANGE_MODE, OPEN_AT, RANDOM = 74, 91, 257, 318
 RENAMES = (82, 264, 316)
 OUTPUT = "standard output"
+NOT_ALLOWED = "no program may be traced here"
 
 
 class Call(ctypes.Structure):

@@ -58,6 +58,9 @@ VERSION_2 = {
     ),
 }
 
+# Two units were taken off the single word, and not added to the counts yet.
+IN_TRANSIT = {SINGLE: DISABLED + 1, COUNTS: 0, COUNTS + 1: 0, SUM: 2, REDUNDANT: 2}
+
 # What is stored in the words of the example, each alone, and the fault of its record.
 BAD_RECORDS = [
     ({KIND: 5}, "BadKind"),
@@ -125,6 +128,7 @@ def images():
     """The images that are changed, each with its name and what has to be answered."""
     for name, (stored, wanted) in VERSION_2.items():
         yield name, stored_in(example(), stored), wanted
+    yield "two units in transit", stored_in(example(), IN_TRANSIT), Answer(b"A,total,0,2\n!redundant,A,2\n")
     for stored, wrong in BAD_RECORDS:
         yield f"record {told(stored)}", stored_in(example(), stored), Answer(f"!bad,16,{wrong}\n".encode())
     for stored, wrong in BAD_HEADERS:

@@ -96,6 +96,7 @@ BAD_HEADERS = [
 # What is stored in the words of a segment that has A without samples, and the report.
 LISTS = [
     ({}, b"A,total,0,0\n"),
+    ({TAIL: 12}, b"A,total,0,0\n"),
     ({19: 16}, b"A,total,0,0\n!stopped,Loop\n"),
     ({QUEUE_NEXT: 13}, b"!stopped,BadRef\n"),
     ({QUEUE_NEXT: 32}, b"!stopped,BadRef\n"),

@@ -1,5 +1,5 @@
 -- Who holds a segment, an opener or a recorder: what it has done and seen, and which segment that is.
-use Rattle.std.specs.Prelude.{◌≡◌, false, ◌<◌, ℕ, length}
+use Rattle.std.specs.Prelude.{◌≡◌, true, false, ◌<◌, ℕ, length}
 use mathlib.Core.Option.{some}
 use lib.ListN.{get_elem?}
 use Rattle.atomic_table.specs.Seated.{TableId}
@@ -10,7 +10,7 @@ use Rattle.live_segment.specs.declared.segment.Segment.{Segment}
 use Rattle.live_segment.specs.declared.opener.Opener.{Opener}
 use Rattle.live_segment.specs.declared.recorder.Recorder.{Recorder}
 use Rattle.live_segment.specs.declared.recorder.Hist.{Hist}
-use Rattle.segment_machine.specs.Actor.{is_opener}
+use Rattle.segment_machine.specs.Actor.{has_buckets, is_opener}
 use Rattle.segment_machine.specs.Event.{Event, Ready}
 use Rattle.live_segment.specs.Steps.{Pass}
 use Rattle.live_segment.specs.Rule.{first_view, IsOf}
@@ -83,3 +83,7 @@ Knows recorder histogram = histogram.index < length (view_of_recorder recorder).
 -- a histogram that a recorder knows is this one
 abbrev pub Means : Recorder → Hist → Known → Type 0
 Means recorder histogram known = get_elem? (view_of_recorder recorder).answers.names histogram.index ≡ some known
+
+-- a recorder is as before a call of a histogram, where that has buckets
+abbrev pub IsSameIfBucketed : Hist → Recorder → Recorder → Type 0
+IsSameIfBucketed histogram old new = (known : Known) → Means old histogram known → has_buckets known.spec ≡ true → new ≡ old

@@ -13,7 +13,7 @@ ghost use Rattle.live_segment.specs.Known.{known_view, KnowsRight};
 ghost use Rattle.segment_promises.specs.Values.{ComesTo, NoRepeats};
 ghost use Rattle.live_segment.specs.Readings.Listed.{AreOwn, TakesListed};
 ghost use Rattle.live_segment.specs.Readings.Samples.{SamplesStandBehind};
-ghost use Rattle.live_segment.specs.Readings.Values.{AreMostKeys, HasTakenValues, HoldsKeys, TakesAlong, TakesValue};
+ghost use Rattle.live_segment.specs.Readings.Values.{AreFewKeys, AreMostKeys, HasTakenValues, HoldsKeys, TakesAlong, TakesValue};
 ghost use Rattle.segment_image.specs.declared.layout.TheConstants.{QUEUE};
 
 use crate::recorder::KnownHistogram;
@@ -91,6 +91,7 @@ impl Segment {
         ensures took { (bucket : ℕ) → bucket < buckets_of histogram.now.spec → TookBucket seat.new.me.0 (known_view histogram.now) bucket }
         ensures on { TakesOn taken.new.items seat.old.me.0 seat.new.me.0 }
         ensures units { AreUnits taken.new.items }
+        ensures few { length taken.new.items ≤ buckets_of histogram.now.spec }
     {
         for bucket in 0..histogram.ranges.len() {
             let units = self.take_bucket(seat, histogram, mounted, bucket);
@@ -177,6 +178,7 @@ impl Segment {
         requires room { (taken.old.items ≡ []) × (buckets_of histogram.now.spec ≤ vec_capacity taken.old) }
         ensures same { IsSame seat.old seat.new }
         ensures taken { HasTaken (known_view histogram.now) taken.new.items result seat.old.me.0 seat.new.me.0 }
+        ensures few { AreFewKeys self.now (known_view histogram.now) taken.new.items }
         ensures stands { Standing seat.new.me.0 }
     {
         let word = self.take_single(seat, histogram.reference);
@@ -248,6 +250,7 @@ impl Segment {
         requires room { (taken.old.items ≡ []) × ((self.now.setting.shape.size - 16) / 5 ≤ vec_capacity taken.old) }
         ensures same { IsSame seat.old seat.new }
         ensures taken { HasTaken (known_view histogram.now) taken.new.items result seat.old.me.0 seat.new.me.0 }
+        ensures few { AreFewKeys self.now (known_view histogram.now) taken.new.items }
         ensures stands { Standing seat.new.me.0 }
     {
         let first = self.take_next(seat, histogram.reference);
@@ -294,6 +297,7 @@ impl Segment {
         requires room { (taken.old.items ≡ []) × (length samples.now ≤ vec_capacity taken.old) }
         ensures same { IsSame seat.old seat.new }
         ensures taken { HasTaken (known_view histogram.now) taken.new.items result seat.old.me.0 seat.new.me.0 }
+        ensures few { AreFewKeys self.now (known_view histogram.now) taken.new.items }
         ensures stands { Standing seat.new.me.0 }
     {
         self.take_type(seat, histogram.reference);
@@ -341,6 +345,7 @@ impl Segment {
         requires room { MatchOption samples (HoldsKeys self.now (known_view histogram.now) (vec_capacity taken.old)) (λ own. length own.now ≤ vec_capacity taken.old) }
         ensures same { IsSame seat.old seat.new }
         ensures taken { HasTaken (known_view histogram.now) taken.new.items result seat.old.me.0 seat.new.me.0 }
+        ensures few { AreFewKeys self.now (known_view histogram.now) taken.new.items }
         ensures stands { Standing seat.new.me.0 }
     {
         if let Some(own) = samples {

@@ -128,7 +128,7 @@ impl<'a> Recorder<'a> {
     ghost use Rattle.live_segment.specs.Readings.Deltas.{AreUnits, HasTaken};
     ghost use Rattle.live_segment.specs.Readings.Snapshots.{HasSnapshot};
     ghost use Rattle.live_segment.specs.Readings.Owed.{HasEnough, TookEnough};
-    ghost use Rattle.live_segment.specs.Readings.Values.{AreMostKeys};
+    ghost use Rattle.live_segment.specs.Readings.Values.{AreFewKeys, AreMostKeys};
     ghost use Rattle.live_segment.specs.Names.Searching.{HasSearched};
     ghost use Rattle.std.specs.Prelude.{◌↔◌, IsTrue, Err, ◌<◌, ◌≤◌, ◌++◌, length, IfOk, MatchOption, MatchResult};
     ghost use Rattle.segment_image.specs.Checks.{first_fault};
@@ -137,7 +137,7 @@ impl<'a> Recorder<'a> {
     ghost use Rattle.live_segment.specs.Lists.Allocation.{spoiled};
     ghost use Rattle.live_segment.specs.Counts.Batching.{batch_checks, IsBatched, IsCutShort};
     ghost use Rattle.live_segment.specs.Lists.Cursors.{AnswersNext, gift};
-    ghost use Rattle.live_segment.specs.Holders.{view_of_recorder, IsSameRecorder, Knows, Means};
+    ghost use Rattle.live_segment.specs.Holders.{view_of_recorder, IsSameIfBucketed, IsSameRecorder, Knows, Means};
     ghost use Rattle.live_segment.specs.Lists.Records.{HasWalked};
     ghost use Rattle.live_segment.specs.Lists.Fresh.{GivesFresh, given_fresh};
     ghost use Rattle.live_segment.specs.Names.Hist.{IsAnsweredWith, IsKnownAt, IsNamed, IsRefusedWith, KnowsOn, NoneHasName};
@@ -369,14 +369,17 @@ impl<'a> Recorder<'a> {
     /// All deltas of all recorders together have then taken of each key at least what the recorder had accepted, or seen, before. In
     /// version 1 one bucket may be excepted, whose units are being moved out of the single word.
     ///
+    /// It has no more keys than [`Recorder::most_keys`] says.
+    ///
     /// `NoMemory` where there is none for as many keys as the histogram may have, of 16 bytes each: its buckets, or its samples on the list.
-    /// Then nothing was taken, and of a sparse histogram it may have looked further along the list. It asks for that, and for its index of the
-    /// samples of sparse histograms, which it lets grow: where there is no memory for that, it asks for as many keys as there may be samples
-    /// in the segment, and walks along the list.
+    /// Then nothing has changed, but that of a sparse histogram it may have looked further along the list. It asks for that, and for its index
+    /// of the samples of sparse histograms, which it lets grow: where there is no memory for that, it asks for as many keys as there may be
+    /// samples in the segment, and walks along the list.
     pub fn delta(&mut self, histogram: Hist) -> Result<Delta, Refusal>
         requires { Knows self.old histogram }
         ensures same { IsSameRecorder self.old self.new }
-        ensures taken { MatchResult result (λ delta. (known : Known) → Means self.old histogram known → HasTaken known delta.counts.items delta.sum (view_of_recorder self.old) (view_of_recorder self.new)) (λ why. (why ≡ NoMemory) × HasSearched (view_of_recorder self.old) (view_of_recorder self.new)) }
+        ensures taken { MatchResult result (λ delta. (known : Known) → Means self.old histogram known → HasTaken known delta.counts.items delta.sum (view_of_recorder self.old) (view_of_recorder self.new)) (λ why. (why ≡ NoMemory) × HasSearched (view_of_recorder self.old) (view_of_recorder self.new) × IsSameIfBucketed histogram self.old self.new) }
+        ensures few { IfOk result (λ delta. (known : Known) → Means self.old histogram known → AreFewKeys self.old.segment.now known delta.counts.items) }
         ensures owed { IfOk result (λ delta. (known : Known) → Means self.old histogram known → TookEnough known (view_of_recorder self.old) (view_of_recorder self.new)) }
     {
         let known = &self.known[histogram.index];
@@ -397,12 +400,13 @@ impl<'a> Recorder<'a> {
     /// Of each key it has at least what the recorder had accepted, or seen, before, with the same exception as for [`Recorder::delta`]; and
     /// the redundant count is at least the units that it had accepted.
     ///
-    /// `NoMemory` as for [`Recorder::delta`]: then nothing is answered, and of a sparse histogram it may have looked further along the list. It
-    /// asks for the same.
+    /// It has no more keys than [`Recorder::most_keys`] says. `NoMemory` as for [`Recorder::delta`]: then nothing has changed, but that of a
+    /// sparse histogram it may have looked further along the list. It asks for the same.
     pub fn snapshot(&mut self, histogram: Hist) -> Result<Snapshot, Refusal>
         requires { Knows self.old histogram }
         ensures same { IsSameRecorder self.old self.new }
-        ensures answer { MatchResult result (λ snapshot. (known : Known) → Means self.old histogram known → HasSnapshot known (view_of_recorder self.old) snapshot (view_of_recorder self.new)) (λ why. (why ≡ NoMemory) × HasSearched (view_of_recorder self.old) (view_of_recorder self.new)) }
+        ensures answer { MatchResult result (λ snapshot. (known : Known) → Means self.old histogram known → HasSnapshot known (view_of_recorder self.old) snapshot (view_of_recorder self.new)) (λ why. (why ≡ NoMemory) × HasSearched (view_of_recorder self.old) (view_of_recorder self.new) × IsSameIfBucketed histogram self.old self.new) }
+        ensures few { IfOk result (λ snapshot. (known : Known) → Means self.old histogram known → AreFewKeys self.old.segment.now known snapshot.counts.items) }
         ensures owed { IfOk result (λ snapshot. (known : Known) → Means self.old histogram known → HasEnough known (view_of_recorder self.old) snapshot (view_of_recorder self.new)) }
         ensures values { IfOk result (λ snapshot. (known : Known) → Means self.old histogram known → known.spec ≡ Sparse → AreUnits snapshot.counts.items) }
     {

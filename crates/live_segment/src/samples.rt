@@ -17,6 +17,7 @@ use segment_image::layout::{SAMPLE_COUNT, SAMPLE_HISTOGRAM, SAMPLE_VALUE, TYPE_S
 
 impl Segment {
     ghost use Rattle.segment_machine.specs.declared.actor.Actor.{Actor};
+    ghost use Rattle.segment_machine.specs.Actor.{has_buckets};
     ghost use Rattle.segment_machine.specs.Calls.{MayTurn};
     ghost use Rattle.live_segment.specs.declared.indexing.KeyKind.TheVariants.{Sample as OfSample};
     ghost use Rattle.live_segment.specs.declared.rule.Setting.{Setting};
@@ -96,6 +97,7 @@ impl Segment {
         ensures free { MayTurn seat.new.me.0 }
         ensures indexed { IsIndexed OfSample self.now.setting.shape.size seat.new.me.0.seen index.new }
         ensures passed { result ≡ true → HasPassedAll self.now.setting.shape.size seat.new.me.0.seen index.new × (histogram.now.spec ≡ Sparse) }
+        ensures still { has_buckets histogram.now.spec ≡ true → (seat.new ≡ seat.old) × (index.new ≡ index.old) }
     {
         histogram.ranges.len() == 0 && self.look_on(seat, index)
     }

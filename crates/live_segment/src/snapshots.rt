@@ -53,7 +53,7 @@ impl Segment {
     ghost use Rattle.segment_machine.specs.declared.actor.Actor.{Actor};
     ghost use Rattle.live_segment.specs.declared.rule.Setting.{Setting};
     ghost use Rattle.live_segment.specs.Readings.Deltas.{AreUnits};
-    ghost use Rattle.live_segment.specs.Readings.Values.{LooksAlong, LooksAtValues, OpensWith};
+    ghost use Rattle.live_segment.specs.Readings.Values.{AreFewKeys, LooksAlong, LooksAtValues, OpensWith};
     ghost use Rattle.live_segment.specs.Readings.Listed.{AreOwn, LooksListed};
     ghost use Rattle.bucket_ranges.specs.Spec.{buckets_of};
     ghost use Rattle.segment_machine.specs.Actor.{has_buckets, is_opener};
@@ -147,6 +147,7 @@ impl Segment {
         ensures same { IsSame seat.old seat.new }
         ensures answer { HasSnapshot (known_view histogram.now) seat.old.me.0 result seat.new.me.0 }
         ensures stands { Standing seat.new.me.0 }
+        ensures few { AreFewKeys self.now (known_view histogram.now) result.counts.items }
     {
         self.look_at_buckets(seat, histogram, totals.as_mut_slice());
         let (sum, redundant) = self.look_at_sum(seat, histogram.reference);
@@ -197,6 +198,7 @@ impl Segment {
         ensures answer { HasSnapshot (known_view histogram.now) seat.old.me.0 result seat.new.me.0 }
         ensures stands { Standing seat.new.me.0 }
         ensures units { AreUnits result.counts.items }
+        ensures few { AreFewKeys self.now (known_view histogram.now) result.counts.items }
     {
         let first = self.look_next(seat, histogram.reference);
         self.look_at_values(seat, histogram, first, &mut totals);
@@ -250,6 +252,7 @@ impl Segment {
         ensures answer { HasSnapshot (known_view histogram.now) seat.old.me.0 result seat.new.me.0 }
         ensures stands { Standing seat.new.me.0 }
         ensures units { AreUnits result.counts.items }
+        ensures few { AreFewKeys self.now (known_view histogram.now) result.counts.items }
     {
         self.look_type(seat, histogram.reference);
         self.look_at_listed(seat, histogram, samples, &mut totals);
@@ -296,6 +299,7 @@ impl Segment {
         ensures answer { HasSnapshot (known_view histogram.now) seat.old.me.0 result seat.new.me.0 }
         ensures stands { Standing seat.new.me.0 }
         ensures units { histogram.now.spec ≡ Sparse → AreUnits result.counts.items }
+        ensures few { AreFewKeys self.now (known_view histogram.now) result.counts.items }
     {
         if let Some(own) = samples {
             return self.snapshot_of_listed(seat, histogram, own, totals);

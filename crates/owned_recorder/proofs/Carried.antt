@@ -5,11 +5,14 @@ use Rattle.std.specs.declared.alloc.Global.{Global}
 use Rattle.std.specs.declared.vec.Vec.{Vec}
 use Rattle.segment_calls.specs.declared.refusal.Refusal.{Refusal}
 use Rattle.segment_calls.specs.declared.refusal.Refusal.TheVariants.{NoMemory}
+use Rattle.live_segment.specs.declared.recorder.Hist.{Hist}
 use Rattle.live_segment.specs.declared.recorder.Recorder.{Recorder}
 use Rattle.live_segment.specs.declared.recorder.desk.Desk.{Desk}
 use Rattle.live_segment.specs.declared.segment.Segment.{Segment}
 use Rattle.live_segment.specs.Desk.{desk_of, IsDeskAt}
+use Rattle.live_segment.specs.Holders.{IsSameIfBucketed as IsSameRecorderIfBucketed}
 use Rattle.live_segment.specs.Lists.Fresh.{GivesFresh}
+use Rattle.owned_recorder.specs.Answers.{IsSameIfBucketed}
 
 -- what holds of the desks of a recorder, before and behind a call, holds of the desk before it and the one behind it
 pub carried : (P : Desk → Desk → Type 0) (old new : Recorder) (before behind : Desk) → desk_of old ≡ before → behind ≡ desk_of new
@@ -24,6 +27,14 @@ pub same_on_some : {T : Type 0} (fault : Option T) (P : Type 0) (Q : T → Type 
     → MatchOption fault P (λ why. Q why × (new ≡ old)) → MatchOption fault P (λ why. Q why × (desk_of new ≡ desk_of old))
 same_on_some (Some why) P Q old new held = (held.0, ap desk_of held.1)
 same_on_some None P Q old new held = held
+
+-- where there was no memory, too
+pub same_on_no_memory : {T : Type 0} (result : Result T Refusal) (P : T → Type 0) (Q : Refusal → Type 0) (S : Type 0) (histogram : Hist) (old new : Recorder)
+    → MatchResult result P (λ why. Q why × S × IsSameRecorderIfBucketed histogram old new)
+    → MatchResult result P (λ why. Q why × S × IsSameIfBucketed histogram (desk_of old) (desk_of new))
+same_on_no_memory (Ok value) P Q S histogram old new held = held
+same_on_no_memory (Err why) P Q S histogram old new held =
+    (held.0, held.1, λ known means bucketed. ap desk_of (held.2 known means bucketed))
 
 -- ---- the segment of the desk
 

@@ -1,6 +1,6 @@
 -- What the calls of a recorder answer and make of its desk: the clauses of `Recorder`, of the desk before a call, its answer, and the desk
 -- behind it.
-use Rattle.std.specs.Prelude.{◌≡◌, ℕ, ℤ, List, Result, Err, IfOk, MatchOption, MatchResult}
+use Rattle.std.specs.Prelude.{◌≡◌, true, ℕ, ℤ, List, Result, Err, IfOk, MatchOption, MatchResult}
 use Rattle.std.specs.declared.vec.Vec.{Vec}
 use Rattle.std.specs.declared.alloc.Global.{Global}
 use Rattle.bucket_ranges.specs.declared.spec.Spec.{Spec}
@@ -13,8 +13,10 @@ use Rattle.segment_calls.specs.declared.refusal.BatchRefusal.{BatchRefusal}
 use Rattle.segment_calls.specs.declared.answer.Delta.{Delta}
 use Rattle.segment_calls.specs.declared.answer.Snapshot.{Snapshot}
 use Rattle.segment_machine.specs.declared.actor.Known.{Known}
+use Rattle.segment_machine.specs.Actor.{has_buckets}
 use Rattle.live_segment.specs.declared.recorder.Hist.{Hist}
 use Rattle.live_segment.specs.declared.recorder.desk.Desk.{Desk}
+use Rattle.live_segment.specs.declared.segment.Segment.{Segment}
 use Rattle.live_segment.specs.Claims.{ClaimsFor, ClaimsForAll, NamesAtMostOne}
 use Rattle.live_segment.specs.Counts.Adding.{add_checks, AnswersSample}
 use Rattle.live_segment.specs.Counts.Batching.{batch_checks, IsBatched, IsCutShort}
@@ -24,7 +26,14 @@ use Rattle.live_segment.specs.Names.Searching.{HasSearched}
 use Rattle.live_segment.specs.Readings.Deltas.{AreUnits, HasTaken}
 use Rattle.live_segment.specs.Readings.Owed.{HasEnough, TookEnough}
 use Rattle.live_segment.specs.Readings.Snapshots.{HasSnapshot}
+use Rattle.live_segment.specs.Readings.Values.{AreFewKeys}
 use Rattle.owned_recorder.specs.Desks.{GivesFresh, Means, view_of_desk}
+
+-- ---- a call that is refused
+
+-- it has the same desk where it is of a histogram with buckets
+abbrev pub IsSameIfBucketed : Hist → Desk → Desk → Type 0
+IsSameIfBucketed histogram old new = (known : Known) → Means old histogram known → has_buckets known.spec ≡ true → new ≡ old
 
 -- ---- `hist`
 
@@ -72,13 +81,18 @@ ClaimsBatch histogram items old result new =
 
 -- ---- `delta`
 
--- the delta is what it has taken; or there was no memory, and it has looked along the list
+-- the delta is what it has taken; or there was no memory, and of a sparse histogram it may have looked along the list
 abbrev pub AnswersDelta : Hist → Desk → Result Delta Refusal → Desk → Type 0
 AnswersDelta histogram old result new =
     MatchResult result
     (λ delta. (known : Known) → Means old histogram known
     → HasTaken known delta.counts.items delta.sum (view_of_desk old) (view_of_desk new))
-    (λ why. (why ≡ NoMemory) × HasSearched (view_of_desk old) (view_of_desk new))
+    (λ why. (why ≡ NoMemory) × HasSearched (view_of_desk old) (view_of_desk new) × IsSameIfBucketed histogram old new)
+
+-- it has no more keys than the histogram may have
+abbrev pub TakesFewKeys : Segment → Hist → Desk → Result Delta Refusal → Type 0
+TakesFewKeys segment histogram old result =
+    IfOk result (λ delta. (known : Known) → Means old histogram known → AreFewKeys segment known delta.counts.items)
 
 -- all deltas together have taken enough
 abbrev pub TakesEnough : Hist → Desk → Result Delta Refusal → Desk → Type 0
@@ -87,12 +101,17 @@ TakesEnough histogram old result new =
 
 -- ---- `snapshot`
 
--- the snapshot is what it saw; or there was no memory, and it has looked along the list
+-- the snapshot is what it saw; or there was no memory, and of a sparse histogram it may have looked along the list
 abbrev pub AnswersSnapshot : Hist → Desk → Result Snapshot Refusal → Desk → Type 0
 AnswersSnapshot histogram old result new =
     MatchResult result
     (λ snapshot. (known : Known) → Means old histogram known → HasSnapshot known (view_of_desk old) snapshot (view_of_desk new))
-    (λ why. (why ≡ NoMemory) × HasSearched (view_of_desk old) (view_of_desk new))
+    (λ why. (why ≡ NoMemory) × HasSearched (view_of_desk old) (view_of_desk new) × IsSameIfBucketed histogram old new)
+
+-- it has no more keys than the histogram may have
+abbrev pub ShowsFewKeys : Segment → Hist → Desk → Result Snapshot Refusal → Type 0
+ShowsFewKeys segment histogram old result =
+    IfOk result (λ snapshot. (known : Known) → Means old histogram known → AreFewKeys segment known snapshot.counts.items)
 
 -- the snapshot has enough
 abbrev pub ShowsEnough : Hist → Desk → Result Snapshot Refusal → Desk → Type 0

@@ -6,7 +6,7 @@ ghost use Rattle.std.proofs.Props.{props};
 ghost use Rattle.live_segment.specs.Desk.{IsDeskAt};
 ghost use Rattle.live_segment.specs.Lists.Allocation.{spoiled};
 ghost use Rattle.live_segment.specs.Lists.Cursors.{AnswersNext, gift};
-ghost use Rattle.owned_recorder.specs.Answers.{AnswersAdd, AnswersBatch, AnswersDelta, AnswersFresh, AnswersHist, AnswersRecords, AnswersSnapshot, ClaimsAdd, ClaimsBatch, ClaimsHist, ShowsEnough, ShowsUnits, TakesEnough};
+ghost use Rattle.owned_recorder.specs.Answers.{AnswersAdd, AnswersBatch, AnswersDelta, AnswersFresh, AnswersHist, AnswersRecords, AnswersSnapshot, ClaimsAdd, ClaimsBatch, ClaimsHist, ShowsEnough, ShowsFewKeys, ShowsUnits, TakesEnough, TakesFewKeys};
 ghost use Rattle.owned_recorder.specs.Desks.{IsNamed, IsSameDesk, Knows, KnowsOn, Means, view_of_desk};
 ghost use Rattle.live_segment.specs.Readings.Values.{AreMostKeys};
 ghost use Rattle.segment_machine.specs.declared.actor.Known.{Known};
@@ -150,6 +150,7 @@ impl OwnedRecorder {
         ensures kept { result.0.segment ≡ self.segment }
         ensures same { IsSameDesk self.desk result.0.desk }
         ensures taken { AnswersDelta asked self.desk result.1 result.0.desk }
+        ensures few { TakesFewKeys (arc_value self.segment) asked self.desk result.1 }
         ensures owed { TakesEnough asked self.desk result.1 result.0.desk }
     {
         let OwnedRecorder { segment, desk } = self;
@@ -165,6 +166,7 @@ impl OwnedRecorder {
         ensures kept { self.new.segment ≡ self.old.segment }
         ensures same { IsSameDesk self.old.desk self.new.desk }
         ensures taken { AnswersDelta histogram self.old.desk result self.new.desk }
+        ensures few { TakesFewKeys (arc_value self.old.segment) histogram self.old.desk result }
         ensures owed { TakesEnough histogram self.old.desk result self.new.desk }
     {
         replace_with(self, histogram, OwnedRecorder::delta_within)
@@ -175,6 +177,7 @@ impl OwnedRecorder {
         ensures kept { result.0.segment ≡ self.segment }
         ensures same { IsSameDesk self.desk result.0.desk }
         ensures answer { AnswersSnapshot asked self.desk result.1 result.0.desk }
+        ensures few { ShowsFewKeys (arc_value self.segment) asked self.desk result.1 }
         ensures owed { ShowsEnough asked self.desk result.1 result.0.desk }
         ensures values { ShowsUnits asked self.desk result.1 }
     {
@@ -191,6 +194,7 @@ impl OwnedRecorder {
         ensures kept { self.new.segment ≡ self.old.segment }
         ensures same { IsSameDesk self.old.desk self.new.desk }
         ensures answer { AnswersSnapshot histogram self.old.desk result self.new.desk }
+        ensures few { ShowsFewKeys (arc_value self.old.segment) histogram self.old.desk result }
         ensures owed { ShowsEnough histogram self.old.desk result self.new.desk }
         ensures values { ShowsUnits histogram self.old.desk result }
     {

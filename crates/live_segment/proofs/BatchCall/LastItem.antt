@@ -1,7 +1,7 @@
 -- The last item of a batch without a sum is counted, and the batch ends.
-use Rattle.std.proofs.Common.{◌≡◌, ℕ, ◌+◌, ◌-◌, ◌≤◌, true, false, if◌then◌else◌, ℤ, pos, List, [], ◌∷◌, ◌++◌, map, refl, sym, ap, ◌∙◌, subst, arith}
+use Rattle.std.proofs.Common.{◌≡◌, ℕ, ◌+◌, ◌-◌, ◌≤◌, true, false, if◌then◌else◌, ℤ, pos, List, [], ◌∷◌, ◌++◌, length, map, refl, sym, ap, ◌∙◌, subst, arith}
 use Rattle.std.specs.Str.{bytes_eq}
-use Rattle.std.proofs.lemmas.List.{append_assoc, append-nil, map-append}
+use Rattle.std.proofs.lemmas.List.{append_assoc, append-nil, length_push, map-append}
 use Rattle.std.proofs.lemmas.List.Sums.{sum_by-append}
 use Rattle.bucket_ranges.specs.Ranges.{boundaries_of}
 use Rattle.bucket_ranges.specs.Tally.{units_of}
@@ -158,4 +158,5 @@ module _ (known : Known) (front : List (ℤ × ℕ)) (item : ℤ × ℕ) (old a 
           };
           filled = ap (λ (x : Actor). x.done.filled) ended.same ∙ (counted.filled ∙ has.filled);
           onward = onward_last;
+          nothing = λ none zero. let long = ap length none in let one = length_push front item in absurd (omega (arith, long, one));
         }

@@ -279,4 +279,5 @@ module _ (known : Known) (sum : ℤ) (old : Actor) (seat : Pass) (rest : IsAtRes
         };
         filled = ap (λ (y : Actor). y.done.filled) as_before ∙ has.filled;
         onward = sum_onward;
+        nothing = λ none zero. absurd (some_sum zero);
       }

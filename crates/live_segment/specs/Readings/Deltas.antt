@@ -115,12 +115,14 @@ pub record HasTakenSample (segment : Segment) (known : Known) (value : ℤ) (sam
 
 -- ---- what was taken
 
--- A delta has taken these units of the buckets of a histogram, which is all that its recorder saw of them since it began.
+-- A delta has taken these units of the buckets of a histogram, of no more than there are, which is all that its recorder saw of them since
+-- it began.
 pub record HasTakenBuckets (known : Known) (taken : List (ℤ × ℕ)) (old new : Actor) : Type 0 where
   pub on : TakesOn taken old new
   pub free : is_bound new.hand.place ≡ false
   pub took : (bucket : ℕ) → bucket < buckets_of known.spec → TookBucket new known bucket
   pub units : AreUnits taken
+  pub few : length taken ≤ buckets_of known.spec
 
 -- A delta has taken of the units of a histogram all that its recorder saw, and may take of the sum.
 pub record MayTakeSum (segment : Segment) (known : Known) (seat : Pass) : Type 0 where

@@ -35,6 +35,10 @@ HoldsKeys segment known many =
     (has_buckets known.spec ≡ true → buckets_of known.spec ≤ many)
     × (known.spec ≡ Sparse → (segment.setting.shape.size - HEADER_WORDS) / BLOCK_LEAST ≤ many)
 
+-- so many keys are counted of a histogram as it may have, or fewer
+abbrev pub AreFewKeys : Segment → Known → List (ℤ × ℕ) → Type 0
+AreFewKeys segment known counts = (many : ℕ) → AreMostKeys segment known many → length counts ≤ many
+
 -- ---- a delta
 
 -- it takes of a record that it met; of the list it has seen no more

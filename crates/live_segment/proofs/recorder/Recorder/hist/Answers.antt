@@ -1,9 +1,12 @@
-use Rattle.std.proofs.Common.{List, [], ◌∷◌, ◌++◌, length, map, ap, subst, sym, ◌∙◌, inr}
+use Rattle.std.proofs.Common.{List, [], ◌∷◌, ◌++◌, length, map, ap, subst, sym, ◌∙◌, refl, inl, inr}
 use Rattle.std.specs.List.{All}
 use Rattle.std.proofs.lemmas.Result.{err_from_is_err_and}
+use Rattle.segment_image.specs.Shape.{Dimensions}
+use Rattle.segment_calls.specs.Asked.{IsRefusedFor}
 use Rattle.segment_machine.specs.declared.actor.Known.{Known}
 use Rattle.live_segment.specs.declared.recorder.KnownHistogram.{KnownHistogram}
 use Rattle.live_segment.specs.Known.{known_view, KnowsRight}
+use Rattle.live_segment.specs.Names.Hist.{NoneHasName}
 use Rattle.live_segment.specs.Names.Naming.{HasNames}
 use Rattle.live_segment.proofs.Walks.Walked.{all_right, come_still}
 use Rattle.live_segment.proofs.HistCall.HistAnswered.{none_known, seen_grew, names_still, of_still, rests_still, share_still, chain_grew, of_then, rests_then, share_same, right_then, listed_then, named_then, count_of, asked_here}
@@ -94,6 +97,28 @@ returns-in_err-known-clause-claims c =
     rw (p.1, p.2) (λ is.
     makes_named me.segment.now.setting.shape c.args.name.now c.args.spec.now c.in_ok-asked.asked me.seat.me.0 c.ask.new.seat.me.0 c.in_ok-asked.ensures (c.in_err-known.ensures.claims is))
 
-pub enter-requires : goal.enter-requires
-enter-requires c =
+pub enter-requires-clause-has : goal.enter-requires-clause-has
+enter-requires-clause-has c =
     subst (λ (l : List KnownHistogram). HasNames l c.args.self.now.names) (sym (c.as_slice-before.ensures.value ∙ c.in_ok-reserve.ensures.items)) c.args.self.now.named
+
+pub enter-requires-clause-none : goal.enter-requires-clause-none
+enter-requires-clause-none c =
+    subst (λ (l : List KnownHistogram). NoneHasName l c.args.name.now) (sym (c.as_slice-before.ensures.value ∙ c.in_ok-reserve.ensures.items)) c.in_default.ensures
+
+pub returns-in_err-asked-clause-answer : goal.returns-in_err-asked-clause-answer
+returns-in_err-asked-clause-answer c =
+    let me = c.args.self.now in
+    let none = none_known me.known.items me.seat.me.0 c.args.name.now me.listed c.in_default.ensures in
+    let p = err_from_is_err_and c.from_residual.result c.from_residual.ensures.1 in
+    rw (p.1, p.2) (inl (
+      subst (λ (d : Dimensions). IsRefusedFor d c.args.name.now c.args.spec.now c.in_err-asked.field-0.0) (sym me.seated.of.shape) c.in_err-asked.ensures,
+      refl,
+      λ is index known its same. none index known its,
+    ))
+
+pub returns-in_err-reserve-clause-answer : goal.returns-in_err-reserve-clause-answer
+returns-in_err-reserve-clause-answer c =
+    let me = c.args.self.now in
+    let none = none_known me.known.items me.seat.me.0 c.args.name.now me.listed c.in_default.ensures in
+    let p = err_from_is_err_and c.from_residual-in_err-reserve.result c.from_residual-in_err-reserve.ensures.1 in
+    rw (p.1, p.2) (inl ((c.in_ok-asked.ensures.lawful_name, c.in_ok-asked.ensures.lawful_spec), refl, λ is index known its same. none index known its))

@@ -26,10 +26,11 @@ pub record SeesOn (old new : Seen) : Type 0 where
   pub words : Grows old.words new.words
   pub cursors : Grows old.cursors new.cursors
 
--- it may have claimed and published more, and set the full flag; once it has set the corrupt flag, it claims nothing
+-- it may have raised the free pointer, claimed and published more, and set the full flag; once it has set the corrupt flag, it claims nothing
 pub record DoesOn (old new : Done) : Type 0 where
-  pub same : new ≡ record old { claimed = new.claimed; published = new.published; filled = new.filled; lacked = new.lacked; beaten = new.beaten }
+  pub same : new ≡ record old { claimed = new.claimed; raised = new.raised; published = new.published; filled = new.filled; lacked = new.lacked; beaten = new.beaten }
   pub claimed : Grows old.claimed new.claimed
+  pub raised : Grows old.raised new.raised
   pub published : Grows old.published new.published
   pub filled : old.filled ≡ true → new.filled ≡ true
   pub lacked : Grows old.lacked new.lacked

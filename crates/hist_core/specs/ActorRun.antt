@@ -24,10 +24,10 @@ use Rattle.segment_machine.specs.Seats.{giver}
 use Rattle.segment_machine.specs.declared.actor.Answered.{Answered}
 use Rattle.segment_machine.specs.declared.actor.Known.{Known as MachineKnown}
 use Rattle.hist_core.specs.StepsBy.{DoesOnly, StepsBy, HasMet, IsFree}
-use Rattle.hist_core.specs.Add.{HasMetNoCounts, IsAdd, alone, block_words, counted_entry, IsStarted}
+use Rattle.hist_core.specs.Add.{NeedsBlock, IsAdd, alone, block_words, counted_entry, IsStarted}
 use Rattle.hist_core.specs.Add.{links_counted as add_links}
 use Rattle.hist_core.specs.Batch.{IsBatch, IsSameBatch, counted_entries}
-use Rattle.hist_core.specs.Batch.{links_counted as batch_links}
+use Rattle.hist_core.specs.Batch.{links_counted as batch_links, sample_of}
 use Rattle.hist_core.specs.declared.batch.Batch.{Batch as BatchCall}
 use Rattle.hist_core.specs.declared.batch.BatchStep.{BatchStep}
 use Rattle.hist_core.specs.declared.batch.BatchStep.TheVariants as batch
@@ -288,18 +288,19 @@ pub record IsTook (histogram : ℕ) (delta : DeltaAnswer) (a : Actor) : Type 0 w
   pub sum : delta.sum ≡ last.sum
   pub took : TookAll a known
 
--- A call that counts in the histogram of a record is refused the block that it needs there: its counts, or the sample of a value. Its actor
--- has met no counts, behind which alone units of another call are moved: so it has moved nothing.
-abbrev pub LacksBlock : ℕ → Refusal → Actor → Actor → Type 0
-LacksBlock histogram cause a b =
-    (known : MachineKnown) × Contains b.answers.names known × (known.reference ≡ histogram) × IsCause cause (block_words known) a b × HasMetNoCounts known b
+-- Units that are to be counted in the histogram of a record are refused the block that they need there: its counts, or the sample of a value.
+-- Their actor has met no counts, behind which alone units of another call are moved: so it has moved nothing.
+abbrev pub LacksBlock : ℕ → ℤ × ℕ → Refusal → Actor → Actor → Type 0
+LacksBlock histogram sample cause a b =
+    (known : MachineKnown) × Contains b.answers.names known × (known.reference ≡ histogram) × IsCause cause (block_words known) a b × NeedsBlock known sample b
 
--- Why a running call is refused, by its last event: the block that it needs is refused; or its actor has seen that the first record of the
--- name that a `hist` asks for has another spec. No other call is.
+-- Why a running call is refused, by its last event: the block that it needs is refused, a batch that of its next item; or its actor has seen
+-- that the first record of the name that a `hist` asks for has another spec. No other call is.
 abbrev pub IsRefusedBy : Option Running → Refusal → Actor → Actor → Type 0
 IsRefusedBy (Some (Hist hist)) cause a b = IsHistCause hist.asked.name.items hist.asked.spec cause a b
-IsRefusedBy (Some (Add add)) cause a b = LacksBlock add.histogram cause a b
-IsRefusedBy (Some (Batch batch)) cause a b = LacksBlock batch.histogram cause a b
+IsRefusedBy (Some (Add add)) cause a b = LacksBlock add.histogram (add.value, add.units) cause a b
+IsRefusedBy (Some (Batch batch)) cause a b =
+    (sample : ℤ × ℕ) × (get_elem? (map sample_of batch.items.items) batch.added ≡ some sample) × LacksBlock batch.histogram sample cause a b
 IsRefusedBy running cause a b = ⊥
 
 -- where its actor lands whose call is refused: it gives the units back that are left of it

@@ -25,7 +25,7 @@ use Rattle.segment_calls.specs.declared.asked.Asked.{Asked}
 use Rattle.hist_core.specs.declared.hist.Hist.{Hist}
 use Rattle.hist_core.specs.declared.hist.HistStep.{HistStep}
 use Rattle.hist_core.specs.declared.hist.HistStep.TheVariants.{More, Done, Refused}
-use Rattle.hist_core.specs.StepsBy.{DoesOnly, FrameOfStep, StepsBy, IsFree}
+use Rattle.hist_core.specs.StepsBy.{DoesOnly, FrameOfStep, SawEnd, StepsBy, IsFree}
 use Rattle.hist_core.specs.declared.hist.Stage.{Stage}
 use Rattle.hist_core.specs.declared.hist.Stage.TheVariants.{Walking, Comparing, Making}
 use Rattle.hist_core.specs.declared.making.MakingStep.{MakingStep}
@@ -111,13 +111,14 @@ IsDifferent old k new (Refused cause) = (old.letters + 2 ≤ k) × (new ≡ old)
 abbrev pub HaveOtherNames : Hist → Actor → List ℕ → Type 0
 HaveOtherNames h a records = All (SawOtherName a.seen h.asked.name.items) records
 
--- Where its actor stands, whose walk has given these records: none of them has the name, but for the last while it is compared.
+-- Where its actor stands, whose walk has given these records: none of them has the name, but for the last while it is compared. While it
+-- makes its record these are all that it has met, up to the end of the list.
 abbrev pub StandsAtStage : Dimensions → Hist → Actor → List ℕ → Stage → Type 0
 StandsAtStage shape h a given Walking = IsFree a × HaveOtherNames h a given
 StandsAtStage shape h a given (Comparing same) =
     IsFree a × ((front : List ℕ) × (given ≡ front ++ h.reference ∷ []) × HaveOtherNames h a front)
     × Reaches shape.size h same × (same < comparisons h) × AreSame a.seen h same
-StandsAtStage shape h a given (Making making) = HaveOtherNames h a given × IsMaking shape (wanted_of h) making a
+StandsAtStage shape h a given (Making making) = (given ≡ a.seen.chain) × SawEnd a.seen × HaveOtherNames h a given × IsMaking shape (wanted_of h) making a
 
 -- Its walk has given the front of the chain that its actor has seen.
 pub record IsHist (shape : Dimensions) (h : Hist) (a : Actor) : Type 0 where
@@ -135,10 +136,14 @@ abbrev pub HasOtherSpec : List ℕ → Spec → Seen → Type 0
 HasOtherSpec name spec seen =
     (at : ℕ) × (letters : List ℕ) × IsFirstNamed seen name at × AreNameWords name letters × SawOtherSpec seen spec (length letters) at
 
--- the record of a name and a spec is refused, which has so many words
+-- it has seen the list to its end, and that no record of it has a name
+abbrev pub SawNone : List ℕ → Seen → Type 0
+SawNone name seen = All (SawOtherName seen name) seen.chain × SawEnd seen
+
+-- No record of a name is on the list, and that of the name and a spec is refused, which has so many words.
 abbrev pub LacksRecord : List ℕ → Spec → Refusal → Actor → Actor → Type 0
 LacksRecord name spec cause a b =
-    (letters : List ℕ) × AreNameWords name letters × making.IsCause cause (BLOCK_HEADER + length (payload_words name spec letters)) a b
+    SawNone name b.seen × (letters : List ℕ) × AreNameWords name letters × making.IsCause cause (BLOCK_HEADER + length (payload_words name spec letters)) a b
 
 -- why a `hist` of a name and a spec is refused: for that, or for what refuses its record
 abbrev pub IsCause : List ℕ → Spec → Refusal → Actor → Actor → Type 0

@@ -24,7 +24,7 @@ use Rattle.segment_promises.proofs.Spoilers.{notes_leave}
 use Rattle.hist_core.specs.declared.actor_run.Running.{Running}
 use Rattle.hist_core.specs.declared.actor_run.Running.TheVariants.{Add}
 use Rattle.hist_core.specs.declared.actor_run.ActorRun.{ActorRun}
-use Rattle.hist_core.specs.Add.{Amid, alone, block_words, counted_entry, ended_entry, FrameOfAdd, HasEntry, HasMetNoCounts, HasEnded, StandsAtStage, IsAdd, IsSomeAdd, AddSteps, AddGives, links_counted}
+use Rattle.hist_core.specs.Add.{Amid, alone, block_words, counted_entry, ended_entry, FrameOfAdd, HasEntry, NeedsBlock, HasEnded, StandsAtStage, IsAdd, IsSomeAdd, AddSteps, AddGives, links_counted}
 use Rattle.hist_core.specs.Batch.{Runs, HaveEnded, IsCutAt}
 use Rattle.hist_core.specs.StepsBy.{DoesOnly, StepsBy}
 use Rattle.hist_core.proofs.Worlds.Landing.{Landing, does_as_said}
@@ -117,14 +117,14 @@ module _ (shape : Dimensions) (version : ℕ) (old : ActorRun) (add : AddCall) (
       does_it said first b d before behind = does_as_said old.running said (links_counted now) (λ made it. subst (λ running. MayLink running made) (sym is) it) first a b d before behind
 
       -- why it is refused
-      refused_by : (first b : Actor) → HasOnlyNoted first a → FrameOfAdd a b → (why : Refusal) → IsCause why (block_words known) a b → HasMetNoCounts known b
+      refused_by : (first b : Actor) → HasOnlyNoted first a → FrameOfAdd a b → (why : Refusal) → IsCause why (block_words known) a b → NeedsBlock known (add.value, add.units) b
           → IsRefusedBy old.running why first (noted b (refused 0))
       refused_by first b from aside why cause met = subst (λ running. IsRefusedBy running why first (noted b (refused 0))) (sym is) (
         known,
         subst (λ (l : List MachineKnown). Contains l known) (sym aside.names) counts.counting.knows,
         counts.counting.counting.reference,
         cause_noted why (block_words known) first a b (noted b (refused 0)) from refl refl cause,
-        met,
+        record { counts = met.counts; value = met.value },
       )
 
       its_steps : (words new_words : List ℕ) (said : AddStep) → length words ≡ shape.size → AddSteps add words now new_words said

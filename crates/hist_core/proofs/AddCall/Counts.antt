@@ -122,7 +122,7 @@ module _ (shape : Dimensions) (known : Known) (amid : Amid) (add : Add) (a : Act
             stands.1,
       );
       words_are = are;
-      goes = λ learned apart. (
+      goes = λ learned apart ordered. (
         [],
         acted,
         refl,

@@ -111,7 +111,7 @@ module _ (shape : Dimensions) (known : Known) (amid : Amid) (add : Add) (a : Act
       event = event;
       ready = ready;
       words_are = are;
-      goes = λ learned apart. ([], acted, refl, goes_still acted beside.0 beside.1 (does_nothing (links_counted add) a acted beside.2) (stands learned));
+      goes = λ learned apart ordered. ([], acted, refl, goes_still acted beside.0 beside.1 (does_nothing (links_counted add) a acted beside.2) (stands learned));
     }
 
   pub packs_on : (words new_words : List ℕ) (e : PackingEvent) → Ready a (packing_event e) → new_words ≡ after shape.size add.version (packing_event e) words

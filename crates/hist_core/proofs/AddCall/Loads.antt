@@ -86,7 +86,7 @@ module _ (shape : Dimensions) (known : Known) (amid : Amid) (add : Add) (a : Act
     event = event;
     ready = (may_turn, (known, has_them));
     words_are = sym (set-get_or words (known.reference + 8) 0);
-    goes = λ learned apart. (
+    goes = λ learned apart ordered. (
       [],
       acted,
       refl,

@@ -57,7 +57,7 @@ module _ (shape : Dimensions) (known : Known) (amid : Amid) (add : Add) (a : Act
       refl,
     );
     words_are = are;
-    goes = λ learned apart. (
+    goes = λ learned apart ordered. (
       [],
       acted,
       refl,

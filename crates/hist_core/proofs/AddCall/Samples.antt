@@ -1,5 +1,5 @@
 -- An `add` looks for the sample of its value.
-use Rattle.std.proofs.Common.{◌≡◌, ℕ, ◌+◌, ◌*◌, ◌%◌, ◌^◌, Bool, true, false, true≢false, List, ◌∷◌, ◌++◌, inr, refl, sym, ap, subst, ◌∙◌, arith}
+use Rattle.std.proofs.Common.{◌≡◌, ℕ, ◌+◌, ◌*◌, ◌%◌, ◌^◌, ℤ, Bool, true, false, true≢false, List, ◌∷◌, ◌++◌, inr, refl, sym, ap, subst, ◌∙◌, arith}
 use Rattle.std.specs.List.{Contains}
 use Rattle.std.specs.Prelude.{if◌then◌else◌}
 use Rattle.segment_image.specs.Shape.{Dimensions}
@@ -17,9 +17,9 @@ use Rattle.hist_core.specs.declared.add.Stage.TheVariants as stage
 use Rattle.hist_core.specs.declared.sampling.Sampling.{Sampling}
 use Rattle.hist_core.specs.declared.sampling.SamplingStep.{SamplingStep}
 use Rattle.hist_core.specs.declared.sampling.SamplingStep.TheVariants as found
-use Rattle.hist_core.specs.Add.{Amid, HasEntry, IsAdd, IsSampled, OpensWith, StandsAtStage, StaysOpen, AddGives, links_counted}
+use Rattle.hist_core.specs.Add.{Amid, HasEntry, IsAdd, IsSampled, OpensWith, StandsAtStage, NeedsBlock, StaysOpen, AddGives, links_counted}
 use Rattle.hist_core.specs.StepsBy.{DoesOnly, FrameOfStep, StepsBy, IsFree}
-use Rattle.hist_core.specs.Sampling.{SamplingGives, links_sample}
+use Rattle.hist_core.specs.Sampling.{SamplingGives, SawNoSample, links_sample}
 use Rattle.hist_core.specs.Making.{IsCause, is_full}
 use Rattle.bucket_ranges.specs.Spec.{buckets_of}
 use Rattle.hist_core.proofs.AddCall.Entries.{counting_of}
@@ -112,6 +112,10 @@ module _ (shape : Dimensions) (known : Known) (amid : Amid) (add : Add) (a : Act
       )))
   samples_so x same new_words (found.Refused cause) new result goes (new_is, result_is) =
       subst (λ (r : AddStep). StepsBy shape.size add.version a words new_words (AddGives shape known amid new r a)) (sym result_is)
-      (goes_with goes (λ b (beside, does, free, is_cause).
-      refuses shape known amid add new a stood_sampling.0 b beside cause (subst (λ (n : Add). DoesOnly false (is_full cause) (links_counted n) a b) (sym new_is) (links_of (is_full cause) x same b does)) (λ bucketed. absurd (true≢false (sym bucketed ∙ ap has_buckets stood_sampling.1))) (ap (λ (n : Add). counting_of known n false false) new_is) free
+      (goes_with goes (λ b (beside, does, free, is_cause, none).
+      refuses shape known amid add new a stood_sampling.0 b beside cause (subst (λ (n : Add). DoesOnly false (is_full cause) (links_counted n) a b) (sym new_is) (links_of (is_full cause) x same b does)) (subst (λ (n : Add). NeedsBlock known (n.value, n.units) b) (sym new_is) (record {
+        counts = λ bucketed. absurd (true≢false (sym bucketed ∙ ap has_buckets stood_sampling.1));
+        value = λ sparse. subst (λ (p : ℕ × ℤ). SawNoSample p.0 p.1 b.seen)
+            (λ i. ((ap (λ (y : Sampling). y.histogram) same ∙ stood_sampling.2) i, (ap (λ (y : Sampling). y.value) same ∙ stood_sampling.3) i)) none;
+      })) (ap (λ (n : Add). counting_of known n false false) new_is) free
       (subst (λ (n : ℕ). IsCause cause n a b) (sym (ap (λ (t : Bool). if t then 4 + 2 * buckets_of known.spec else 8) (ap has_buckets stood_sampling.1))) is_cause)))

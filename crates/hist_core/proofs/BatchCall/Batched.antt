@@ -13,15 +13,17 @@ use Rattle.hist_core.specs.declared.batch.BatchStep.TheVariants.{More, Done, Ref
 use Rattle.hist_core.specs.declared.call.Answer.TheVariants as answer
 use Rattle.hist_core.specs.declared.call.Stepped.{Stepped}
 use Rattle.hist_core.specs.declared.call.Stepped.TheVariants as stepped
+use mathlib.Core.Option.{some}
+use lib.ListN.{get_elem?}
 use Rattle.segment_promises.proofs.Spoilers.{notes_leave}
 use Rattle.segment_machine.specs.declared.actor.Made.TheVariants.{Sample}
 use Rattle.hist_core.specs.declared.actor_run.Running.{Running}
 use Rattle.hist_core.specs.declared.actor_run.Running.TheVariants.{Batch}
 use Rattle.hist_core.specs.declared.actor_run.ActorRun.{ActorRun}
 use Rattle.std.specs.List.{Contains}
-use Rattle.hist_core.specs.Add.{FrameOfAdd, HasMetNoCounts, block_words, counted_entry}
+use Rattle.hist_core.specs.Add.{FrameOfAdd, block_words, counted_entry}
 use Rattle.segment_machine.specs.Entry.{tally_noted}
-use Rattle.hist_core.specs.Batch.{IsBatch, IsCutAt, HaveEnded, IsSomeBatch, IsSameBatch, IsRefusedAt, BatchSteps, BatchGives, added_of, counted_entries, links_counted, sum_entries, units_among}
+use Rattle.hist_core.specs.Batch.{IsBatch, IsCutAt, HaveEnded, IsSomeBatch, IsSameBatch, IsRefusedAt, BatchSteps, BatchGives, added_of, counted_entries, links_counted, NextNeedsBlock, sum_entries, units_among}
 use Rattle.hist_core.specs.StepsBy.{DoesOnly, StepsBy}
 use Rattle.hist_core.proofs.Worlds.Landing.{Landing, does_as_said}
 use Rattle.hist_core.specs.ActorRun.{ended_by, begun_by, pending_by, entry_of, held_by, IsGhostNoting, IsBatching, StandsIn, IsRun, IsBatchAnnounced, LandsBack, Answers, DoesAsSaid, IsRefusedBy, MayLink, is_flagged, lacks_room}
@@ -74,14 +76,19 @@ module _ (shape : Dimensions) (version : ℕ) (old : ActorRun) (batch : BatchCal
           (sample, subst (λ (l : List (ℤ × ℕ)). Contains l sample) same.samples inside, it ∙ ap (λ (histogram : ℕ). Sample histogram sample.0) same.histogram)) first a b d before behind
 
       -- why it is refused
-      refused_by : (added : ℕ) (first b : Actor) → HasOnlyNoted first a → FrameOfAdd a b → (why : Refusal) → IsCause why (block_words known) a b → HasMetNoCounts known b
+      refused_by : (added : ℕ) (first b : Actor) → HasOnlyNoted first a → FrameOfAdd a b → (why : Refusal) → IsCause why (block_words known) a b
+          → added ≡ batch.added → NextNeedsBlock known now added b
           → IsRefusedBy old.running why first (noted b (refused added))
-      refused_by added first b from aside why cause met = subst (λ running. IsRefusedBy running why first (noted b (refused added))) (sym is) (
-        known,
-        subst (λ (l : List MachineKnown). Contains l known) (sym aside.names) counts.counting.knows,
-        counts.counting.reference,
-        cause_noted why (block_words known) first a b (noted b (refused added)) from refl refl cause,
-        met,
+      refused_by added first b from aside why cause here (sample, there, needs) = subst (λ running. IsRefusedBy running why first (noted b (refused added))) (sym is) (
+        sample,
+        subst (λ (p : List (ℤ × ℕ) × ℕ). get_elem? p.0 p.1 ≡ some sample) (λ i. (same.samples i, here i)) there,
+        (
+          known,
+          subst (λ (l : List MachineKnown). Contains l known) (sym aside.names) counts.counting.knows,
+          counts.counting.reference,
+          cause_noted why (block_words known) first a b (noted b (refused added)) from refl refl cause,
+          record { counts = needs.counts; value = needs.value },
+        ),
       )
 
       its_steps : (words new_words : List ℕ) (said : BatchStep) → length words ≡ shape.size → BatchSteps batch words now new_words said
@@ -138,7 +145,7 @@ module _ (shape : Dimensions) (version : ℕ) (old : ActorRun) (batch : BatchCal
         × (LandsBack shape version units new d × IsRefusedBy old.running refusal.why a d)) (sym (ap held_by is))
         (is_cut shape version old its.name batch.cost (entries its) (standing its) (runs its) (into its) b counts c aside stays turns counts.counting.rests counts.counting.held
         refusal.added batch.left (few_entries few) (subst (λ (l : List MachineEntry). IsCutAt refusal.added l c) still_same cut) (left_so few spent) new (old.ended + refusal.added) refl new_is items
-        (λ d. IsRefusedBy old.running refusal.why a d) (refused_by its now same still_same b counts refusal.added a c from aside refusal.why cause met)) in
+        (λ d. IsRefusedBy old.running refusal.why a d) (refused_by its now same still_same b counts refusal.added a c from aside refusal.why cause at.0 met)) in
         (notes, d, told, (lands, does_it its now same still_same b counts (stepped.Done (answer.BatchRefused refusal)) a c d from.2 (notes_leave notes c d told).1 does)))))
       where
         few_entries : refusal.added ≤ length now.items.items → refusal.added ≤ length (entries its)

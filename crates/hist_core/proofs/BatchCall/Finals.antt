@@ -60,7 +60,7 @@ module _ (shape : Dimensions) (known : Known) (batch : Batch) (a : Actor) (words
     event = event;
     ready = (sums.turns, its, known, (its_next, refl, sums.some), refl, is.knows, is.reference, refl);
     words_are = are;
-    goes = λ learned apart. (
+    goes = λ learned apart ordered. (
       [],
       acted,
       refl,

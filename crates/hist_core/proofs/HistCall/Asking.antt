@@ -61,8 +61,8 @@ goes_noting go notes = record {
   event = go.event;
   ready = go.ready;
   words_are = go.words_are;
-  goes = λ learned apart.
-      let did = go.goes learned apart in let more = notes did.1 did.3 in
+  goes = λ learned apart ordered.
+      let did = go.goes learned apart ordered in let more = notes did.1 did.3 in
       (did.0 ++ more.0 ∷ [], noted did.1 more.0, notes_more _ did.1 did.0 more.0 did.2 more.1, more.2);
 }
 

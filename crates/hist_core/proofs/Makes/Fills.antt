@@ -120,13 +120,14 @@ module _ (shape : Dimensions) (version : ℕ) (wanted : Wanted) (m : Making) (a 
       (let size = stands.4.1.4 in let inside = stands.1 in let enough = is.draft.enough in omega (arith, size, inside, enough)),
     );
     words_are = are ∙ sym (makes_so shape.size version event (atomic.store_payload at index value) refl refl words);
-    goes = λ learned apart. (
+    goes = λ learned apart ordered. (
       [],
       acted,
       refl,
       (
         beside,
         stores_payload (links_wanted wanted) a at index value 0,
+        (refl, refl, refl),
         record {
           segment = is.segment;
           lawful_shape = is.lawful_shape;

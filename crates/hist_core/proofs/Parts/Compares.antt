@@ -249,7 +249,7 @@ module _ (shape : Dimensions) (h : Hist) (a : Actor) (is : IsHist shape h a) (k 
       event = event;
       ready = (free_turns a.hand.place stands.0, is_met, is_fixed);
       words_are = sym (set-get_or words (h.reference + compared_index h.letters k) 0);
-      goes = λ learned apart. ([], acted, refl, gives learned);
+      goes = λ learned apart ordered. ([], acted, refl, gives learned);
     }
 
     -- it was the same: the next is compared, or all were the same

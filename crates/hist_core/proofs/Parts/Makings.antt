@@ -10,7 +10,10 @@ use Rattle.hist_core.specs.declared.hist.Stage.TheVariants.{Making, Walking}
 use Rattle.hist_core.specs.declared.making.Making.{Making as MakingOf}
 use Rattle.hist_core.specs.declared.making.MakingStep.{MakingStep}
 use Rattle.hist_core.specs.declared.making.MakingStep.TheVariants as made
-use Rattle.hist_core.specs.StepsBy.{FrameOfStep, StepsBy}
+use Rattle.list_core.specs.Walk.{stands_behind}
+use Rattle.std.specs.List.{All, Contains}
+use Rattle.segment_machine.specs.Made.{SawOtherName}
+use Rattle.hist_core.specs.StepsBy.{FrameOfStep, SawEnd, StepsBy}
 use Rattle.hist_core.specs.Hist.{wanted_of, IsHist, StandsAtStage, HistGives, IsMade}
 use Rattle.hist_core.specs.Making.{IsCause, MakingGives}
 use Rattle.hist_core.proofs.Parts.Allocations.{goes_with}
@@ -33,17 +36,42 @@ module _ (shape : Dimensions) (version : ℕ) (h : Hist) (a : Actor) (words : Li
     stands = stands;
   }
 
+  -- it has seen the end of the list still
+  seen_still : (b : Actor) → b.seen.chain ≡ a.seen.chain → b.seen.ends ≡ a.seen.ends → SawEnd b.seen
+  seen_still b chain ends = subst (λ (p : List ℕ × List ℕ). Contains p.0 (stands_behind p.1 + 3)) (λ i. (sym ends i, sym chain i)) stood_making.1
+
   -- whatever the step of the making says
   pub makes_so : (x : MakingOf) (new_words : List ℕ) (says : MakingStep) (new : Hist) (result : HistStep)
       → StepsBy shape.size version a words new_words (MakingGives shape (wanted_of h) x says a) → IsMade (record h { stage = Making x }) says new result
       → StepsBy shape.size version a words new_words (HistGives shape new result a)
   makes_so x new_words made.More new result goes (new_is, result_is) =
       subst (λ (p : Hist × HistStep). StepsBy shape.size version a words new_words (HistGives shape p.0 p.1 a)) (λ i. (sym new_is i, sym result_is i))
-      (goes_with goes (λ b (beside, does, makes_on). (beside, does, on (Making x) b beside (others_still a b beside h is.given stood_making.0, makes_on))))
+      (goes_with goes (λ b (beside, does, (chain, ends, singles), makes_on). (
+        beside,
+        does,
+        on (Making x) b beside (
+          stood_making.0 ∙ sym chain,
+          seen_still b chain ends,
+          others_still a b beside h is.given stood_making.2,
+          makes_on,
+        ),
+      )))
   makes_so x new_words made.Done new result goes (new_is, result_is) =
       subst (λ (p : Hist × HistStep). StepsBy shape.size version a words new_words (HistGives shape p.0 p.1 a)) (λ i. (sym new_is i, sym result_is i))
-      (goes_with goes (λ b (beside, does, turns). (beside, does, on Walking b beside (turns, others_still a b beside h is.given stood_making.0))))
+      (goes_with goes (λ b (beside, does, turns). (beside, does, on Walking b beside (turns, others_still a b beside h is.given stood_making.2))))
   makes_so x new_words (made.Refused cause) new result goes (new_is, result_is) =
       subst (λ (p : Hist × HistStep). StepsBy shape.size version a words new_words (HistGives shape p.0 p.1 a)) (λ i. (sym new_is i, sym result_is i))
-      (goes_with goes (λ b (beside, does, turns, is_cause).
-      (beside, does, turns, inl (is.asking.letters, is.asking.spells, subst (λ (l : List ℕ). IsCause cause (4 + length l) a b) is.asking.payload is_cause))))
+      (goes_with goes (λ b (beside, does, (chain, ends, singles), turns, is_cause). (
+        beside,
+        does,
+        turns,
+        inl (
+          (
+            subst (All (SawOtherName b.seen h.asked.name.items)) (stood_making.0 ∙ sym chain) (others_still a b beside h is.given stood_making.2),
+            seen_still b chain ends,
+          ),
+          is.asking.letters,
+          is.asking.spells,
+          subst (λ (l : List ℕ). IsCause cause (4 + length l) a b) is.asking.payload is_cause,
+        ),
+      )))

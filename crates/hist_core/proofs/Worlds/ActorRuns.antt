@@ -33,7 +33,7 @@ sets_corrupt shape version a old words new_words long run is stored =
       event = allocating_event set_corrupt;
       ready = free_turns a.hand.place stands.0;
       words_are = stored;
-      goes = λ learned apart. (
+      goes = λ learned apart ordered. (
         [],
         next a (allocating_event set_corrupt) (word_at words 6),
         refl,

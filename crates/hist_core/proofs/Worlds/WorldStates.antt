@@ -201,7 +201,9 @@ module _ (start : Start) (old : WorldState) (state : State) (reach : IsReachedAs
         let learned = subst (Learned e.at event) (finds event) did.1 in
         let stood = set_at state.actors (actor + 1) its.0 (next e.at event (found_at state event)) there in
         let apart = subst (λ (n : ℕ). AreApart (next e.at event n)) (finds event) (λ living. (did.0.each (actor + 1) (next e.at event (found_at state event)) stood living).apart) in
-        let goes = e.goes learned apart in
+        let ordered = subst (λ (n : ℕ). WalksInOrder (next e.at event n)) (finds event)
+        (walks_in_order old.shape start.opened _ did.0 (actor + 1) (next e.at event (found_at state event)) stood) in
+        let goes = e.goes learned apart ordered in
         let long : length new.words.items ≡ length state.words =
         ap length e.words_are ∙ length-set words (spot old.shape.size event) _ ∙ sym (ap length reach.shows.words) in (
           event,

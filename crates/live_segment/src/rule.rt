@@ -61,7 +61,7 @@ pub(crate) struct SegmentRule;
 impl TableRule<Announcement, Actor, Opening> for SegmentRule {
     ghost use Rattle.live_segment.specs.Rule.{Runs, opener_for};
 
-    ghost holds = { λ opening. Runs opening.setting };
+    ghost holds = { Runs };
 
     ghost first = { opener_for };
 }

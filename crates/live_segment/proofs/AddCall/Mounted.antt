@@ -32,7 +32,7 @@ use Rattle.segment_machine.specs.Entry.{has_ended}
 use Rattle.segment_machine.specs.Event.{counting_event, packing_event, change, next, Ready}
 use Rattle.segment_machine.specs.Packing.{mount_counts, purge_block, after_mount}
 use Rattle.segment_invariant.proofs.Counting.Looks.{knows_of, counts_seen}
-use Rattle.live_segment.specs.declared.rule.Setting.{Setting}
+use Rattle.live_segment.specs.declared.rule.Opening.{Opening}
 use Rattle.live_segment.specs.declared.segment.Segment.{Segment}
 use Rattle.live_segment.specs.Counts.Adding.{HasNoRoom, block_words}
 use Rattle.live_segment.specs.Lists.Allocation.{Allocates, filled, noticed, saw_free}
@@ -56,19 +56,19 @@ use Rattle.live_segment.proofs.Walks.Ends.{found_now, found_on}
 -- ---- the counts reference
 
 -- what it saw of the reference was the record's, which is not 0
-pub loads_counts : (setting : Setting) (slots id : ℕ) (me : Sat) (word : ℕ) → is_opener me.0.role ≡ false → (histogram : ℕ)
+pub loads_counts : (given : Opening) (slots id : ℕ) (me : Sat) (word : ℕ) → is_opener me.0.role ≡ false → (histogram : ℕ)
     → word ≡ histogram + 8 + 1 → Ready me.0 (counting_event (load_counts histogram))
-    → Allows (Runs setting) slots id me word (change setting.version (counting_event (load_counts histogram))) (LoadsCounts word me)
-loads_counts setting slots id me word records histogram at ready s run wide mine small =
+    → Allows (Runs given) slots id me word (change given.setting.version (counting_event (load_counts histogram))) (LoadsCounts word me)
+loads_counts given slots id me word records histogram at ready s run wide mine small =
     let (view, act, valid, holds, told) =
-    does_at setting slots id me word records (λ (x : ℕ). counting_event (load_counts x)) histogram at (λ y e. omega (arith, at, e)) ready s run wide mine small in
+    does_at given slots id me word records (λ (x : ℕ). counting_event (load_counts x)) histogram at (λ y e. omega (arith, at, e)) ready s run wide mine small in
     let there : get_elem? run.running.segment.actors id ≡ some me.0 = ap (λ list. get_elem? list id) (sym run.running.views) ∙ mine in
     let lives : me.0.hand.place ≢ Spent = λ e. true≢false (sym (ap is_bound e) ∙ ready.0) in
     let (known, of) = ready.1 in
     let (has, refers, bucketed) = of in
-    let (r, first, stands, named, many, keys) = knows_of setting.shape run.opened run.running.segment run.running.kept id me.0 there records lives known has in
+    let (r, first, stands, named, many, keys) = knows_of given.setting.shape run.opened run.running.segment run.running.kept id me.0 there records lives known has in
     let saw : SawNoNone me.0.seen known.reference =
-    λ counts seen. let (is, some_there) = counts_seen setting.shape run.opened run.running.segment run.running.kept id me.0 there records lives known.reference counts r stands seen in
+    λ counts seen. let (is, some_there) = counts_seen given.setting.shape run.opened run.running.segment run.running.kept id me.0 there records lives known.reference counts r stands seen in
     λ none. some_there (is ∙ none) in
     (view, act, valid, holds, λ y same. (told y same, subst (SawNoNone me.0.seen) (let e = refers in omega (arith, e, at, same)) saw))
 

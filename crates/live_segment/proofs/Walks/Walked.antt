@@ -25,6 +25,7 @@ use Rattle.segment_machine.specs.Stages.{Walks}
 use Rattle.segment_machine.specs.Taking.{is_looking}
 use Rattle.segment_machine.specs.Walking.{load_next, extended, records_met}
 use Rattle.segment_machine.proofs.Stages.Walks.{walks_agree}
+use Rattle.live_segment.specs.declared.rule.Opening.{Opening}
 use Rattle.live_segment.specs.declared.rule.Setting.{Setting}
 use Rattle.live_segment.specs.declared.segment.Segment.{Segment}
 use Rattle.live_segment.specs.Rule.{Runs}
@@ -47,13 +48,13 @@ use Rattle.segment_promises.proofs.Calls.Places.{behind_apart}
 
 -- ---- its step
 
-module _ (setting : Setting) (slots id : ℕ) (me : Sat) (word : ℕ) (records : is_opener me.0.role ≡ false) where
+module _ (given : Opening) (slots id : ℕ) (me : Sat) (word : ℕ) (records : is_opener me.0.role ≡ false) where
   -- a next is loaded by a recorder that has met no block twice
   pub loads_next : (at : ℕ) → word ≡ at + 3 + 1 → Ready me.0 (walking_event (load_next at))
-      → Allows (Runs setting) slots id me word (change setting.version (walking_event (load_next at))) (LoadsNext word me)
+      → Allows (Runs given) slots id me word (change given.setting.version (walking_event (load_next at))) (LoadsNext word me)
   loads_next at is ready s run wide mine small =
       let (view, act, valid, holds, told) =
-      does_at setting slots id me word records (λ (x : ℕ). walking_event (load_next x)) at (omega (arith, is)) (λ y e. omega (arith, is, e)) ready s run wide mine small in
+      does_at given slots id me word records (λ (x : ℕ). walking_event (load_next x)) at (omega (arith, is)) (λ y e. omega (arith, is, e)) ready s run wide mine small in
       let live : me.0.hand.place ≢ Spent = λ e. true≢false (sym (ap is_bound e) ∙ ready.0) in
       let there : get_elem? run.running.segment.actors id ≡ some me.0 = ap (λ list. get_elem? list id) (sym run.running.views) ∙ mine in
       let fits = run.running.kept.each id me.0 there live in (
@@ -64,8 +65,8 @@ module _ (setting : Setting) (slots id : ℕ) (me : Sat) (word : ℕ) (records :
         (
           told,
           once_in run.running.segment.words me.0.seen.chain _ fits.sees.walked run.running.kept.list.linked,
-          knows_own_names setting.shape run.opened run.running.segment run.running.kept id me.0 there live,
-          knows_own_samples setting.shape run.opened run.running.segment run.running.kept id me.0 there live,
+          knows_own_names given.setting.shape run.opened run.running.segment run.running.kept id me.0 there live,
+          knows_own_samples given.setting.shape run.opened run.running.segment run.running.kept id me.0 there live,
         ),
       )
 

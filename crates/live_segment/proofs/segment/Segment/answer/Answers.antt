@@ -8,7 +8,7 @@ compare_exchange_with-requires c =
     let may = c.requires.may in (
       search rules,
       search rules,
-      answers_said c.args.self.now.table.shared.key.setting _ _ _ may.recorder c.args.said.now may.known may.snapshot may.says may.alone may.may,
+      answers_said c.args.self.now.table.shared.key _ _ _ may.recorder c.args.said.now may.known may.snapshot may.says may.alone may.may,
     )
 
 pub returns-clause-said : goal.returns-clause-said

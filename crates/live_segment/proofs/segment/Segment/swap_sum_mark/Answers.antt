@@ -13,7 +13,7 @@ use Rattle.live_segment.proofs.segment.Segment.swap_sum_mark.Goals as goal
 
 pub swap-requires : goal.swap-requires
 swap-requires c =
-    let setting = c.args.self.now.table.shared.key.setting in
+    let given = c.args.self.now.table.shared.key in
     let word : ℕ = 1 + c.args.histogram + 12 in
     let number : ℕ = c.cast_unsigned.result in
     let whole : cast_signed w64 (cast_unsigned w64 c.args.sum) ≡ c.args.sum = to_z-of_z w64 c.args.sum c.ranges.sum in
@@ -24,9 +24,9 @@ swap-requires c =
     subst (λ (s : ℤ). MayDo c.args.seat.now [] (taking_event (swap_sum_mark c.args.histogram s)) (has_taken ∷ [])) (sym is) c.requires.may in (
       search rules,
       search rules,
-      subst (λ (k : ℕ). Allows (Runs setting) c.args.self.now.table.shared.table_id.slots c.args.seat.now.id c.args.seat.now.me word (λ n. k)
+      subst (λ (k : ℕ). Allows (Runs given) c.args.self.now.table.shared.table_id.slots c.args.seat.now.id c.args.seat.now.me word (λ n. k)
           (EndsDelta word number c.args.seat.now.me)) again
-          (tells_standing setting _ _ c.args.seat.now.me word may.recorder ℕ (λ (y : ℕ). word ≡ y + 12 + 1) (λ (y : ℕ). [])
+          (tells_standing given _ _ c.args.seat.now.me word may.recorder ℕ (λ (y : ℕ). word ≡ y + 12 + 1) (λ (y : ℕ). [])
           (λ (y : ℕ). taking_event (swap_sum_mark y (cast_signed w64 number))) (has_taken ∷ []) c.args.histogram (λ y e. omega arith) (omega arith) (omega arith)
           may.may may.ready may.goes (λ found spent. cc spent)),
     )

@@ -23,18 +23,18 @@ use Rattle.segment_machine.specs.Note.{MayNote, SawAll, TookAll, noted, begins}
 use Rattle.segment_machine.specs.Seats.{giver}
 use Rattle.segment_machine.specs.declared.actor.Answered.{Answered}
 use Rattle.segment_machine.specs.declared.actor.Known.{Known as MachineKnown}
-use Rattle.hist_core.specs.StepsBy.{DoesOnly, StepsBy, HasMet, IsFree}
+use Rattle.hist_core.specs.StepsBy.{Deed, DoesOnly, StepsBy, HasMet, IsFree}
 use Rattle.hist_core.specs.Add.{NeedsBlock, IsAdd, alone, block_words, counted_entry, IsStarted}
-use Rattle.hist_core.specs.Add.{links_counted as add_links}
+use Rattle.hist_core.specs.Add.{serves_counted as add_serves}
 use Rattle.hist_core.specs.Batch.{IsBatch, IsSameBatch, counted_entries}
-use Rattle.hist_core.specs.Batch.{links_counted as batch_links, sample_of}
+use Rattle.hist_core.specs.Batch.{serves_counted as batch_serves, sample_of}
 use Rattle.hist_core.specs.declared.batch.Batch.{Batch as BatchCall}
 use Rattle.hist_core.specs.declared.batch.BatchStep.{BatchStep}
 use Rattle.hist_core.specs.declared.batch.BatchStep.TheVariants as batch
 use Rattle.hist_core.specs.declared.add.Add.{Add as AddCall}
 use Rattle.hist_core.specs.declared.add.AddStep.{AddStep}
 use Rattle.hist_core.specs.declared.add.AddStep.TheVariants as add
-use Rattle.hist_core.specs.Hist.{IsHist, IsBegun, IsCause as IsHistCause, links_asked}
+use Rattle.hist_core.specs.Hist.{IsHist, IsBegun, IsCause as IsHistCause, serves_asked}
 use Rattle.hist_core.specs.Making.{IsCause, is_full}
 use Rattle.hist_core.specs.SnapshotCall.{IsSnapshotCall, IsStarted as IsSnapshotCallStarted, LooksAnew}
 use Rattle.segment_calls.specs.declared.answer.Snapshot.{Snapshot as SnapshotAnswer}
@@ -334,17 +334,18 @@ lacks_room (Done (answer.Refused cause)) = is_full cause
 lacks_room (Done (answer.BatchRefused refusal)) = is_full refusal.why
 lacks_room said = false
 
--- the records that a running call may link: a `hist` one of the name and the spec that it asks for, and a call that counts a sample of a
--- value that it counts, in its histogram
-abbrev pub MayLink : Option Running → Made → Type 0
-MayLink (Some (Hist hist)) made = links_asked hist made
-MayLink (Some (Add add)) made = add_links add made
-MayLink (Some (Batch batch)) made = batch_links batch made
-MayLink running made = ⊥
+-- What a running call may do, of the names that its actor was answered: a `hist` makes a record of the name and the spec that it asks for; a
+-- call that counts makes a sample of a value that it counts, in its histogram, or raises the free pointer for the counts of that.
+abbrev pub Serves : Option Running → List MachineKnown → Deed → Type 0
+Serves (Some (Hist hist)) names deed = serves_asked hist deed
+Serves (Some (Add add)) names deed = (known : MachineKnown) × Contains names known × (known.reference ≡ add.histogram) × add_serves known add deed
+Serves (Some (Batch batch)) names deed = (known : MachineKnown) × Contains names known × (known.reference ≡ batch.histogram) × batch_serves known batch deed
+Serves running names deed = ⊥
 
--- Its event sets the corrupt flag only with `Flagged`, and the full one only with a refusal `Full`; and links a record that its call is for.
+-- Its event sets the corrupt flag only with `Flagged`, and the full one only with a refusal `Full`; a record that it links is one that its
+-- call is for, and the block for which it raises the free pointer is the one that its call needs.
 abbrev pub DoesAsSaid : Option Running → Stepped → Actor → Actor → Type 0
-DoesAsSaid running said a b = DoesOnly (is_flagged said) (lacks_room said) (MayLink running) a b
+DoesAsSaid running said a b = DoesOnly (is_flagged said) (lacks_room said) (Serves running b.answers.names) a b
 
 -- It goes on by one event, as the actor does for which it stands.
 abbrev pub Advances : Dimensions → ℕ → ActorRun → List ℕ → ActorRun → List ℕ → Stepped → Actor → Type 0

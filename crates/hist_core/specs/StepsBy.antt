@@ -8,6 +8,7 @@ use Rattle.segment_machine.specs.declared.actor.Actor.{Actor}
 use Rattle.segment_machine.specs.declared.actor.Known.{Known}
 use Rattle.segment_machine.specs.declared.actor.Made.{Made}
 use Rattle.segment_machine.specs.declared.actor.Published.{Published}
+use Rattle.segment_machine.specs.declared.actor.Rise.{Rise}
 use Rattle.segment_machine.specs.declared.place.Place.{Place}
 use Rattle.segment_machine.specs.declared.place.Place.TheVariants.{FreeLoaded, Spent}
 use Rattle.segment_machine.specs.Actor.{AreApart, is_bound}
@@ -31,12 +32,19 @@ pub record FrameOfStep (a b : Actor) : Type 0 where
   pub chain : IsPrefix a.seen.chain b.seen.chain
   pub words : (more : List Sighting) × (b.seen.words ≡ a.seen.words ++ more)
 
--- What an event does to the segment for all to see: it sets the corrupt flag and the full one where that is said and not else, and a record
--- that it links is to hold what it may link.
-pub record DoesOnly (corrupt full : Bool) (links : Made → Type 0) (a b : Actor) : Type 0 where
+-- What an event may do to the segment for all to see, besides setting a flag: it links a record that is to hold this, or raises the free
+-- pointer for a block that wants so many words.
+pub data Deed : Type 0 where
+  links : Made → Deed
+  raises : ℕ → Deed
+
+-- What an event does to the segment for all to see: it sets the corrupt flag and the full one where that is said and not else, and it links
+-- no record and raises the free pointer for no block but as it may.
+pub record DoesOnly (corrupt full : Bool) (may : Deed → Type 0) (a b : Actor) : Type 0 where
   pub spoiled : b.done.spoiled ≡ (corrupt || a.done.spoiled)
   pub filled : b.done.filled ≡ (full || a.done.filled)
-  pub linked : (more : List Published) × (b.done.published ≡ a.done.published ++ more) × All (λ (p : Published). links p.made) more
+  pub linked : (more : List Published) × (b.done.published ≡ a.done.published ++ more) × All (λ (p : Published). may (links p.made)) more
+  pub raised : (more : List Rise) × (b.done.raised ≡ a.done.raised ++ more) × All (λ (r : Rise). may (raises r.wanted)) more
 
 -- On the list as far as it walked no block stands twice, and each sample stands behind the record of its histogram.
 pub record IsInOrder (a : Actor) : Type 0 where

@@ -13,7 +13,7 @@ use Rattle.hist_core.specs.declared.add.AddStep.TheVariants.{Refused}
 use Rattle.segment_calls.specs.declared.refusal.Refusal.{Refusal}
 use Rattle.segment_calls.specs.declared.refusal.Refusal.TheVariants as why
 use Rattle.hist_core.specs.StepsBy.{DoesOnly, FrameOfStep, IsFree}
-use Rattle.hist_core.specs.Add.{Amid, HasEntry, NeedsBlock, FrameOfAdd, AddGives, block_words, links_counted}
+use Rattle.hist_core.specs.Add.{Amid, HasEntry, NeedsBlock, FrameOfAdd, AddGives, block_words, serves_counted}
 use Rattle.hist_core.specs.Making.{IsCause, is_full}
 use Rattle.hist_core.proofs.AddCall.Entries.{counting_of}
 
@@ -22,7 +22,7 @@ pub beside_aside : (a b : Actor) → FrameOfStep a b → FrameOfAdd a b
 beside_aside a b beside = record { role = beside.role; segment = beside.segment; deltas = beside.deltas; names = beside.names; chain = beside.chain; words = beside.words }
 
 pub refuses : (shape : Dimensions) (known : Known) (amid : Amid) (add new : Add) (a : Actor) → HasEntry known amid add a false false → (b : Actor) → FrameOfStep a b
-    → (why : Refusal) → DoesOnly false (is_full why) (links_counted new) a b → NeedsBlock known (new.value, new.units) b → counting_of known new false false ≡ counting_of known add false false → IsFree b → IsCause why (block_words known) a b
+    → (why : Refusal) → DoesOnly false (is_full why) (serves_counted known new) a b → NeedsBlock known (new.value, new.units) b → counting_of known new false false ≡ counting_of known add false false → IsFree b → IsCause why (block_words known) a b
     → AddGives shape known amid new (Refused why) a b
 refuses shape known amid add new a entry b beside why does met same turns cause = (
   beside_aside a b beside,

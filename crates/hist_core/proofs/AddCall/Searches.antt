@@ -35,7 +35,7 @@ use Rattle.hist_core.specs.declared.sampling.Stage.TheVariants.{Walking, Loading
 use Rattle.hist_core.specs.StepsBy.{DoesOnly, FrameOfStep, SawEnd, SeesNoMore, StepsBy, IsFree}
 use Rattle.hist_core.specs.Making.{MakingGives, MayMake}
 use Rattle.hist_core.specs.Making as making
-use Rattle.hist_core.specs.Sampling.{HaveOthers, IsIts, IsMade, IsMakingSample, IsSampling, IsSomeSampling, IsStarted, MetRecord, SamplingGives, StandsAtStage, behind_type, links_sample, wanted_of}
+use Rattle.hist_core.specs.Sampling.{HaveOthers, IsIts, IsMade, IsMakingSample, IsSampling, IsSomeSampling, IsStarted, MetRecord, SamplingGives, StandsAtStage, behind_type, serves_sample, wanted_of}
 use Rattle.hist_core.proofs.Worlds.Free.{free_turns}
 use Rattle.hist_core.proofs.Makes.Drafts.{begins}
 use Rattle.hist_core.proofs.Parts.Allocations.{EndsWith, goes_with, walks_saying}
@@ -124,7 +124,7 @@ module _ (shape : Dimensions) (version : ℕ) (s : Sampling) (a : Actor) (words 
         let within = reference_within shape reference is.lawful_shape (subst (λ (p : ℕ × ℕ). is_reference p.0 p.1 ≡ true) (λ i. (long i, here i)) reach) in
         goes_with (loads (Record reference) says) (λ b (beside, done, ends_so, free, front). (
           beside,
-          does_nothing (links_sample s) a b done,
+          does_nothing (serves_sample s) a b done,
           goes_further walk (is.behind ++ reference ∷ []) (LoadingType reference) b beside (walked ∙ ap stands_behind onward)
               (subst (λ (n : ℕ). is_reference n walk ≡ true) long reach) (subst (λ (l : List ℕ). IsPrefix l b.seen.chain) onward front) (λ none. absurd none)
               (record { free = free; passed = is.behind; are = refl; others = others_on b beside is.behind stood.1; within = within }),
@@ -135,7 +135,7 @@ module _ (shape : Dimensions) (version : ℕ) (s : Sampling) (a : Actor) (words 
         → StepsBy shape.size version a words words (SamplingGives shape (record s { walk = walk }) More a)
     strays walk says here = goes_with (loads Stray says) (λ b (beside, done, ends_so, free, front). (
       beside,
-      does_nothing (links_sample s) a b done,
+      does_nothing (serves_sample s) a b done,
       goes_further walk is.behind s.stage b beside (here ∙ is.walk) (ap (is_reference shape.size) here ∙ is.reach) front
           (λ making. absurd (subst IsMakingSample walks making)) (subst (StandsAtStage shape (record s { walk = walk }) b is.behind) (sym walks) (free, others_on b beside is.behind stood.1)),
     ))
@@ -158,7 +158,7 @@ module _ (shape : Dimensions) (version : ℕ) (s : Sampling) (a : Actor) (words 
         → StepsBy shape.size version a words words (SamplingGives shape (record s { walk = walk; stage = Making makes }) More a)
     ends walk makes says here starts = goes_with (loads End says) (λ b (beside, done, ends_so, free, front). (
       beside,
-      does_nothing (links_sample s) a b done,
+      does_nothing (serves_sample s) a b done,
       goes_further walk is.behind (Making makes) b beside (here ∙ is.walk) (ap (is_reference shape.size) here ∙ is.reach) front (λ making. ends_so) (
         others_on b beside is.behind stood.1,
         begins shape (wanted_of s) makes b (ap (λ x. x.shape) beside.segment ∙ is.segment) is.lawful_shape (may_make b beside) (free_turns b.hand.place free)
@@ -198,8 +198,8 @@ module _ (shape : Dimensions) (version : ℕ) (s : Sampling) (a : Actor) (words 
       beside = walk_beside a event found
 
       -- nothing is done to the segment
-      none : DoesOnly false false (links_sample s) a acted
-      none = does_nothing (links_sample s) a acted refl
+      none : DoesOnly false false (serves_sample s) a acted
+      none = does_nothing (serves_sample s) a acted refl
 
       -- its actor has seen that word then
       seen_there : Learned a (walking_event event) found → word_seen acted.seen.words (at + index) ≡ Some found

@@ -23,10 +23,10 @@ use Rattle.hist_core.specs.declared.actor_run.ActorRun.{ActorRun}
 use Rattle.std.specs.List.{Contains}
 use Rattle.hist_core.specs.Add.{FrameOfAdd, block_words, counted_entry}
 use Rattle.segment_machine.specs.Entry.{tally_noted}
-use Rattle.hist_core.specs.Batch.{IsBatch, IsCutAt, HaveEnded, IsSomeBatch, IsSameBatch, IsRefusedAt, BatchSteps, BatchGives, added_of, counted_entries, links_counted, NextNeedsBlock, sum_entries, units_among}
-use Rattle.hist_core.specs.StepsBy.{DoesOnly, StepsBy}
+use Rattle.hist_core.specs.Batch.{IsBatch, IsCutAt, HaveEnded, IsSomeBatch, IsSameBatch, IsRefusedAt, BatchSteps, BatchGives, added_of, counted_entries, serves_counted, NextNeedsBlock, sum_entries, units_among}
+use Rattle.hist_core.specs.StepsBy.{Deed, links, raises, DoesOnly, StepsBy}
 use Rattle.hist_core.proofs.Worlds.Landing.{Landing, does_as_said}
-use Rattle.hist_core.specs.ActorRun.{ended_by, begun_by, pending_by, entry_of, held_by, IsGhostNoting, IsBatching, StandsIn, IsRun, IsBatchAnnounced, LandsBack, Answers, DoesAsSaid, IsRefusedBy, MayLink, is_flagged, lacks_room}
+use Rattle.hist_core.specs.ActorRun.{known_of, ended_by, begun_by, pending_by, entry_of, held_by, IsGhostNoting, IsBatching, StandsIn, IsRun, IsBatchAnnounced, LandsBack, Answers, DoesAsSaid, IsRefusedBy, Serves, is_flagged, lacks_room}
 use Rattle.segment_calls.specs.declared.refusal.Refusal.{Refusal}
 use Rattle.hist_core.specs.Making.{IsCause}
 use Rattle.hist_core.proofs.AddCall.Refusals.{HasOnlyNoted, cause_noted}
@@ -68,12 +68,24 @@ module _ (shape : Dimensions) (version : ℕ) (old : ActorRun) (batch : BatchCal
           (known, record { pending_are = counts.pending_are ∙ sym same_entries; stands = inr (ap (λ u. u.share) stays.0 ∙ counts.share, counting) })
           tt tt
 
-      -- a record that it links is a sample of the value of an item
-      does_it : (said : Stepped) (first b d : Actor) → a.done ≡ first.done → d.done ≡ b.done → DoesOnly (is_flagged said) (lacks_room said) (links_counted now) a b
-          → DoesAsSaid old.running said first d
-      does_it said first b d before behind = does_as_said old.running said (links_counted now)
-          (λ made (sample, inside, it). subst (λ running. MayLink running made) (sym is)
-          (sample, subst (λ (l : List (ℤ × ℕ)). Contains l sample) same.samples inside, it ∙ ap (λ (histogram : ℕ). Sample histogram sample.0) same.histogram)) first a b d before behind
+      -- it counts the same still
+      same_counted : (deed : Deed) → serves_counted known now deed → serves_counted known batch deed
+      same_counted (links made) (sample, inside, it) =
+          (sample, subst (λ (l : List (ℤ × ℕ)). Contains l sample) same.samples inside, it ∙ ap (λ (histogram : ℕ). Sample histogram sample.0) same.histogram)
+      same_counted (raises words) it = it
+
+      -- it does what the call is for
+      does_it : (said : Stepped) (first b d : Actor) → map known_of old.known.items ≡ d.answers.names → a.done ≡ first.done → d.done ≡ b.done
+          → DoesOnly (is_flagged said) (lacks_room said) (serves_counted known now) a b → DoesAsSaid old.running said first d
+      does_it said first b d names before behind = does_as_said old.running said (serves_counted known now) first a b d serves before behind
+        where
+          serves : (deed : Deed) → serves_counted known now deed → Serves old.running d.answers.names deed
+          serves deed it = subst (λ running. Serves running d.answers.names deed) (sym is) (
+            known,
+            subst (λ (l : List MachineKnown). Contains l known) (sym counts.run.names ∙ names) counts.counting.knows,
+            counts.counting.reference,
+            same_counted deed it,
+          )
 
       -- why it is refused
       refused_by : (added : ℕ) (first b : Actor) → HasOnlyNoted first a → FrameOfAdd a b → (why : Refusal) → IsCause why (block_words known) a b
@@ -129,7 +141,7 @@ module _ (shape : Dimensions) (version : ℕ) (old : ActorRun) (batch : BatchCal
         subst (λ said. Landing shape version old words new new_words said a) (sym result_is) (goes (λ b from counts. goes_with (its_steps its now same still_same b counts words new_words More long steps)
         (λ c (aside, stays, does, counting). (
           subst (λ (r : ActorRun). IsRun shape version r c) (sym new_is) (goes_on its now same still_same b counts c (aside, stays, does, counting)),
-          does_it its now same still_same b counts stepped.More a c c from.2 refl does,
+          does_it its now same still_same b counts stepped.More a c c (counts.run.names ∙ sym aside.names) from.2 refl does,
         ))))
     batch_goes Done result steps at (new_is, result_is) =
         subst (λ said. Landing shape version old words new new_words said a) (sym result_is) (goes (λ b from counts. goes_noting (its_steps its now same still_same b counts words new_words Done long steps)
@@ -137,7 +149,7 @@ module _ (shape : Dimensions) (version : ℕ) (old : ActorRun) (batch : BatchCal
         let (notes, d, told, run_then) = subst (λ (r : ActorRun). (notes : List Note) × (d : Actor) × Notes c notes d × IsRun shape version r d) (sym new_is)
         (has_counted shape version old its.name batch.cost (entries its) (standing its) (runs its) (into its) b counts c aside stays turns counts.counting.rests
         (subst (λ (l : List MachineEntry). HaveEnded l c) still_same over)) in
-        (notes, d, told, (run_then, does_it its now same still_same b counts (stepped.Done answer.Added) a c d from.2 (notes_leave notes c d told).1 does)))))
+        (notes, d, told, (run_then, does_it its now same still_same b counts (stepped.Done answer.Added) a c d (ap (λ (r : ActorRun). map known_of r.known.items) (sym new_is) ∙ run_then.names) from.2 (notes_leave notes c d told).1 does)))))
     batch_goes (Refused refusal) result steps at (new_is, items, result_is) =
         subst (λ said. Landing shape version old words new new_words said a) (sym result_is) (goes (λ b from counts. goes_noting (its_steps its now same still_same b counts words new_words (Refused refusal) long steps)
         (λ c (aside, stays, does, turns, cause, cut, few, spent, met).
@@ -146,7 +158,7 @@ module _ (shape : Dimensions) (version : ℕ) (old : ActorRun) (batch : BatchCal
         (is_cut shape version old its.name batch.cost (entries its) (standing its) (runs its) (into its) b counts c aside stays turns counts.counting.rests counts.counting.held
         refusal.added batch.left (few_entries few) (subst (λ (l : List MachineEntry). IsCutAt refusal.added l c) still_same cut) (left_so few spent) new (old.ended + refusal.added) refl new_is items
         (λ d. IsRefusedBy old.running refusal.why a d) (refused_by its now same still_same b counts refusal.added a c from aside refusal.why cause at.0 met)) in
-        (notes, d, told, (lands, does_it its now same still_same b counts (stepped.Done (answer.BatchRefused refusal)) a c d from.2 (notes_leave notes c d told).1 does)))))
+        (notes, d, told, (lands, does_it its now same still_same b counts (stepped.Done (answer.BatchRefused refusal)) a c d (ap (λ (r : ActorRun). map known_of r.known.items) (sym new_is) ∙ lands.0.2.names) from.2 (notes_leave notes c d told).1 does)))))
       where
         few_entries : refusal.added ≤ length now.items.items → refusal.added ≤ length (entries its)
         few_entries few =

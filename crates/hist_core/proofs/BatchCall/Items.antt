@@ -30,10 +30,10 @@ use Rattle.hist_core.specs.declared.batch.BatchStep.{BatchStep}
 use Rattle.hist_core.specs.declared.batch.BatchStep.TheVariants.{More, Done, Refused}
 use Rattle.segment_calls.specs.declared.refusal.Refusal.{Refusal}
 use Rattle.hist_core.specs.Add.{IsAdd, FrameOfAdd, NeedsBlock, StaysOpen, HasEntry, HasEnded, AddSteps, AddGives, block_words, counted_entry, ended_entry}
-use Rattle.hist_core.specs.Add.{links_counted as add_links}
+use Rattle.hist_core.specs.Add.{serves_counted as add_serves}
 use Rattle.hist_core.specs.Making.{IsCause, is_full}
-use Rattle.hist_core.specs.Batch.{IsBatch, IsItem, CountsItem, SumsUp, HaveEnded, BatchGives, IsItemSaid, Waits, amid_of, counted_entries, links_counted, sample_of, sum_entries, units_among}
-use Rattle.hist_core.specs.StepsBy.{DoesOnly, StepsBy, IsFree}
+use Rattle.hist_core.specs.Batch.{IsBatch, IsItem, CountsItem, SumsUp, HaveEnded, BatchGives, IsItemSaid, Waits, amid_of, counted_entries, serves_counted, sample_of, sum_entries, units_among}
+use Rattle.hist_core.specs.StepsBy.{Deed, links, raises, DoesOnly, StepsBy, IsFree}
 use Rattle.hist_core.proofs.Parts.Allocations.{goes_with}
 use Rattle.hist_core.proofs.Parts.Deeds.{does_less}
 use Rattle.hist_core.proofs.Worlds.Free.{free_turns}
@@ -111,14 +111,18 @@ module _ (shape : Dimensions) (known : Known) (batch : Batch) (a : Actor) (is : 
   still_one : IsOne item
   still_one = record { counting = counts_on shape known c.item at one.counting; versioned = one.versioned; amount = one.amount }
 
-  -- the sample that it may link is of an item's value
-  item_links : (full : Bool) (b : Actor) → DoesOnly false full (add_links item) a b → DoesOnly false full (links_counted now) a b
-  item_links full b does = does_less false full (add_links item) (links_counted now) a b (λ made it. (
-    sample_of item,
-    subst (λ (l : List Add). Contains (map sample_of l) (sample_of item)) (sym there)
-        (contains_map sample_of (c.done ++ item ∷ c.rest) item (Contains-append_right c.done (item ∷ c.rest) item (contains_at (item ∷ c.rest) 0 item refl))),
-    it ∙ ap (λ (histogram : ℕ). Sample histogram item.value) (sym still_one.counting.reference ∙ is.reference),
-  )) does
+  -- a sample that it makes is of an item's value
+  serves_item : (full : Bool) (b : Actor) → DoesOnly false full (add_serves known item) a b → DoesOnly false full (serves_counted known now) a b
+  serves_item full b = does_less false full (add_serves known item) (serves_counted known now) a b so
+    where
+      so : (deed : Deed) → add_serves known item deed → serves_counted known now deed
+      so (links made) it = (
+        sample_of item,
+        subst (λ (l : List Add). Contains (map sample_of l) (sample_of item)) (sym there)
+            (contains_map sample_of (c.done ++ item ∷ c.rest) item (Contains-append_right c.done (item ∷ c.rest) item (contains_at (item ∷ c.rest) 0 item refl))),
+        it ∙ ap (λ (histogram : ℕ). Sample histogram item.value) (sym still_one.counting.reference ∙ is.reference),
+      )
+      so (raises words) it = it
 
   module _ (b : Actor) (aside : FrameOfAdd a b) (stays : StaysOpen a b) where
     -- it has met the histogram's record
@@ -146,16 +150,16 @@ module _ (shape : Dimensions) (known : Known) (batch : Batch) (a : Actor) (is : 
     }
 
     -- the item goes on
-    pub still_counted : DoesOnly false false (add_links item) a b → IsAdd shape known (amid_of known batch c.done c.rest) item b → BatchGives shape known now More a b
+    pub still_counted : DoesOnly false false (add_serves known item) a b → IsAdd shape known (amid_of known batch c.done c.rest) item b → BatchGives shape known now More a b
     still_counted does counting = (
       aside,
       stays,
-      item_links false b does,
+      serves_item false b does,
       still_batch batch.added batch.left (inl (record { done = c.done; item = item; rest = c.rest; are = there; added = c.added; left = c.left; waits = c.waits; stands = counting })),
     )
 
     -- it is counted
-    module _ (does : DoesOnly false false (add_links item) a b) (turns : IsFree b) (over : HasEnded known (amid_of known batch c.done c.rest) item b) where
+    module _ (does : DoesOnly false false (add_serves known item) a b) (turns : IsFree b) (over : HasEnded known (amid_of known batch c.done c.rest) item b) where
       abbrev next : Batch
       next = record now { added = batch.added + 1; left = batch.left - c.item.units }
 
@@ -253,28 +257,28 @@ module _ (shape : Dimensions) (known : Known) (batch : Batch) (a : Actor) (is : 
           at_sum : (none : Bool) → int_eq batch.sum (pos 0) ≡ none → c.rest ≡ [] → BatchGives shape known next result a b
           at_sum true none are = subst (λ (r : BatchStep). BatchGives shape known next r a b)
               (says true true (eq-eqb _ _ (let count = count_is in let last = ap length are in omega (arith, count, last))) none)
-              (aside, stays, item_links false b does, turns, has_counted are none)
+              (aside, stays, serves_item false b does, turns, has_counted are none)
           at_sum false sums are = subst (λ (r : BatchStep). BatchGives shape known next r a b)
               (says true false (eq-eqb _ _ (let count = count_is in let last = ap length are in omega (arith, count, last))) sums)
-              (aside, stays, item_links false b does, sums_next are sums)
+              (aside, stays, serves_item false b does, sums_next are sums)
 
           by : (rest : List Add) → c.rest ≡ rest → BatchGives shape known next result a b
           by [] are = at_sum (int_eq batch.sum (pos 0)) refl are
           by (x ∷ rest) are = subst (λ (r : BatchStep). BatchGives shape known next r a b)
               (says false (int_eq batch.sum (pos 0)) (ne_eqb _ _ (λ e. let count = count_is in let long = ap length are in omega (arith, count, e, long))) refl)
-              (aside, stays, item_links false b does, counts_next x rest are)
+              (aside, stays, serves_item false b does, counts_next x rest are)
 
     abbrev others : List EntryProgress
     others = counting_of known item false false ∷ map fresh (map (counted_entry known) c.rest ++ sum_entries known.name batch.sum)
 
     -- it is refused
-    pub refused_so : (why : Refusal) → DoesOnly false (is_full why) (add_links item) a b → IsFree b → IsCause why (block_words known) a b → HasEntry known (amid_of known batch c.done c.rest) item b false false
+    pub refused_so : (why : Refusal) → DoesOnly false (is_full why) (add_serves known item) a b → IsFree b → IsCause why (block_words known) a b → HasEntry known (amid_of known batch c.done c.rest) item b false false
         → NeedsBlock known (item.value, item.units) b
         → BatchGives shape known now (Refused (record { added = batch.added; why = why })) a b
     refused_so why does turns cause has met = (
       aside,
       stays,
-      item_links (is_full why) b does,
+      serves_item (is_full why) b does,
       turns,
       cause,
       record {

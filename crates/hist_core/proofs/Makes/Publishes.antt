@@ -17,7 +17,7 @@ use Rattle.hist_core.specs.declared.making.MakingStep.{MakingStep}
 use Rattle.hist_core.specs.declared.making.MakingStep.TheVariants.{More, Done}
 use Rattle.hist_core.specs.declared.making.Stage.TheVariants.{Publishing}
 use Rattle.hist_core.specs.StepsBy.{DoesOnly, FrameOfStep, SeesNoMore, StepsBy, IsFree, is_tied}
-use Rattle.hist_core.specs.Making.{Wanted, IsMaking, StandsAtStage, MakingGives, IsPublished, links_wanted}
+use Rattle.hist_core.specs.Making.{Wanted, IsMaking, StandsAtStage, MakingGives, IsPublished, serves_wanted}
 use Rattle.hist_core.proofs.Makes.Drafts.{may_still}
 use Rattle.hist_core.proofs.Parts.Allocations.{goes_with, publishes_on}
 
@@ -53,11 +53,11 @@ module _ (shape : Dimensions) (version : ℕ) (wanted : Wanted) (m : Making) (a 
   stands = subst (StandsAtStage shape wanted a) publishes is.stands
 
   module _ (y : PublishingOf) (new_words : List ℕ) (says : PubStep) (step : publish.IsStep x words y new_words says) where
-    puts : StepsBy shape.size version a words new_words (λ b. FrameOfStep a b × DoesOnly false false (links_wanted wanted) a b × SeesNoMore a b × PublishesAt b y.reference wanted.made y.stage)
+    puts : StepsBy shape.size version a words new_words (λ b. FrameOfStep a b × DoesOnly false false (serves_wanted wanted) a b × SeesNoMore a b × PublishesAt b y.reference wanted.made y.stage)
     puts =
         let size = ap (λ (d : Dimensions). d.size) is.segment in
-        subst (λ (n : ℕ). StepsBy n version a words new_words (λ b. FrameOfStep a b × DoesOnly false false (links_wanted wanted) a b × SeesNoMore a b × PublishesAt b y.reference wanted.made y.stage)) size
-        (publishes_on version a wanted.made x y words new_words says stands.0 (long ∙ sym size) step)
+        subst (λ (n : ℕ). StepsBy n version a words new_words (λ b. FrameOfStep a b × DoesOnly false false (serves_wanted wanted) a b × SeesNoMore a b × PublishesAt b y.reference wanted.made y.stage)) size
+        (publishes_on (serves_wanted wanted) version a wanted.made x y words new_words says refl stands.0 (long ∙ sym size) step)
 
     -- it goes on
     still_puts : is_some (publish.next_event y) ≡ true → IsReach shape.size y

@@ -30,7 +30,7 @@ use Rattle.segment_machine.proofs.Stages.Allocations.{allocations_agree}
 use Rattle.segment_machine.proofs.Stages.Publishes.{publishes_agree}
 use Rattle.segment_machine.proofs.Stages.Walks.{walks_agree}
 use Rattle.hist_core.proofs.Parts.Alone.{acts_there, makes_so, allocating_beside, allocating_list, allocating_words, publishing_beside, publishing_list}
-use Rattle.hist_core.specs.StepsBy.{DoesOnly, FrameOfStep, SawEnd, SeesNoMore, StepsBy, IsFree}
+use Rattle.hist_core.specs.StepsBy.{Deed, links, raises, DoesOnly, FrameOfStep, SawEnd, SeesNoMore, StepsBy, IsFree}
 use Rattle.hist_core.proofs.Parts.Claims.{IsEnd, stage_ends}
 use Rattle.hist_core.proofs.Parts.Deeds.{is_full_end, publish_does, stage_does}
 use Rattle.hist_core.proofs.Worlds.Free.{free_behind, free_turns}
@@ -65,7 +65,7 @@ extended_behind chain at found = longer ((slice_index (stops chain) (length chai
 allocating_alike : (act : AllocatingEvent) (size version : ℕ) → operation 0 version (allocating_event act) ≡ operation size 1 (allocating_event act)
 allocating_alike load_flags size version = refl
 allocating_alike load_free size version = refl
-allocating_alike (exchange_free old new) size version = refl
+allocating_alike (exchange_free old new wanted) size version = refl
 allocating_alike (store_size at words) size version = refl
 allocating_alike (store_cookie at cookie) size version = refl
 allocating_alike (store_type at tag) size version = refl
@@ -73,10 +73,10 @@ allocating_alike (store_payload at index value) size version = refl
 allocating_alike set_corrupt size version = refl
 allocating_alike (set_full wanted) size version = refl
 
-pub allocates_on : (links : Made → Type 0) (version : ℕ) (a : Actor) (old new : Allocation) (words new_words : List ℕ) (said : AllocStep) → Allocates a old
-    → length words ≡ a.segment.shape.size → alloc.IsStep old words new new_words said
-    → StepsBy a.segment.shape.size version a words new_words (λ b. FrameOfStep a b × DoesOnly false (is_full_end said) links a b × AreApart b × Allocates b new × (b.seen.words ≡ a.seen.words) × SeesNoMore a b × IsEnd said old.size a b)
-allocates_on links version a old new words new_words said goes long step =
+pub allocates_on : (may : Deed → Type 0) (version : ℕ) (a : Actor) (old new : Allocation) (words new_words : List ℕ) (said : AllocStep) → Allocates a old
+    → may (raises old.size) → length words ≡ a.segment.shape.size → alloc.IsStep old words new new_words said
+    → StepsBy a.segment.shape.size version a words new_words (λ b. FrameOfStep a b × DoesOnly false (is_full_end said) may a b × AreApart b × Allocates b new × (b.seen.words ≡ a.seen.words) × SeesNoMore a b × IsEnd said old.size a b)
+allocates_on may version a old new words new_words said goes its long step =
     let size : ℕ = a.segment.shape.size in
     let agrees = allocations_agree size 1 a old step.event goes step.next in
     let act : AllocatingEvent = agrees.0 in
@@ -99,7 +99,7 @@ allocates_on links version a old new words new_words said goes long step =
         refl,
         (
           allocating_beside a act found,
-          subst (λ (s : AllocStep). DoesOnly false (is_full_end s) links a (next a (allocating_event act) found)) ends (stage_does links a old found old.stage act agrees.1),
+          subst (λ (s : AllocStep). DoesOnly false (is_full_end s) may a (next a (allocating_event act) found)) ends (stage_does may a old found its old.stage act agrees.1),
           apart,
           subst (Allocates (next a (allocating_event act) found))
               (ap (λ (n : ℕ). alloc.moved old (word_at words n)) there ∙ sym step.new_is) (agrees.4 found learned),
@@ -120,10 +120,10 @@ publishing_alike load_tail size version = refl
 publishing_alike (link tail at) size version = refl
 publishing_alike (move_tail old new) size version = refl
 
-pub publishes_on : (version : ℕ) (a : Actor) (made : Made) (old new : Publishing) (words new_words : List ℕ) (said : PubStep)
+pub publishes_on : (may : Deed → Type 0) (version : ℕ) (a : Actor) (made : Made) (old new : Publishing) (words new_words : List ℕ) (said : PubStep) → may (links made)
     → PublishesAt a old.reference made old.stage → length words ≡ a.segment.shape.size → publish.IsStep old words new new_words said
-    → StepsBy a.segment.shape.size version a words new_words (λ b. FrameOfStep a b × DoesOnly false false (λ (m : Made). m ≡ made) a b × SeesNoMore a b × PublishesAt b new.reference made new.stage)
-publishes_on version a made old new words new_words said stands long step =
+    → StepsBy a.segment.shape.size version a words new_words (λ b. FrameOfStep a b × DoesOnly false false may a b × SeesNoMore a b × PublishesAt b new.reference made new.stage)
+publishes_on may version a made old new words new_words said its stands long step =
     let size : ℕ = a.segment.shape.size in
     let agrees = publishes_agree size 1 a made old step.event stands step.next in
     let act : PublishingEvent = agrees.0 in
@@ -144,7 +144,7 @@ publishes_on version a made old new words new_words said stands long step =
         refl,
         (
           publishing_beside a act found,
-          publish_does a old.reference made old.stage act found agrees.1 stands,
+          publish_does may a old.reference made its old.stage act found agrees.1 stands,
           publishing_list a act found,
           subst (λ (p : Publishing). PublishesAt (next a (publishing_event act) found) p.reference made p.stage)
               ((λ i. publish.moved (sym long i) old (word_at words (there i))) ∙ sym step.new_is) (agrees.4 found learned),

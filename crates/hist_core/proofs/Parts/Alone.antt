@@ -44,14 +44,14 @@ pub seen_alike : (a b : Actor) → b.role ≡ a.role → b.segment ≡ a.segment
 seen_alike a b role segment units entries deltas names chain words =
     seen_words a b [] role segment units entries deltas names chain (words ∙ sym (append-nil a.seen.words))
 
-freed : (b : Bool) (a : Actor) (old new found : ℕ) → FrameOfStep a (after_free b a old new found)
-freed true a old new found = seen_alike a (after_free true a old new found) refl refl refl refl refl refl refl refl
-freed false a old new found = seen_alike a (after_free false a old new found) refl refl refl refl refl refl refl refl
+freed : (b : Bool) (a : Actor) (old new wanted found : ℕ) → FrameOfStep a (after_free b a old new wanted found)
+freed true a old new wanted found = seen_alike a (after_free true a old new wanted found) refl refl refl refl refl refl refl refl
+freed false a old new wanted found = seen_alike a (after_free false a old new wanted found) refl refl refl refl refl refl refl refl
 
 pub allocating_beside : (a : Actor) (act : AllocatingEvent) (found : ℕ) → FrameOfStep a (next a (allocating_event act) found)
 allocating_beside a load_flags found = seen_alike a (next a (allocating_event load_flags) found) refl refl refl refl refl refl refl refl
 allocating_beside a load_free found = seen_alike a (next a (allocating_event load_free) found) refl refl refl refl refl refl refl refl
-allocating_beside a (exchange_free old new) found = freed (found == old) a old new found
+allocating_beside a (exchange_free old new wanted) found = freed (found == old) a old new wanted found
 allocating_beside a (store_size at size) found = seen_alike a (next a (allocating_event (store_size at size)) found) refl refl refl refl refl refl refl refl
 allocating_beside a (store_cookie at cookie) found = seen_alike a (next a (allocating_event (store_cookie at cookie)) found) refl refl refl refl refl refl refl refl
 allocating_beside a (store_type at tag) found = seen_alike a (next a (allocating_event (store_type at tag)) found) refl refl refl refl refl refl refl refl
@@ -60,14 +60,14 @@ allocating_beside a set_corrupt found = seen_alike a (next a (allocating_event s
 allocating_beside a (set_full wanted) found = seen_alike a (next a (allocating_event (set_full wanted)) found) refl refl refl refl refl refl refl refl
 
 -- an allocation sees no word of a record
-freed_words : (b : Bool) (a : Actor) (old new found : ℕ) → (after_free b a old new found).seen.words ≡ a.seen.words
-freed_words true a old new found = refl
-freed_words false a old new found = refl
+freed_words : (b : Bool) (a : Actor) (old new wanted found : ℕ) → (after_free b a old new wanted found).seen.words ≡ a.seen.words
+freed_words true a old new wanted found = refl
+freed_words false a old new wanted found = refl
 
 pub allocating_words : (a : Actor) (act : AllocatingEvent) (found : ℕ) → (next a (allocating_event act) found).seen.words ≡ a.seen.words
 allocating_words a load_flags found = refl
 allocating_words a load_free found = refl
-allocating_words a (exchange_free old new) found = freed_words (found == old) a old new found
+allocating_words a (exchange_free old new wanted) found = freed_words (found == old) a old new wanted found
 allocating_words a (store_size at size) found = refl
 allocating_words a (store_cookie at cookie) found = refl
 allocating_words a (store_type at tag) found = refl
@@ -76,14 +76,14 @@ allocating_words a set_corrupt found = refl
 allocating_words a (set_full wanted) found = refl
 
 -- it sees no more of the list
-freed_list : (b : Bool) (a : Actor) (old new found : ℕ) → SeesNoMore a (after_free b a old new found)
-freed_list true a old new found = (refl, refl, refl)
-freed_list false a old new found = (refl, refl, refl)
+freed_list : (b : Bool) (a : Actor) (old new wanted found : ℕ) → SeesNoMore a (after_free b a old new wanted found)
+freed_list true a old new wanted found = (refl, refl, refl)
+freed_list false a old new wanted found = (refl, refl, refl)
 
 pub allocating_list : (a : Actor) (act : AllocatingEvent) (found : ℕ) → SeesNoMore a (next a (allocating_event act) found)
 allocating_list a load_flags found = (refl, refl, refl)
 allocating_list a load_free found = (refl, refl, refl)
-allocating_list a (exchange_free old new) found = freed_list (found == old) a old new found
+allocating_list a (exchange_free old new wanted) found = freed_list (found == old) a old new wanted found
 allocating_list a (store_size at size) found = (refl, refl, refl)
 allocating_list a (store_cookie at cookie) found = (refl, refl, refl)
 allocating_list a (store_type at tag) found = (refl, refl, refl)

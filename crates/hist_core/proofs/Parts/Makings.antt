@@ -1,5 +1,5 @@
 -- A `hist` makes its record.
-use Rattle.std.proofs.Common.{◌≡◌, ℕ, ◌+◌, List, length, inl, sym, ap, subst, ◌∙◌}
+use Rattle.std.proofs.Common.{◌≡◌, Bool, false, ℕ, ◌+◌, List, length, inl, sym, ap, subst, ◌∙◌}
 use Rattle.segment_image.specs.Shape.{Dimensions}
 use Rattle.list_core.proofs.Prefixes.{prefix_of_prefix}
 use Rattle.segment_machine.specs.declared.actor.Actor.{Actor}
@@ -13,10 +13,11 @@ use Rattle.hist_core.specs.declared.making.MakingStep.TheVariants as made
 use Rattle.list_core.specs.Walk.{stands_behind}
 use Rattle.std.specs.List.{All, Contains}
 use Rattle.segment_machine.specs.Made.{SawOtherName}
-use Rattle.hist_core.specs.StepsBy.{FrameOfStep, SawEnd, StepsBy}
-use Rattle.hist_core.specs.Hist.{wanted_of, IsHist, StandsAtStage, HistGives, IsMade}
-use Rattle.hist_core.specs.Making.{IsCause, MakingGives}
+use Rattle.hist_core.specs.StepsBy.{Deed, links, raises, DoesOnly, FrameOfStep, SawEnd, StepsBy}
+use Rattle.hist_core.specs.Hist.{wanted_of, IsHist, StandsAtStage, HistGives, IsMade, serves_asked}
+use Rattle.hist_core.specs.Making.{IsCause, MakingGives, is_full, serves_wanted}
 use Rattle.hist_core.proofs.Parts.Allocations.{goes_with}
+use Rattle.hist_core.proofs.Parts.Deeds.{does_less}
 use Rattle.hist_core.proofs.Parts.Walks.{others_still, asks_on}
 
 module _ (shape : Dimensions) (version : ℕ) (h : Hist) (a : Actor) (words : List ℕ) (is : IsHist shape h a) (m : MakingOf) (makes : h.stage ≡ Making m) where
@@ -40,6 +41,14 @@ module _ (shape : Dimensions) (version : ℕ) (h : Hist) (a : Actor) (words : Li
   seen_still : (b : Actor) → b.seen.chain ≡ a.seen.chain → b.seen.ends ≡ a.seen.ends → SawEnd b.seen
   seen_still b chain ends = subst (λ (p : List ℕ × List ℕ). Contains p.0 (stands_behind p.1 + 3)) (λ i. (sym ends i, sym chain i)) stood_making.1
 
+  -- it makes the record that is asked for
+  serves_it : (full : Bool) (b : Actor) → DoesOnly false full (serves_wanted (wanted_of h)) a b → DoesOnly false full (serves_asked h) a b
+  serves_it full b = does_less false full (serves_wanted (wanted_of h)) (serves_asked h) a b so
+    where
+      so : (deed : Deed) → serves_wanted (wanted_of h) deed → serves_asked h deed
+      so (links made) it = it
+      so (raises words) it = (is.asking.letters, is.asking.spells, it ∙ ap (λ (l : List ℕ). 4 + length l) is.asking.payload)
+
   -- whatever the step of the making says
   pub makes_so : (x : MakingOf) (new_words : List ℕ) (says : MakingStep) (new : Hist) (result : HistStep)
       → StepsBy shape.size version a words new_words (MakingGives shape (wanted_of h) x says a) → IsMade (record h { stage = Making x }) says new result
@@ -48,7 +57,7 @@ module _ (shape : Dimensions) (version : ℕ) (h : Hist) (a : Actor) (words : Li
       subst (λ (p : Hist × HistStep). StepsBy shape.size version a words new_words (HistGives shape p.0 p.1 a)) (λ i. (sym new_is i, sym result_is i))
       (goes_with goes (λ b (beside, does, (chain, ends, singles), makes_on). (
         beside,
-        does,
+        serves_it false b does,
         on (Making x) b beside (
           stood_making.0 ∙ sym chain,
           seen_still b chain ends,
@@ -58,12 +67,12 @@ module _ (shape : Dimensions) (version : ℕ) (h : Hist) (a : Actor) (words : Li
       )))
   makes_so x new_words made.Done new result goes (new_is, result_is) =
       subst (λ (p : Hist × HistStep). StepsBy shape.size version a words new_words (HistGives shape p.0 p.1 a)) (λ i. (sym new_is i, sym result_is i))
-      (goes_with goes (λ b (beside, does, turns). (beside, does, on Walking b beside (turns, others_still a b beside h is.given stood_making.2))))
+      (goes_with goes (λ b (beside, does, turns). (beside, serves_it false b does, on Walking b beside (turns, others_still a b beside h is.given stood_making.2))))
   makes_so x new_words (made.Refused cause) new result goes (new_is, result_is) =
       subst (λ (p : Hist × HistStep). StepsBy shape.size version a words new_words (HistGives shape p.0 p.1 a)) (λ i. (sym new_is i, sym result_is i))
       (goes_with goes (λ b (beside, does, (chain, ends, singles), turns, is_cause). (
         beside,
-        does,
+        serves_it (is_full cause) b does,
         turns,
         inl (
           (

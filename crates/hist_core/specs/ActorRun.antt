@@ -334,18 +334,19 @@ lacks_room (Done (answer.Refused cause)) = is_full cause
 lacks_room (Done (answer.BatchRefused refusal)) = is_full refusal.why
 lacks_room said = false
 
--- What a running call may do, of the names that its actor was answered: a `hist` makes a record of the name and the spec that it asks for; a
--- call that counts makes a sample of a value that it counts, in its histogram, or raises the free pointer for the counts of that.
-abbrev pub Serves : Option Running → List MachineKnown → Deed → Type 0
-Serves (Some (Hist hist)) names deed = serves_asked hist deed
-Serves (Some (Add add)) names deed = (known : MachineKnown) × Contains names known × (known.reference ≡ add.histogram) × add_serves known add deed
-Serves (Some (Batch batch)) names deed = (known : MachineKnown) × Contains names known × (known.reference ≡ batch.histogram) × batch_serves known batch deed
-Serves running names deed = ⊥
+-- What a running call of an actor may do: a `hist` makes a record of the name and the spec that it asks for; a call that counts makes a sample
+-- of a value that it counts, in its histogram, or claims the counts of that. Where it raises the free pointer, the actor has seen that it needs
+-- the block.
+abbrev pub Serves : Option Running → Actor → Deed → Type 0
+Serves (Some (Hist hist)) a deed = serves_asked hist a deed
+Serves (Some (Add add)) a deed = (known : MachineKnown) × Contains a.answers.names known × (known.reference ≡ add.histogram) × add_serves known add a deed
+Serves (Some (Batch batch)) a deed = (known : MachineKnown) × Contains a.answers.names known × (known.reference ≡ batch.histogram) × batch_serves known batch a deed
+Serves running a deed = ⊥
 
 -- Its event sets the corrupt flag only with `Flagged`, and the full one only with a refusal `Full`; a record that it links is one that its
 -- call is for, and the block for which it raises the free pointer is the one that its call needs.
 abbrev pub DoesAsSaid : Option Running → Stepped → Actor → Actor → Type 0
-DoesAsSaid running said a b = DoesOnly (is_flagged said) (lacks_room said) (Serves running b.answers.names) a b
+DoesAsSaid running said a b = DoesOnly (is_flagged said) (lacks_room said) (Serves running a) a b
 
 -- It goes on by one event, as the actor does for which it stands.
 abbrev pub Advances : Dimensions → ℕ → ActorRun → List ℕ → ActorRun → List ℕ → Stepped → Actor → Type 0

@@ -222,10 +222,10 @@ pub record FrameOfAdd (a b : Actor) : Type 0 where
 abbrev pub block_words : Known → ℕ
 block_words known = if has_buckets known.spec then BLOCK_HEADER + 2 * buckets_of known.spec else SAMPLE_LEAST
 
--- what it may do: it links the sample of its value in its histogram, and raises the free pointer for the block that it may need
-abbrev pub serves_counted : Known → Add → Deed → Type 0
-serves_counted known add (links made) = made ≡ Sample add.histogram add.value
-serves_counted known add (raises words) = words ≡ block_words known
+-- what it may do: it links the sample of its value in its histogram, and raises the free pointer for the block that it needs
+abbrev pub serves_counted : Known → Add → Actor → Deed → Type 0
+serves_counted known add a (links made) = made ≡ Sample add.histogram add.value
+serves_counted known add a (raises words) = (words ≡ block_words known) × NeedsBlock known (add.value, add.units) a
 
 -- while it goes on: units and log are as before
 abbrev pub StaysOpen : Actor → Actor → Type 0
@@ -234,10 +234,10 @@ StaysOpen a b = (b.units ≡ a.units) × (b.entries ≡ record a.entries { runni
 -- What a step says: it goes on; all of its entry has happened; or the block that it needs is refused, and nothing has happened.
 -- Its actor may turn to another entry or another call then.
 abbrev pub AddGives : Dimensions → Known → Amid → Add → AddStep → Actor → Actor → Type 0
-AddGives shape known amid new More a b = FrameOfAdd a b × StaysOpen a b × DoesOnly false false (serves_counted known new) a b × IsAdd shape known amid new b
-AddGives shape known amid new Done a b = FrameOfAdd a b × StaysOpen a b × DoesOnly false false (serves_counted known new) a b × IsFree b × HasEnded known amid new b
+AddGives shape known amid new More a b = FrameOfAdd a b × StaysOpen a b × DoesOnly false false (serves_counted known new a) a b × IsAdd shape known amid new b
+AddGives shape known amid new Done a b = FrameOfAdd a b × StaysOpen a b × DoesOnly false false (serves_counted known new a) a b × IsFree b × HasEnded known amid new b
 AddGives shape known amid new (Refused cause) a b =
-    FrameOfAdd a b × StaysOpen a b × DoesOnly false (is_full cause) (serves_counted known new) a b × IsFree b × IsCause cause (block_words known) a b
+    FrameOfAdd a b × StaysOpen a b × DoesOnly false (is_full cause) (serves_counted known new a) a b × IsFree b × IsCause cause (block_words known) a b
     × HasEntry known amid new b false false × NeedsBlock known (new.value, new.units) b
 
 -- what a step makes of the words, and of whatever actor stands so

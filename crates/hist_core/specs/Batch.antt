@@ -125,10 +125,11 @@ pub record IsCutAt (added : ℕ) (entries : List Entry) (a : Actor) : Type 0 whe
   pub untouched : All (λ c. is_untouched c ≡ true) (drop added a.entries.running)
   pub unsummed : All (λ c. c.summed ≡ false) (take added a.entries.running)
 
--- what it may do: it links a sample of the value of an item in its histogram, and raises the free pointer for a block that an item may need
-abbrev pub serves_counted : Known → Batch → Deed → Type 0
-serves_counted known batch (links made) = (sample : ℤ × ℕ) × Contains (map sample_of batch.items.items) sample × (made ≡ Sample batch.histogram sample.0)
-serves_counted known batch (raises words) = words ≡ block_words known
+-- what it may do: it links a sample of the value of an item in its histogram, and raises the free pointer for a block that an item needs
+abbrev pub serves_counted : Known → Batch → Actor → Deed → Type 0
+serves_counted known batch a (links made) = (sample : ℤ × ℕ) × Contains (map sample_of batch.items.items) sample × (made ≡ Sample batch.histogram sample.0)
+serves_counted known batch a (raises words) =
+    (words ≡ block_words known) × ((sample : ℤ × ℕ) × Contains (map sample_of batch.items.items) sample × NeedsBlock known sample a)
 
 -- the item behind so many needs a block
 abbrev pub NextNeedsBlock : Known → Batch → ℕ → Actor → Type 0
@@ -137,10 +138,10 @@ NextNeedsBlock known batch added a = (sample : ℤ × ℕ) × (get_elem? (map sa
 -- What a step says: it goes on; all of it is counted; or the block that its next item needs is refused. Its actor may turn to another call
 -- then.
 abbrev pub BatchGives : Dimensions → Known → Batch → BatchStep → Actor → Actor → Type 0
-BatchGives shape known new More a b = FrameOfAdd a b × StaysOpen a b × DoesOnly false false (serves_counted known new) a b × IsBatch shape known new b
-BatchGives shape known new Done a b = FrameOfAdd a b × StaysOpen a b × DoesOnly false false (serves_counted known new) a b × IsFree b × HaveEnded (counted_entries known new) b
+BatchGives shape known new More a b = FrameOfAdd a b × StaysOpen a b × DoesOnly false false (serves_counted known new a) a b × IsBatch shape known new b
+BatchGives shape known new Done a b = FrameOfAdd a b × StaysOpen a b × DoesOnly false false (serves_counted known new a) a b × IsFree b × HaveEnded (counted_entries known new) b
 BatchGives shape known new (Refused refusal) a b =
-    FrameOfAdd a b × StaysOpen a b × DoesOnly false (is_full refusal.why) (serves_counted known new) a b × IsFree b × IsCause refusal.why (block_words known) a b × IsCutAt refusal.added (counted_entries known new) b
+    FrameOfAdd a b × StaysOpen a b × DoesOnly false (is_full refusal.why) (serves_counted known new a) a b × IsFree b × IsCause refusal.why (block_words known) a b × IsCutAt refusal.added (counted_entries known new) b
     × (refusal.added ≤ length new.items.items) × (new.left + units_among (take refusal.added new.items.items) ≡ new.cost) × NextNeedsBlock known new refusal.added b
 
 -- what a step makes of the words, and of whatever actor stands so

@@ -149,20 +149,21 @@ LacksRecord name spec cause a b =
 abbrev pub IsCause : List ℕ → Spec → Refusal → Actor → Actor → Type 0
 IsCause name spec cause a b = LacksRecord name spec cause a b ⊎ ((cause ≡ why.OtherSpec) × HasOtherSpec name spec b.seen)
 
--- what it may do: it makes the record of the name and the spec that it asks for
-abbrev pub serves_asked : Hist → Deed → Type 0
-serves_asked h (links made) = made ≡ made_of h
-serves_asked h (raises words) =
-    (letters : List ℕ) × AreNameWords h.asked.name.items letters × (words ≡ BLOCK_HEADER + length (payload_words h.asked.name.items h.asked.spec letters))
+-- what it may do: it makes the record of the name and the spec that it asks for, where its actor has seen none of the name
+abbrev pub serves_asked : Hist → Actor → Deed → Type 0
+serves_asked h a (links made) = made ≡ made_of h
+serves_asked h a (raises words) =
+    SawNone h.asked.name.items a.seen
+    × ((letters : List ℕ) × AreNameWords h.asked.name.items letters × (words ≡ BLOCK_HEADER + length (payload_words h.asked.name.items h.asked.spec letters)))
 
 -- What a step says: it goes on; the record that was compared last, which lies in the segment, is the one that is asked for; or the call is
 -- refused, and its actor may turn to another.
 abbrev pub HistGives : Dimensions → Hist → HistStep → Actor → Actor → Type 0
-HistGives shape new More a b = FrameOfStep a b × DoesOnly false false (serves_asked new) a b × IsHist shape new b
+HistGives shape new More a b = FrameOfStep a b × DoesOnly false false (serves_asked new a) a b × IsHist shape new b
 HistGives shape new Done a b =
-    FrameOfStep a b × DoesOnly false false (serves_asked new) a b × IsFree b × MayNote b (knows (asked_of new)) × IsAsking shape new × (new.reference + HISTOGRAM_NAME ≤ shape.size)
+    FrameOfStep a b × DoesOnly false false (serves_asked new a) a b × IsFree b × MayNote b (knows (asked_of new)) × IsAsking shape new × (new.reference + HISTOGRAM_NAME ≤ shape.size)
 HistGives shape new (Refused cause) a b =
-    FrameOfStep a b × DoesOnly false (is_full cause) (serves_asked new) a b × IsFree b × IsCause new.asked.name.items new.asked.spec cause a b
+    FrameOfStep a b × DoesOnly false (is_full cause) (serves_asked new a) a b × IsFree b × IsCause new.asked.name.items new.asked.spec cause a b
 
 -- what a step makes of the words, and of whatever actor stands so
 abbrev pub HistSteps : Hist → List ℕ → Hist → List ℕ → HistStep → Type 0

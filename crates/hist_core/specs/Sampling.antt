@@ -22,9 +22,9 @@ use Rattle.hist_core.specs.declared.sampling.SamplingStep.{SamplingStep}
 use Rattle.hist_core.specs.declared.sampling.SamplingStep.TheVariants.{More, Found, Refused}
 use Rattle.hist_core.specs.declared.sampling.Stage.{Stage}
 use Rattle.hist_core.specs.declared.sampling.Stage.TheVariants.{Walking, LoadingType, LoadingHistogram, LoadingValue, Making}
-use Rattle.hist_core.specs.StepsBy.{Deed, DoesOnly, FrameOfStep, SawEnd, StepsBy, IsFree}
+use Rattle.hist_core.specs.StepsBy.{Deed, links, raises, DoesOnly, FrameOfStep, SawEnd, StepsBy, IsFree}
 use Rattle.hist_core.specs.Walk.{IsSample}
-use Rattle.hist_core.specs.Making.{IsCause, IsMaking, Wanted, is_full, serves_wanted}
+use Rattle.hist_core.specs.Making.{IsCause, IsMaking, Wanted, is_full}
 
 -- ---- what it makes where there is none
 
@@ -77,23 +77,24 @@ pub record IsSampling (shape : Dimensions) (s : Sampling) (a : Actor) : Type 0 w
   pub whole : IsMakingSample s.stage → (front ++ s.histogram ∷ behind ≡ a.seen.chain) × SawEnd a.seen
   pub stands : StandsAtStage shape s a behind s.stage
 
--- what it may do: it makes the sample of its value
-abbrev pub serves_sample : Sampling → Deed → Type 0
-serves_sample s deed = serves_wanted (wanted_of s) deed
-
 -- it has seen the list to its end, and that no record behind that of a histogram is a sample of a value
 abbrev pub SawNoSample : ℕ → ℤ → Seen → Type 0
 SawNoSample histogram value seen =
     (front behind : List ℕ) × (seen.chain ≡ front ++ histogram ∷ behind) × All (SawOther seen histogram value) behind × SawEnd seen
 
+-- what it may do: it makes the sample of its value, which its actor has seen to be missing
+abbrev pub serves_sample : Sampling → Actor → Deed → Type 0
+serves_sample s a (links made) = made ≡ Sample s.histogram s.value
+serves_sample s a (raises words) = (words ≡ SAMPLE_LEAST) × SawNoSample s.histogram s.value a.seen
+
 -- What a step says: it goes on; the first sample of the value stands there, within the segment; or it is refused. Its actor may turn to
 -- something else then.
 abbrev pub SamplingGives : Dimensions → Sampling → SamplingStep → Actor → Actor → Type 0
-SamplingGives shape new More a b = FrameOfStep a b × DoesOnly false false (serves_sample new) a b × IsSampling shape new b
+SamplingGives shape new More a b = FrameOfStep a b × DoesOnly false false (serves_sample new a) a b × IsSampling shape new b
 SamplingGives shape new (Found at) a b =
-    FrameOfStep a b × DoesOnly false false (serves_sample new) a b × IsFree b × IsFirstSample b.seen new.histogram new.value at × (at + SAMPLE_LEAST ≤ shape.size)
+    FrameOfStep a b × DoesOnly false false (serves_sample new a) a b × IsFree b × IsFirstSample b.seen new.histogram new.value at × (at + SAMPLE_LEAST ≤ shape.size)
 SamplingGives shape new (Refused cause) a b =
-    FrameOfStep a b × DoesOnly false (is_full cause) (serves_sample new) a b × IsFree b × IsCause cause SAMPLE_LEAST a b
+    FrameOfStep a b × DoesOnly false (is_full cause) (serves_sample new a) a b × IsFree b × IsCause cause SAMPLE_LEAST a b
     × SawNoSample new.histogram new.value b.seen
 
 -- what a step makes of the words, and of whatever actor stands so

@@ -247,7 +247,7 @@ impl World {
     ///
     /// A record that an event links is one that its call is for: of the name and the spec with which a `Hist` began; or a sample of a value
     /// that an `Add` or a `Batch` counts, in its histogram. The other calls link none. So it is where an event raises the free pointer: for
-    /// the block that the call needs, which it claims there, or for which it wastes the rest of a page that is too short.
+    /// the block that the call needs, as above, which it claims there, or for which it wastes the rest of a page that is too short.
     ///
     /// A `Snapshot` answers what the actor saw since its first event: of each key at least the units that it had accepted and those that
     /// it had seen before; so does its redundant count. Of a sparse histogram the values ascend, each with a count above 0.

@@ -26,12 +26,12 @@ use Rattle.hist_core.specs.declared.actor_run.Running.TheVariants.{Add}
 use Rattle.hist_core.specs.declared.actor_run.ActorRun.{ActorRun}
 use Rattle.hist_core.specs.Add.{Amid, alone, block_words, counted_entry, ended_entry, FrameOfAdd, HasEntry, NeedsBlock, HasEnded, StandsAtStage, IsAdd, IsSomeAdd, AddSteps, AddGives, serves_counted}
 use Rattle.hist_core.specs.Batch.{Runs, HaveEnded, IsCutAt}
-use Rattle.hist_core.specs.StepsBy.{Deed, DoesOnly, StepsBy}
+use Rattle.hist_core.specs.StepsBy.{Deed, links, raises, DoesOnly, StepsBy}
 use Rattle.hist_core.proofs.Worlds.Landing.{Landing, does_as_said}
 use Rattle.hist_core.specs.ActorRun.{known_of, ended_by, begun_by, pending_by, held_by, IsGhostNoting, IsAdding, StandsIn, IsRun, IsAddAnnounced, LandsBack, MayBeRefused, Answers, DoesAsSaid, IsRefusedBy, Serves, is_flagged, lacks_room}
 use Rattle.segment_calls.specs.declared.refusal.Refusal.{Refusal}
 use Rattle.hist_core.specs.Making.{IsCause}
-use Rattle.hist_core.proofs.AddCall.Refusals.{HasOnlyNoted, cause_noted}
+use Rattle.hist_core.proofs.AddCall.Refusals.{HasOnlyNoted, cause_noted, needs_still}
 use Rattle.hist_core.proofs.Parts.Allocations.{goes_with}
 use Rattle.hist_core.proofs.AddCall.Entries.{ended_is_over}
 use Rattle.hist_core.proofs.Worlds.Apart.{asks_not, looks_not, batches_not, sets_not}
@@ -112,16 +112,20 @@ module _ (shape : Dimensions) (version : ℕ) (old : ActorRun) (add : AddCall) (
           }
 
       -- it does what the call is for
-      does_it : (said : Stepped) (first b d : Actor) → map known_of old.known.items ≡ d.answers.names → a.done ≡ first.done → d.done ≡ b.done
-          → DoesOnly (is_flagged said) (lacks_room said) (serves_counted known now) a b → DoesAsSaid old.running said first d
-      does_it said first b d names before behind = does_as_said old.running said (serves_counted known now) first a b d serves before behind
+      does_it : (said : Stepped) (first b d : Actor) → map known_of old.known.items ≡ first.answers.names → HasOnlyNoted first a → d.done ≡ b.done
+          → DoesOnly (is_flagged said) (lacks_room said) (serves_counted known now a) a b → DoesAsSaid old.running said first d
+      does_it said first b d names from behind = does_as_said old.running said (serves_counted known now a) first a b d serves from.2 behind
         where
-          serves : (deed : Deed) → serves_counted known now deed → Serves old.running d.answers.names deed
-          serves deed it = subst (λ running. Serves running d.answers.names deed) (sym is) (
+          as_first : (deed : Deed) → serves_counted known now a deed → serves_counted known now first deed
+          as_first (links made) it = it
+          as_first (raises words) (it, needs) = (it, needs_still known (add.value, add.units) a first (sym from.3) needs)
+
+          serves : (deed : Deed) → serves_counted known now a deed → Serves old.running first deed
+          serves deed it = subst (λ running. Serves running first deed) (sym is) (
             known,
             subst (λ (l : List MachineKnown). Contains l known) (sym counts.run.names ∙ names) counts.counting.knows,
             counts.counting.counting.reference,
-            it,
+            as_first deed it,
           )
 
       -- why it is refused
@@ -156,14 +160,14 @@ module _ (shape : Dimensions) (version : ℕ) (old : ActorRun) (add : AddCall) (
         subst (λ said. Landing shape version old words new new_words said a) (sym result_is) (goes (λ b from counts. goes_with (its_steps its at b counts words new_words More long steps)
         (λ c (aside, stays, does, counting). (
           subst (λ (r : ActorRun). IsRun shape version r c) (sym new_is) (goes_on its at b counts c (aside, stays, does, counting)),
-          does_it its at b counts stepped.More a c c (counts.run.names ∙ sym aside.names) from.2 refl does,
+          does_it its at b counts stepped.More a c c run.names from refl does,
         ))))
     goes_so Done result steps (new_is, result_is) =
         subst (λ said. Landing shape version old words new new_words said a) (sym result_is) (goes (λ b from counts. goes_noting (its_steps its at b counts words new_words Done long steps)
         (λ c (aside, stays, does, turns, over).
         let (notes, d, told, run_then) = subst (λ (r : ActorRun). (notes : List Note) × (d : Actor) × Notes c notes d × IsRun shape version r d) (sym new_is)
         (has_counted shape version old its.name add.units (entries its) (standing its) (runs its) (into its) b counts c aside stays turns counts.counting.rests (ends_so its at b counts c over)) in
-        (notes, d, told, (run_then, does_it its at b counts (stepped.Done answer.Added) a c d (ap (λ (r : ActorRun). map known_of r.known.items) (sym new_is) ∙ run_then.names) from.2 (notes_leave notes c d told).1 does)))))
+        (notes, d, told, (run_then, does_it its at b counts (stepped.Done answer.Added) a c d run.names from (notes_leave notes c d told).1 does)))))
     goes_so (Refused why) result steps (new_is, items, result_is) =
         subst (λ said. Landing shape version old words new new_words said a) (sym result_is) (goes (λ b from counts. goes_noting (its_steps its at b counts words new_words (Refused why) long steps)
         (λ c (aside, stays, does, turns, cause, has, met).
@@ -172,7 +176,7 @@ module _ (shape : Dimensions) (version : ℕ) (old : ActorRun) (add : AddCall) (
         (is_cut shape version old its.name add.units (entries its) (standing its) (runs its) (into its) b counts c aside stays turns counts.counting.rests counts.counting.held
         0 add.units (omega arith) (nothing_yet its at b counts c has) (let none : tally_noted (take 0 (entries its)) its.name ≡ 0 = refl in omega (arith, none)) new old.ended (omega arith) new_is items
         (λ d. IsRefusedBy old.running why a d) (refused_by its at b counts a c from aside why cause met)) in
-        (notes, d, told, (lands, does_it its at b counts (stepped.Done (answer.Refused why)) a c d (ap (λ (r : ActorRun). map known_of r.known.items) (sym new_is) ∙ lands.0.2.names) from.2 (notes_leave notes c d told).1 does)))))
+        (notes, d, told, (lands, does_it its at b counts (stepped.Done (answer.Refused why)) a c d run.names from (notes_leave notes c d told).1 does)))))
 
   pub add_goes : (a : Actor) (run : IsRun shape version old a) (now : AddCall) → now ≡ record add { stage = now.stage } → (words new_words : List ℕ) → length words ≡ shape.size
       → (said : AddStep) (new : ActorRun) (result : Stepped) → AddSteps add words now new_words said → IsAddAnnounced (record old { running = Some (Add now) }) said new result

@@ -136,7 +136,7 @@ module _ (shape : Dimensions) (known : Known) (amid : Amid) (add : Add) (a : Act
             words = ([], sym (append-nil a.seen.words));
           },
           (refl, refl),
-          does_nothing (serves_counted known add) a acted refl,
+          does_nothing (serves_counted known add a) a acted refl,
           record {
             counting = counts_on shape known add (behind_count add.amount) is.counting;
             segment = is.segment;

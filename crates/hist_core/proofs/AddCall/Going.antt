@@ -73,7 +73,7 @@ packing_aside a (add_moved counts bucket units) found =
 
 module _ (shape : Dimensions) (known : Known) (amid : Amid) (add : Add) (a : Actor) (is : IsAdd shape known amid add a) (stage : Stage) where
   -- it goes on from another stage
-  pub goes_still : (b : Actor) → FrameOfAdd a b → StaysOpen a b → DoesOnly false false (serves_counted known add) a b → StandsAtStage shape known amid (record add { stage = stage }) b stage
+  pub goes_still : (b : Actor) → FrameOfAdd a b → StaysOpen a b → DoesOnly false false (serves_counted known add a) a b → StandsAtStage shape known amid (record add { stage = stage }) b stage
       → AddGives shape known amid (record add { stage = stage }) More a b
   goes_still b beside (units, entries) does stands = (
     beside,
@@ -111,7 +111,7 @@ module _ (shape : Dimensions) (known : Known) (amid : Amid) (add : Add) (a : Act
       event = event;
       ready = ready;
       words_are = are;
-      goes = λ learned apart ordered. ([], acted, refl, goes_still acted beside.0 beside.1 (does_nothing (serves_counted known add) a acted beside.2) (stands learned));
+      goes = λ learned apart ordered. ([], acted, refl, goes_still acted beside.0 beside.1 (does_nothing (serves_counted known add a) a acted beside.2) (stands learned));
     }
 
   pub packs_on : (words new_words : List ℕ) (e : PackingEvent) → Ready a (packing_event e) → new_words ≡ after shape.size add.version (packing_event e) words

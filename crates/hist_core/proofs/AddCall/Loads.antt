@@ -93,7 +93,7 @@ module _ (shape : Dimensions) (known : Known) (amid : Amid) (add : Add) (a : Act
       (
         aside_counts a acted known.reference found refl refl refl refl refl refl,
         (refl, refl),
-        does_nothing (serves_counted known add) a acted refl,
+        does_nothing (serves_counted known add a) a acted refl,
         record {
           counting = counts_on shape known add (Counting at) is.counting;
           segment = is.segment;

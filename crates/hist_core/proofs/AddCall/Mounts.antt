@@ -158,12 +158,19 @@ module _ (shape : Dimensions) (known : Known) (amid : Amid) (add : Add) (a : Act
     its_words = stood_allocating.2.3
         ∙ (ap (λ (n : ℕ). 4 + 2 * n) is.counting.buckets ∙ ap (λ (t : Bool). if t then 4 + 2 * buckets_of known.spec else 8) (sym stood_allocating.0))
 
+    -- it needs it
+    needs_here : NeedsBlock known (add.value, add.units) a
+    needs_here = record {
+      counts = λ bucketed. stood_allocating.2.4;
+      value = λ sparse. absurd (true≢false (sym stood_allocating.0 ∙ ap has_buckets sparse));
+    }
+
     module _ (long : length words ≡ shape.size) (y : Allocation) (new_words : List ℕ) (says : AllocStep) (step : alloc.IsStep x words y new_words says) where
-      claims : StepsBy shape.size add.version a words new_words (λ b. FrameOfStep a b × DoesOnly false (is_full_end says) (serves_counted known add) a b × AreApart b × Allocates b y × (b.seen.words ≡ a.seen.words) × SeesNoMore a b × IsEnd says x.size a b)
+      claims : StepsBy shape.size add.version a words new_words (λ b. FrameOfStep a b × DoesOnly false (is_full_end says) (serves_counted known add a) a b × AreApart b × Allocates b y × (b.seen.words ≡ a.seen.words) × SeesNoMore a b × IsEnd says x.size a b)
       claims =
           let size = ap (λ (d : Dimensions). d.size) is.segment in
-          subst (λ (n : ℕ). StepsBy n add.version a words new_words (λ b. FrameOfStep a b × DoesOnly false (is_full_end says) (serves_counted known add) a b × AreApart b × Allocates b y × (b.seen.words ≡ a.seen.words) × SeesNoMore a b × IsEnd says x.size a b)) size
-          (allocates_on (serves_counted known add) add.version a x y words new_words says stood_allocating.2.0 its_words (long ∙ sym size) step)
+          subst (λ (n : ℕ). StepsBy n add.version a words new_words (λ b. FrameOfStep a b × DoesOnly false (is_full_end says) (serves_counted known add a) a b × AreApart b × Allocates b y × (b.seen.words ≡ a.seen.words) × SeesNoMore a b × IsEnd says x.size a b)) size
+          (allocates_on (serves_counted known add a) add.version a x y words new_words says stood_allocating.2.0 (its_words, needs_here) (long ∙ sym size) step)
 
       -- its entry is as it was
       entry_still : (b : Actor) → FrameOfStep a b → HasEntry known amid add b false false
@@ -184,7 +191,7 @@ module _ (shape : Dimensions) (known : Known) (amid : Amid) (add : Add) (a : Act
         value = λ sparse. absurd (true≢false (sym stood_allocating.0 ∙ ap has_buckets sparse));
       }
 
-      still : (b : Actor) → FrameOfStep a b → DoesOnly false false (serves_counted known add) a b → (stage : Stage) → StandsAtStage shape known amid (record add { stage = stage }) b stage
+      still : (b : Actor) → FrameOfStep a b → DoesOnly false false (serves_counted known add a) a b → (stage : Stage) → StandsAtStage shape known amid (record add { stage = stage }) b stage
           → AddGives shape known amid (record add { stage = stage }) More a b
       still b beside does stage stands =
           goes_still shape known amid add a is stage b (beside_aside a b beside) (beside.units, beside.entries ∙ ap (λ e. record a.entries { running = e.running }) (sym beside.entries)) does stands
@@ -195,7 +202,7 @@ module _ (shape : Dimensions) (known : Known) (amid : Amid) (add : Add) (a : Act
         [],
         b,
         refl,
-        still b beside (subst (λ (s : AllocStep). DoesOnly false (is_full_end s) (serves_counted known add) a b) goes_on does) (Allocating y) (
+        still b beside (subst (λ (s : AllocStep). DoesOnly false (is_full_end s) (serves_counted known add a) a b) goes_on does) (Allocating y) (
           stood_allocating.0,
           entry_still b beside,
           (
@@ -210,9 +217,9 @@ module _ (shape : Dimensions) (known : Known) (amid : Amid) (add : Add) (a : Act
 
       -- it has a block, which it mounts
       has_claimed : (at : ℕ) → says ≡ said.Done at → StepsBy shape.size add.version a words new_words (AddGives shape known amid (record add { stage = Mounting at }) More a)
-      has_claimed at done = goes_noting claims (λ b (beside, does, apart, goes, same, list, ends). claimed b beside (subst (λ (s : AllocStep). DoesOnly false (is_full_end s) (serves_counted known add) a b) done does) goes (claimed_of y.stage at (sym done ∙ step.answers)))
+      has_claimed at done = goes_noting claims (λ b (beside, does, apart, goes, same, list, ends). claimed b beside (subst (λ (s : AllocStep). DoesOnly false (is_full_end s) (serves_counted known add a) a b) done does) goes (claimed_of y.stage at (sym done ∙ step.answers)))
         where
-          claimed : (b : Actor) → FrameOfStep a b → DoesOnly false false (serves_counted known add) a b → Allocates b y → (size : ℕ) × (y.stage ≡ Claimed at size)
+          claimed : (b : Actor) → FrameOfStep a b → DoesOnly false false (serves_counted known add a) a b → Allocates b y → (size : ℕ) × (y.stage ≡ Claimed at size)
               → (notes : List Note) × (c : Actor) × Notes b notes c × AddGives shape known amid (record add { stage = Mounting at }) More a c
           claimed b beside does goes (size, ends) =
               let has = subst (StandsAt b y) ends goes.stands in
@@ -255,12 +262,12 @@ module _ (shape : Dimensions) (known : Known) (amid : Amid) (add : Add) (a : Act
     allocates_so long y new_words said.Full new result step more (new_is, result_is) =
         subst (λ (r : AddStep). StepsBy shape.size add.version a words new_words (AddGives shape known amid new r a)) (sym result_is)
         (goes_with (claims long y new_words said.Full step) (λ b (beside, does, apart, goes, same, list, ends).
-        refuses shape known amid add new a stood_allocating.1 b beside why.Full (subst (λ (n : Add). DoesOnly false true (serves_counted known n) a b) (sym new_is) does) (subst (λ (n : Add). NeedsBlock known (n.value, n.units) b) (sym new_is) (needs_block long y new_words said.Full step b same list)) (ap (λ (n : Add). counting_of known n false false) new_is)
+        refuses shape known amid add new a stood_allocating.1 b beside why.Full (subst (λ (n : Add). DoesOnly false true (serves_counted known n a) a b) (sym new_is) does) (subst (λ (n : Add). NeedsBlock known (n.value, n.units) b) (sym new_is) (needs_block long y new_words said.Full step b same list)) (ap (λ (n : Add). counting_of known n false false) new_is)
         (ap is_tied (rests_at b y y.stage (λ e. cc (step.answers ∙ e)) goes.stands)) (needed why.Full b ends)))
     allocates_so long y new_words said.Corrupt new result step more (new_is, result_is) =
         subst (λ (r : AddStep). StepsBy shape.size add.version a words new_words (AddGives shape known amid new r a)) (sym result_is)
         (goes_with (claims long y new_words said.Corrupt step) (λ b (beside, does, apart, goes, same, list, ends).
-        refuses shape known amid add new a stood_allocating.1 b beside why.Corrupt (subst (λ (n : Add). DoesOnly false false (serves_counted known n) a b) (sym new_is) does) (subst (λ (n : Add). NeedsBlock known (n.value, n.units) b) (sym new_is) (needs_block long y new_words said.Corrupt step b same list)) (ap (λ (n : Add). counting_of known n false false) new_is)
+        refuses shape known amid add new a stood_allocating.1 b beside why.Corrupt (subst (λ (n : Add). DoesOnly false false (serves_counted known n a) a b) (sym new_is) does) (subst (λ (n : Add). NeedsBlock known (n.value, n.units) b) (sym new_is) (needs_block long y new_words said.Corrupt step b same list)) (ap (λ (n : Add). counting_of known n false false) new_is)
         (ap is_tied (rests_at b y y.stage (λ e. cc (step.answers ∙ e)) goes.stands)) (needed why.Corrupt b ends)))
 
     -- what the step of its allocation asks for

@@ -64,7 +64,7 @@ module _ (shape : Dimensions) (known : Known) (amid : Amid) (add : Add) (a : Act
       (
         aside_still a acted refl refl refl refl refl refl,
         (refl, refl),
-        does_nothing (serves_counted known add) a acted refl,
+        does_nothing (serves_counted known add a) a acted refl,
         refl,
         changed_is shape known amid add a is true summed stands.1 (λ c. record c { noted = true }),
       ),

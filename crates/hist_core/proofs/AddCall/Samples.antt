@@ -77,16 +77,25 @@ module _ (shape : Dimensions) (known : Known) (amid : Amid) (add : Add) (a : Act
   has_still : (b : Actor) → FrameOfStep a b → HasEntry known amid add b false false
   has_still b beside = ap (λ e. e.running) beside.entries ∙ stood_sampling.0
 
+  -- where it has seen no sample of its value, it needs one
+  needs_sample : (x : Sampling) → x ≡ record s { walk = x.walk; stage = x.stage } → (b : Actor) → SawNoSample x.histogram x.value b.seen
+      → NeedsBlock known (add.value, add.units) b
+  needs_sample x same b none = record {
+    counts = λ bucketed. absurd (true≢false (sym bucketed ∙ ap has_buckets stood_sampling.1));
+    value = λ sparse. subst (λ (p : ℕ × ℤ). SawNoSample p.0 p.1 b.seen)
+        (λ i. ((ap (λ (y : Sampling). y.histogram) same ∙ stood_sampling.2) i, (ap (λ (y : Sampling). y.value) same ∙ stood_sampling.3) i)) none;
+  }
+
   -- its search makes the sample of its value
-  serves_it : (full : Bool) (x : Sampling) → x ≡ record s { walk = x.walk; stage = x.stage } → (b : Actor) → DoesOnly false full (serves_sample x) a b
-      → DoesOnly false full (serves_counted known add) a b
-  serves_it full x same b = does_less false full (serves_sample x) (serves_counted known add) a b so
+  serves_it : (full : Bool) (x : Sampling) → x ≡ record s { walk = x.walk; stage = x.stage } → (b : Actor) → DoesOnly false full (serves_sample x a) a b
+      → DoesOnly false full (serves_counted known add a) a b
+  serves_it full x same b = does_less false full (serves_sample x a) (serves_counted known add a) a b so
     where
-      so : (deed : Deed) → serves_sample x deed → serves_counted known add deed
+      so : (deed : Deed) → serves_sample x a deed → serves_counted known add a deed
       so (links made) it = it ∙ (λ i. Sample
           ((ap (λ (y : Sampling). y.histogram) same ∙ (stood_sampling.2 ∙ is.counting.reference)) i)
           ((ap (λ (y : Sampling). y.value) same ∙ stood_sampling.3) i))
-      so (raises words) it = it ∙ sym words_are
+      so (raises words) (it, none) = (it ∙ sym words_are, needs_sample x same a none)
 
   -- whatever the step of the search says
   pub samples_so : (x : Sampling) → x ≡ record s { walk = x.walk; stage = x.stage } → (new_words : List ℕ) (says : SamplingStep) (new : Add) (result : AddStep)
@@ -121,9 +130,5 @@ module _ (shape : Dimensions) (known : Known) (amid : Amid) (add : Add) (a : Act
   samples_so x same new_words (found.Refused cause) new result goes (new_is, result_is) =
       subst (λ (r : AddStep). StepsBy shape.size add.version a words new_words (AddGives shape known amid new r a)) (sym result_is)
       (goes_with goes (λ b (beside, does, free, is_cause, none).
-      refuses shape known amid add new a stood_sampling.0 b beside cause (subst (λ (n : Add). DoesOnly false (is_full cause) (serves_counted known n) a b) (sym new_is) (serves_it (is_full cause) x same b does)) (subst (λ (n : Add). NeedsBlock known (n.value, n.units) b) (sym new_is) (record {
-        counts = λ bucketed. absurd (true≢false (sym bucketed ∙ ap has_buckets stood_sampling.1));
-        value = λ sparse. subst (λ (p : ℕ × ℤ). SawNoSample p.0 p.1 b.seen)
-            (λ i. ((ap (λ (y : Sampling). y.histogram) same ∙ stood_sampling.2) i, (ap (λ (y : Sampling). y.value) same ∙ stood_sampling.3) i)) none;
-      })) (ap (λ (n : Add). counting_of known n false false) new_is) free
+      refuses shape known amid add new a stood_sampling.0 b beside cause (subst (λ (n : Add). DoesOnly false (is_full cause) (serves_counted known n a) a b) (sym new_is) (serves_it (is_full cause) x same b does)) (subst (λ (n : Add). NeedsBlock known (n.value, n.units) b) (sym new_is) (needs_sample x same b none)) (ap (λ (n : Add). counting_of known n false false) new_is) free
       (subst (λ (n : ℕ). IsCause cause n a b) (sym words_are) is_cause)))

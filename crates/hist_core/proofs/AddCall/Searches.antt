@@ -32,14 +32,14 @@ use Rattle.hist_core.specs.declared.sampling.SamplingStep.{SamplingStep}
 use Rattle.hist_core.specs.declared.sampling.SamplingStep.TheVariants.{More, Found}
 use Rattle.hist_core.specs.declared.sampling.Stage.{Stage}
 use Rattle.hist_core.specs.declared.sampling.Stage.TheVariants.{Walking, LoadingType, LoadingHistogram, LoadingValue, Making}
-use Rattle.hist_core.specs.StepsBy.{DoesOnly, FrameOfStep, SawEnd, SeesNoMore, StepsBy, IsFree}
-use Rattle.hist_core.specs.Making.{MakingGives, MayMake}
+use Rattle.hist_core.specs.StepsBy.{Deed, links, raises, DoesOnly, FrameOfStep, SawEnd, SeesNoMore, StepsBy, IsFree}
+use Rattle.hist_core.specs.Making.{MakingGives, MayMake, is_full, serves_wanted}
 use Rattle.hist_core.specs.Making as making
 use Rattle.hist_core.specs.Sampling.{HaveOthers, IsIts, IsMade, IsMakingSample, IsSampling, IsSomeSampling, IsStarted, MetRecord, SamplingGives, StandsAtStage, behind_type, serves_sample, wanted_of}
 use Rattle.hist_core.proofs.Worlds.Free.{free_turns}
 use Rattle.hist_core.proofs.Makes.Drafts.{begins}
 use Rattle.hist_core.proofs.Parts.Allocations.{EndsWith, goes_with, walks_saying}
-use Rattle.hist_core.proofs.Parts.Deeds.{does_nothing}
+use Rattle.hist_core.proofs.Parts.Deeds.{does_less, does_nothing}
 use Rattle.hist_core.proofs.Walks.Walking.{walk_beside}
 
 -- ---- it begins
@@ -124,7 +124,7 @@ module _ (shape : Dimensions) (version : ℕ) (s : Sampling) (a : Actor) (words 
         let within = reference_within shape reference is.lawful_shape (subst (λ (p : ℕ × ℕ). is_reference p.0 p.1 ≡ true) (λ i. (long i, here i)) reach) in
         goes_with (loads (Record reference) says) (λ b (beside, done, ends_so, free, front). (
           beside,
-          does_nothing (serves_sample s) a b done,
+          does_nothing (serves_sample s a) a b done,
           goes_further walk (is.behind ++ reference ∷ []) (LoadingType reference) b beside (walked ∙ ap stands_behind onward)
               (subst (λ (n : ℕ). is_reference n walk ≡ true) long reach) (subst (λ (l : List ℕ). IsPrefix l b.seen.chain) onward front) (λ none. absurd none)
               (record { free = free; passed = is.behind; are = refl; others = others_on b beside is.behind stood.1; within = within }),
@@ -135,7 +135,7 @@ module _ (shape : Dimensions) (version : ℕ) (s : Sampling) (a : Actor) (words 
         → StepsBy shape.size version a words words (SamplingGives shape (record s { walk = walk }) More a)
     strays walk says here = goes_with (loads Stray says) (λ b (beside, done, ends_so, free, front). (
       beside,
-      does_nothing (serves_sample s) a b done,
+      does_nothing (serves_sample s a) a b done,
       goes_further walk is.behind s.stage b beside (here ∙ is.walk) (ap (is_reference shape.size) here ∙ is.reach) front
           (λ making. absurd (subst IsMakingSample walks making)) (subst (StandsAtStage shape (record s { walk = walk }) b is.behind) (sym walks) (free, others_on b beside is.behind stood.1)),
     ))
@@ -158,7 +158,7 @@ module _ (shape : Dimensions) (version : ℕ) (s : Sampling) (a : Actor) (words 
         → StepsBy shape.size version a words words (SamplingGives shape (record s { walk = walk; stage = Making makes }) More a)
     ends walk makes says here starts = goes_with (loads End says) (λ b (beside, done, ends_so, free, front). (
       beside,
-      does_nothing (serves_sample s) a b done,
+      does_nothing (serves_sample s a) a b done,
       goes_further walk is.behind (Making makes) b beside (here ∙ is.walk) (ap (is_reference shape.size) here ∙ is.reach) front (λ making. ends_so) (
         others_on b beside is.behind stood.1,
         begins shape (wanted_of s) makes b (ap (λ x. x.shape) beside.segment ∙ is.segment) is.lawful_shape (may_make b beside) (free_turns b.hand.place free)
@@ -198,8 +198,8 @@ module _ (shape : Dimensions) (version : ℕ) (s : Sampling) (a : Actor) (words 
       beside = walk_beside a event found
 
       -- nothing is done to the segment
-      none : DoesOnly false false (serves_sample s) a acted
-      none = does_nothing (serves_sample s) a acted refl
+      none : DoesOnly false false (serves_sample s a) a acted
+      none = does_nothing (serves_sample s a) a acted refl
 
       -- its actor has seen that word then
       seen_there : Learned a (walking_event event) found → word_seen acted.seen.words (at + index) ≡ Some found
@@ -369,20 +369,30 @@ module _ (shape : Dimensions) (version : ℕ) (s : Sampling) (a : Actor) (words 
           subst (λ (p : List ℕ × List ℕ). Contains p.0 (stands_behind p.1 + 3)) (λ i. (sym ends i, sym chain i)) saw,
         )
 
+    -- it makes the sample of its value, of which it has seen none
+    serves_it : (full : Bool) (b : Actor) → DoesOnly false full (serves_wanted (wanted_of s)) a b → DoesOnly false full (serves_sample s a) a b
+    serves_it full b = does_less false full (serves_wanted (wanted_of s)) (serves_sample s a) a b so
+      where
+        so : (deed : Deed) → serves_wanted (wanted_of s) deed → serves_sample s a deed
+        so (links made) it = it
+        so (raises words) it =
+            let (whole, saw) = is.whole (subst IsMakingSample (sym makes) tt) in
+            (it, (is.front, is.behind, sym whole, stood_making.0, saw))
+
     -- whatever the step of the making says
     pub makes_so : (x : MakingOf) (new_words : List ℕ) (says : MakingStep) (new : Sampling) (result : SamplingStep)
         → StepsBy shape.size version a words new_words (MakingGives shape (wanted_of s) x says a) → IsMade (record s { stage = Making x }) says new result
         → StepsBy shape.size version a words new_words (SamplingGives shape new result a)
     makes_so x new_words made.More new result goes (new_is, result_is) =
         subst (λ (p : Sampling × SamplingStep). StepsBy shape.size version a words new_words (SamplingGives shape p.0 p.1 a)) (λ i. (sym new_is i, sym result_is i))
-        (goes_with goes (λ b (beside, does, list, makes_on). (beside, does, goes_still (Making x) b beside (λ making. whole_still b list) (others_on b beside is.behind stood_making.0, makes_on))))
+        (goes_with goes (λ b (beside, does, list, makes_on). (beside, serves_it false b does, goes_still (Making x) b beside (λ making. whole_still b list) (others_on b beside is.behind stood_making.0, makes_on))))
     makes_so x new_words made.Done new result goes (new_is, result_is) =
         subst (λ (p : Sampling × SamplingStep). StepsBy shape.size version a words new_words (SamplingGives shape p.0 p.1 a)) (λ i. (sym new_is i, sym result_is i))
-        (goes_with goes (λ b (beside, does, turns). (beside, does, goes_still Walking b beside (λ none. absurd none) (turns, others_on b beside is.behind stood_making.0))))
+        (goes_with goes (λ b (beside, does, turns). (beside, serves_it false b does, goes_still Walking b beside (λ none. absurd none) (turns, others_on b beside is.behind stood_making.0))))
     makes_so x new_words (made.Refused cause) new result goes (new_is, result_is) =
         subst (λ (p : Sampling × SamplingStep). StepsBy shape.size version a words new_words (SamplingGives shape p.0 p.1 a)) (λ i. (sym new_is i, sym result_is i))
-        (goes_with goes (λ b (beside, does, list, turns, cause).
-        (beside, does, turns, cause, (is.front, is.behind, sym (whole_still b list).0, others_on b beside is.behind stood_making.0, (whole_still b list).1))))
+        (goes_with goes (λ b (beside, does, list, turns, is_cause).
+        (beside, serves_it (is_full cause) b does, turns, is_cause, (is.front, is.behind, sym (whole_still b list).0, others_on b beside is.behind stood_making.0, (whole_still b list).1))))
 
 -- ---- where it loads
 

@@ -55,7 +55,7 @@ module _ (shape : Dimensions) (known : Known) (amid : Amid) (add : Add) (a : Act
       (
         aside_still a acted refl refl refl refl refl refl,
         (refl, refl),
-        does_nothing (serves_counted known add) a acted refl,
+        does_nothing (serves_counted known add a) a acted refl,
         record {
           counting = counts_on shape known add Noting is.counting;
           segment = is.segment;

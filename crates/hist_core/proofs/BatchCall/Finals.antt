@@ -67,7 +67,7 @@ module _ (shape : Dimensions) (known : Known) (batch : Batch) (a : Actor) (words
       (
         aside_still a acted refl refl refl refl refl refl,
         (refl, refl),
-        does_nothing (serves_counted known batch) a acted refl,
+        does_nothing (serves_counted known batch a) a acted refl,
         refl,
         (
           ap (map (λ (c : EntryProgress). c.entry)) then_are

@@ -112,17 +112,20 @@ module _ (shape : Dimensions) (known : Known) (batch : Batch) (a : Actor) (is : 
   still_one = record { counting = counts_on shape known c.item at one.counting; versioned = one.versioned; amount = one.amount }
 
   -- a sample that it makes is of an item's value
-  serves_item : (full : Bool) (b : Actor) → DoesOnly false full (add_serves known item) a b → DoesOnly false full (serves_counted known now) a b
-  serves_item full b = does_less false full (add_serves known item) (serves_counted known now) a b so
+  serves_item : (full : Bool) (b : Actor) → DoesOnly false full (add_serves known item a) a b → DoesOnly false full (serves_counted known now a) a b
+  serves_item full b = does_less false full (add_serves known item a) (serves_counted known now a) a b so
     where
-      so : (deed : Deed) → add_serves known item deed → serves_counted known now deed
+      inside : Contains (map sample_of mid.items.items) (sample_of item)
+      inside = subst (λ (l : List Add). Contains (map sample_of l) (sample_of item)) (sym there)
+          (contains_map sample_of (c.done ++ item ∷ c.rest) item (Contains-append_right c.done (item ∷ c.rest) item (contains_at (item ∷ c.rest) 0 item refl)))
+
+      so : (deed : Deed) → add_serves known item a deed → serves_counted known now a deed
       so (links made) it = (
         sample_of item,
-        subst (λ (l : List Add). Contains (map sample_of l) (sample_of item)) (sym there)
-            (contains_map sample_of (c.done ++ item ∷ c.rest) item (Contains-append_right c.done (item ∷ c.rest) item (contains_at (item ∷ c.rest) 0 item refl))),
+        inside,
         it ∙ ap (λ (histogram : ℕ). Sample histogram item.value) (sym still_one.counting.reference ∙ is.reference),
       )
-      so (raises words) it = it
+      so (raises words) (it, needs) = (it, (sample_of item, inside, needs))
 
   module _ (b : Actor) (aside : FrameOfAdd a b) (stays : StaysOpen a b) where
     -- it has met the histogram's record
@@ -150,7 +153,7 @@ module _ (shape : Dimensions) (known : Known) (batch : Batch) (a : Actor) (is : 
     }
 
     -- the item goes on
-    pub still_counted : DoesOnly false false (add_serves known item) a b → IsAdd shape known (amid_of known batch c.done c.rest) item b → BatchGives shape known now More a b
+    pub still_counted : DoesOnly false false (add_serves known item a) a b → IsAdd shape known (amid_of known batch c.done c.rest) item b → BatchGives shape known now More a b
     still_counted does counting = (
       aside,
       stays,
@@ -159,7 +162,7 @@ module _ (shape : Dimensions) (known : Known) (batch : Batch) (a : Actor) (is : 
     )
 
     -- it is counted
-    module _ (does : DoesOnly false false (add_serves known item) a b) (turns : IsFree b) (over : HasEnded known (amid_of known batch c.done c.rest) item b) where
+    module _ (does : DoesOnly false false (add_serves known item a) a b) (turns : IsFree b) (over : HasEnded known (amid_of known batch c.done c.rest) item b) where
       abbrev next : Batch
       next = record now { added = batch.added + 1; left = batch.left - c.item.units }
 
@@ -272,7 +275,7 @@ module _ (shape : Dimensions) (known : Known) (batch : Batch) (a : Actor) (is : 
     others = counting_of known item false false ∷ map fresh (map (counted_entry known) c.rest ++ sum_entries known.name batch.sum)
 
     -- it is refused
-    pub refused_so : (why : Refusal) → DoesOnly false (is_full why) (add_serves known item) a b → IsFree b → IsCause why (block_words known) a b → HasEntry known (amid_of known batch c.done c.rest) item b false false
+    pub refused_so : (why : Refusal) → DoesOnly false (is_full why) (add_serves known item a) a b → IsFree b → IsCause why (block_words known) a b → HasEntry known (amid_of known batch c.done c.rest) item b false false
         → NeedsBlock known (item.value, item.units) b
         → BatchGives shape known now (Refused (record { added = batch.added; why = why })) a b
     refused_so why does turns cause has met = (

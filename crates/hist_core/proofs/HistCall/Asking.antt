@@ -41,7 +41,7 @@ use Rattle.hist_core.proofs.Worlds.Free.{free_turns}
 use Rattle.hist_core.proofs.Worlds.Quiet.{met_on, quiet_on, gives_none, begun_there, takes_none, takes_not}
 use Rattle.hist_core.specs.declared.actor_run.ActorRun.{ActorRun}
 use Rattle.hist_core.specs.StepsBy.{Deed, links, raises, DoesOnly, FrameOfStep, StepsBy, IsFree}
-use Rattle.hist_core.specs.Hist.{IsCause, IsSomeHist, HistSteps, asked_of, serves_asked}
+use Rattle.hist_core.specs.Hist.{IsCause, IsSomeHist, HistSteps, SawNone, asked_of, serves_asked}
 use Rattle.segment_calls.specs.declared.refusal.Refusal.{Refusal}
 use Rattle.hist_core.proofs.Worlds.Landing.{Landing, does_as_said}
 use Rattle.hist_core.specs.ActorRun.{known_of, AreShown, HasDraft, IsKnown, NoneHasName, HaveOwnNames, StandsIn, HasRoom, IsRun, IsSomeRun, IsHistAnnounced, IsRefusedBy, MayBeRefused, BeginsHist, IsAsItWas, IsQuiet, Answers, DoesAsSaid, Serves, is_flagged, lacks_room, held_by, entry_of, ended_by, begun_by, pending_by}
@@ -170,15 +170,15 @@ module _ (shape : Dimensions) (version : ℕ) (old : ActorRun) (a : Actor) (run 
   refused_by cause b its = subst (λ running. IsRefusedBy running cause a b) (sym is) (subst (λ (k : Known). IsCause k.name.items k.spec cause a b) same its)
 
   -- it asks for the same still
-  same_asked : (deed : Deed) → serves_asked now deed → serves_asked h deed
+  same_asked : (deed : Deed) → serves_asked now a deed → serves_asked h a deed
   same_asked (links made) it = it ∙ ap (λ (k : Known). Histogram k.name.items k.spec) same
   same_asked (raises words) it =
-      subst (λ (k : Known). (letters : List ℕ) × AreNameWords k.name.items letters × (words ≡ 4 + length (payload_words k.name.items k.spec letters))) same it
+      subst (λ (k : Known). SawNone k.name.items a.seen × ((letters : List ℕ) × AreNameWords k.name.items letters × (words ≡ 4 + length (payload_words k.name.items k.spec letters)))) same it
 
   -- it makes the record that it asks for
-  does_it : (said : Stepped) (b c : Actor) → c.done ≡ b.done → DoesOnly (is_flagged said) (lacks_room said) (serves_asked now) a b → DoesAsSaid old.running said a c
-  does_it said b c same_done = does_as_said old.running said (serves_asked now) a a b c
-      (λ deed it. subst (λ running. Serves running c.answers.names deed) (sym is) (same_asked deed it)) refl same_done
+  does_it : (said : Stepped) (b c : Actor) → c.done ≡ b.done → DoesOnly (is_flagged said) (lacks_room said) (serves_asked now a) a b → DoesAsSaid old.running said a c
+  does_it said b c same_done = does_as_said old.running said (serves_asked now a) a a b c
+      (λ deed it. subst (λ running. Serves running a deed) (sym is) (same_asked deed it)) refl same_done
 
   -- what the machine's actor does, and what becomes of that at run time
   pub hist_goes : (said : HistStep) (new : ActorRun) (result : Stepped) → HistSteps h words now new_words said

@@ -231,8 +231,8 @@ module _ (shape : Dimensions) (h : Hist) (a : Actor) (is : IsHist shape h a) (k 
     beside = seen_words a acted (sight (h.reference + compared_index h.letters k) found) refl refl refl refl refl refl refl refl
 
     -- nothing is done to the segment
-    none : (new : Hist) → DoesOnly false false (serves_asked new) a acted
-    none new = does_nothing (serves_asked new) a acted refl
+    none : (new : Hist) → DoesOnly false false (serves_asked new a) a acted
+    none new = does_nothing (serves_asked new a) a acted refl
 
     abbrev Learns : Type 0
     Learns = EndsWithin a h.reference (compared_index h.letters k) found × IsSame a (h.reference + compared_index h.letters k) found
@@ -315,7 +315,7 @@ module _ (shape : Dimensions) (h : Hist) (a : Actor) (is : IsHist shape h a) (k 
     differs_so new (Refused cause) other small small_own (late, new_is, why_is) =
         does new (Refused cause) (λ learned. (
           beside,
-          subst (λ (c : Refusal). DoesOnly false (is_full c) (serves_asked new) a acted) (sym why_is) (none new),
+          subst (λ (c : Refusal). DoesOnly false (is_full c) (serves_asked new a) a acted) (sym why_is) (none new),
           stands.0,
           subst (λ (p : Hist × Refusal). IsCause p.0.asked.name.items p.0.asked.spec p.1 a acted) (λ i. (sym new_is i, sym why_is i)) (inr (refl, declined learned)),
         ))

@@ -42,12 +42,15 @@ module _ (shape : Dimensions) (version : ℕ) (h : Hist) (a : Actor) (words : Li
   seen_still b chain ends = subst (λ (p : List ℕ × List ℕ). Contains p.0 (stands_behind p.1 + 3)) (λ i. (sym ends i, sym chain i)) stood_making.1
 
   -- it makes the record that is asked for
-  serves_it : (full : Bool) (b : Actor) → DoesOnly false full (serves_wanted (wanted_of h)) a b → DoesOnly false full (serves_asked h) a b
-  serves_it full b = does_less false full (serves_wanted (wanted_of h)) (serves_asked h) a b so
+  serves_it : (full : Bool) (b : Actor) → DoesOnly false full (serves_wanted (wanted_of h)) a b → DoesOnly false full (serves_asked h a) a b
+  serves_it full b = does_less false full (serves_wanted (wanted_of h)) (serves_asked h a) a b so
     where
-      so : (deed : Deed) → serves_wanted (wanted_of h) deed → serves_asked h deed
+      so : (deed : Deed) → serves_wanted (wanted_of h) deed → serves_asked h a deed
       so (links made) it = it
-      so (raises words) it = (is.asking.letters, is.asking.spells, it ∙ ap (λ (l : List ℕ). 4 + length l) is.asking.payload)
+      so (raises words) it = (
+        (subst (All (SawOtherName a.seen h.asked.name.items)) stood_making.0 stood_making.2, stood_making.1),
+        (is.asking.letters, is.asking.spells, it ∙ ap (λ (l : List ℕ). 4 + length l) is.asking.payload),
+      )
 
   -- whatever the step of the making says
   pub makes_so : (x : MakingOf) (new_words : List ℕ) (says : MakingStep) (new : Hist) (result : HistStep)

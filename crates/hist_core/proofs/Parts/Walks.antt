@@ -96,7 +96,7 @@ module _ (shape : Dimensions) (version : ℕ) (h : Hist) (a : Actor) (words : Li
       let within = reference_within shape.size reference (is_wide shape is.lawful_shape) (subst (λ (p : ℕ × ℕ). is_reference p.0 p.1 ≡ true) (λ i. (long i, here i)) reach) in
       goes_with (loads (Record reference) says) (λ b (beside, done, ends_so, free, front). (
         beside,
-        does_nothing (serves_asked h) a b done,
+        does_nothing (serves_asked h a) a b done,
         record {
           asking = asks_on shape h is.asking reference walk (Comparing 0);
           segment = ap (λ s. s.shape) beside.segment ∙ is.segment;
@@ -126,7 +126,7 @@ module _ (shape : Dimensions) (version : ℕ) (h : Hist) (a : Actor) (words : Li
   strays walk says here =
       goes_with (loads Stray says) (λ b (beside, done, ends_so, free, front). (
         beside,
-        does_nothing (serves_asked h) a b done,
+        does_nothing (serves_asked h a) a b done,
         record {
           asking = asks_on shape h is.asking h.reference walk h.stage;
           segment = ap (λ s. s.shape) beside.segment ∙ is.segment;
@@ -145,7 +145,7 @@ module _ (shape : Dimensions) (version : ℕ) (h : Hist) (a : Actor) (words : Li
       → StepsBy shape.size version a words words (HistGives shape (record h { walk = walk; stage = Making making }) More a)
   ends walk making says here starts = goes_with (loads End says) (λ b (beside, done, ends_so, free, front). (
     beside,
-    does_nothing (serves_asked h) a b done,
+    does_nothing (serves_asked h a) a b done,
     record {
       asking = asks_on shape h is.asking h.reference walk (Making making);
       segment = ap (λ s. s.shape) beside.segment ∙ is.segment;

@@ -62,8 +62,8 @@ sets_corrupt shape version a old words new_words long run is stored =
           record {
             spoiled = refl;
             filled = refl;
-            linked = ([], sym (append-nil a.done.published), All-nil (λ (p : Published). Serves old.running a.answers.names (links p.made)));
-            raised = ([], sym (append-nil a.done.raised), All-nil (λ (r : Rise). Serves old.running a.answers.names (raises r.wanted)));
+            linked = ([], sym (append-nil a.done.published), All-nil (λ (p : Published). Serves old.running a (links p.made)));
+            raised = ([], sym (append-nil a.done.raised), All-nil (λ (r : Rise). Serves old.running a (raises r.wanted)));
           },
         ),
       );

@@ -30,32 +30,19 @@ use Rattle.hist_core.specs.Start.{Start}
 use Rattle.hist_core.specs.WorldState.{IsFlagSet, IsReachedAs}
 use Rattle.hist_core.proofs.Worlds.Starts.{kept_there}
 use Rattle.hist_core.specs.Hist.{HasOtherSpec, SawNone}
-use Rattle.hist_core.specs.Add.{NeedsBlock}
 use Rattle.hist_core.specs.Making.{IsCause}
-use Rattle.hist_core.specs.Sampling.{SawNoSample}
 use Rattle.hist_core.specs.ActorRun.{IsRefusedBy, LacksBlock}
-use Rattle.hist_core.proofs.AddCall.Refusals.{cause_noted}
+use Rattle.hist_core.proofs.AddCall.Refusals.{cause_noted, needs_still}
 
 -- who knows, and has done and seen the same, is refused for the same
 module _ (cause : Refusal) (a b c : Actor) (names : c.answers.names ≡ b.answers.names) (done : c.done ≡ b.done) (seen : c.seen ≡ b.seen) where
-  needs_still : (known : Known) (sample : ℤ × ℕ) → NeedsBlock known sample b → NeedsBlock known sample c
-  needs_still known sample needs = record {
-    counts = λ bucketed.
-        let ((word, saw, on, packs), none, met) = needs.counts bucketed in (
-          (word, subst (λ (s : Seen). Contains s.singles (record { at = known.reference + 9; word = word })) (sym seen) saw, on, packs),
-          subst (λ (s : Seen). Contains s.ends (known.reference + 8)) (sym seen) none,
-          λ has counts saw_them. met has counts (ap (λ (s : Seen). word_seen s.words (known.reference + 8)) (sym seen) ∙ saw_them),
-        );
-    value = λ sparse. subst (SawNoSample known.reference sample.0) (sym seen) (needs.value sparse);
-  }
-
   lacks_still : (histogram : ℕ) (sample : ℤ × ℕ) → LacksBlock histogram sample cause a b → LacksBlock histogram sample cause a c
   lacks_still histogram sample (known, knows, reference, is, needs) = (
     known,
     subst (λ (l : List Known). Contains l known) (sym names) knows,
     reference,
     cause_noted cause _ a a b c (refl, refl, refl, refl) done seen is,
-    needs_still known sample needs,
+    needs_still known sample b c seen needs,
   )
 
   pub refused_still : (running : Option Running) → IsRefusedBy running cause a b → IsRefusedBy running cause a c

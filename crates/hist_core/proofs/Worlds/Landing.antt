@@ -23,11 +23,11 @@ Landing shape version old words new new_words said a =
     StepsBy shape.size version a words new_words (λ b. Lands shape version old new said a b × DoesAsSaid old.running said a b)
 
 -- what it has done is so still, whatever is noted before and behind
-pub does_as_said : (running : Option Running) (said : Stepped) (may : Deed → Type 0) (a b c d : Actor) → ((deed : Deed) → may deed → Serves running d.answers.names deed)
+pub does_as_said : (running : Option Running) (said : Stepped) (may : Deed → Type 0) (a b c d : Actor) → ((deed : Deed) → may deed → Serves running a deed)
     → b.done ≡ a.done → d.done ≡ c.done → DoesOnly (is_flagged said) (lacks_room said) may b c → DoesAsSaid running said a d
 does_as_said running said may a b c d serves first last does =
-    does_still (is_flagged said) (lacks_room said) (Serves running d.answers.names) a b c d first last
-    (does_less (is_flagged said) (lacks_room said) may (Serves running d.answers.names) b c serves does)
+    does_still (is_flagged said) (lacks_room said) (Serves running a) a b c d first last
+    (does_less (is_flagged said) (lacks_room said) may (Serves running a) b c serves does)
 
 looks_none : (running : Option Running) (a b : Actor) → looks_not running → LooksSince running a b
 looks_none None a b none = tt

@@ -55,7 +55,7 @@ use Rattle.hist_core.specs.declared.call.Stepped.{Stepped}
 use Rattle.hist_core.specs.declared.call.Stepped.TheVariants.{More, Done}
 use Rattle.hist_core.specs.declared.call.Answer.TheVariants as answer
 use Rattle.hist_core.specs.Start.{MayStart, Start, start_state}
-use Rattle.hist_core.specs.StepsBy.{DoesOnly, StepsBy, WalksInOrder, has_pointer}
+use Rattle.hist_core.specs.StepsBy.{StepsBy, WalksInOrder, has_pointer}
 use Rattle.hist_core.specs.ActorRun.{IsAnswer, IsTook, IsKnown, IsRun, IsSomeRun, Lands, Advances, held_by, looked_by, returned_by, DoesAsSaid, LooksSince, Serves, is_flagged, lacks_room, StandsIn, known_of, pending_by, IsRefusedBy}
 use Rattle.hist_core.specs.WorldState.{AreRun, IsReachedAs, IsReached, IsConsistentAs, IsReadAs, MayBeAdopted, AreKnownFirst, HasSeen, HasTaken, ClaimsNothing, DoesOnlySo, HoldsNoPointer, LoadsPointer, IsPromised, StepsTo, Rests, BeginsFrom, IsDue, LooksFrom}
 use Rattle.bucket_ranges.specs.Ranges.{boundaries_of}
@@ -291,12 +291,10 @@ module _ (start : Start) (old : WorldState) (state : State) (reach : IsReachedAs
 
     -- what it has done is as its call says
     does_so : (said : Stepped) (b : Actor) → DoesAsSaid r.running said its.0 b → (last : State) (c : Actor) → get_elem? last.actors (actor + 1) ≡ some c → c.done ≡ b.done
-        → c.answers.names ≡ b.answers.names → DoesOnlySo old actor state said last
-    does_so said b does last c is_last done names before x d was is_x is_d =
-        let same : c ≡ d = some-injective c d (sym is_last ∙ is_d) in
+        → DoesOnlySo old actor state said last
+    does_so said b does last c is_last done before x d was is_x is_d =
         let so : DoesAsSaid r.running said its.0 d =
-        does_still (is_flagged said) (lacks_room said) (Serves r.running d.answers.names) its.0 its.0 b d refl (ap (λ (y : Actor). y.done) (sym same) ∙ done)
-        (subst (λ (l : List MachineKnown). DoesOnly (is_flagged said) (lacks_room said) (Serves r.running l) its.0 b) (sym names ∙ ap (λ (y : Actor). y.answers.names) same) does) in
+        does_still (is_flagged said) (lacks_room said) (Serves r.running its.0) its.0 its.0 b d refl (ap (λ (y : Actor). y.done) (sym (some-injective c d (sym is_last ∙ is_d))) ∙ done) does in
         subst (λ (p : ActorRun × Actor). DoesAsSaid p.0.running said p.1 d)
         (λ i. (some-injective r before (sym at ∙ was) i, some-injective its.0 x (sym there ∙ is_x) i)) so
 
@@ -317,7 +315,7 @@ module _ (start : Start) (old : WorldState) (state : State) (reach : IsReachedAs
           looks_from (changed b) b (set_at state.actors (actor + 1) its.0 b there) looks,
           claims_none event b step (changed b) b (set_at state.actors (actor + 1) its.0 b there) refl,
           loads_pointer event b step (changed b) b (set_at state.actors (actor + 1) its.0 b there) refl,
-          does_so said b does (changed b) b (set_at state.actors (actor + 1) its.0 b there) refl refl,
+          does_so said b does (changed b) b (set_at state.actors (actor + 1) its.0 b there) refl,
         ),
       ),
     )
@@ -385,7 +383,7 @@ module _ (start : Start) (old : WorldState) (state : State) (reach : IsReachedAs
               looks_from last (giver b units) (mine_last b units) (looks_still r.running its.0 b (giver b units) refl looks),
               claims_none event b step last (giver b units) (mine_last b units) refl,
               loads_pointer event b step last (giver b units) (mine_last b units) refl,
-              does_so said b does last (giver b units) (mine_last b units) refl refl,
+              does_so said b does last (giver b units) (mine_last b units) refl,
             ),
           ),
         )

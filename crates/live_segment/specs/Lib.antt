@@ -18,6 +18,7 @@ pub mod Steps
 pub mod Names
 pub mod Holders
 pub mod Lending
+pub mod Rises
 pub mod Closing
 pub mod Lists
 pub mod Counts

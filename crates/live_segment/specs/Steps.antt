@@ -8,12 +8,13 @@ use Rattle.segment_calls.specs.declared.refusal.Refusal.TheVariants.{NoUnits, To
 use Rattle.segment_machine.specs.declared.actor.Actor.{Actor}
 use Rattle.segment_machine.specs.declared.place.Place.TheVariants.{Idle}
 use Rattle.segment_machine.specs.Actor.{is_bound, is_opener, outstanding_of}
-use Rattle.segment_machine.specs.Event.{Event, spot, next, Learned}
+use Rattle.segment_machine.specs.Allocating.{exchange_free}
+use Rattle.segment_machine.specs.Event.{Event, allocating_event, spot, next, Learned}
 use Rattle.segment_machine.specs.Seats.{offering}
 use Rattle.segment_machine.specs.Taking.{is_looking}
 use Rattle.segment_promises.specs.Follows.{GhostNoted}
 use Rattle.live_segment.specs.declared.rule.Announcement.{Announcement}
-use Rattle.live_segment.specs.declared.rule.Announcement.TheVariants.{Units}
+use Rattle.live_segment.specs.declared.rule.Announcement.TheVariants.{Units, Wanted}
 
 -- a seat's view, and the slots that it has taken, which are none
 abbrev pub Sat : Type 0
@@ -36,6 +37,10 @@ Does event me found me' = GhostNoted [] event (λ found. []) me found me'
 -- the same, where the step's word says where the event happens
 abbrev pub DoesAt : (ℕ → Event) → ℕ → Sat → ℕ → Sat → Type 0
 DoesAt event word me found me' = (at : ℕ) → word ≡ spot me.0.segment.shape.size (event at) + 1 → Does (event at) me found me'
+
+-- the free pointer is exchanged, for a block that is said to want so many words
+abbrev pub Raises : Step Announcement → Sat → ℕ → Sat → Type 0
+Raises st me found me' = (words : ℕ) → st.said ≡ some (Wanted words) → Does (allocating_event (exchange_free st.first st.second words)) me found me'
 
 -- what becomes of a seat at an event, by the number that was found
 pub record Stepped (old : Pass) (event : Event) (found : ℕ) (new : Pass) : Type 0 where

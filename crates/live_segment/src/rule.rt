@@ -31,6 +31,8 @@ pub(crate) struct Opening {
 pub(crate) enum Announcement {
     /// The units that the next recorder is to have.
     Units(u32),
+    /// The words that a block wants for which the free pointer is raised.
+    Wanted(u64),
     /// A histogram that a record is to hold, or that a `hist` was answered with or refused.
     Histogram(Asked),
     /// The sample of a sparse histogram that a record is to hold.

@@ -216,7 +216,7 @@ module _ (known : Known) (sum : ℤ) (old : Actor) (seat : Pass) (rest : IsAtRes
       new = after.me.0
 
       pub keeps_summed : KeepsBlocks a new
-      keeps_summed = subst (KeepsBlocks a) (sym sum_view) (record { done = refl; own = refl; chain = refl; words = refl; ends = grows_not a.seen.ends })
+      keeps_summed = subst (KeepsBlocks a) (sym sum_view) (record { segment = refl; done = refl; own = refl; chain = refl; words = refl; ends = grows_not a.seen.ends })
 
       as_before : new ≡ record a { units = new.units; entries = new.entries; hand = new.hand; since = new.since }
       as_before = subst (λ (y : Actor). y ≡ record a { units = y.units; entries = y.entries; hand = y.hand; since = y.since }) (sym sum_view) refl

@@ -59,6 +59,7 @@ pub record HasMade (asked : Asked) (old new : Actor) : Type 0 where
     hand = new.hand;
     done = record old.done {
       claimed = new.done.claimed;
+      raised = new.done.raised;
       published = old.done.published ++ record { reference = at; made = Histogram asked.name.items asked.spec } ∷ [];
       beaten = new.done.beaten;
     };
@@ -69,7 +70,7 @@ pub record HasMade (asked : Asked) (old new : Actor) : Type 0 where
   pub apart : is_looking new.hand.place ≡ false
   pub unspoiled : old.done.spoiled ≡ false
   pub claimed : Grows old.done.claimed new.done.claimed
-  pub makes : MakesOne (Histogram asked.name.items asked.spec) (BLOCK_HEADER + length asked.payload.items) old.done new.done
+  pub makes : MakesOne old.segment.shape (Histogram asked.name.items asked.spec) (BLOCK_HEADER + length asked.payload.items) old.done new.done
   pub later : old.seen.free ≤ new.seen.free
   pub tails : Grows old.seen.tails new.seen.tails
 

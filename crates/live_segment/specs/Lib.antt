@@ -14,6 +14,7 @@ pub mod Rule
 pub mod Adopted
 pub mod Known
 pub mod Desk
+pub mod Standing
 pub mod Steps
 pub mod Names
 pub mod Holders

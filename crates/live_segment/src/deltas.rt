@@ -38,7 +38,8 @@ impl Segment {
     ghost use Rattle.live_segment.specs.declared.rule.Setting.{Setting};
     ghost use Rattle.live_segment.specs.Seated.{IsSeated};
     ghost use Rattle.live_segment.specs.Steps.{IsAtRest, IsSame};
-    ghost use Rattle.live_segment.specs.Readings.Owed.{Standing};
+    ghost use Rattle.live_segment.specs.Holders.{opened_with};
+    ghost use Rattle.live_segment.specs.Standing.{Standing};
 
     // The units of a bucket that the delta takes: its count is loaded, and where that is not 0, the mark is raised to it. The packed bucket
     // has the single mark, and its total is the count with what the single word keeps.
@@ -155,12 +156,13 @@ impl Segment {
         requires room { histogram.now.reference + 15 ≤ self.now.setting.shape.size }
         ensures same { IsSame seat.old seat.new }
         ensures taken { HasTakenSum (known_view histogram.now) result seat.old.me.0 seat.new.me.0 }
-        ensures stands { Standing seat.new.me.0 }
+        ensures stands { Standing (opened_with self.now) seat.new.id seat.new.me.0 }
     {
         let sum = self.load_sum(seat, histogram.reference).cast_signed();
         let mark = self
             .swap_sum_mark(seat, histogram.reference, sum)
             .cast_signed();
+        self.stand(seat);
         sum - mark
     }
 
@@ -179,7 +181,7 @@ impl Segment {
         ensures same { IsSame seat.old seat.new }
         ensures taken { HasTaken (known_view histogram.now) taken.new.items result seat.old.me.0 seat.new.me.0 }
         ensures few { AreFewKeys self.now (known_view histogram.now) taken.new.items }
-        ensures stands { Standing seat.new.me.0 }
+        ensures stands { Standing (opened_with self.now) seat.new.id seat.new.me.0 }
     {
         let word = self.take_single(seat, histogram.reference);
         self.take_units(seat, histogram, word, taken);
@@ -251,7 +253,7 @@ impl Segment {
         ensures same { IsSame seat.old seat.new }
         ensures taken { HasTaken (known_view histogram.now) taken.new.items result seat.old.me.0 seat.new.me.0 }
         ensures few { AreFewKeys self.now (known_view histogram.now) taken.new.items }
-        ensures stands { Standing seat.new.me.0 }
+        ensures stands { Standing (opened_with self.now) seat.new.id seat.new.me.0 }
     {
         let first = self.take_next(seat, histogram.reference);
         self.take_values(seat, histogram, first, taken);
@@ -298,7 +300,7 @@ impl Segment {
         ensures same { IsSame seat.old seat.new }
         ensures taken { HasTaken (known_view histogram.now) taken.new.items result seat.old.me.0 seat.new.me.0 }
         ensures few { AreFewKeys self.now (known_view histogram.now) taken.new.items }
-        ensures stands { Standing seat.new.me.0 }
+        ensures stands { Standing (opened_with self.now) seat.new.id seat.new.me.0 }
     {
         self.take_type(seat, histogram.reference);
         self.take_listed(seat, histogram, samples, taken);
@@ -346,7 +348,7 @@ impl Segment {
         ensures same { IsSame seat.old seat.new }
         ensures taken { HasTaken (known_view histogram.now) taken.new.items result seat.old.me.0 seat.new.me.0 }
         ensures few { AreFewKeys self.now (known_view histogram.now) taken.new.items }
-        ensures stands { Standing seat.new.me.0 }
+        ensures stands { Standing (opened_with self.now) seat.new.id seat.new.me.0 }
     {
         if let Some(own) = samples {
             self.delta_of_listed(seat, histogram, own, taken)

@@ -1,5 +1,5 @@
 -- What a recorder promises of itself, the desks that it was made at and taken apart into have.
-use Rattle.std.proofs.Common.{◌≡◌, Bor, Option, Some, None, Result, Ok, Err, MatchOption, MatchResult, ℕ, sym, ap, subst}
+use Rattle.std.proofs.Common.{◌≡◌, Bor, Option, Some, None, Result, Ok, Err, MatchOption, MatchResult, ℕ, sym, ap, subst, ◌∙◌}
 use Rattle.std.proofs.lemmas.Result.{MatchResult-at_ok}
 use Rattle.std.specs.declared.alloc.Global.{Global}
 use Rattle.std.specs.declared.vec.Vec.{Vec}
@@ -43,6 +43,15 @@ pub at_value : (segment : Segment) (desk : Desk) (recorder : Recorder) (borrowed
     → recorder.segment ≡ borrowed → borrowed.now ≡ segment → IsDeskAt segment desk
 at_value segment desk recorder borrowed at is was =
     subst (λ (value : Segment). IsDeskAt value desk) was (subst (λ (bor : Bor Segment). IsDeskAt bor.now desk) is at)
+
+-- what holds of the segment of a recorder, and of its desks, holds of the segment that it was made at
+pub carried_at : (P : Segment → Desk → Desk → Type 0) (old new : Recorder) (before behind : Desk) (segment : Segment) (borrowed : Bor Segment)
+    → new.segment ≡ old.segment → old.segment ≡ borrowed → borrowed.now ≡ segment → desk_of old ≡ before → behind ≡ desk_of new
+    → P new.segment.now (desk_of old) (desk_of new) → P segment before behind
+carried_at P old new before behind segment borrowed same at value was is held =
+    carried (P segment) old new before behind was is
+    (subst (λ (s : Segment). P s (desk_of old) (desk_of new)) value
+    (subst (λ (bor : Bor Segment). P bor.now (desk_of old) (desk_of new)) (same ∙ at) held))
 
 -- a recorder that gave fresh records, or had no memory for them, borrows the same segment
 pub fresh_same : (result : Result (Vec ℕ Global) Refusal) (old new : Recorder)

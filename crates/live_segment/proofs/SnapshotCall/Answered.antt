@@ -48,17 +48,13 @@ module _ (given : Opening) (slots id : ℕ) (me : Sat) (records : is_opener me.0
       let (view, act, valid, holds, told) =
       announces given (note known snapshot ∷ []) slots id me (λ n. either (n == 0) 0 n) nothing_exchanged
       records (may, refl) s run wide mine small in
-      let (named, among, of, saw_all, when) = may in
-      let lives : view.hand.place ≢ Spent = λ spent. cc (sym saw_all.sum ∙ (ap (λ (a : Actor). a.hand.place) (sym told.0) ∙ spent)) in (
+      (
         view,
         act,
         valid,
         holds,
-        (
-          λ other saw is knows.
-              let same = one_answer known other snapshot saw (ap some (sym says) ∙ is) in
-              let one : known ≡ other = one_known me.0 known other same.0 alone knows in
-              (told.0 ∙ (λ i. noted me.0 (note (one i) (same.1 i))), told.1),
-          stands_kept given _ holds id view (set_here s.views id view (below_length s.views id me.0 mine)) lives,
-        ),
+        λ other saw is knows.
+            let same = one_answer known other snapshot saw (ap some (sym says) ∙ is) in
+            let one : known ≡ other = one_known me.0 known other same.0 alone knows in
+            (told.0 ∙ (λ i. noted me.0 (note (one i) (same.1 i))), told.1),
       )

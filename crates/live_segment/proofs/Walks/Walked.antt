@@ -1,6 +1,6 @@
 -- A walk along the list: what a recorder knows between two of its steps, and at its end.
 use Rattle.std.proofs.Common.{◌≡◌, ◌≢◌, ℕ, suc, ◌+◌, ◌*◌, ◌<◌, ◌≤◌, Bool, true, false, true≢false, List, [], ◌∷◌, ◌++◌, length, slice_index, refl, sym, ap, subst, ◌∙◌, eq-eqb, ne_eqb, length-append, arith}
-use Rattle.std.specs.Prelude.{◌==◌, ◌||◌, if◌then◌else◌, take, drop}
+use Rattle.std.specs.Prelude.{◌==◌, ◌||◌, if◌then◌else◌, take, drop, Option, Some}
 use Rattle.std.specs.List.{All, Contains, list_any}
 use Rattle.std.proofs.lemmas.List.Folds.{list_any-append}
 use Rattle.std.proofs.lemmas.List.{append-nil, get_or_append_left, get_or_push, length_push, length-take-le, take-append-drop, take-append-le}
@@ -9,6 +9,10 @@ use Rattle.std.proofs.lemmas.List.Elements.{All-push}
 use mathlib.Core.Option.{some}
 use lib.ListN.{get_elem?}
 use Rattle.atomic_table.specs.Table.{Allows}
+use Rattle.atomic_table.proofs.Lists.{set_here}
+use Rattle.alloc_core.proofs.Layouts.{length_shown}
+use Rattle.segment_invariant.specs.Body.{layout_of}
+use Rattle.segment_invariant.proofs.Lists.Elements.{below_length}
 use Rattle.segment_image.specs.Shape.{Dimensions}
 use Rattle.list_core.specs.declared.walk.WalkStep.TheVariants.{Record, End, Stray}
 use Rattle.list_core.specs.Chain.{is_reference, stops}
@@ -38,8 +42,10 @@ use Rattle.live_segment.specs.declared.records.WalkPlace.{WalkPlace}
 use Rattle.live_segment.specs.Known.{KnowsRight}
 use Rattle.segment_promises.specs.Values.{NoRepeats}
 use Rattle.live_segment.specs.Lists.Records.{LoadsNext, HasWalked}
+use Rattle.live_segment.specs.Standing.{SeesNext}
 use Rattle.live_segment.specs.Lists.Walks.{HasCome, WalksOn}
 use Rattle.live_segment.proofs.Seating.Allowed.{does_at}
+use Rattle.live_segment.proofs.Seating.Standing.{as_known, found_there, sees_next}
 use Rattle.segment_promises.proofs.Calls.Orders.{once_in}
 use Rattle.live_segment.proofs.HistCall.OwnNames.{knows_own_names}
 use Rattle.live_segment.proofs.AddCall.OwnSamples.{knows_own_samples}
@@ -50,14 +56,20 @@ use Rattle.segment_promises.proofs.Calls.Places.{behind_apart}
 
 module _ (given : Opening) (slots id : ℕ) (me : Sat) (word : ℕ) (records : is_opener me.0.role ≡ false) where
   -- a next is loaded by a recorder that has met no block twice
-  pub loads_next : (at : ℕ) → word ≡ at + 3 + 1 → Ready me.0 (walking_event (load_next at))
-      → Allows (Runs given) slots id me word (change given.setting.version (walking_event (load_next at))) (LoadsNext word me)
-  loads_next at is ready s run wide mine small =
+  pub loads_next : (place : Option Opening) (number at : ℕ) → place ≡ Some given → number ≡ id → word ≡ at + 3 + 1 → at + 5 ≤ given.setting.shape.size
+      → Ready me.0 (walking_event (load_next at))
+      → Allows (Runs given) slots id me word (change given.setting.version (walking_event (load_next at))) (LoadsNext place number word me)
+  loads_next place number at seated same is room ready s run wide mine small =
       let (view, act, valid, holds, told) =
       does_at given slots id me word records (λ (x : ℕ). walking_event (load_next x)) at (omega (arith, is)) (λ y e. omega (arith, is, e)) ready s run wide mine small in
       let live : me.0.hand.place ≢ Spent = λ e. true≢false (sym (ap is_bound e) ∙ ready.0) in
       let there : get_elem? run.running.segment.actors id ≡ some me.0 = ap (λ list. get_elem? list id) (sym run.running.views) ∙ mine in
-      let fits = run.running.kept.each id me.0 there live in (
+      let fits = run.running.kept.each id me.0 there live in
+      let later = holds.running.segment in
+      let long = length_shown given.setting.shape later.words (layout_of holds.running.kept.anatomy) holds.running.kept.shown in
+      let sees : SeesNext given id at (slice_index s.words word) view =
+      sees_next given _ holds id view (set_here s.views id view (below_length s.views id me.0 mine)) at _
+      (found_there later.words later.cursors s.words holds.running.anchor word (at + 3) holds.running.words is (omega (arith, long, room))) in (
         view,
         act,
         valid,
@@ -67,6 +79,10 @@ module _ (given : Opening) (slots id : ℕ) (me : Sat) (word : ℕ) (records : i
           once_in run.running.segment.words me.0.seen.chain _ fits.sees.walked run.running.kept.list.linked,
           knows_own_names given.setting.shape run.opened run.running.segment run.running.kept id me.0 there live,
           knows_own_samples given.setting.shape run.opened run.running.segment run.running.kept id me.0 there live,
+          λ opening other at_it also.
+              let one : at ≡ other = omega (arith, is, also) in
+              as_known (λ given n. SeesNext given n other (slice_index s.words word) view) given place number id seated same
+              (subst (λ (at : ℕ). SeesNext given id at (slice_index s.words word) view) one sees) opening at_it,
         ),
       )
 

@@ -5,6 +5,7 @@ use Rattle.segment_machine.specs.declared.actor.Actor.{Actor}
 use Rattle.segment_machine.specs.declared.actor.Known.{Known}
 use Rattle.segment_machine.specs.Actor.{has_buckets}
 use Rattle.live_segment.specs.Desk.{desk_of}
+use Rattle.live_segment.specs.Holders.{opened_with}
 use Rattle.live_segment.specs.Readings.Deltas.{HasTaken}
 use Rattle.live_segment.specs.Readings.Values.{AreFewKeys}
 use Rattle.live_segment.proofs.AddCall.Adds.{meant}
@@ -95,7 +96,7 @@ returns-clause-owed c = λ known means.
     let a = old.seat.me.0 in
     let b = c.look_for_own-has_all.new.seat.me.0 in
     let same = meant old.known.items a.answers.names c.args.histogram.index c.index-known.result.now known old.listed c.index-known.ensures c.requires means in
-    took_enough known c.take_delta-sum.new.taken.items c.take_delta-sum.result a c.take_delta-sum.new.seat.me.0
+    took_enough (opened_with old.segment.now) c.take_delta-sum.new.seat.id known c.take_delta-sum.new.taken.items c.take_delta-sum.result a c.take_delta-sum.new.seat.me.0
     (taken_behind a b c.look_for_own-has_all.ensures.view known c.take_delta-sum.new.taken.items c.take_delta-sum.result c.take_delta-sum.new.seat.me.0
     (subst (λ (k : Known). HasTaken k c.take_delta-sum.new.taken.items c.take_delta-sum.result b c.take_delta-sum.new.seat.me.0) same
     c.take_delta-sum.ensures.taken))

@@ -1,12 +1,16 @@
-use Rattle.std.proofs.Common.{List, [], ◌∷◌, ◌++◌, length, map, ap, subst, sym, ◌∙◌, refl, inl, inr}
+use Rattle.std.proofs.Common.{MatchResult, List, [], ◌∷◌, ◌++◌, length, map, ap, subst, sym, ◌∙◌, refl, inl, inr}
 use Rattle.std.specs.List.{All}
 use Rattle.std.proofs.lemmas.Result.{err_from_is_err_and}
 use Rattle.segment_image.specs.Shape.{Dimensions}
 use Rattle.segment_calls.specs.Asked.{IsRefusedFor}
+use Rattle.segment_machine.specs.declared.actor.Actor.{Actor}
 use Rattle.segment_machine.specs.declared.actor.Known.{Known}
+use Rattle.segment_invariant.proofs.Lists.Elements.{contains_at}
+use Rattle.live_segment.specs.Names.Hist.{IsAnsweredWith, IsRefusedWith, NoneHasName}
+use Rattle.live_segment.specs.Steps.{Pass}
+use Rattle.live_segment.proofs.Walks.Fronts.{answer_first, first_there}
 use Rattle.live_segment.specs.declared.recorder.KnownHistogram.{KnownHistogram}
 use Rattle.live_segment.specs.Known.{known_view, KnowsRight}
-use Rattle.live_segment.specs.Names.Hist.{NoneHasName}
 use Rattle.live_segment.specs.Names.Naming.{HasNames}
 use Rattle.live_segment.proofs.Walks.Walked.{all_right, come_still}
 use Rattle.live_segment.proofs.HistCall.HistAnswered.{none_known, seen_grew, names_still, of_still, rests_still, share_still, chain_grew, of_then, rests_then, share_same, right_then, listed_then, named_then, count_of, asked_here}
@@ -84,6 +88,18 @@ returns-in_err-known-clause-answer c =
     let (looks, owes, why_is) = c.in_err-known.ensures.outcome in
     rw (p.1, p.2)
     (inr (inr (none_known me.known.items me.seat.me.0 c.args.name.now me.listed c.in_default.ensures, (c.in_ok-asked.asked, asked_here me.segment.now.setting me.seat.me.0 me.seated.of c.in_ok-asked.ensures, why_is), looks, owes ∙ sym me.rests.owes)))
+
+pub returns-in-Some-clause-answer : goal.returns-in-Some-clause-answer
+returns-in-Some-clause-answer c =
+    subst (λ (a : Actor). MatchResult c.known_at.result (λ histogram. IsAnsweredWith c.args.name.now c.args.spec.now histogram a c.stand.new.seat.me.0)
+    (λ why. IsRefusedWith c.args.name.now c.args.spec.now why a c.stand.new.seat.me.0))
+    (ap (λ (seat : Pass). seat.me.0) c.stand.ensures.same) c.known_at.ensures.answer
+
+pub returns-in-Some-clause-first : goal.returns-in-Some-clause-first
+returns-in-Some-clause-first c = answer_first _ _ _ c.known_at.result c.stand.ensures.stands
+
+pub returns-clause-first : goal.returns-clause-first
+returns-clause-first c = λ known means. first_there _ _ _ known (contains_at _ _ known means) c.in_ok-known.ensures.stands
 
 pub returns-clause-claims : goal.returns-clause-claims
 returns-clause-claims c =

@@ -4,6 +4,7 @@ use Rattle.segment_machine.specs.declared.actor.Actor.{Actor}
 use Rattle.segment_machine.specs.declared.actor.Known.{Known}
 use Rattle.segment_machine.specs.Actor.{has_buckets}
 use Rattle.live_segment.specs.Desk.{desk_of}
+use Rattle.live_segment.specs.Holders.{opened_with}
 use Rattle.live_segment.specs.Readings.Snapshots.{HasSnapshot}
 use Rattle.live_segment.specs.Readings.Values.{AreFewKeys}
 use Rattle.live_segment.proofs.AddCall.Adds.{meant}
@@ -99,7 +100,7 @@ returns-clause-owed c = λ known means.
     let a = old.seat.me.0 in
     let b = c.look_for_own-has_all.new.seat.me.0 in
     let same = meant old.known.items a.answers.names c.args.histogram.index c.index-known.result.now known old.listed c.index-known.ensures c.requires means in
-    has_enough known c.take_snapshot-snapshot.result a c.take_snapshot-snapshot.new.seat.me.0
+    has_enough (opened_with old.segment.now) c.take_snapshot-snapshot.new.seat.id known c.take_snapshot-snapshot.result a c.take_snapshot-snapshot.new.seat.me.0
     (answered_behind a b c.look_for_own-has_all.ensures.view known c.take_snapshot-snapshot.result c.take_snapshot-snapshot.new.seat.me.0
     (subst (λ (k : Known). HasSnapshot k b c.take_snapshot-snapshot.result c.take_snapshot-snapshot.new.seat.me.0) same
     c.take_snapshot-snapshot.ensures.answer))

@@ -11,6 +11,11 @@ pub load_next-next-requires-clause-room : goal.load_next-next-requires-clause-ro
 load_next-next-requires-clause-room c =
     let was = c.loop-kind.invariant in room was.seated (way _ was.seated was.free was.indexed)
 
+pub returns-then-next-eq-QUEUE-clause-view : goal.returns-then-next-eq-QUEUE-clause-view
+returns-then-next-eq-QUEUE-clause-view c =
+    let was = c.loop-kind.invariant in
+    searched_on _ _ _ was.searched (searched was.seated (way _ was.seated was.free was.indexed) _ _ c.load_next-next.ensures.step)
+
 pub returns-then-next-eq-QUEUE-clause-indexed : goal.returns-then-next-eq-QUEUE-clause-indexed
 returns-then-next-eq-QUEUE-clause-indexed c =
     let was = c.loop-kind.invariant in

@@ -5,7 +5,6 @@ use Rattle.segment_machine.specs.declared.actor.Actor.{Actor}
 use Rattle.segment_machine.specs.declared.actor.Made.TheVariants.{Histogram}
 use Rattle.segment_machine.specs.declared.actor.Rise.{Rise}
 use Rattle.segment_machine.specs.Actor.{is_bound}
-use Rattle.segment_machine.specs.Taking.{is_looking}
 use Rattle.segment_calls.specs.declared.asked.Asked.{Asked}
 use Rattle.live_segment.specs.declared.rule.Announcement.{Announcement}
 use Rattle.live_segment.specs.declared.segment.Segment.{Segment}
@@ -15,7 +14,7 @@ use Rattle.live_segment.specs.Names.Finding.{IsAsked}
 use Rattle.live_segment.specs.Seated.{IsSeated}
 use Rattle.live_segment.specs.Names.Making.{HasFilled, HasMade, SaysAsked}
 use Rattle.live_segment.specs.Lists.Publishing.{HasPublished, HasPublishedFor}
-use Rattle.segment_promises.specs.Onward.{Grows}
+use Rattle.segment_promises.specs.Onward.{Grows, is_holding}
 use Rattle.live_segment.specs.Names.Searching.{asked_at}
 use Rattle.live_segment.specs.Steps.{Pass, IsSame}
 
@@ -51,7 +50,7 @@ module _ (segment : Segment) (asked : Asked) (is : IsAsked segment.setting.shape
         answers = record old.me.0.answers { owed = old.me.0.answers.owed ++ asked_at asked at ∷ [] };
       });
       free = ap (λ (a : Actor). is_bound a.hand.place) is_published.view;
-      apart = ap (λ (a : Actor). is_looking a.hand.place) is_published.view;
+      apart = ap (λ (a : Actor). is_holding a.hand.place) is_published.view;
       unspoiled = unspoiled;
       claimed = (record { at = at; size = behind - at } ∷ [], claimed_is);
       makes = record {

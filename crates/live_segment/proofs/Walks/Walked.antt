@@ -26,7 +26,6 @@ use Rattle.segment_machine.specs.Actor.{is_bound, is_opener, known_at}
 use Rattle.segment_machine.specs.Calls.{ended as with_end}
 use Rattle.segment_machine.specs.Event.{walking_event, change, next, Ready}
 use Rattle.segment_machine.specs.Stages.{Walks}
-use Rattle.segment_machine.specs.Taking.{is_looking}
 use Rattle.segment_machine.specs.Walking.{load_next, extended, records_met}
 use Rattle.segment_machine.proofs.Stages.Walks.{walks_agree}
 use Rattle.live_segment.specs.declared.rule.Opening.{Opening}
@@ -36,7 +35,7 @@ use Rattle.live_segment.specs.Rule.{Runs}
 use Rattle.live_segment.specs.Steps.{Pass, Sat, IsSame, Stepped}
 use Rattle.live_segment.specs.Holders.{MayStep}
 use Rattle.live_segment.specs.Seated.{IsSeated}
-use Rattle.segment_promises.specs.Onward.{Grows, StaysApart}
+use Rattle.segment_promises.specs.Onward.{Grows, StaysApart, is_holding}
 use Rattle.live_segment.specs.declared.recorder.KnownHistogram.{KnownHistogram}
 use Rattle.live_segment.specs.declared.records.WalkPlace.{WalkPlace}
 use Rattle.live_segment.specs.Known.{KnowsRight}
@@ -160,7 +159,7 @@ module _ {segment : Segment} {first old : Pass} {given : List ℕ} {at : ℕ} (s
         (with_end first.me.0.seen.ends (at + 3) (found == 12))))
 
     apart_still : StaysApart first.me.0 new.me.0
-    apart_still was = ap (λ (a : Actor). is_looking a.hand.place) load.view ∙ behind_apart old.me.0.hand.place at found (is.apart was)
+    apart_still was = ap (λ (a : Actor). is_holding a.hand.place) load.view ∙ behind_apart old.me.0.hand.place at found (is.apart was)
 
     chain_is : new.me.0.seen.chain ≡ extended old.me.0.seen.chain at found
     chain_is = ap (λ (a : Actor). a.seen.chain) load.view

@@ -14,7 +14,7 @@ use Rattle.live_segment.specs.Lists.Allocation.{spoiled}
 use Rattle.live_segment.specs.Lists.Cursors.{AnswersNext, gift}
 use Rattle.live_segment.specs.Readings.Values.{AreMostKeys}
 use Rattle.live_segment.specs.declared.recorder.Hist.{Hist}
-use Rattle.owned_recorder.specs.Answers.{AnswersAdd, AnswersBatch, AnswersDelta, AnswersFirst, AnswersFront, AnswersHist, AnswersList, AnswersRecords, AnswersSnapshot, ClaimsAdd, ClaimsBatch, ClaimsHist, ShowsEnough, ShowsUnits, TakesEnough}
+use Rattle.owned_recorder.specs.Answers.{AnswersAdd, AnswersBatch, AnswersDelta, AnswersFirst, AnswersFront, AnswersHist, AnswersList, AnswersRecords, AnswersSnapshot, ClaimsAdd, ClaimsBatch, ClaimsHist, ShowsEnough, ShowsFewKeys, ShowsUnits, TakesEnough, TakesFewKeys}
 use Rattle.owned_recorder.specs.Desks.{IsNamed, IsSameDesk, KnowsOn, Means, view_of_desk}
 use Rattle.owned_recorder.specs.declared.owned.OwnedRecorder.{OwnedRecorder}
 use Rattle.povundiri_c.specs.declared.status.Refused.{Refused}
@@ -118,13 +118,14 @@ abbrev pub TakesDelta : Hist → OwnedRecorder → Result Delta Refused → Owne
 TakesDelta histogram old given new =
     (answer : Result Delta Refusal) × (given ≡ with_refused answer) × GoesOn old new
     × AnswersDelta histogram old.desk answer new.desk × TakesEnough (arc_value new.segment) histogram old.desk answer new.desk
+    × TakesFewKeys (arc_value old.segment) histogram old.desk answer
 
 -- a snapshot is answered as `OwnedRecorder::snapshot` says
 abbrev pub TakesSnapshot : Hist → OwnedRecorder → Result Snapshot Refused → OwnedRecorder → Type 0
 TakesSnapshot histogram old given new =
     (answer : Result Snapshot Refusal) × (given ≡ with_refused answer) × GoesOn old new
     × AnswersSnapshot histogram old.desk answer new.desk × ShowsEnough histogram old.desk answer new.desk
-    × ShowsUnits histogram old.desk answer
+    × ShowsUnits histogram old.desk answer × ShowsFewKeys (arc_value old.segment) histogram old.desk answer
 
 -- ---- other calls
 

@@ -47,8 +47,7 @@ module _ (given : Opening) (slots id : ℕ) (me : Sat) (records : is_opener me.0
       let note : Known → Snapshot → Note = λ k x. answers (answered_as me.0 k x) in
       let (view, act, valid, holds, told) =
       announces given (note known snapshot ∷ []) slots id me (λ n. either (n == 0) 0 n) nothing_exchanged
-      records (may, refl) s run wide mine small in
-      (
+      records (may, refl) s run wide mine small in (
         view,
         act,
         valid,

@@ -14,11 +14,13 @@ use std::marker::{Brand, PhantomData};
 /// Who steps, for the proof alone: what its segment was opened with, and the number of its seat. A call at `Brand` picks them.
 pub(crate) trait Stance {
     ghost opening: { Option Opening };
+
     ghost number: { ℕ };
 }
 
 impl Stance for Brand {
     ghost opening = { None };
+
     ghost number = { 0 };
 }
 

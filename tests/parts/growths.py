@@ -33,11 +33,11 @@ STEPPED_OUT_OF_MEMORY = b"stepped: NoMemory\n"
 # The calls that `trials` makes, those that take memory and those that take none.
 BEGINS = tuple(f"begin {kind}" for kind in ("Hist", "Add", "Batch", "Snapshot", "Delta"))
 OF_RECORDERS = ("hist", "delta", "snapshot", "records", "fresh_records")
-TAKING = ("blank", "ranges", "tally", "world", *BEGINS, "run_schedule", "create", *OF_RECORDERS, "add", "read", "report_of", "report", "merge", "adopt")
-TAKING_NONE = ("begin SetCorrupt", "step", "recorder", "batch", "units", "knows", "next_shared", "set_corrupt", "join", "close")
+TAKING = ("blank", "ranges", "tally", "world", *BEGINS, "run_schedule", "create", *OF_RECORDERS, "add", "batch", "read", "report_of", "report", "merge", "adopt")
+TAKING_NONE = ("begin SetCorrupt", "step", "recorder", "units", "knows", "next_shared", "set_corrupt", "lend", "join", "close")
 # Those that also let an index of names or of samples grow: where that is refused, they go on without. The first `add` of a sparse histogram
-# takes as much as four samples need.
-INDEXED = ("hist", "add", "merge")
+# that meets a sample takes as much as four samples need. The last `batch` is of five values more, and lets the list of samples grow twice.
+INDEXED = ("hist", "add", "batch", "merge")
 # How each says that memory was refused.
 NO_MEMORY = "NoMemory"
 OTHER_WORDS = {"tally": "memory allocation failed"}
@@ -59,7 +59,7 @@ ASKED = {
 }
 # `merge` for all histograms 88 bytes each, then for each of them twice its name and 8 bytes for each of its keys, and then again for all
 # 32 bytes each, before the `hist` of each.
-MERGED = {"boolean": 3, "custom": 4, "sparse": 5, "A": 3, "B": 3, "C": 3, "D": 3, "a_name_that_is_longer": 3}
+MERGED = {"boolean": 3, "custom": 4, "sparse": 10, "A": 3, "B": 3, "C": 3, "D": 3, "a_name_that_is_longer": 3}
 # `hist` so many bytes at most in all, but for the list of what it knows, which has 88 bytes for each, and for its indexes: the one of
 # what it knows, and the one of names on the list. Both grow once, and ask for this. So does the one of samples, in an `add`, and asks then
 # for a list of samples, and for a map of such lists.
@@ -68,6 +68,7 @@ KNOWN = (4 * 88, 8 * 88)
 INDEX = [256, 72, 72, 72]
 INDEXES = 2
 INDEX_OF_SAMPLES = [*INDEX, 4 * 8, 256, 72, 72, 9 * 24]
+MORE_SAMPLES = [8 * 8, 16 * 8]
 # `adopt` asks twice for the words of the table, 8 bytes for each word, for one more and for the cursor, and for nothing that is larger.
 TABLE = 8 * (SIZE + 2)
 # The histograms that are asked for first: boolean, custom, sparse and five more. Where one is asked for again, with the same spec, its
@@ -101,7 +102,7 @@ def wrong_sizes(asked):
         if one.call == "hist" and one.size not in KNOWN:
             hists[one.place].append(one.size)
     of_merge = [88 * len(MERGED), *(size for name, keys in MERGED.items() for size in (len(name), len(name), 8 * keys)), 32 * len(MERGED)]
-    wanted = {**ASKED, "add": INDEX_OF_SAMPLES, "merge": of_merge}
+    wanted = {**ASKED, "add": INDEX_OF_SAMPLES, "batch": MORE_SAMPLES, "merge": of_merge}
     for name, right in wanted.items():
         came = sizes[name][:len(right)] if name == "merge" else sizes[name]
         if came != right:

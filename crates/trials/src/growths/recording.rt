@@ -134,6 +134,21 @@ fn show_histogram(rt: &impl Print, recorder: &mut Recorder, name: &str, spec: &S
     Ok(())
 }
 
+// Counts a batch of more values of a sparse histogram than its index of samples has room for.
+fn show_values(rt: &impl Print, recorder: &mut Recorder) -> Result<()>
+    ensures { SharesSegment recorder.old recorder.new }
+{
+    let histogram = hist(rt, recorder, "sparse", &Spec::Sparse)?;
+    show_try(rt, "batch")?;
+    let batch = recorder.batch(
+        histogram,
+        &[(20, 1), (21, 1), (22, 1), (23, 1), (24, 1)],
+        110,
+    );
+    println!(rt; "{batch:?}")?;
+    Ok(())
+}
+
 // Makes many histograms.
 fn make_more(rt: &impl Print, recorder: &mut Recorder) -> Result<()>
     ensures { SharesSegment recorder.old recorder.new }
@@ -165,6 +180,7 @@ fn record(rt: &(impl Print + AllocGlobal), recorder: &mut Recorder) -> Result<()
     show_histogram(rt, recorder, "custom", &custom)?;
     show_histogram(rt, recorder, "sparse", &Spec::Sparse)?;
     show_histogram(rt, recorder, "custom", &custom)?;
+    show_values(rt, recorder)?;
     make_more(rt, recorder)?;
     show_lists(rt, recorder)?;
     show_try(rt, "set_corrupt")?;
@@ -200,6 +216,9 @@ fn record_into(
     println!(rt; "two recorders")?;
     record(rt, &mut recorder)?;
     show_cursor(rt, &mut follower)?;
+    show_try(rt, "lend")?;
+    opener.lend(&mut recorder, 5)?;
+    println!(rt; "{} units", recorder.units())?;
     show_try(rt, "join")?;
     opener.join(recorder);
     opener.join(follower);

@@ -2,7 +2,9 @@ pub mod AsBox
 pub mod Calling
 pub mod Ending
 pub mod Holding
+pub mod Joining
 pub mod Making
+pub mod Passing
 pub mod Present
 pub mod Reporting
 pub mod Trays

@@ -4,24 +4,31 @@ A family is a function of a number of words; it gives an `Image`. LAWFUL has tho
 those that somebody made to keep a reader busy.
 """
 
-import array
 import dataclasses
+import pathlib
 import random
 import sys
 from collections.abc import Callable, Iterable
 
-PAGE = 65_536
-QUEUE = 12
-FIRST = 16
-SEGMENT_COOKIE = 0x408305DC
-BLOCK_COOKIE = 0xC8799269
-WASTED = 2**64 - 1
-PURGED, HISTOGRAM, COUNTS, SAMPLE = 0, 1, 2, 3
-LINEAR, BOOLEAN, CUSTOM, SPARSE = 1, 2, 3, 4
-NOTHING_PACKED = 2**63 + 65_535
-FROZEN = 2**63
-GREATEST = 2_147_483_647
-MOST_BUCKETS = 1000
+sys.path.insert(0, str(pathlib.Path(__file__).resolve().parents[1] / "tests"))
+from support import layout
+from support.layout import (
+    BLOCK_COOKIE,
+    BOOLEAN,
+    COUNTS,
+    CUSTOM,
+    FIRST,
+    FROZEN,
+    GREATEST,
+    HISTOGRAM,
+    LINEAR,
+    MOST_BUCKETS,
+    NOTHING_PACKED,
+    PURGED,
+    QUEUE,
+    SAMPLE,
+    SPARSE,
+)
 
 
 @dataclasses.dataclass
@@ -34,40 +41,11 @@ class Image:
     holds: str
 
 
-class Segment:
+class Segment(layout.Words):
     """The words of a segment, claimed from the front, and its list."""
 
     def __init__(self, size):
-        self.page = min(PAGE, size)
-        self.words = array.array("Q", bytes(8 * size))
-        self.free = FIRST
-        self.tail = QUEUE
-        self.store(0, SEGMENT_COOKIE, 1, size, self.page, 7, 1)
-        self.store(QUEUE, 4, 1, 0, QUEUE)
-
-    def store(self, at, *words):
-        self.words[at : at + len(words)] = array.array("Q", words)
-
-    def room(self):
-        return self.page - self.free % self.page
-
-    def block(self, size, tag):
-        """A new block, or None where it does not fit."""
-        if size > self.room() and self.free + self.room() < len(self.words):
-            self.store(self.free, self.room(), WASTED)
-            self.free += self.room()
-        if size > self.room() or self.free + size > len(self.words):
-            return None
-        claimed = self.room() if self.room() - size < 5 else size
-        at = self.free
-        self.store(at, claimed, BLOCK_COOKIE, tag)
-        self.free += claimed
-        return at
-
-    def publish(self, at):
-        self.words[self.tail + 3] = at
-        self.words[at + 3] = QUEUE
-        self.tail = at
+        super().__init__(size, min(layout.PAGE, size))
 
     def publish_all(self, references, is_scattered):
         """Publishes blocks as they come, or in no order; answers them in the order of the list."""
@@ -78,27 +56,16 @@ class Segment:
             self.publish(at)
         return listed
 
-    def bytes(self):
-        self.store(7, self.free, self.tail)
-        words = self.words[:]
-        if sys.byteorder == "big":
-            words.byteswap()
-        return words.tobytes()
-
 
 def adoptable(data):
     """The bytes of a lawful image as one of version 2, which may be adopted: a single word that is disabled, and in which nothing was
     packed, has another form there."""
-    words = array.array("Q", data)
-    if sys.byteorder == "big":
-        words.byteswap()
+    words = layout.words_of(data)
     words[1] = 2
     for at, word in enumerate(words):
         if word == NOTHING_PACKED:
             words[at] = FROZEN
-    if sys.byteorder == "big":
-        words.byteswap()
-    return words.tobytes()
+    return layout.data_of(words)
 
 
 def names_of(count, length=8):

@@ -331,7 +331,9 @@ static void numbers(void) {
         tries += 1;
         if (number <= 4) free(before);
     } while (number <= 4 && tries < 20);
-    HOLDS(number == 5 && with_bytes("n.damaged-", before, length) == 3 && has_bytes(path_of("text"), text, sizeof text));
+    HOLDS(number == 5);
+    if (number != 5) return;
+    HOLDS(with_bytes("n.damaged-", before, length) == 3 && has_bytes(path_of("text"), text, sizeof text));
     HOLDS(with_bytes("n.damaged-", text, sizeof text) == 1);
     free(before);
 }

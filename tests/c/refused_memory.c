@@ -1,5 +1,5 @@
-/* Each allocation of each call is refused alone: the call says so, and made once more it answers as if nothing had been. Of an add to a sparse
- * histogram, which grows an index, the call is done all the same. In the end all blocks were given back. The library's heap is replaced by the three functions below. */
+/* Each allocation of each call is refused alone: the call says so, and made once more it answers as if nothing had been. Of an add and of a batch
+ * to a sparse histogram, which grow an index, the call is done all the same. In the end all blocks were given back. The library's heap is replaced by the three functions below. */
 #include <stdlib.h>
 
 #include "checks.h"
@@ -193,6 +193,28 @@ static void second_value(void) {
     HOLDS(number > 1 && blocks == 0);
 }
 
+/* A batch of both values: it is refused where there is no memory for its items, and done where there is none for the index. */
+static void batch_of_values(void) {
+    static const struct povundiri_item items[] = {{-3, 1}, {5, 4}};
+    bool asked = true;
+    size_t number;
+    for (number = 0; asked; number += 1) {
+        struct sparse sparse = made_sparse();
+        const int before = refused;
+        uint32_t status;
+        until_refused = number;
+        status = povundiri_batch(&sparse.recorder, sparse.hist, items, 2, 17, NULL);
+        until_refused = SIZE_MAX;
+        asked = refused != before;
+        check_status(__LINE__, "povundiri_batch", number == 0 ? POVUNDIRI_NO_MEMORY : POVUNDIRI_DONE, status);
+        if (number == 0) DONE(povundiri_batch(&sparse.recorder, sparse.hist, items, 2, 17, NULL));
+        counts_twice(&sparse.recorder, sparse.hist);
+        DONE(povundiri_join(&sparse.segment, &sparse.recorder));
+        DONE(povundiri_drop(&sparse.segment));
+    }
+    HOLDS(number > 2 && blocks == 0);
+}
+
 /* A second recorder, which meets on the list what the first one has made. */
 static void second_recorder(void) {
     bool asked = true;
@@ -217,5 +239,6 @@ static void second_recorder(void) {
 
 int main(void) {
     return group("each allocation", each_allocation) + group("a second value of a sparse histogram", second_value) +
+           group("a batch of values of a sparse histogram", batch_of_values) +
            group("a second recorder of a sparse histogram", second_recorder);
 }

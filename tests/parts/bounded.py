@@ -2,22 +2,20 @@
 C program that counts what the library has from its heap. And `report`, which costs as much as it says, under a limit of memory, as README.md has it.
 """
 
-import array
 import pathlib
 import resource
 import subprocess
 import tempfile
 
 from parts.explained import both
-from parts.largest import BLOCK_COOKIE, FIRST, HISTOGRAM, PAGE, PURGED, QUEUE, SAMPLE, SEGMENT_COOKIE, SIZE, SPARSE
-from support import native
+from support import layout, native
+from support.layout import COUNTS, FIRST, HISTOGRAM, LINEAR, PAGE, SAMPLE, SPARSE
 from support.program import answer, difference, fault
 
 PROGRAM = "persist_report"
 VERSION = 2
-LINEAR = 1
-COUNTS = 2
-BUCKETS = 1000
+SIZE = layout.MOST_WORDS
+BUCKETS = layout.MOST_BUCKETS
 COUNTS_WORDS = 4 + 2 * BUCKETS
 RECORD_WORDS = 16
 # A record that overlaps the next one: its fields from the tenth on are that one's first.
@@ -27,19 +25,6 @@ MOST_SECONDS = 30
 # Where a command is limited: 400 MiB, of which a program that runs takes a few.
 MOST_KILOBYTES = 400 * 1024
 SCRIPT = f"segment,{SIZE},{PAGE},7\n".encode()
-
-
-def image_of(listed, others=()):
-    """The bytes of an image of version 2 whose list has these blocks, each its reference, size, type and payload, and which has others."""
-    words = array.array("Q", bytes(8 * SIZE))
-    words[0:9] = array.array("Q", [SEGMENT_COOKIE, VERSION, SIZE, PAGE, 7, 1, 0, SIZE, listed[-1][0]])
-    words[12:15] = array.array("Q", [4, 1, PURGED])
-    words[QUEUE + 3] = listed[0][0]
-    following = [at for at, *_ in listed[1:]] + [QUEUE]
-    placed = [*zip(listed, following), *((block, 0) for block in others)]
-    for (at, size, tag, payload), after in placed:
-        words[at : at + 4 + len(payload)] = array.array("Q", [size, BLOCK_COOKIE, tag, after, *payload])
-    return words.tobytes()
 
 
 def linear(at, counts, name, size=RECORD_WORDS):
@@ -54,14 +39,14 @@ def names(references):
 def unused():
     """As many histograms as fit, none of which has a block of counts: 65,535."""
     references = range(FIRST, SIZE, RECORD_WORDS)
-    return image_of([linear(at, 0, name) for at, name in zip(references, names(references))])
+    return layout.image_of(SIZE, VERSION, [linear(at, 0, name) for at, name in zip(references, names(references))])
 
 
 def one_block():
     """As many histograms as fit, all of which name one block of counts."""
     references = range(PAGE, SIZE, RECORD_WORDS)
     counts = (FIRST, COUNTS_WORDS, COUNTS, [])
-    return image_of([linear(at, FIRST, name) for at, name in zip(references, names(references))], [counts])
+    return layout.image_of(SIZE, VERSION, [linear(at, FIRST, name) for at, name in zip(references, names(references))], [counts])
 
 
 def overlapping():
@@ -69,14 +54,14 @@ def overlapping():
     references = [at for page in range(PAGE, SIZE, PAGE) for at in range(page, page + PAGE - RECORD_WORDS, OVERLAPPING_WORDS)]
     counts = (FIRST, COUNTS_WORDS, COUNTS, [])
     assert len(references) > 98_000
-    return image_of([linear(at, FIRST, b"A") for at in references], [counts])
+    return layout.image_of(SIZE, VERSION, [linear(at, FIRST, b"A") for at in references], [counts])
 
 
 def values():
     """A sparse histogram and as many samples as fit, each of a value of its own."""
     references = range(FIRST + RECORD_WORDS, SIZE, 8)
     record = (FIRST, RECORD_WORDS, HISTOGRAM, [SPARSE, 0, 0, 0, 0, 0, 0, 0, 0, 0, 1, ord("S")])
-    return image_of([record, *((at, 8, SAMPLE, [FIRST, number, 1, 0]) for number, at in enumerate(references))])
+    return layout.image_of(SIZE, VERSION, [record, *((at, 8, SAMPLE, [FIRST, number, 1, 0]) for number, at in enumerate(references))])
 
 
 # Each image, and what is answered when it is adopted.

@@ -567,7 +567,7 @@ def words(program):
         yield f"{asked}", None if is_right else f"wanted 'error: ' and where to find more, with status 2, came {came}"
 
 
-def cases(program, _options):
+def cases(program, options):
     with tempfile.TemporaryDirectory() as scratch:
         folder = pathlib.Path(scratch)
         yield from images(program)
@@ -579,4 +579,4 @@ def cases(program, _options):
         yield from words(program)
         room = folder / "explained"
         room.mkdir()
-        yield from explained.cases(program, room)
+        yield from explained.cases(program, room, options)

@@ -9,7 +9,7 @@ import struct
 import subprocess
 
 from support import faults, tracer
-from support.program import EXAMPLE, SCRIPT, Answer, answer, difference, explained, fault
+from support.program import EXAMPLE, SCRIPT, Answer, answer, difference, explained, fault, untried
 
 SEGMENT = "segment,256,64,7\n"
 # A record behind a segment and a histogram, and what is said of it.
@@ -272,9 +272,10 @@ def devices(program, folder):
     os.close(full)
 
 
-def wants(program, folder):
+def wants(program, folder, options):
     """A worker that cannot be started, and memory that is refused from some allocation on."""
     if not tracer.can_trace():
+        yield untried(tracer.NOT_ALLOWED, options)
         return
     words = ["run", SCRIPT, folder / "out", "--explain"]
     came = tracer.answer(program, words, tracer.Fault((tracer.CLONE, tracer.CLONE_3), at=0, error=errno.EAGAIN))
@@ -322,6 +323,7 @@ def told(program, folder):
         yield f"explain {name!r}", None if is_right else f"wanted that no fault has this name, came {came}"
 
 
-def cases(program, folder):
-    for part in (scripts, lines_of_random_scripts, images, merges, bases, scripts_on, devices, wants, told):
+def cases(program, folder, options):
+    for part in (scripts, lines_of_random_scripts, images, merges, bases, scripts_on, devices, told):
         yield from part(program, folder)
+    yield from wants(program, folder, options)

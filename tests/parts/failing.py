@@ -1,8 +1,8 @@
-"""Each read, write, sync, renaming, opening, allocation and start of a thread fails in turn: the right fault, no output where
+"""Each read, write, sync, lock, renaming, opening, allocation and start of a thread fails in turn: the right fault, no output where
 none was begun, and OUT and its folder as they were. And the program is killed at each call that makes a file: OUT is the
 old file or the whole new one.
 
-For this the program is traced (tracer.py). Where that is not allowed, nothing is tried, and a line says so.
+For this the program is traced (tracer.py).
 """
 
 import errno
@@ -13,10 +13,10 @@ import signal
 import tempfile
 
 from support import tracer
-from support.program import EXAMPLE, Answer, answer, difference, fault
+from support.program import EXAMPLE, Answer, answer, difference, fault, untried
 
 PROGRAM = "persist_report"
-READ_FAULT, WRITE_FAULT = fault("Read", 4), fault("Write", 4)
+READ_FAULT, WRITE_FAULT, BUSY = fault("Read", 4), fault("Write", 4), fault("Busy", 4)
 NO_MEMORY, NO_THREAD = fault("NoMemory", 5), fault("NoThread", 5)
 # What comes where the program is not even loaded.
 NOT_LOADED = (127, -signal.SIGSEGV)
@@ -161,6 +161,17 @@ def wrong_syncs(command):
     return wrong_where(command, WRITE_FAULT, "sync", BEFORE, numbers=(tracer.SYNC,))
 
 
+def wrong_locks(command):
+    """The lock of OUT is taken where OUT stands, and tried again where another has it."""
+    wrong = wrong_where(command, WRITE_FAULT, "lock", numbers=(tracer.LOCK,), error=errno.ENOLCK)
+    never = tracer.Fault((tracer.LOCK,), at=0, lasting=True, error=errno.EWOULDBLOCK)
+    wrong = wrong or command.untouched(BUSY, *command.failing(never)) or (None if never.met > 1 else "the lock was not tried again")
+    for error, stood in ((errno.EWOULDBLOCK, STOOD), (errno.EINTR, STOOD), (errno.ENOLCK, None)):
+        once = tracer.Fault((tracer.LOCK,), at=0, error=error)
+        wrong = wrong or (None if command.is_done(*command.failing(once, stood)) else f"{errno.errorcode[error]} once is not the right answer")
+    return wrong
+
+
 def wrong_modes(command):
     return wrong_where(command, WRITE_FAULT, "change of permissions", numbers=(tracer.CHANGE_MODE,))
 
@@ -281,7 +292,7 @@ def checks(command):
     yield wrong_growths
     yield wrong_pieces
     if command.out:
-        yield from (wrong_image_writes, wrong_syncs, wrong_modes, wrong_renames)
+        yield from (wrong_locks, wrong_image_writes, wrong_syncs, wrong_modes, wrong_renames)
         yield from (wrong_openings, wrong_random_bytes, wrong_clashes, wrong_kills)
     if command.right.output:
         yield wrong_report_writes
@@ -289,10 +300,9 @@ def checks(command):
         yield wrong_threads
 
 
-def cases(program, _options):
+def cases(program, options):
     if not tracer.can_trace():
-        print("failing: NOTHING WAS TRIED, since no program may be traced here")
-        yield "nothing", None
+        yield untried(tracer.NOT_ALLOWED, options)
         return
     with tempfile.TemporaryDirectory() as scratch:
         for command in commands(program, pathlib.Path(scratch).resolve()):

@@ -5,8 +5,6 @@ as if nothing had been, and so does all that comes behind. Where an index of nam
 
 The commands and `stepped` answer `NoMemory`, with no output but what `stepped` had told before, and OUT as it was. Of them each
 growth is refused for which the C library asks the system (tracer.py).
-
-For this the programs are traced. Where that is not allowed, nothing is tried, and a line says so.
 """
 
 import collections
@@ -16,8 +14,8 @@ import re
 import tempfile
 
 from parts import failing
-from support import allocations, tracer
-from support.program import ROOT, Answer, answer, built, difference
+from support import allocations, native, tracer
+from support.program import ROOT, Answer, answer, built, difference, untried
 
 PROGRAM = "trials"
 GROWTH = {"numbers": tracer.GROWTHS, "growth": True, "error": errno.ENOMEM}
@@ -176,27 +174,27 @@ def wrong_merge(lines, came):
     return None if merges[0] == right else f"wanted {right}, came {merges[0]}"
 
 
-def wrong_allocation(program, plain, place, one):
+def wrong_allocation(program, refuser, plain, place, one):
     """What is wrong where an allocation of a call is refused, or None. A call may do with another one in its place; then that is refused
     too."""
     lines = plain.output.decode().splitlines()
-    came, asked = allocations.answer(program, ["growths"], place)
+    came, asked = refuser.answer(program, ["growths"], place)
     if came == plain and any(other.place == one.place for other in asked[place + 1:]):
-        came, _ = allocations.answer(program, ["growths"], place, lasting=True)
+        came, _ = refuser.answer(program, ["growths"], place, lasting=True)
     if came == plain and name_of(one.call) in INDEXED:
         return None
     return wrong_refusal(lines, one, came)
 
 
-def library_cases(program, refused):
+def library_cases(program, refuser, refused):
     """Each allocation of the calls of the libraries is refused; `refused` counts those of each call."""
     plain = answer(program, ["growths"])
-    seen, asked = allocations.answer(program, ["growths"])
+    seen, asked = refuser.answer(program, ["growths"])
     yield "a run", difference(Answer(plain.output), plain) or difference(plain, seen)
     yield "the calls", wrong_list(asked, plain.output.decode().splitlines())
     yield "what calls ask for", wrong_sizes(asked)
     for place, one in enumerate(asked):
-        wrong = wrong_allocation(program, plain, place, one)
+        wrong = wrong_allocation(program, refuser, plain, place, one)
         refused[name_of(one.call)] += 1
         yield f"allocation {place}, {one.size} bytes of {name_of(one.call)}", wrong
 
@@ -249,16 +247,21 @@ def told(refused):
     return ", ".join(f"{count} of {name}" for name, count in refused.items())
 
 
-def cases(program, _options):
-    if not tracer.can_trace():
-        print("growths: NOTHING WAS TRIED, since no program may be traced here")
-        yield "nothing", None
-        return
+def cases(program, options):
     for name in (failing.PROGRAM, "stepped"):
         if not built(name).is_file():
             yield name, f"{built(name)}: no such program; 'rt run' in crates/{name} builds it"
             return
     refused = collections.Counter()
-    yield from library_cases(program, refused)
-    yield from command_cases(refused)
+    with tempfile.TemporaryDirectory() as folder:
+        try:
+            refuser = allocations.Refuser(folder)
+        except native.Failed as why:
+            yield "refuse.c", str(why)
+            return
+        yield from library_cases(program, refuser, refused)
+    if tracer.can_trace():
+        yield from command_cases(refused)
+    else:
+        yield untried(tracer.NOT_ALLOWED, options)
     print(f"growths: refused {told(refused)}")

@@ -4,41 +4,18 @@ longest scripts.
 A program that searches a list from its front, for each sample or each name, does not end in time.
 """
 
-import array
 import pathlib
 import random
-import sys
 import tempfile
 
+from support import layout
+from support.layout import BOOLEAN, FIRST, GREATEST, HISTOGRAM, LEAST, PAGE, PURGED, SAMPLE, SPARSE
 from support.program import Answer, answer, difference, fault
 
 PROGRAM = "persist_report"
-SIZE = 1_048_576
-PAGE = 65_536
-QUEUE = 12
-FIRST = 16
-SEGMENT_COOKIE = 0x408305DC
-BLOCK_COOKIE = 0xC8799269
-PURGED, HISTOGRAM, SAMPLE = 0, 1, 3
-BOOLEAN, SPARSE = 2, 4
+SIZE = layout.MOST_WORDS
 SAMPLES = 60_000
-LEAST, GREATEST = -(2**31), 2**31 - 1
 MOST_SCRIPT = 16_777_216
-
-
-def image_of(blocks):
-    """The bytes of an image whose list has these blocks, each its reference, size, type and payload."""
-    words = array.array("Q", bytes(8 * SIZE))
-    words[0:9] = array.array("Q", [SEGMENT_COOKIE, 1, SIZE, PAGE, 7, 1, 0, SIZE, blocks[-1][0]])
-    words[12:15] = array.array("Q", [4, 1, 0])
-    last = QUEUE
-    for at, size, tag, payload in blocks:
-        words[last + 3] = at
-        words[at : at + 4 + len(payload)] = array.array("Q", [size, BLOCK_COOKIE, tag, QUEUE, *payload])
-        last = at
-    if sys.byteorder == "big":
-        words.byteswap()
-    return words.tobytes()
 
 
 def samples(chance):
@@ -54,7 +31,7 @@ def samples(chance):
     blocks = [(32 + 8 * i, 8, SAMPLE, [FIRST, value % 2**64, count, 0]) for i, (value, count) in enumerate(listed)]
     lines = [f"S,sparse,{value},{value + 1},{count}\n" for value, count in sorted(counts.items()) if count]
     lines.append(f"S,total,{units},{total}\n")
-    return image_of([record, *blocks]), "".join(lines).encode()
+    return layout.image_of(SIZE, 1, [record, *blocks]), "".join(lines).encode()
 
 
 def names(chance):
@@ -65,13 +42,13 @@ def names(chance):
     blocks = [(at, 16, HISTOGRAM, [BOOLEAN, 1, 2, 3, 0, 1, 0, 0, 0, 1, 8, word]) for at, word in zip(references, words)]
     chance.shuffle(blocks)
     report = "".join(f"{name},boolean,0,1,1\n{name},total,1,0\n" for name in sorted(taken))
-    return image_of(blocks), report.encode()
+    return layout.image_of(SIZE, 1, blocks), report.encode()
 
 
 def smallest(_chance):
     """As many blocks of five words as fit, of a type that is passed over, on a list from the last to the first."""
     references = [at for page in range(0, SIZE, PAGE) for at in range(max(page, FIRST), page + PAGE - 4, 5)]
-    return image_of([(at, 5, PURGED, []) for at in reversed(references)]), b""
+    return layout.image_of(SIZE, 1, [(at, 5, PURGED, []) for at in reversed(references)]), b""
 
 
 IMAGES = [samples, names, smallest]

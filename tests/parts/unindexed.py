@@ -13,7 +13,7 @@ import tempfile
 
 from parts import resumes, scripts, threads
 from support import index_memory, seeded
-from support.program import built
+from support.program import built, untried
 
 PROGRAM = "trials"
 KINDS = ("all", "one", "on", "turns", "some")
@@ -88,8 +88,7 @@ def of_scripts(program, name, part, options):
 
 def cases(program, options):
     if not index_memory.can_copy():
-        print("unindexed: NOTHING WAS TRIED, since no copy of a program can be made here")
-        yield "nothing", None
+        yield untried("no copy of a program can be made here", options)
         return
     with tempfile.TemporaryDirectory() as scratch:
         copies = {}

@@ -58,6 +58,9 @@ VERSION_2 = {
     ),
 }
 
+# Two units were taken off the single word, and not added to the counts yet.
+IN_TRANSIT = {SINGLE: DISABLED + 1, COUNTS: 0, COUNTS + 1: 0, SUM: 2, REDUNDANT: 2}
+
 # What is stored in the words of the example, each alone, and the fault of its record.
 BAD_RECORDS = [
     ({KIND: 5}, "BadKind"),
@@ -93,6 +96,7 @@ BAD_HEADERS = [
 # What is stored in the words of a segment that has A without samples, and the report.
 LISTS = [
     ({}, b"A,total,0,0\n"),
+    ({TAIL: 12}, b"A,total,0,0\n"),
     ({19: 16}, b"A,total,0,0\n!stopped,Loop\n"),
     ({QUEUE_NEXT: 13}, b"!stopped,BadRef\n"),
     ({QUEUE_NEXT: 32}, b"!stopped,BadRef\n"),
@@ -125,6 +129,7 @@ def images():
     """The images that are changed, each with its name and what has to be answered."""
     for name, (stored, wanted) in VERSION_2.items():
         yield name, stored_in(example(), stored), wanted
+    yield "two units in transit", stored_in(example(), IN_TRANSIT), Answer(b"A,total,0,2\n!redundant,A,2\n")
     for stored, wrong in BAD_RECORDS:
         yield f"record {told(stored)}", stored_in(example(), stored), Answer(f"!bad,16,{wrong}\n".encode())
     for stored, wrong in BAD_HEADERS:

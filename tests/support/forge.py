@@ -7,16 +7,27 @@ import dataclasses
 import struct
 import typing
 
+from support.layout import (
+    BLOCK_COOKIE,
+    BOOLEAN,
+    COUNTS,
+    CUSTOM,
+    GREATEST,
+    HISTOGRAM,
+    LEAST,
+    LINEAR,
+    MOST_SUM,
+    MOST_UNITS,
+    NOTHING_PACKED,
+    QUEUE,
+    SAMPLE,
+    SPARSE,
+    TOP,
+    Words,
+)
+
 NAMES = [b"A", b"B", b"abcdefgh", b"a-longer-name", b"n" * 128, b"Z.1", b"A!", b"~"]
-BLOCK_COOKIE = 0xC8799269
-QUEUE = 12
-TOP = 2**63
-NOTHING_PACKED = TOP + 65_535
-GREATEST = 2_147_483_647
-MOST_UNITS = 2**32 - 1
-MOST_SUM = 2**31 * MOST_UNITS
-LINEAR, BOOLEAN, CUSTOM, SPARSE = 1, 2, 3, 4
-VALUES = [-(2**31), -5, -1, 0, 3, 77, 2**31 - 1]
+VALUES = [LEAST, -5, -1, 0, 3, 77, GREATEST]
 
 
 @dataclasses.dataclass
@@ -35,51 +46,18 @@ class Record:
         return self.at + 15 + -(-len(self.name) // 8)
 
 
-class Forge:
+class Forge(Words):
     """Words of a segment, filled from the front, and the records on its list."""
 
     def __init__(self, chance):
         self.chance = chance
-        self.page = chance.choice([64, 64, 64, 96, 128, 256, 4096])
-        self.words = [0] * (self.page * (1 if self.page == 4096 else chance.randint(1, 8)))
+        page = chance.choice([64, 64, 64, 96, 128, 256, 4096])
+        size = page * (1 if page == 4096 else chance.randint(1, 8))
         flags = chance.choice([0, 0, 0, 0, 1, 2, 3, 4])
         self.version = chance.choice([1, 2])
-        self.words[0:9] = [0x408305DC, self.version, len(self.words), self.page, 7, 1, flags, 16, QUEUE]
-        self.words[12:16] = [4, 1, 0, QUEUE]
-        self.free = 16
-        self.tail = QUEUE
+        super().__init__(size, page, self.version, flags)
         self.histograms = []
         self.samples = []
-
-    def store(self, at, *words):
-        """Stores what of the words lies in the segment."""
-        for index, word in enumerate(words, at):
-            if index < len(self.words):
-                self.words[index] = word % 2**64
-
-    def block(self, payload, tag):
-        """A new block, or None where it does not fit."""
-        size = payload + 4
-        room = self.page - self.free % self.page
-        if size > room:
-            if room >= 5 and self.free < len(self.words):
-                self.store(self.free, room, 2**64 - 1)
-            if self.free + room > len(self.words):
-                return None
-            self.free += room
-            room = self.page
-        if size > room or self.free + size > len(self.words):
-            return None
-        size = room if room - size < 5 else size
-        at = self.free
-        self.store(at, size, BLOCK_COOKIE, tag)
-        self.free += size
-        return at
-
-    def publish(self, at):
-        self.store(self.tail + 3, at)
-        self.store(at + 3, QUEUE)
-        self.tail = at
 
     def spec(self, kind):
         """The three numbers of a spec, and a custom one's ranges."""
@@ -108,7 +86,7 @@ class Forge:
         spec, ranges = self.spec(kind)
         padding = bytes(-len(name) % 8) if chance.random() < 0.8 else b"\xff" * (-len(name) % 8)
         name_words = struct.unpack(f"<{(len(name) + 7) // 8}Q", name + padding)
-        at = self.block(11 + len(name_words) + len(ranges), 1)
+        at = self.block(15 + len(name_words) + len(ranges), HISTOGRAM)
         if at is None:
             return None
         record = Record(at, kind, name, spec[2])
@@ -132,7 +110,7 @@ class Forge:
         if shared and chance.random() < 0.3:
             record.counts = chance.choice(shared)
         elif chance.random() < 0.7:
-            record.counts = self.block(2 * n, 2) or 0
+            record.counts = self.block(4 + 2 * n, COUNTS) or 0
         bucket, units = chance.randrange(n), chance.choice([1, 7, 65_535])
         packed, disabled, nothing_packed = self.single_words(bucket, units)
         single = chance.choice([0, packed, disabled, disabled, nothing_packed])
@@ -163,7 +141,7 @@ class Forge:
         """A sample of a sparse histogram, where there is one and room."""
         chance = self.chance
         owners = [record.at for record in self.histograms if record.kind == SPARSE]
-        at = self.block(4, 3) if owners else None
+        at = self.block(8, SAMPLE) if owners else None
         if at is not None:
             count = chance.choice([0, 1, 4, MOST_UNITS])
             mark = chance.choice([0, 0, count, count // 2])
@@ -173,13 +151,9 @@ class Forge:
 
     def other(self):
         """A block of a type that readers pass over."""
-        at = self.block(1, self.chance.choice([0, 2, 4, 2**64 - 1]))
+        at = self.block(5, self.chance.choice([0, 2, 4, 2**64 - 1]))
         if at is not None:
             self.publish(at)
-
-    def bytes(self):
-        self.store(7, self.free, self.tail)
-        return struct.pack(f"<{len(self.words)}Q", *self.words)
 
 
 def small_block(forge, record):

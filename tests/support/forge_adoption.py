@@ -3,7 +3,7 @@
 `image_of(chance)` gives the bytes of one; the same random numbers give the same bytes.
 """
 
-from support import forge
+from support import forge, layout
 
 MOST_COUNT = 70_000
 SMALLER = 2**28
@@ -32,7 +32,7 @@ class Forge(forge.Forge):
         super().samples_of(record)
         at, n, counts = record.at, record.n, record.counts
         if any(other.counts == counts for other in self.histograms):
-            record.counts, single = 0, self.words[at + 9] % forge.TOP
+            record.counts, single = 0, self.words[at + 9] % layout.TOP
             self.store(at + 8, 0, single, min(self.words[at + 10], single % 2**32))
         elif counts:
             self.settle(record)
@@ -46,8 +46,8 @@ class Forge(forge.Forge):
         single = self.words[at + 9]
         for bucket in range(n):
             place = counts + 4 + bucket
-            count = min(self.words[place], MOST_COUNT) if single >= forge.TOP else 0
-            named = single not in (0, forge.TOP) and single % forge.TOP // 2**32 == bucket
+            count = min(self.words[place], MOST_COUNT) if single >= layout.TOP else 0
+            named = single not in (0, layout.TOP) and single % layout.TOP // 2**32 == bucket
             self.store(place, count)
             self.store(place + n, 0 if named else min(self.words[place + n], count))
             if named:
@@ -60,7 +60,7 @@ class Forge(forge.Forge):
         self.store(at + 11, total, mark, min(self.words[at + 13], units + 1))
 
     def signed(self, word):
-        return word - 2**64 if word >= forge.TOP else word
+        return word - 2**64 if word >= layout.TOP else word
 
     def sample(self):
         """A later sample of a value counts nothing."""
@@ -111,14 +111,14 @@ def too_little_room(made):
 def another_tail(made):
     """No record, or one that is not the last, as a stop may leave it."""
     listed = [record.at for record in made.histograms + made.samples]
-    made.tail = made.chance.choice([0, 13, made.tail + 1, 2**64 - 1, made.free, forge.QUEUE, made.chance.choice(listed)])
+    made.tail = made.chance.choice([0, 13, made.tail + 1, 2**64 - 1, made.free, layout.QUEUE, made.chance.choice(listed)])
 
 
 def later_sample(made):
     """One more sample of a value, with a count, with a mark, or with neither."""
     if made.samples:
         first = made.chance.choice(made.samples).at
-        at = made.block(4, 3)
+        at = made.block(8, layout.SAMPLE)
         if at is not None:
             count, mark = made.chance.choice([(0, 0), (1, 0), (1, 1), (7, 7)])
             made.store(at + 4, *made.words[first + 4 : first + 6], count, mark)
@@ -136,7 +136,7 @@ def unpadded_name(made):
 def unused_counts(made):
     """A count, or a count and its mark, where the single word is not frozen."""
     record = made.chance.choice(made.histograms)
-    if record.counts and made.words[record.at + 9] < forge.TOP:
+    if record.counts and made.words[record.at + 9] < layout.TOP:
         bucket = made.chance.randrange(record.n)
         made.store(record.counts + 4 + bucket, 1)
         made.store(record.counts + 4 + record.n + bucket, made.chance.choice([0, 1]))
@@ -153,9 +153,9 @@ def much_used(made):
     at = made.chance.choice(made.histograms).at
     other = made.chance.choice(made.histograms).at
     ways = {
-        13: [forge.MOST_UNITS, forge.MOST_UNITS + 1, 2**64 - 1],
-        11: [forge.MOST_SUM, 2**31 * 2**30, -forge.MOST_SUM],
-        12: [forge.MOST_SUM, -(2**31) * 2**30],
+        13: [layout.MOST_UNITS, layout.MOST_UNITS + 1, 2**64 - 1],
+        11: [layout.MOST_SUM, 2**31 * 2**30, -layout.MOST_SUM],
+        12: [layout.MOST_SUM, -(2**31) * 2**30],
     }
     for record in (at, other):
         place = made.chance.choice(list(ways))

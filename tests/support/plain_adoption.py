@@ -6,10 +6,8 @@ It follows the text of the format one sentence at a time. It reads by the plain 
 import collections
 import struct
 
+from support.layout import HISTOGRAM, MOST_UNITS, QUEUE, SAMPLE, SPARSE, TOP
 from support.plain_reader import (
-    MOST_UNITS,
-    QUEUE,
-    TOP,
     ImageFault,
     check_header,
     name_of,
@@ -18,8 +16,6 @@ from support.plain_reader import (
 )
 
 FROZEN = 2
-HISTOGRAM, SAMPLE = 1, 3
-SPARSE = 4
 AMOUNT_OF_UNIT = 2**31
 MOST_CURSORS = 8
 

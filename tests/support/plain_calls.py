@@ -4,17 +4,14 @@ It is written after docs/FORMAT.md and shares nothing with the program. A call i
 event found. The events of a delta or a snapshot are not told here: no event of theirs is an exchange.
 """
 
-from support.plain_reader import TOP
+from support.layout import BLOCK_COOKIE as CLAIMED
+from support.layout import BLOCK_HEADER as HEADER
+from support.layout import COOKIE, CORRUPT, FLAGS, FREE, FULL, HISTOGRAM, NEXT, QUEUE, SAMPLE, SIZE, TAIL, TOP, TYPE, WASTED, WORD
+from support.layout import COUNTS as OF_COUNTS
 from support.plain_tally import Histogram, boundaries_of
 
-FLAGS, FREE, TAIL, QUEUE = 6, 7, 8, 12
-SIZE, COOKIE, TYPE, NEXT, HEADER = 0, 1, 2, 3, 4
 COUNTS, SINGLE, SUM, REDUNDANT, LENGTH, NAME = 8, 9, 11, 13, 14, 15
-CLAIMED, WASTED = 0xC8799269, 2**64 - 1
-HISTOGRAM, OF_COUNTS, SAMPLE = 1, 2, 3
 KINDS = {"linear": 1, "boolean": 2, "custom": 3, "sparse": 4}
-CORRUPT, FULL = 1, 2
-WORD = 2**64
 
 
 def load(at):

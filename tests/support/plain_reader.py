@@ -10,20 +10,16 @@ prints the report of the image, or its fault on the error stream; without FILE i
 """
 
 import collections
+import pathlib
 import struct
 import sys
 
-MOST_BYTES = 8_388_608
-MOST_WORDS = 1_048_576
-SEGMENT_COOKIE = 0x408305DC
-BLOCK_COOKIE = 0xC8799269
-QUEUE = 12
-GREATEST = 2_147_483_647
-MOST_UNITS = 2**32 - 1
-MOST_SUM = 2**31 * MOST_UNITS
+sys.path.insert(0, str(pathlib.Path(__file__).resolve().parents[1]))
+from support.layout import BLOCK_COOKIE, GREATEST, MOST_SUM, MOST_UNITS, MOST_WORDS, QUEUE, SEGMENT_COOKIE, TOP
+
+MOST_BYTES = 8 * MOST_WORDS
 MOST_PACKED = 65_535
 NOTHING_PACKED = 65_535
-TOP = 2**63
 KINDS = {1: "linear", 2: "boolean", 3: "custom", 4: "sparse"}
 
 RULES = """

@@ -5,6 +5,7 @@ It is written after docs/FORMAT.md, "The picture of a replayed schedule", and sh
 
 import csv
 
+from support.layout import COUNTS, HISTOGRAM, SAMPLE
 from support.plain_calls import Calls
 from support.plain_reader import signed
 from support.seeded_schedules import Schedule
@@ -12,7 +13,6 @@ from support.seeded_schedules import Schedule
 COLUMN = 32
 HEADER = {6: "flags", 7: "free", 8: "tail", 15: "queue.next"}
 COMMON = ["size", "cookie", "type", "next"]
-HISTOGRAM, COUNTS, SAMPLE = 1, 2, 3
 FIELDS = {
     HISTOGRAM: [*COMMON, "kind", "min", "max", "buckets", "counts", "single", "single_mark", "sum", "sum_mark", "redundant", "name_length"],
     SAMPLE: [*COMMON, "histogram", "value", "count", "mark"],

@@ -49,6 +49,12 @@ def answer(program, words, data=b"", **settings):
     return Answer(done.stdout or b"", done.stderr or b"", done.returncode)
 
 
+def untried(why, options):
+    """The case of what can't be tried on this machine: it fails, unless the options allow that."""
+    print(f"NOT TRIED: {why}", flush=True)
+    return "what can't be tried here", None if options.allow_untried else f"{why}; --allow-untried leaves it out"
+
+
 def content(path):
     """The bytes of a file; None where there is none."""
     return path.read_bytes() if path.is_file() else None

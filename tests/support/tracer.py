@@ -34,9 +34,10 @@ READ, WRITE, CLOSE, MAP, BREAK, REMAP, CLONE, CLONE_3, EXIT = 0, 1, 3, 9, 12, 25
 GROWTHS = (MAP, BREAK, REMAP)
 # The C library asks the system for each allocation by itself, and keeps none for threads.
 EACH_BY_ITSELF = {"MALLOC_MMAP_THRESHOLD_": "0", "MALLOC_TOP_PAD_": "0", "MALLOC_ARENA_MAX": "1"}
-SYNC, CHANGE_MODE, OPEN_AT, RANDOM = 74, 91, 257, 318
+LOCK, SYNC, CHANGE_MODE, OPEN_AT, RANDOM = 73, 74, 91, 257, 318
 RENAMES = (82, 264, 316)
 OUTPUT = "standard output"
+NOT_ALLOWED = "no program may be traced here"
 
 
 class Call(ctypes.Structure):

@@ -20,7 +20,8 @@ pub use complaint::{Complaint, Form, complaint_of};
 pub use field::Wanted;
 pub use header::{wanted_of, word_of};
 pub use lines::{
-    Origin, Source, device_lines, image_lines, remedy_lines, script_lines, size_lines,
+    Origin, Source, device_lines, image_lines, remedy_lines, remedy_lines_of, script_lines,
+    size_lines,
 };
 pub use place::{Place, is_named, line_of, place_of};
 pub use script::{Finding, finding_of};

@@ -44,13 +44,18 @@ fn text_of_line(line: &str) -> Option<FaultText<'static>> {
     line.rsplit(' ').find_map(text_of)
 }
 
-/// What a fault means, and what to do.
-pub fn remedy_lines(alloc: Global, fault: &CliFault) -> Result<String, AllocError> {
-    let line: String = format!(in alloc; "{fault}")?;
-    match text_of_line(line.as_str()) {
+/// What a fault means by the words of its line, and what to do.
+pub fn remedy_lines_of(alloc: Global, line: &str) -> Result<String, AllocError> {
+    match text_of_line(line) {
         None => Ok(String::new(alloc)),
         Some(text) => format!(in alloc; "  {}\n  {}\n", text.meaning, text.remedy),
     }
+}
+
+/// What a fault means, and what to do.
+pub fn remedy_lines(alloc: Global, fault: &CliFault) -> Result<String, AllocError> {
+    let line: String = format!(in alloc; "{fault}")?;
+    remedy_lines_of(alloc, line.as_str())
 }
 
 /// The file of a device that failed, and the system's reason, where it gave one.

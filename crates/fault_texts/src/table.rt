@@ -59,7 +59,7 @@ pub fn text_of(name: &str) -> Option<FaultText<'static>>
 
 /// Each fault by its name, with what it means and what to do: those of the program, of the header of an image, of what is
 /// refused, of specs, and of the lines of a report that begin with `!`.
-pub const TEXTS: [(&str, &str, &str); 48] = [
+pub const TEXTS: [(&str, &str, &str); 49] = [
     (
         "Read",
         "An input cannot be opened, or a read of it failed.",
@@ -69,6 +69,11 @@ pub const TEXTS: [(&str, &str, &str); 48] = [
         "Write",
         "An output cannot be opened or written, or the new file cannot take OUT's name.",
         "Look at the system's reason: has the device room, and may you write in OUT's folder? A file OUT is as it was.",
+    ),
+    (
+        "Busy",
+        "A process has the lock of OUT: it counts in that file, or writes it. It was tried for 100 ms, and nothing was written.",
+        "Let that process end, or give OUT another name. To read a file that a program counts in, take its image by `extract FILE OUT`.",
     ),
     (
         "TooLong",

@@ -23,18 +23,18 @@ use Rattle.segment_machine.specs.Note.{MayNote, SawAll, TookAll, noted, begins}
 use Rattle.segment_machine.specs.Seats.{giver}
 use Rattle.segment_machine.specs.declared.actor.Answered.{Answered}
 use Rattle.segment_machine.specs.declared.actor.Known.{Known as MachineKnown}
-use Rattle.hist_core.specs.StepsBy.{DoesOnly, StepsBy, HasMet, IsFree}
-use Rattle.hist_core.specs.Add.{HasMetNoCounts, IsAdd, alone, block_words, counted_entry, IsStarted}
-use Rattle.hist_core.specs.Add.{links_counted as add_links}
+use Rattle.hist_core.specs.StepsBy.{Deed, DoesOnly, StepsBy, HasMet, IsFree}
+use Rattle.hist_core.specs.Add.{NeedsBlock, IsAdd, alone, block_words, counted_entry, IsStarted}
+use Rattle.hist_core.specs.Add.{serves_counted as add_serves}
 use Rattle.hist_core.specs.Batch.{IsBatch, IsSameBatch, counted_entries}
-use Rattle.hist_core.specs.Batch.{links_counted as batch_links}
+use Rattle.hist_core.specs.Batch.{serves_counted as batch_serves, sample_of}
 use Rattle.hist_core.specs.declared.batch.Batch.{Batch as BatchCall}
 use Rattle.hist_core.specs.declared.batch.BatchStep.{BatchStep}
 use Rattle.hist_core.specs.declared.batch.BatchStep.TheVariants as batch
 use Rattle.hist_core.specs.declared.add.Add.{Add as AddCall}
 use Rattle.hist_core.specs.declared.add.AddStep.{AddStep}
 use Rattle.hist_core.specs.declared.add.AddStep.TheVariants as add
-use Rattle.hist_core.specs.Hist.{IsHist, IsBegun, IsCause as IsHistCause, links_asked}
+use Rattle.hist_core.specs.Hist.{IsHist, IsBegun, IsCause as IsHistCause, serves_asked}
 use Rattle.hist_core.specs.Making.{IsCause, is_full}
 use Rattle.hist_core.specs.SnapshotCall.{IsSnapshotCall, IsStarted as IsSnapshotCallStarted, LooksAnew}
 use Rattle.segment_calls.specs.declared.answer.Snapshot.{Snapshot as SnapshotAnswer}
@@ -288,18 +288,19 @@ pub record IsTook (histogram : ℕ) (delta : DeltaAnswer) (a : Actor) : Type 0 w
   pub sum : delta.sum ≡ last.sum
   pub took : TookAll a known
 
--- A call that counts in the histogram of a record is refused the block that it needs there: its counts, or the sample of a value. Its actor
--- has met no counts, behind which alone units of another call are moved: so it has moved nothing.
-abbrev pub LacksBlock : ℕ → Refusal → Actor → Actor → Type 0
-LacksBlock histogram cause a b =
-    (known : MachineKnown) × Contains b.answers.names known × (known.reference ≡ histogram) × IsCause cause (block_words known) a b × HasMetNoCounts known b
+-- Units that are to be counted in the histogram of a record are refused the block that they need there: its counts, or the sample of a value.
+-- Their actor has met no counts, behind which alone units of another call are moved: so it has moved nothing.
+abbrev pub LacksBlock : ℕ → ℤ × ℕ → Refusal → Actor → Actor → Type 0
+LacksBlock histogram sample cause a b =
+    (known : MachineKnown) × Contains b.answers.names known × (known.reference ≡ histogram) × IsCause cause (block_words known) a b × NeedsBlock known sample b
 
--- Why a running call is refused, by its last event: the block that it needs is refused; or its actor has seen that the first record of the
--- name that a `hist` asks for has another spec. No other call is.
+-- Why a running call is refused, by its last event: the block that it needs is refused, a batch that of its next item; or its actor has seen
+-- that the first record of the name that a `hist` asks for has another spec. No other call is.
 abbrev pub IsRefusedBy : Option Running → Refusal → Actor → Actor → Type 0
 IsRefusedBy (Some (Hist hist)) cause a b = IsHistCause hist.asked.name.items hist.asked.spec cause a b
-IsRefusedBy (Some (Add add)) cause a b = LacksBlock add.histogram cause a b
-IsRefusedBy (Some (Batch batch)) cause a b = LacksBlock batch.histogram cause a b
+IsRefusedBy (Some (Add add)) cause a b = LacksBlock add.histogram (add.value, add.units) cause a b
+IsRefusedBy (Some (Batch batch)) cause a b =
+    (sample : ℤ × ℕ) × (get_elem? (map sample_of batch.items.items) batch.added ≡ some sample) × LacksBlock batch.histogram sample cause a b
 IsRefusedBy running cause a b = ⊥
 
 -- where its actor lands whose call is refused: it gives the units back that are left of it
@@ -333,17 +334,19 @@ lacks_room (Done (answer.Refused cause)) = is_full cause
 lacks_room (Done (answer.BatchRefused refusal)) = is_full refusal.why
 lacks_room said = false
 
--- the records that a running call may link: a `hist` one of the name and the spec that it asks for, and a call that counts a sample of a
--- value that it counts, in its histogram
-abbrev pub MayLink : Option Running → Made → Type 0
-MayLink (Some (Hist hist)) made = links_asked hist made
-MayLink (Some (Add add)) made = add_links add made
-MayLink (Some (Batch batch)) made = batch_links batch made
-MayLink running made = ⊥
+-- What a running call of an actor may do: a `hist` makes a record of the name and the spec that it asks for; a call that counts makes a sample
+-- of a value that it counts, in its histogram, or claims the counts of that. Where it raises the free pointer, the actor has seen that it needs
+-- the block.
+abbrev pub Serves : Option Running → Actor → Deed → Type 0
+Serves (Some (Hist hist)) a deed = serves_asked hist a deed
+Serves (Some (Add add)) a deed = (known : MachineKnown) × Contains a.answers.names known × (known.reference ≡ add.histogram) × add_serves known add a deed
+Serves (Some (Batch batch)) a deed = (known : MachineKnown) × Contains a.answers.names known × (known.reference ≡ batch.histogram) × batch_serves known batch a deed
+Serves running a deed = ⊥
 
--- Its event sets the corrupt flag only with `Flagged`, and the full one only with a refusal `Full`; and links a record that its call is for.
+-- Its event sets the corrupt flag only with `Flagged`, and the full one only with a refusal `Full`; a record that it links is one that its
+-- call is for, and the block for which it raises the free pointer is the one that its call needs.
 abbrev pub DoesAsSaid : Option Running → Stepped → Actor → Actor → Type 0
-DoesAsSaid running said a b = DoesOnly (is_flagged said) (lacks_room said) (MayLink running) a b
+DoesAsSaid running said a b = DoesOnly (is_flagged said) (lacks_room said) (Serves running a) a b
 
 -- It goes on by one event, as the actor does for which it stands.
 abbrev pub Advances : Dimensions → ℕ → ActorRun → List ℕ → ActorRun → List ℕ → Stepped → Actor → Type 0

@@ -38,8 +38,8 @@ use Rattle.hist_core.specs.declared.add.Stage.{Stage}
 use Rattle.hist_core.specs.declared.add.Stage.TheVariants.{LoadingSingle, Packing, LoadingCounts, SeekingCounts, Allocating, Mounting, Purging, LoadingAgain, Disabling, Moving, Sampling, Counting, Summing, Noting}
 use Rattle.segment_calls.specs.declared.refusal.Refusal.TheVariants as why
 use Rattle.hist_core.specs.Making.{IsCause, is_full}
-use Rattle.hist_core.specs.StepsBy.{DoesOnly, StepsBy, IsFree}
-use Rattle.hist_core.specs.Sampling.{IsSampling, IsStarted as BeginsToSearch}
+use Rattle.hist_core.specs.StepsBy.{Deed, links, raises, DoesOnly, StepsBy, IsFree}
+use Rattle.hist_core.specs.Sampling.{IsSampling, IsStarted as BeginsToSearch, SawNoSample}
 use Rattle.hist_core.specs.declared.sampling.SamplingStep.{SamplingStep}
 use Rattle.hist_core.specs.declared.sampling.SamplingStep.TheVariants as found
 
@@ -142,16 +142,32 @@ abbrev pub HasMetNoCounts : Known → Actor → Type 0
 HasMetNoCounts known a =
     has_buckets known.spec ≡ true → (counts : ℕ) → word_seen a.seen.words (known.reference + HISTOGRAM_COUNTS) ≡ Some counts → counts ≡ 0
 
+-- it has seen a single word that is not off and cannot take units of a value
+abbrev pub CannotPack : Known → ℤ × ℕ → Actor → Type 0
+CannotPack known sample a = (word : ℕ) × HasSeenSingle known a word × (is_off word ≡ false)
+    × ((bucket packed : ℕ) → IsKeyOfBucket known bucket (key_of (boundaries_of known.spec) sample.0) → IsPacking bucket sample.1 word packed → ⊥)
+
+-- A histogram with buckets needs counts for units of a value: a single word that was seen cannot take them, and a counts reference was loaded
+-- that was 0; no other was met.
+abbrev pub NeedsCounts : Known → ℤ × ℕ → Actor → Type 0
+NeedsCounts known sample a = CannotPack known sample a × Contains a.seen.ends (known.reference + HISTOGRAM_COUNTS) × HasMetNoCounts known a
+
+-- Units of a value need a block: with buckets the counts; of a sparse histogram a sample, where the list was seen to its end, and on it none of
+-- the value.
+pub record NeedsBlock (known : Known) (sample : ℤ × ℕ) (a : Actor) : Type 0 where
+  pub counts : has_buckets known.spec ≡ true → NeedsCounts known sample a
+  pub value : known.spec ≡ spec.Sparse → SawNoSample known.reference sample.0 a.seen
+
 -- Where its actor stands, whose units are not counted yet.
 abbrev pub StandsBefore : Dimensions → Known → Add → Actor → Stage → Type 0
 StandsBefore shape known add a LoadingSingle = MayTurn a
 StandsBefore shape known add a (Packing old new) =
     ((counts : ℕ) × Looks known a old counts) × (is_off old ≡ false) × IsPacking add.bucket add.units old new
 StandsBefore shape known add a LoadingCounts = (word counts : ℕ) × Looks known a word counts × HasSeenSingle known a word × (is_off word ≡ true)
-StandsBefore shape known add a SeekingCounts = MayTurn a
+StandsBefore shape known add a SeekingCounts = MayTurn a × CannotPack known (add.value, add.units) a
 StandsBefore shape known add a (Allocating allocation) =
     Allocates a allocation × (is_some (alloc.next_event allocation) ≡ true) × (allocation.tag ≡ TYPE_COUNTS)
-    × (allocation.size ≡ BLOCK_HEADER + 2 * add.buckets) × HasMetNoCounts known a
+    × (allocation.size ≡ BLOCK_HEADER + 2 * add.buckets) × NeedsCounts known (add.value, add.units) a
 StandsBefore shape known add a (Mounting at) = MayTurn a × HasBlock shape add a at
 StandsBefore shape known add a (Purging at counts) =
     AreCounts shape add counts × (a.hand.place ≡ Losing (record { histogram = known.reference; single = None; counts = counts }) at)
@@ -202,26 +218,27 @@ pub record FrameOfAdd (a b : Actor) : Type 0 where
   pub chain : IsPrefix a.seen.chain b.seen.chain
   pub words : (more : List Sighting) × (b.seen.words ≡ a.seen.words ++ more)
 
--- the record that it may link: the sample of its value in its histogram
-abbrev pub links_counted : Add → Made → Type 0
-links_counted add made = made ≡ Sample add.histogram add.value
-
 -- the words of the block that counting in a histogram may need: its counts and their marks, or the sample of a value
 abbrev pub block_words : Known → ℕ
 block_words known = if has_buckets known.spec then BLOCK_HEADER + 2 * buckets_of known.spec else SAMPLE_LEAST
+
+-- what it may do: it links the sample of its value in its histogram, and raises the free pointer for the block that it needs
+abbrev pub serves_counted : Known → Add → Actor → Deed → Type 0
+serves_counted known add a (links made) = made ≡ Sample add.histogram add.value
+serves_counted known add a (raises words) = (words ≡ block_words known) × NeedsBlock known (add.value, add.units) a
 
 -- while it goes on: units and log are as before
 abbrev pub StaysOpen : Actor → Actor → Type 0
 StaysOpen a b = (b.units ≡ a.units) × (b.entries ≡ record a.entries { running = b.entries.running })
 
--- What a step says: it goes on; all of its entry has happened; or its block is refused, and nothing has happened, and it has met no counts.
+-- What a step says: it goes on; all of its entry has happened; or the block that it needs is refused, and nothing has happened.
 -- Its actor may turn to another entry or another call then.
 abbrev pub AddGives : Dimensions → Known → Amid → Add → AddStep → Actor → Actor → Type 0
-AddGives shape known amid new More a b = FrameOfAdd a b × StaysOpen a b × DoesOnly false false (links_counted new) a b × IsAdd shape known amid new b
-AddGives shape known amid new Done a b = FrameOfAdd a b × StaysOpen a b × DoesOnly false false (links_counted new) a b × IsFree b × HasEnded known amid new b
+AddGives shape known amid new More a b = FrameOfAdd a b × StaysOpen a b × DoesOnly false false (serves_counted known new a) a b × IsAdd shape known amid new b
+AddGives shape known amid new Done a b = FrameOfAdd a b × StaysOpen a b × DoesOnly false false (serves_counted known new a) a b × IsFree b × HasEnded known amid new b
 AddGives shape known amid new (Refused cause) a b =
-    FrameOfAdd a b × StaysOpen a b × DoesOnly false (is_full cause) (links_counted new) a b × IsFree b × IsCause cause (block_words known) a b
-    × HasEntry known amid new b false false × HasMetNoCounts known b
+    FrameOfAdd a b × StaysOpen a b × DoesOnly false (is_full cause) (serves_counted known new a) a b × IsFree b × IsCause cause (block_words known) a b
+    × HasEntry known amid new b false false × NeedsBlock known (new.value, new.units) b
 
 -- what a step makes of the words, and of whatever actor stands so
 abbrev pub AddSteps : Add → List ℕ → Add → List ℕ → AddStep → Type 0

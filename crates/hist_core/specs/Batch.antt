@@ -1,6 +1,8 @@
 -- A `batch` that is going on.
 use Rattle.std.specs.Prelude.{◌≡◌, true, false, ◌⊎◌, ◌&&◌, Some, ◌==◌, if◌then◌else◌, ℕ, ◌+◌, ◌-◌, ◌≤◌, ◌<◌, ⊤, ℤ, pos, List, [], ◌∷◌, ◌++◌, length, map, take, drop, sum_by, vec_len}
 use Rattle.std.specs.List.{All, Contains}
+use mathlib.Core.Option.{some}
+use lib.ListN.{get_elem?}
 use Rattle.std.specs.Ordering.{int_eq}
 use Rattle.segment_image.specs.declared.layout.TheConstants.{HISTOGRAM_NAME}
 use Rattle.segment_image.specs.Shape.{Dimensions}
@@ -21,9 +23,9 @@ use Rattle.hist_core.specs.declared.add.AddStep.TheVariants as said
 use Rattle.hist_core.specs.declared.batch.Batch.{Batch}
 use Rattle.hist_core.specs.declared.batch.BatchStep.{BatchStep}
 use Rattle.hist_core.specs.declared.batch.BatchStep.TheVariants.{More, Done, Refused}
-use Rattle.hist_core.specs.Add.{Amid, IsAdd, IsCounting, FrameOfAdd, HasMetNoCounts, StaysOpen, block_words, counted_entry, ended_entry, OpensWith}
+use Rattle.hist_core.specs.Add.{Amid, IsAdd, IsCounting, FrameOfAdd, NeedsBlock, StaysOpen, block_words, counted_entry, ended_entry, OpensWith}
 use Rattle.hist_core.specs.Making.{IsCause, is_full}
-use Rattle.hist_core.specs.StepsBy.{DoesOnly, StepsBy, IsFree}
+use Rattle.hist_core.specs.StepsBy.{Deed, links, raises, DoesOnly, StepsBy, IsFree}
 
 -- ---- what it counts
 
@@ -123,18 +125,24 @@ pub record IsCutAt (added : ℕ) (entries : List Entry) (a : Actor) : Type 0 whe
   pub untouched : All (λ c. is_untouched c ≡ true) (drop added a.entries.running)
   pub unsummed : All (λ c. c.summed ≡ false) (take added a.entries.running)
 
--- the records that it may link: a sample of the value of an item in its histogram
-abbrev pub links_counted : Batch → Made → Type 0
-links_counted batch made = (sample : ℤ × ℕ) × Contains (map sample_of batch.items.items) sample × (made ≡ Sample batch.histogram sample.0)
+-- what it may do: it links a sample of the value of an item in its histogram, and raises the free pointer for a block that an item needs
+abbrev pub serves_counted : Known → Batch → Actor → Deed → Type 0
+serves_counted known batch a (links made) = (sample : ℤ × ℕ) × Contains (map sample_of batch.items.items) sample × (made ≡ Sample batch.histogram sample.0)
+serves_counted known batch a (raises words) =
+    (words ≡ block_words known) × ((sample : ℤ × ℕ) × Contains (map sample_of batch.items.items) sample × NeedsBlock known sample a)
 
--- What a step says: it goes on; all of it is counted; or the block of its next item is refused, and it has met no counts. Its actor may turn to another
--- call then.
+-- the item behind so many needs a block
+abbrev pub NextNeedsBlock : Known → Batch → ℕ → Actor → Type 0
+NextNeedsBlock known batch added a = (sample : ℤ × ℕ) × (get_elem? (map sample_of batch.items.items) added ≡ some sample) × NeedsBlock known sample a
+
+-- What a step says: it goes on; all of it is counted; or the block that its next item needs is refused. Its actor may turn to another call
+-- then.
 abbrev pub BatchGives : Dimensions → Known → Batch → BatchStep → Actor → Actor → Type 0
-BatchGives shape known new More a b = FrameOfAdd a b × StaysOpen a b × DoesOnly false false (links_counted new) a b × IsBatch shape known new b
-BatchGives shape known new Done a b = FrameOfAdd a b × StaysOpen a b × DoesOnly false false (links_counted new) a b × IsFree b × HaveEnded (counted_entries known new) b
+BatchGives shape known new More a b = FrameOfAdd a b × StaysOpen a b × DoesOnly false false (serves_counted known new a) a b × IsBatch shape known new b
+BatchGives shape known new Done a b = FrameOfAdd a b × StaysOpen a b × DoesOnly false false (serves_counted known new a) a b × IsFree b × HaveEnded (counted_entries known new) b
 BatchGives shape known new (Refused refusal) a b =
-    FrameOfAdd a b × StaysOpen a b × DoesOnly false (is_full refusal.why) (links_counted new) a b × IsFree b × IsCause refusal.why (block_words known) a b × IsCutAt refusal.added (counted_entries known new) b
-    × (refusal.added ≤ length new.items.items) × (new.left + units_among (take refusal.added new.items.items) ≡ new.cost) × HasMetNoCounts known b
+    FrameOfAdd a b × StaysOpen a b × DoesOnly false (is_full refusal.why) (serves_counted known new a) a b × IsFree b × IsCause refusal.why (block_words known) a b × IsCutAt refusal.added (counted_entries known new) b
+    × (refusal.added ≤ length new.items.items) × (new.left + units_among (take refusal.added new.items.items) ≡ new.cost) × NextNeedsBlock known new refusal.added b
 
 -- what a step makes of the words, and of whatever actor stands so
 abbrev pub BatchSteps : Batch → List ℕ → Batch → List ℕ → BatchStep → Type 0

@@ -25,7 +25,7 @@ use Rattle.segment_calls.specs.declared.asked.Asked.{Asked}
 use Rattle.hist_core.specs.declared.hist.Hist.{Hist}
 use Rattle.hist_core.specs.declared.hist.HistStep.{HistStep}
 use Rattle.hist_core.specs.declared.hist.HistStep.TheVariants.{More, Done, Refused}
-use Rattle.hist_core.specs.StepsBy.{DoesOnly, FrameOfStep, StepsBy, IsFree}
+use Rattle.hist_core.specs.StepsBy.{Deed, links, raises, DoesOnly, FrameOfStep, SawEnd, StepsBy, IsFree}
 use Rattle.hist_core.specs.declared.hist.Stage.{Stage}
 use Rattle.hist_core.specs.declared.hist.Stage.TheVariants.{Walking, Comparing, Making}
 use Rattle.hist_core.specs.declared.making.MakingStep.{MakingStep}
@@ -111,13 +111,14 @@ IsDifferent old k new (Refused cause) = (old.letters + 2 ≤ k) × (new ≡ old)
 abbrev pub HaveOtherNames : Hist → Actor → List ℕ → Type 0
 HaveOtherNames h a records = All (SawOtherName a.seen h.asked.name.items) records
 
--- Where its actor stands, whose walk has given these records: none of them has the name, but for the last while it is compared.
+-- Where its actor stands, whose walk has given these records: none of them has the name, but for the last while it is compared. While it
+-- makes its record these are all that it has met, up to the end of the list.
 abbrev pub StandsAtStage : Dimensions → Hist → Actor → List ℕ → Stage → Type 0
 StandsAtStage shape h a given Walking = IsFree a × HaveOtherNames h a given
 StandsAtStage shape h a given (Comparing same) =
     IsFree a × ((front : List ℕ) × (given ≡ front ++ h.reference ∷ []) × HaveOtherNames h a front)
     × Reaches shape.size h same × (same < comparisons h) × AreSame a.seen h same
-StandsAtStage shape h a given (Making making) = HaveOtherNames h a given × IsMaking shape (wanted_of h) making a
+StandsAtStage shape h a given (Making making) = (given ≡ a.seen.chain) × SawEnd a.seen × HaveOtherNames h a given × IsMaking shape (wanted_of h) making a
 
 -- Its walk has given the front of the chain that its actor has seen.
 pub record IsHist (shape : Dimensions) (h : Hist) (a : Actor) : Type 0 where
@@ -135,27 +136,34 @@ abbrev pub HasOtherSpec : List ℕ → Spec → Seen → Type 0
 HasOtherSpec name spec seen =
     (at : ℕ) × (letters : List ℕ) × IsFirstNamed seen name at × AreNameWords name letters × SawOtherSpec seen spec (length letters) at
 
--- the record of a name and a spec is refused, which has so many words
+-- it has seen the list to its end, and that no record of it has a name
+abbrev pub SawNone : List ℕ → Seen → Type 0
+SawNone name seen = All (SawOtherName seen name) seen.chain × SawEnd seen
+
+-- No record of a name is on the list, and that of the name and a spec is refused, which has so many words.
 abbrev pub LacksRecord : List ℕ → Spec → Refusal → Actor → Actor → Type 0
 LacksRecord name spec cause a b =
-    (letters : List ℕ) × AreNameWords name letters × making.IsCause cause (BLOCK_HEADER + length (payload_words name spec letters)) a b
+    SawNone name b.seen × (letters : List ℕ) × AreNameWords name letters × making.IsCause cause (BLOCK_HEADER + length (payload_words name spec letters)) a b
 
 -- why a `hist` of a name and a spec is refused: for that, or for what refuses its record
 abbrev pub IsCause : List ℕ → Spec → Refusal → Actor → Actor → Type 0
 IsCause name spec cause a b = LacksRecord name spec cause a b ⊎ ((cause ≡ why.OtherSpec) × HasOtherSpec name spec b.seen)
 
--- the record that it may link: of the name and the spec that it asks for
-abbrev pub links_asked : Hist → Made → Type 0
-links_asked h made = made ≡ made_of h
+-- what it may do: it makes the record of the name and the spec that it asks for, where its actor has seen none of the name
+abbrev pub serves_asked : Hist → Actor → Deed → Type 0
+serves_asked h a (links made) = made ≡ made_of h
+serves_asked h a (raises words) =
+    SawNone h.asked.name.items a.seen
+    × ((letters : List ℕ) × AreNameWords h.asked.name.items letters × (words ≡ BLOCK_HEADER + length (payload_words h.asked.name.items h.asked.spec letters)))
 
 -- What a step says: it goes on; the record that was compared last, which lies in the segment, is the one that is asked for; or the call is
 -- refused, and its actor may turn to another.
 abbrev pub HistGives : Dimensions → Hist → HistStep → Actor → Actor → Type 0
-HistGives shape new More a b = FrameOfStep a b × DoesOnly false false (links_asked new) a b × IsHist shape new b
+HistGives shape new More a b = FrameOfStep a b × DoesOnly false false (serves_asked new a) a b × IsHist shape new b
 HistGives shape new Done a b =
-    FrameOfStep a b × DoesOnly false false (links_asked new) a b × IsFree b × MayNote b (knows (asked_of new)) × IsAsking shape new × (new.reference + HISTOGRAM_NAME ≤ shape.size)
+    FrameOfStep a b × DoesOnly false false (serves_asked new a) a b × IsFree b × MayNote b (knows (asked_of new)) × IsAsking shape new × (new.reference + HISTOGRAM_NAME ≤ shape.size)
 HistGives shape new (Refused cause) a b =
-    FrameOfStep a b × DoesOnly false (is_full cause) (links_asked new) a b × IsFree b × IsCause new.asked.name.items new.asked.spec cause a b
+    FrameOfStep a b × DoesOnly false (is_full cause) (serves_asked new a) a b × IsFree b × IsCause new.asked.name.items new.asked.spec cause a b
 
 -- what a step makes of the words, and of whatever actor stands so
 abbrev pub HistSteps : Hist → List ℕ → Hist → List ℕ → HistStep → Type 0

@@ -24,7 +24,7 @@ use Rattle.hist_core.specs.declared.making.MakingStep.{MakingStep}
 use Rattle.hist_core.specs.declared.making.MakingStep.TheVariants.{More, Done, Refused}
 use Rattle.hist_core.specs.declared.making.Stage.{Stage}
 use Rattle.hist_core.specs.declared.making.Stage.TheVariants.{Allocating, Filling, Publishing}
-use Rattle.hist_core.specs.StepsBy.{DoesOnly, FrameOfStep, StepsBy, IsFree}
+use Rattle.hist_core.specs.StepsBy.{Deed, links, raises, DoesOnly, FrameOfStep, SeesNoMore, StepsBy, IsFree}
 
 -- ---- what it makes
 
@@ -106,16 +106,17 @@ abbrev pub is_full : Refusal → Bool
 is_full why.Full = true
 is_full cause = false
 
--- the record that it may link
-abbrev pub links_wanted : Wanted → Made → Type 0
-links_wanted wanted made = made ≡ wanted.made
+-- what it may do: it links the record, and raises the free pointer for the block of that
+abbrev pub serves_wanted : Wanted → Deed → Type 0
+serves_wanted wanted (links made) = made ≡ wanted.made
+serves_wanted wanted (raises words) = words ≡ BLOCK_HEADER + wanted.room
 
 -- what a step says: it goes on; the record is on the list; or it is refused. Its actor may turn to another call then
 abbrev pub MakingGives : Dimensions → Wanted → Making → MakingStep → Actor → Actor → Type 0
-MakingGives shape wanted new More a b = FrameOfStep a b × DoesOnly false false (links_wanted wanted) a b × IsMaking shape wanted new b
-MakingGives shape wanted new Done a b = FrameOfStep a b × DoesOnly false false (links_wanted wanted) a b × IsFree b
+MakingGives shape wanted new More a b = FrameOfStep a b × DoesOnly false false (serves_wanted wanted) a b × SeesNoMore a b × IsMaking shape wanted new b
+MakingGives shape wanted new Done a b = FrameOfStep a b × DoesOnly false false (serves_wanted wanted) a b × IsFree b
 MakingGives shape wanted new (Refused cause) a b =
-    FrameOfStep a b × DoesOnly false (is_full cause) (links_wanted wanted) a b × IsFree b × IsCause cause (BLOCK_HEADER + wanted.room) a b
+    FrameOfStep a b × DoesOnly false (is_full cause) (serves_wanted wanted) a b × SeesNoMore a b × IsFree b × IsCause cause (BLOCK_HEADER + wanted.room) a b
 
 -- what a step makes of the words, and of whatever actor stands so
 abbrev pub MakingSteps : List ℕ → Making → List ℕ → Making → List ℕ → MakingStep → Type 0

@@ -13,6 +13,7 @@ use Rattle.segment_machine.specs.declared.actor.Known.{Known}
 use Rattle.segment_machine.specs.declared.actor.Made.{Made}
 use Rattle.segment_machine.specs.declared.actor.Made.TheVariants.{Sample}
 use Rattle.segment_machine.specs.Actor.{Sparse, word_seen}
+use Rattle.segment_machine.specs.declared.seen.Seen.{Seen}
 use Rattle.segment_machine.specs.Made.{IsFirstSample, SawOther}
 use Rattle.hist_core.specs.declared.making.MakingStep.{MakingStep}
 use Rattle.hist_core.specs.declared.making.MakingStep.TheVariants as made
@@ -21,7 +22,7 @@ use Rattle.hist_core.specs.declared.sampling.SamplingStep.{SamplingStep}
 use Rattle.hist_core.specs.declared.sampling.SamplingStep.TheVariants.{More, Found, Refused}
 use Rattle.hist_core.specs.declared.sampling.Stage.{Stage}
 use Rattle.hist_core.specs.declared.sampling.Stage.TheVariants.{Walking, LoadingType, LoadingHistogram, LoadingValue, Making}
-use Rattle.hist_core.specs.StepsBy.{DoesOnly, FrameOfStep, StepsBy, IsFree}
+use Rattle.hist_core.specs.StepsBy.{Deed, links, raises, DoesOnly, FrameOfStep, SawEnd, StepsBy, IsFree}
 use Rattle.hist_core.specs.Walk.{IsSample}
 use Rattle.hist_core.specs.Making.{IsCause, IsMaking, Wanted, is_full}
 
@@ -54,8 +55,13 @@ StandsAtStage shape s a behind (LoadingValue at of) =
     MetRecord shape s at a behind × IsSample shape at a × (word_seen a.seen.words (at + SAMPLE_HISTOGRAM) ≡ Some of)
 StandsAtStage shape s a behind (Making making) = HaveOthers s a behind × IsMaking shape (wanted_of s) making a
 
+-- it is making its sample
+abbrev pub IsMakingSample : Stage → Type 0
+IsMakingSample (Making making) = ⊤
+IsMakingSample _ = ⊥
+
 -- Its actor knows a sparse histogram there. Its walk has given the front of the chain that its actor has seen, on to the histogram's record
--- and behind it.
+-- and behind it. While it makes its sample that is all that its actor has met, up to the end of the list.
 pub record IsSampling (shape : Dimensions) (s : Sampling) (a : Actor) : Type 0 where
   pub shaped : s.shape ≡ shape
   pub segment : a.segment.shape ≡ shape
@@ -68,20 +74,28 @@ pub record IsSampling (shape : Dimensions) (s : Sampling) (a : Actor) : Type 0 w
   pub walk : s.walk ≡ stands_behind (front ++ s.histogram ∷ behind)
   pub reach : is_reference shape.size s.walk ≡ true
   pub chain : IsPrefix (front ++ s.histogram ∷ behind) a.seen.chain
+  pub whole : IsMakingSample s.stage → (front ++ s.histogram ∷ behind ≡ a.seen.chain) × SawEnd a.seen
   pub stands : StandsAtStage shape s a behind s.stage
 
--- the record that it may link: the sample of its value
-abbrev pub links_sample : Sampling → Made → Type 0
-links_sample s made = made ≡ Sample s.histogram s.value
+-- it has seen the list to its end, and that no record behind that of a histogram is a sample of a value
+abbrev pub SawNoSample : ℕ → ℤ → Seen → Type 0
+SawNoSample histogram value seen =
+    (front behind : List ℕ) × (seen.chain ≡ front ++ histogram ∷ behind) × All (SawOther seen histogram value) behind × SawEnd seen
+
+-- what it may do: it makes the sample of its value, which its actor has seen to be missing
+abbrev pub serves_sample : Sampling → Actor → Deed → Type 0
+serves_sample s a (links made) = made ≡ Sample s.histogram s.value
+serves_sample s a (raises words) = (words ≡ SAMPLE_LEAST) × SawNoSample s.histogram s.value a.seen
 
 -- What a step says: it goes on; the first sample of the value stands there, within the segment; or it is refused. Its actor may turn to
 -- something else then.
 abbrev pub SamplingGives : Dimensions → Sampling → SamplingStep → Actor → Actor → Type 0
-SamplingGives shape new More a b = FrameOfStep a b × DoesOnly false false (links_sample new) a b × IsSampling shape new b
+SamplingGives shape new More a b = FrameOfStep a b × DoesOnly false false (serves_sample new a) a b × IsSampling shape new b
 SamplingGives shape new (Found at) a b =
-    FrameOfStep a b × DoesOnly false false (links_sample new) a b × IsFree b × IsFirstSample b.seen new.histogram new.value at × (at + SAMPLE_LEAST ≤ shape.size)
+    FrameOfStep a b × DoesOnly false false (serves_sample new a) a b × IsFree b × IsFirstSample b.seen new.histogram new.value at × (at + SAMPLE_LEAST ≤ shape.size)
 SamplingGives shape new (Refused cause) a b =
-    FrameOfStep a b × DoesOnly false (is_full cause) (links_sample new) a b × IsFree b × IsCause cause SAMPLE_LEAST a b
+    FrameOfStep a b × DoesOnly false (is_full cause) (serves_sample new a) a b × IsFree b × IsCause cause SAMPLE_LEAST a b
+    × SawNoSample new.histogram new.value b.seen
 
 -- what a step makes of the words, and of whatever actor stands so
 abbrev pub SamplingSteps : Sampling → List ℕ → Sampling → List ℕ → SamplingStep → Type 0
@@ -110,11 +124,6 @@ behind_type at tag = if tag == TYPE_SAMPLE then LoadingHistogram at else Walking
 abbrev pub IsIts : Sampling → ℕ → ℕ → Bool → Type 0
 IsIts s of word true = (of ≡ s.histogram) × (word ≡ cast_unsigned w64 s.value)
 IsIts s of word false = (of ≢ s.histogram) ⊎ (word ≢ cast_unsigned w64 s.value)
-
--- it is making its sample
-abbrev pub IsMakingSample : Stage → Type 0
-IsMakingSample (Making making) = ⊤
-IsMakingSample _ = ⊥
 
 -- what becomes of it by what a step of the making of its sample said: it goes on, or the same walk does, or it is refused
 abbrev pub IsMade : Sampling → MakingStep → Sampling → SamplingStep → Type 0

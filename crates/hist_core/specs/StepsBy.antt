@@ -1,15 +1,18 @@
 -- How an actor goes on by one event.
-use Rattle.std.specs.Prelude.{◌≡◌, ◌≢◌, Bool, true, false, ◌||◌, ℕ, List, ◌++◌}
+use Rattle.std.specs.Prelude.{◌≡◌, ◌≢◌, Bool, true, false, ◌||◌, ℕ, ◌+◌, List, ◌++◌}
 use Rattle.std.specs.List.{All, Contains}
 use Rattle.segment_image.specs.Words.{word_at}
-use Rattle.list_core.specs.Walk.{IsPrefix}
+use Rattle.segment_image.specs.declared.layout.TheConstants.{BLOCK_NEXT}
+use Rattle.list_core.specs.Walk.{IsPrefix, stands_behind}
 use Rattle.segment_machine.specs.declared.actor.Actor.{Actor}
 use Rattle.segment_machine.specs.declared.actor.Known.{Known}
 use Rattle.segment_machine.specs.declared.actor.Made.{Made}
 use Rattle.segment_machine.specs.declared.actor.Published.{Published}
+use Rattle.segment_machine.specs.declared.actor.Rise.{Rise}
 use Rattle.segment_machine.specs.declared.place.Place.{Place}
 use Rattle.segment_machine.specs.declared.place.Place.TheVariants.{FreeLoaded, Spent}
 use Rattle.segment_machine.specs.Actor.{AreApart, is_bound}
+use Rattle.segment_machine.specs.declared.seen.Seen.{Seen}
 use Rattle.segment_machine.specs.declared.seen.Sighting.{Sighting}
 use Rattle.segment_machine.specs.Event.{Event, spot, after, next, Ready, Learned}
 use Rattle.segment_machine.specs.Note.{Note, Notes}
@@ -29,12 +32,28 @@ pub record FrameOfStep (a b : Actor) : Type 0 where
   pub chain : IsPrefix a.seen.chain b.seen.chain
   pub words : (more : List Sighting) × (b.seen.words ≡ a.seen.words ++ more)
 
--- What an event does to the segment for all to see: it sets the corrupt flag and the full one where that is said and not else, and a record
--- that it links is to hold what it may link.
-pub record DoesOnly (corrupt full : Bool) (links : Made → Type 0) (a b : Actor) : Type 0 where
+-- What an event may do to the segment for all to see, besides setting a flag: it links a record that is to hold this, or raises the free
+-- pointer for a block that wants so many words.
+pub data Deed : Type 0 where
+  links : Made → Deed
+  raises : ℕ → Deed
+
+-- What an event does to the segment for all to see: it sets the corrupt flag and the full one where that is said and not else, and it links
+-- no record and raises the free pointer for no block but as it may.
+pub record DoesOnly (corrupt full : Bool) (may : Deed → Type 0) (a b : Actor) : Type 0 where
   pub spoiled : b.done.spoiled ≡ (corrupt || a.done.spoiled)
   pub filled : b.done.filled ≡ (full || a.done.filled)
-  pub linked : (more : List Published) × (b.done.published ≡ a.done.published ++ more) × All (λ (p : Published). links p.made) more
+  pub linked : (more : List Published) × (b.done.published ≡ a.done.published ++ more) × All (λ (p : Published). may (links p.made)) more
+  pub raised : (more : List Rise) × (b.done.raised ≡ a.done.raised ++ more) × All (λ (r : Rise). may (raises r.wanted)) more
+
+-- On the list as far as it walked no block stands twice, and each sample stands behind the record of its histogram.
+pub record IsInOrder (a : Actor) : Type 0 where
+  pub once : NoRepeats a.seen.chain
+  pub behind : SamplesStandBehind a
+
+-- so it is for who has not been joined
+abbrev pub WalksInOrder : Actor → Type 0
+WalksInOrder a = a.hand.place ≢ Spent → IsInOrder a
 
 -- An actor goes on by one event in words of a segment: it does an event that it may do, with notes before it and, once it has learned of
 -- the number that was found, behind it; the words become what the event makes of them; and then something holds of it.
@@ -46,6 +65,7 @@ pub record StepsBy (size version : ℕ) (a : Actor) (words new_words : List ℕ)
   pub ready : Ready at event
   pub words_are : new_words ≡ after size version event words
   pub goes : Learned at event (word_at words (spot size event)) → AreApart (next at event (word_at words (spot size event)))
+      → WalksInOrder (next at event (word_at words (spot size event)))
       → (behind : List Note) × (then_is : Actor) × Notes (next at event (word_at words (spot size event))) behind then_is × holds then_is
 
 -- it has loaded a free pointer, and has not gone on from there
@@ -65,11 +85,11 @@ IsFree a = is_tied a.hand.place ≡ false
 abbrev pub HasMet : Actor → Type 0
 HasMet a = (known : Known) → Contains a.answers.names known → Contains a.seen.chain known.reference
 
--- On the list as far as it walked no block stands twice, and each sample stands behind the record of its histogram.
-pub record IsInOrder (a : Actor) : Type 0 where
-  pub once : NoRepeats a.seen.chain
-  pub behind : SamplesStandBehind a
+-- It has seen the list to its end: the next of the last record that it has met on it, or of the queue block where it has met none, was the
+-- end of the list when it loaded that.
+abbrev pub SawEnd : Seen → Type 0
+SawEnd seen = Contains seen.ends (stands_behind seen.chain + BLOCK_NEXT)
 
--- so it is for who has not been joined
-abbrev pub WalksInOrder : Actor → Type 0
-WalksInOrder a = a.hand.place ≢ Spent → IsInOrder a
+-- of the list and of single words it has seen as much as before
+abbrev pub SeesNoMore : Actor → Actor → Type 0
+SeesNoMore a b = (b.seen.chain ≡ a.seen.chain) × (b.seen.ends ≡ a.seen.ends) × (b.seen.singles ≡ a.seen.singles)

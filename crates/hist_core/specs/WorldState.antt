@@ -197,8 +197,8 @@ abbrev pub LoadsPointer : ℕ → List ℕ → State → State → Type 0
 LoadsPointer actor words state last = (a b : Actor) → get_elem? state.actors (actor + 1) ≡ some a → get_elem? last.actors (actor + 1) ≡ some b
     → (free : ℕ) → b.hand.place ≡ FreeLoaded free → (a.hand.place ≡ FreeLoaded free) ⊎ (word_at words FREE_WORD ≡ free)
 
--- The event of the actor's call sets the corrupt flag only with `Flagged`, and the full one only with a refusal `Full`; and a record that it
--- links is one that the call is for.
+-- The event of the actor's call sets the corrupt flag only with `Flagged`, and the full one only with a refusal `Full`; a record that it
+-- links is one that the call is for, and the block for which it raises the free pointer is the one that the call needs.
 abbrev pub DoesOnlySo : WorldState → ℕ → State → Stepped → State → Type 0
 DoesOnlySo old actor state said last = (before : ActorRun) (a b : Actor) → get_elem? old.actor_runs.items actor ≡ some before
     → get_elem? state.actors (actor + 1) ≡ some a → get_elem? last.actors (actor + 1) ≡ some b → DoesAsSaid before.running said a b

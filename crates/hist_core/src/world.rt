@@ -233,18 +233,21 @@ impl World {
         self.world_state.actor_runs[actor].next_exchange()
     }
 
-    /// An actor goes on with its call by one event. `Added` puts what the call counted at the end of `ended`; a `BatchRefused` puts
-    /// the entries of the items there that are counted, and their units are spent; nothing else changes that. The other units of a
-    /// call that is refused come back to the pool. `Full` comes with an event that sets the full flag: the block that the call needs
-    /// passes the end of the segment from a free pointer that it has loaded. `Corrupt` comes with an event that loads flags with the
-    /// corrupt one. What an earlier call saw or set is no cause. A `Hist` is also refused `OtherSpec`, where the actor has
-    /// seen that the first record of the name has another spec. `Refused` is answered by a `Hist` or an `Add` alone, `BatchRefused` by a
-    /// `Batch`, with 0 where no item is counted. An `Add` or a `Batch` that is refused has met no counts of its histogram, so it has moved
-    /// no units of other calls. A `SetCorrupt` ends with its one event, as `Flagged`, which nothing else answers; from then on no call of
+    /// An actor goes on with its call by one event. `Added` puts what the call counted at the end of `ended`; a `BatchRefused` puts the
+    /// entries of the items there that are counted, and their units are spent; nothing else changes that. The other units of a call
+    /// that is refused come back to the pool. `Full` comes with an event that sets the full flag: the block that the call needs passes
+    /// the end of the segment from a free pointer that it has loaded. `Corrupt` comes with an event that loads flags with the corrupt
+    /// one. What an earlier call saw or set is no cause. A `Hist` is also refused `OtherSpec`, where the actor has seen that the first
+    /// record of the name has another spec. `Refused` is answered by a `Hist` or an `Add` alone, `BatchRefused` by a `Batch`, with 0
+    /// where no item is counted. A call that is refused a block needed it: the actor of a `Hist` has seen the list to its end, and no
+    /// record of the name; that of an `Add` or a `Batch` a single word that cannot take the units and a counts reference of 0, or, of a
+    /// sparse histogram, the list to its end and no sample of the value. It has met no counts of its histogram, so it has moved no
+    /// units of other calls. A `SetCorrupt` ends with its one event, as `Flagged`, which nothing else answers; from then on no call of
     /// the actor claims a block. No other event sets the corrupt flag, and none but that of a refusal `Full` the full one.
     ///
     /// A record that an event links is one that its call is for: of the name and the spec with which a `Hist` began; or a sample of a value
-    /// that an `Add` or a `Batch` counts, in its histogram. The other calls link none.
+    /// that an `Add` or a `Batch` counts, in its histogram. The other calls link none. So it is where an event raises the free pointer: for
+    /// the block that the call needs, as above, which it claims there, or for which it wastes the rest of a page that is too short.
     ///
     /// A `Snapshot` answers what the actor saw since its first event: of each key at least the units that it had accepted and those that
     /// it had seen before; so does its redundant count. Of a sparse histogram the values ascend, each with a count above 0.

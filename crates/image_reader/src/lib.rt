@@ -5,8 +5,8 @@
 //! fault, and why the list goes no further. The reader takes time that is linear in the words and in the buckets that
 //! it reads, up to a logarithm for names and samples: a reference that was met and a sparse histogram that is read are
 //! marked in one truth value a word each, names are kept in an ordered set, and samples in an ordered map. A list of
-//! buckets is made only of a record without a fault, and only of the first of its name. Memory is wanted only where a
-//! growth was refused.
+//! buckets is made only of a record without a fault, and only of the first of its name; a [`Survey`] of the list makes none
+//! until it is asked for one histogram. Memory is wanted only where a growth was refused.
 #![tactic(auto)]
 
 mod buckets;

@@ -3,6 +3,7 @@ pub mod AllBuckets
 pub mod Behind
 pub mod BucketKeys
 pub mod DeltaEnds
+pub mod FewKeys
 pub mod FewSamples
 pub mod Given
 pub mod ListedDelta

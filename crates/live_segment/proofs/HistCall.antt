@@ -8,6 +8,7 @@ pub mod Knowing
 pub mod KnownNames
 pub mod NamesHeld
 pub mod Naming
+pub mod OneName
 pub mod OwnNames
 pub mod SameLawful
 pub mod Searching

@@ -6,4 +6,5 @@ pub mod Owned
 pub mod Published
 pub mod Recorded
 pub mod Rooms
+pub mod Taken
 pub mod Tries

@@ -1,6 +1,7 @@
 -- Walks along the list, and shared cursors.
 pub mod CursorSteps
 pub mod Ends
+pub mod Fronts
 pub mod IndexKept
 pub mod Indexed
 pub mod Keyed

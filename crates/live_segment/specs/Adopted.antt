@@ -15,13 +15,14 @@ abbrev pub setting_of : SegmentHead → ℕ → Setting
 setting_of head cursors =
     record { shape = head.shape; version = head.version; id = head.id; cursors = cursors; full = head.full }
 
--- An image may be adopted, and a segment was opened as it: its opener stands for all that the words read as along their list.
+-- An image may be adopted, and a segment was opened as it and with its words: its opener stands for all that these read as along their list.
 pub record IsAdopted (words : List ℕ) (cursors : ℕ) (segment : Segment) (opener : Opener) : Type 0 where
   pub references : List ℕ
   pub listed : IsListed words (head_of words) references
   pub adoptable : IsAdoptable words references (reading_along words (head_of words) references)
   pub few : cursors ≤ 8
-  pub opened : IsOpened (setting_of (head_of words) cursors) (adopter words references (reading_along words (head_of words) references) cursors) segment opener
+  pub opened : IsOpened (setting_of (head_of words) cursors) words (adopter words references (reading_along words (head_of words) references) cursors)
+      segment opener
 
 -- Words of version 2 that are not marked as corrupt may be adopted.
 abbrev pub MayGoOn : List ℕ → Type 0

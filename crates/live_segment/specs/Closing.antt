@@ -16,6 +16,7 @@ use Rattle.segment_invariant.specs.Body.{Anatomy, Listed}
 use Rattle.segment_invariant.specs.Ledger.{all_moving}
 use Rattle.segment_promises.specs.Deltas.{TookUpTo}
 use Rattle.segment_promises.specs.Reads.{units_read, mark_read, noted_at_opening, HasNoFault, ReadsHead, ReadsNames, ReadsUnits, ReadsAmounts, ReadsAnswers}
+use Rattle.live_segment.specs.declared.rule.Opening.{Opening}
 use Rattle.live_segment.specs.declared.rule.Setting.{Setting}
 use Rattle.live_segment.specs.Rule.{Closes}
 
@@ -102,7 +103,9 @@ pub record IsStoppedReading (setting : Setting) (opened : Anatomy) (opener : Act
       → tally_units (log_of opener) h.name key ≤ units_read h key + all_moving h.name key state.actors
   pub most : sum_by (units_beyond (log_of opener)) reading.hists ≤ units_out opener
 
--- there is such a state, in which the opener has done and seen this
-pub record ReadsStopped (setting : Setting) (opener : Actor) (words : List ℕ) : Type 0 where
-  pub closed : Closes setting opener words
-  pub reads : (reading : Reading) → IsReading words (head_of words) reading → IsStoppedReading setting closed.opened opener closed.state closed.kept.anatomy.records reading
+-- There is such a state, in which the opener has done and seen this. Its segment was opened with these words: so the records that were listed
+-- then stand with the words that they had, also those of other types and the later ones of a name.
+pub record ReadsStopped (opening : Opening) (opener : Actor) (words : List ℕ) : Type 0 where
+  pub closed : Closes opening opener words
+  pub reads : (reading : Reading) → IsReading words (head_of words) reading
+      → IsStoppedReading opening.setting closed.opened opener closed.state closed.kept.anatomy.records reading

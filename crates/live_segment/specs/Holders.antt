@@ -1,23 +1,30 @@
 -- Who holds a segment, an opener or a recorder: what it has done and seen, and which segment that is.
-use Rattle.std.specs.Prelude.{◌≡◌, false, ◌<◌, ℕ, length}
+use Rattle.std.specs.Prelude.{◌≡◌, true, false, ◌<◌, ℕ, List, length, slice_set}
 use mathlib.Core.Option.{some}
 use lib.ListN.{get_elem?}
 use Rattle.atomic_table.specs.Seated.{TableId}
+use Rattle.segment_image.specs.declared.layout.TheConstants.{VERSION_WORD}
+use Rattle.segment_image.specs.Image.{blank_words}
 use Rattle.segment_machine.specs.declared.actor.Actor.{Actor}
 use Rattle.segment_machine.specs.declared.actor.Known.{Known}
+use Rattle.live_segment.specs.declared.rule.Opening.{Opening}
 use Rattle.live_segment.specs.declared.rule.Setting.{Setting}
 use Rattle.live_segment.specs.declared.segment.Segment.{Segment}
 use Rattle.live_segment.specs.declared.opener.Opener.{Opener}
 use Rattle.live_segment.specs.declared.recorder.Recorder.{Recorder}
 use Rattle.live_segment.specs.declared.recorder.Hist.{Hist}
-use Rattle.segment_machine.specs.Actor.{is_opener}
+use Rattle.segment_machine.specs.Actor.{has_buckets, is_opener}
 use Rattle.segment_machine.specs.Event.{Event, Ready}
 use Rattle.live_segment.specs.Steps.{Pass}
-use Rattle.live_segment.specs.Rule.{first_view, IsOf}
+use Rattle.live_segment.specs.Rule.{first_view, words_of, IsOf}
 
 -- the table that has the words of a segment
 abbrev pub table_of : Segment → TableId
 table_of segment = segment.table.shared.table_id
+
+-- what a segment was opened as and with
+abbrev pub opened_with : Segment → Opening
+opened_with segment = segment.table.shared.key
 
 -- what an opener and a recorder have done and seen
 abbrev pub view_of_opener : Opener → Actor
@@ -38,15 +45,17 @@ pub record IsMadeWith (segment : Segment) (opener : Opener) : Type 0 where
   pub table : opener.seat.table_id ≡ table_of segment
   pub of : IsOf segment.setting (view_of_opener opener)
 
--- a segment that is opened so, and its opener, which has done and seen this
-pub record IsOpened (setting : Setting) (first : Actor) (segment : Segment) (opener : Opener) : Type 0 where
+-- a segment that is opened so and with these words, and its opener, which has done and seen this
+pub record IsOpened (setting : Setting) (words : List ℕ) (first : Actor) (segment : Segment) (opener : Opener) : Type 0 where
   pub setting_is : segment.setting ≡ setting
+  pub words_are : words_of (opened_with segment) ≡ words
   pub made : IsMadeWith segment opener
   pub view : view_of_opener opener ≡ first
 
--- a new segment that is made so, and its opener
+-- a new segment that is made so, and its opener: its words are those of a blank image, but for the version
 abbrev pub IsNew : Setting → Segment → Opener → Type 0
-IsNew setting = IsOpened setting (first_view setting)
+IsNew setting =
+    IsOpened setting (slice_set (blank_words setting.shape.size setting.shape.page setting.id) VERSION_WORD setting.version) (first_view setting)
 
 -- an opener goes on with the same segment
 pub record IsSameOpener (old new : Opener) : Type 0 where
@@ -83,3 +92,7 @@ Knows recorder histogram = histogram.index < length (view_of_recorder recorder).
 -- a histogram that a recorder knows is this one
 abbrev pub Means : Recorder → Hist → Known → Type 0
 Means recorder histogram known = get_elem? (view_of_recorder recorder).answers.names histogram.index ≡ some known
+
+-- a recorder is as before a call of a histogram, where that has buckets
+abbrev pub IsSameIfBucketed : Hist → Recorder → Recorder → Type 0
+IsSameIfBucketed histogram old new = (known : Known) → Means old histogram known → has_buckets known.spec ≡ true → new ≡ old

@@ -14,10 +14,12 @@ pub mod Rule
 pub mod Adopted
 pub mod Known
 pub mod Desk
+pub mod Standing
 pub mod Steps
 pub mod Names
 pub mod Holders
 pub mod Lending
+pub mod Rises
 pub mod Closing
 pub mod Lists
 pub mod Counts

@@ -12,7 +12,7 @@ use Rattle.segment_machine.specs.Seats.{opener_of}
 use Rattle.segment_machine.specs.State.{State, memory}
 use Rattle.segment_invariant.specs.Body.{Anatomy}
 use Rattle.segment_invariant.specs.Invariant.{Invariant}
-use Rattle.segment_invariant.specs.Keeps.{IsOpening}
+use Rattle.segment_invariant.specs.Keeps.{IsOpening, opening_of}
 use Rattle.segment_promises.specs.Adoption.{adopter}
 use Rattle.segment_promises.specs.Follows.{Running}
 use Rattle.live_segment.specs.declared.fault.OpenFault.{OpenFault}
@@ -51,28 +51,30 @@ abbrev pub opening_state : Opening → State
 opening_state opening =
     record { words = words_of opening; cursors = replicate opening.setting.cursors QUEUE; actors = opener_for opening ∷ [] }
 
--- blocks open segments, and are such as the header says that a segment is opened as
-pub record IsOpenedAs (setting : Setting) (opened : Anatomy) : Type 0 where
-  pub opens : IsOpening setting.shape opened
-  pub version : opened.version ≡ setting.version
-  pub id : opened.id ≡ setting.id
+-- Blocks open segments, and are those of a segment that is opened so: their words are the ones that it is opened with, and its header says
+-- what it is opened as.
+pub record IsOpenedAs (opening : Opening) (opened : Anatomy) : Type 0 where
+  pub opens : IsOpening opening.setting.shape opened
+  pub words : (opening_of opening.setting.shape opened).words ≡ words_of opening
+  pub version : opened.version ≡ opening.setting.version
+  pub id : opened.id ≡ opening.setting.id
   pub intact : opened.corrupt ≡ false
-  pub full : opened.full ≡ setting.full
+  pub full : opened.full ≡ opening.setting.full
 
 -- the words are those of a kept state, in which its opener stands alone
 pub record IsKeptOpening (opening : Opening) : Type 0 where
   pub opened : Anatomy
-  pub as_said : IsOpenedAs opening.setting opened
+  pub as_said : IsOpenedAs opening opened
   pub kept : Invariant opening.setting.shape opened (opening_state opening)
   pub words : opening.words.items ≡ 0 ∷ memory (opening_state opening)
 
 -- ---- from then on
 
--- what holds of its table: the words and the views are those of a state that is kept, whatever blocks it was opened with
-pub record Runs (setting : Setting) (s : table.State Announcement Actor) : Type 0 where
+-- what holds of its table: the words and the views are those of a state that is kept, of a segment that was opened so
+pub record Runs (opening : Opening) (s : table.State Announcement Actor) : Type 0 where
   pub opened : Anatomy
-  pub as_said : IsOpenedAs setting opened
-  pub running : Running Announcement setting.shape opened s
+  pub as_said : IsOpenedAs opening opened
+  pub running : Running Announcement opening.setting.shape opened s
 
 -- an actor is one of the segment
 pub record IsOf (setting : Setting) (a : Actor) : Type 0 where
@@ -80,11 +82,11 @@ pub record IsOf (setting : Setting) (a : Actor) : Type 0 where
   pub version : a.segment.version ≡ setting.version
   pub cursors : a.segment.cursors ≡ setting.cursors
 
--- the words of a closed segment: those of a kept state, in which its opener has done and seen this
-pub record Closes (setting : Setting) (opener : Actor) (words : List ℕ) : Type 0 where
+-- the words of a closed segment that was opened so: those of a kept state, in which its opener has done and seen this
+pub record Closes (opening : Opening) (opener : Actor) (words : List ℕ) : Type 0 where
   pub state : State
   pub words_are : words ≡ state.words
   pub opened : Anatomy
-  pub as_said : IsOpenedAs setting opened
-  pub kept : Invariant setting.shape opened state
+  pub as_said : IsOpenedAs opening opened
+  pub kept : Invariant opening.setting.shape opened state
   pub stands : get_elem? state.actors 0 ≡ some opener

@@ -8,12 +8,13 @@ use Rattle.segment_calls.specs.declared.refusal.Refusal.TheVariants.{NoUnits, To
 use Rattle.segment_machine.specs.declared.actor.Actor.{Actor}
 use Rattle.segment_machine.specs.declared.place.Place.TheVariants.{Idle}
 use Rattle.segment_machine.specs.Actor.{is_bound, is_opener, outstanding_of}
-use Rattle.segment_machine.specs.Event.{Event, spot, next, Learned}
+use Rattle.segment_machine.specs.Allocating.{exchange_free}
+use Rattle.segment_machine.specs.Event.{Event, allocating_event, spot, next, Learned}
 use Rattle.segment_machine.specs.Seats.{offering}
-use Rattle.segment_machine.specs.Taking.{is_looking}
+use Rattle.segment_promises.specs.Onward.{is_holding}
 use Rattle.segment_promises.specs.Follows.{GhostNoted}
 use Rattle.live_segment.specs.declared.rule.Announcement.{Announcement}
-use Rattle.live_segment.specs.declared.rule.Announcement.TheVariants.{Units}
+use Rattle.live_segment.specs.declared.rule.Announcement.TheVariants.{Units, Wanted}
 
 -- a seat's view, and the slots that it has taken, which are none
 abbrev pub Sat : Type 0
@@ -37,6 +38,10 @@ Does event me found me' = GhostNoted [] event (λ found. []) me found me'
 abbrev pub DoesAt : (ℕ → Event) → ℕ → Sat → ℕ → Sat → Type 0
 DoesAt event word me found me' = (at : ℕ) → word ≡ spot me.0.segment.shape.size (event at) + 1 → Does (event at) me found me'
 
+-- the free pointer is exchanged, for a block that is said to want so many words
+abbrev pub Raises : Step Announcement → Sat → ℕ → Sat → Type 0
+Raises st me found me' = (words : ℕ) → st.said ≡ some (Wanted words) → Does (allocating_event (exchange_free st.first st.second words)) me found me'
+
 -- what becomes of a seat at an event, by the number that was found
 pub record Stepped (old : Pass) (event : Event) (found : ℕ) (new : Pass) : Type 0 where
   pub same : IsSame old new
@@ -57,11 +62,12 @@ Bounds st me found me' = (me'.0 ≡ me.0) × (me'.1 ≡ me.1) × (me.0.units.sha
 abbrev pub recorder_checks : Actor → ℕ → List (Bool × Refusal)
 recorder_checks opener units = (nat_lt opener.units.share units, NoUnits) ∷ (outstanding_of opener.role == 256, TooMany) ∷ []
 
--- no call of a recorder goes on, and it stands at no single word and no counts of a histogram
+-- No call of a recorder goes on. It holds no free pointer, no single word and no counts of a histogram: a call goes on with those alone that it
+-- has loaded itself.
 pub record IsAtRest (a : Actor) : Type 0 where
   pub recorder : is_opener a.role ≡ false
   pub free : is_bound a.hand.place ≡ false
-  pub apart : is_looking a.hand.place ≡ false
+  pub apart : is_holding a.hand.place ≡ false
   pub holds : a.units.held ≡ []
   pub runs : a.entries.running ≡ []
   pub takes : a.deltas.taking ≡ false

@@ -1,11 +1,11 @@
 //! How a recorder claims a block.
 
-ghost use Rattle.std.specs.Prelude.{◌≡◌, ◌+◌, ◌-◌, ◌≤◌, true, false, IfOk};
+ghost use Rattle.std.specs.Prelude.{◌≡◌, ◌+◌, ◌-◌, ◌<◌, ◌≤◌, true, false, IfOk};
 ghost use Rattle.segment_image.specs.declared.layout.TheConstants.{BLOCK_HEADER};
 ghost use Rattle.segment_machine.specs.Event.{allocating_event};
 ghost use Rattle.segment_machine.specs.Actor.{is_bound};
 ghost use Rattle.segment_machine.specs.Allocating.{exchange_free};
-ghost use Rattle.live_segment.specs.Lists.Allocation.{Allocates, claimed, IsLost};
+ghost use Rattle.live_segment.specs.Lists.Allocation.{Allocates, Wastes, claimed, raised_on, IsLost};
 
 use crate::rule::Pass;
 use crate::segment::Segment;
@@ -40,11 +40,11 @@ impl Segment {
             let free = self.load_free(seat);
             match plan(free, size, self.setting.shape) {
                 Planned::Claim { next, .. } => {
-                    if self.claim(seat, free, next, tag) {
+                    if self.claim(seat, free, next, size, tag) {
                         return Ok(free);
                     }
                 }
-                Planned::Waste { room } => self.waste(seat, free, free + room),
+                Planned::Waste { room } => self.waste(seat, free, free + room, size),
                 Planned::Full => {
                     self.set_full(seat);
                     return Err(Refusal::Full);
@@ -53,16 +53,18 @@ impl Segment {
         }
     }
 
-    // Takes the words from a free pointer to the next for a block of a type; false where another recorder was first.
-    fn claim(&self, seat: &mut Pass, free: u64, next: u64, tag: u64) -> bool
-        requires may { MayStep self.now seat.old (allocating_event (exchange_free free next)) }
+    // Takes the words from a free pointer to the next for a block of a type, which wants so many of them; false where another recorder
+    // was first.
+    fn claim(&self, seat: &mut Pass, free: u64, next: u64, words: u64, tag: u64) -> bool
+        requires may { MayStep self.now seat.old (allocating_event (exchange_free free next words)) }
+        requires enough { words ≤ next - free }
         requires shape { seat.old.me.0.segment.shape ≡ self.now.setting.shape }
         requires tag { (1 ≤ tag) × (tag ≤ 3) }
         ensures same { IsSame seat.old seat.new }
-        ensures done { result ≡ true → seat.new.me.0 ≡ claimed seat.old.me.0 free next tag }
+        ensures done { result ≡ true → seat.new.me.0 ≡ claimed seat.old.me.0 free next tag (raised_on seat.old.me.0 free next words) }
         ensures lost { result ≡ false → IsLost seat.old.me.0 free seat.new.me.0 }
     {
-        if self.exchange_free(seat, free, next) != free {
+        if self.exchange_free(seat, free, next, words) != free {
             return false;
         }
         self.store_size(seat, free, next - free);
@@ -71,14 +73,15 @@ impl Segment {
         true
     }
 
-    // Gives up the rest of a page, from a free pointer to the next.
-    fn waste(&self, seat: &mut Pass, free: u64, next: u64)
-        requires may { MayStep self.now seat.old (allocating_event (exchange_free free next)) }
+    // Gives up the rest of a page, from a free pointer to the next, which is too short for a block that wants so many words.
+    fn waste(&self, seat: &mut Pass, free: u64, next: u64, words: u64)
+        requires may { MayStep self.now seat.old (allocating_event (exchange_free free next words)) }
+        requires short { next - free < words }
         requires shape { seat.old.me.0.segment.shape ≡ self.now.setting.shape }
         ensures same { IsSame seat.old seat.new }
-        ensures lost { IsLost seat.old.me.0 free seat.new.me.0 }
+        ensures outcome { Wastes words free next seat.old.me.0 seat.new.me.0 }
     {
-        if self.exchange_free(seat, free, next) == free {
+        if self.exchange_free(seat, free, next, words) == free {
             self.store_size(seat, free, next - free);
             self.store_cookie(seat, free, WASTED_COOKIE);
         }

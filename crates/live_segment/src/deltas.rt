@@ -13,7 +13,7 @@ ghost use Rattle.live_segment.specs.Known.{known_view, KnowsRight};
 ghost use Rattle.segment_promises.specs.Values.{ComesTo, NoRepeats};
 ghost use Rattle.live_segment.specs.Readings.Listed.{AreOwn, TakesListed};
 ghost use Rattle.live_segment.specs.Readings.Samples.{SamplesStandBehind};
-ghost use Rattle.live_segment.specs.Readings.Values.{AreMostKeys, HasTakenValues, HoldsKeys, TakesAlong, TakesValue};
+ghost use Rattle.live_segment.specs.Readings.Values.{AreFewKeys, AreMostKeys, HasTakenValues, HoldsKeys, TakesAlong, TakesValue};
 ghost use Rattle.segment_image.specs.declared.layout.TheConstants.{QUEUE};
 
 use crate::recorder::KnownHistogram;
@@ -38,7 +38,8 @@ impl Segment {
     ghost use Rattle.live_segment.specs.declared.rule.Setting.{Setting};
     ghost use Rattle.live_segment.specs.Seated.{IsSeated};
     ghost use Rattle.live_segment.specs.Steps.{IsAtRest, IsSame};
-    ghost use Rattle.live_segment.specs.Readings.Owed.{Standing};
+    ghost use Rattle.live_segment.specs.Holders.{opened_with};
+    ghost use Rattle.live_segment.specs.Standing.{Standing};
 
     // The units of a bucket that the delta takes: its count is loaded, and where that is not 0, the mark is raised to it. The packed bucket
     // has the single mark, and its total is the count with what the single word keeps.
@@ -91,6 +92,7 @@ impl Segment {
         ensures took { (bucket : ℕ) → bucket < buckets_of histogram.now.spec → TookBucket seat.new.me.0 (known_view histogram.now) bucket }
         ensures on { TakesOn taken.new.items seat.old.me.0 seat.new.me.0 }
         ensures units { AreUnits taken.new.items }
+        ensures few { length taken.new.items ≤ buckets_of histogram.now.spec }
     {
         for bucket in 0..histogram.ranges.len() {
             let units = self.take_bucket(seat, histogram, mounted, bucket);
@@ -154,12 +156,13 @@ impl Segment {
         requires room { histogram.now.reference + 15 ≤ self.now.setting.shape.size }
         ensures same { IsSame seat.old seat.new }
         ensures taken { HasTakenSum (known_view histogram.now) result seat.old.me.0 seat.new.me.0 }
-        ensures stands { Standing seat.new.me.0 }
+        ensures stands { Standing (opened_with self.now) seat.new.id seat.new.me.0 }
     {
         let sum = self.load_sum(seat, histogram.reference).cast_signed();
         let mark = self
             .swap_sum_mark(seat, histogram.reference, sum)
             .cast_signed();
+        self.stand(seat);
         sum - mark
     }
 
@@ -177,7 +180,8 @@ impl Segment {
         requires room { (taken.old.items ≡ []) × (buckets_of histogram.now.spec ≤ vec_capacity taken.old) }
         ensures same { IsSame seat.old seat.new }
         ensures taken { HasTaken (known_view histogram.now) taken.new.items result seat.old.me.0 seat.new.me.0 }
-        ensures stands { Standing seat.new.me.0 }
+        ensures few { AreFewKeys self.now (known_view histogram.now) taken.new.items }
+        ensures stands { Standing (opened_with self.now) seat.new.id seat.new.me.0 }
     {
         let word = self.take_single(seat, histogram.reference);
         self.take_units(seat, histogram, word, taken);
@@ -248,7 +252,8 @@ impl Segment {
         requires room { (taken.old.items ≡ []) × ((self.now.setting.shape.size - 16) / 5 ≤ vec_capacity taken.old) }
         ensures same { IsSame seat.old seat.new }
         ensures taken { HasTaken (known_view histogram.now) taken.new.items result seat.old.me.0 seat.new.me.0 }
-        ensures stands { Standing seat.new.me.0 }
+        ensures few { AreFewKeys self.now (known_view histogram.now) taken.new.items }
+        ensures stands { Standing (opened_with self.now) seat.new.id seat.new.me.0 }
     {
         let first = self.take_next(seat, histogram.reference);
         self.take_values(seat, histogram, first, taken);
@@ -294,7 +299,8 @@ impl Segment {
         requires room { (taken.old.items ≡ []) × (length samples.now ≤ vec_capacity taken.old) }
         ensures same { IsSame seat.old seat.new }
         ensures taken { HasTaken (known_view histogram.now) taken.new.items result seat.old.me.0 seat.new.me.0 }
-        ensures stands { Standing seat.new.me.0 }
+        ensures few { AreFewKeys self.now (known_view histogram.now) taken.new.items }
+        ensures stands { Standing (opened_with self.now) seat.new.id seat.new.me.0 }
     {
         self.take_type(seat, histogram.reference);
         self.take_listed(seat, histogram, samples, taken);
@@ -341,7 +347,8 @@ impl Segment {
         requires room { MatchOption samples (HoldsKeys self.now (known_view histogram.now) (vec_capacity taken.old)) (λ own. length own.now ≤ vec_capacity taken.old) }
         ensures same { IsSame seat.old seat.new }
         ensures taken { HasTaken (known_view histogram.now) taken.new.items result seat.old.me.0 seat.new.me.0 }
-        ensures stands { Standing seat.new.me.0 }
+        ensures few { AreFewKeys self.now (known_view histogram.now) taken.new.items }
+        ensures stands { Standing (opened_with self.now) seat.new.id seat.new.me.0 }
     {
         if let Some(own) = samples {
             self.delta_of_listed(seat, histogram, own, taken)

@@ -1,7 +1,8 @@
 //! What a recorder has of the records that it met along the list, so that it need not walk there again.
 
-ghost use Rattle.std.specs.Prelude.{◌≡◌, ◌+◌, ◌<◌, ◌^◌, true, false, ℕ, [], length, MatchOption};
+ghost use Rattle.std.specs.Prelude.{◌≡◌, ◌+◌, ◌*◌, ◌<◌, ◌≤◌, ◌^◌, true, false, ℕ, [], length, MatchOption};
 ghost use Rattle.list_index.specs.Firsts.{Holds, is_grouping};
+ghost use Rattle.segment_image.specs.declared.layout.TheConstants.{BLOCK_LEAST, HEADER_WORDS};
 ghost use Rattle.live_segment.specs.declared.indexing.KeyKind.TheVariants.{Sample};
 ghost use Rattle.segment_machine.specs.Calls.{MayTurn};
 ghost use Rattle.live_segment.specs.Names.Searching.{HasSearched};
@@ -106,6 +107,7 @@ impl Segment {
         ensures free { MayTurn seat.new.me.0 }
         ensures indexed { IsIndexed index.old.kind self.now.setting.shape.size seat.new.me.0.seen index.new }
         ensures ended { result ≡ true → index.new.place.given ≡ length seat.new.me.0.seen.chain }
+        ensures few { result ≡ true → BLOCK_LEAST * length seat.new.me.0.seen.chain + HEADER_WORDS ≤ self.now.setting.shape.size }
     {
         let kind = index.kind;
         loop {

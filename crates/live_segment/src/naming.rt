@@ -35,7 +35,7 @@ impl KnownNames {
 
     // None is entered.
     pub(crate) fn new(alloc: Global) -> KnownNames
-        ensures { (known : List KnownHistogram) → HasNames known result }
+        ensures { HasNames [] result }
     {
         KnownNames {
             entered: 0,
@@ -45,7 +45,8 @@ impl KnownNames {
 
     // Enters the name of one more, which is to stand behind these. Where there is no memory for it, it is found by a search.
     pub(crate) fn enter(&mut self, known: &[KnownHistogram], name: &[u8])
-        requires { HasNames known.now self.old }
+        requires has { HasNames known.now self.old }
+        requires none { NoneHasName known.now name.now }
         ensures { (last : KnownHistogram) → last.name.items ≡ name.now → HasNames (known.now ++ last ∷ []) self.new }
     {
         let place = known.len();

@@ -128,7 +128,7 @@ impl<'a> Recorder<'a> {
     ghost use Rattle.live_segment.specs.Readings.Deltas.{AreUnits, HasTaken};
     ghost use Rattle.live_segment.specs.Readings.Snapshots.{HasSnapshot};
     ghost use Rattle.live_segment.specs.Readings.Owed.{HasEnough, TookEnough};
-    ghost use Rattle.live_segment.specs.Readings.Values.{AreMostKeys};
+    ghost use Rattle.live_segment.specs.Readings.Values.{AreFewKeys, AreMostKeys};
     ghost use Rattle.live_segment.specs.Names.Searching.{HasSearched};
     ghost use Rattle.std.specs.Prelude.{◌↔◌, IsTrue, Err, ◌<◌, ◌≤◌, ◌++◌, length, IfOk, MatchOption, MatchResult};
     ghost use Rattle.segment_image.specs.Checks.{first_fault};
@@ -137,9 +137,10 @@ impl<'a> Recorder<'a> {
     ghost use Rattle.live_segment.specs.Lists.Allocation.{spoiled};
     ghost use Rattle.live_segment.specs.Counts.Batching.{batch_checks, IsBatched, IsCutShort};
     ghost use Rattle.live_segment.specs.Lists.Cursors.{AnswersNext, gift};
-    ghost use Rattle.live_segment.specs.Holders.{view_of_recorder, IsSameRecorder, Knows, Means};
+    ghost use Rattle.live_segment.specs.Holders.{opened_with, view_of_recorder, IsSameIfBucketed, IsSameRecorder, Knows, Means};
     ghost use Rattle.live_segment.specs.Lists.Records.{HasWalked};
     ghost use Rattle.live_segment.specs.Lists.Fresh.{GivesFresh, given_fresh};
+    ghost use Rattle.live_segment.specs.Standing.{HasFirst, HasList, HasShared};
     ghost use Rattle.live_segment.specs.Names.Hist.{IsAnsweredWith, IsKnownAt, IsNamed, IsRefusedWith, KnowsOn, NoneHasName};
     ghost use Rattle.segment_calls.specs.declared.refusal.Refusal.TheVariants.{NoMemory, OtherSpec};
 
@@ -262,7 +263,8 @@ impl<'a> Recorder<'a> {
     }
 
     /// The histogram of a name: that of the first record of the name on the list, which is made where there is none. One of a
-    /// name that it knows needs no event, and is the same each time. Where it has the same spec, it takes no memory.
+    /// name that it knows needs no event, and is the same each time. Where it has the same spec, it takes no memory. It is the first of its
+    /// name on the whole list, in a state of the segment in which the call ends.
     ///
     /// `BadName`, then `BadSpec`, then `TooLarge` where its record or its counts do not fit in a page, and `NoMemory` where there
     /// is none, before anything has happened, also where it knows the name with another spec. Then `OtherSpec` where the
@@ -280,9 +282,11 @@ impl<'a> Recorder<'a> {
         ensures same { KnowsOn self.old self.new }
         ensures named { IfOk result (IsNamed name.now spec.now self.new) }
         ensures answer { MatchResult result (λ histogram. IsAnsweredWith name.now spec.now histogram (view_of_recorder self.old) (view_of_recorder self.new)) (λ why. IsRefusedWith name.now spec.now why (view_of_recorder self.old) (view_of_recorder self.new)) }
+        ensures first { IfOk result (λ histogram. (known : Known) → Means self.new histogram known → HasFirst (opened_with self.new.segment.now) self.new.seat.id (view_of_recorder self.new) known) }
         ensures claims { MatchResult result (λ _. NamesAtMostOne name.now spec.now (record_words name.now spec.now) (view_of_recorder self.old) (view_of_recorder self.new)) (λ why. why ≡ OtherSpec → NamesAtMostOne name.now spec.now (record_words name.now spec.now) (view_of_recorder self.old) (view_of_recorder self.new)) }
     {
         if let Some(index) = self.index_of(name) {
+            self.segment.stand(&mut self.seat);
             return self.known_at(index, name, spec);
         }
         let asked = Asked::of(self.alloc, self.segment.setting.shape, name, spec)?;
@@ -369,15 +373,18 @@ impl<'a> Recorder<'a> {
     /// All deltas of all recorders together have then taken of each key at least what the recorder had accepted, or seen, before. In
     /// version 1 one bucket may be excepted, whose units are being moved out of the single word.
     ///
+    /// It has no more keys than [`Recorder::most_keys`] says.
+    ///
     /// `NoMemory` where there is none for as many keys as the histogram may have, of 16 bytes each: its buckets, or its samples on the list.
-    /// Then nothing was taken, and of a sparse histogram it may have looked further along the list. It asks for that, and for its index of the
-    /// samples of sparse histograms, which it lets grow: where there is no memory for that, it asks for as many keys as there may be samples
-    /// in the segment, and walks along the list.
+    /// Then nothing has changed, but that of a sparse histogram it may have looked further along the list. It asks for that, and for its index
+    /// of the samples of sparse histograms, which it lets grow: where there is no memory for that, it asks for as many keys as there may be
+    /// samples in the segment, and walks along the list.
     pub fn delta(&mut self, histogram: Hist) -> Result<Delta, Refusal>
         requires { Knows self.old histogram }
         ensures same { IsSameRecorder self.old self.new }
-        ensures taken { MatchResult result (λ delta. (known : Known) → Means self.old histogram known → HasTaken known delta.counts.items delta.sum (view_of_recorder self.old) (view_of_recorder self.new)) (λ why. (why ≡ NoMemory) × HasSearched (view_of_recorder self.old) (view_of_recorder self.new)) }
-        ensures owed { IfOk result (λ delta. (known : Known) → Means self.old histogram known → TookEnough known (view_of_recorder self.old) (view_of_recorder self.new)) }
+        ensures taken { MatchResult result (λ delta. (known : Known) → Means self.old histogram known → HasTaken known delta.counts.items delta.sum (view_of_recorder self.old) (view_of_recorder self.new)) (λ why. (why ≡ NoMemory) × HasSearched (view_of_recorder self.old) (view_of_recorder self.new) × IsSameIfBucketed histogram self.old self.new) }
+        ensures few { IfOk result (λ delta. (known : Known) → Means self.old histogram known → AreFewKeys self.old.segment.now known delta.counts.items) }
+        ensures owed { IfOk result (λ delta. (known : Known) → Means self.old histogram known → TookEnough (opened_with self.new.segment.now) self.new.seat.id known (view_of_recorder self.old) (view_of_recorder self.new)) }
     {
         let known = &self.known[histogram.index];
         let has_all = self
@@ -397,12 +404,13 @@ impl<'a> Recorder<'a> {
     /// Of each key it has at least what the recorder had accepted, or seen, before, with the same exception as for [`Recorder::delta`]; and
     /// the redundant count is at least the units that it had accepted.
     ///
-    /// `NoMemory` as for [`Recorder::delta`]: then nothing is answered, and of a sparse histogram it may have looked further along the list. It
-    /// asks for the same.
+    /// It has no more keys than [`Recorder::most_keys`] says. `NoMemory` as for [`Recorder::delta`]: then nothing has changed, but that of a
+    /// sparse histogram it may have looked further along the list. It asks for the same.
     pub fn snapshot(&mut self, histogram: Hist) -> Result<Snapshot, Refusal>
         requires { Knows self.old histogram }
         ensures same { IsSameRecorder self.old self.new }
-        ensures answer { MatchResult result (λ snapshot. (known : Known) → Means self.old histogram known → HasSnapshot known (view_of_recorder self.old) snapshot (view_of_recorder self.new)) (λ why. (why ≡ NoMemory) × HasSearched (view_of_recorder self.old) (view_of_recorder self.new)) }
+        ensures answer { MatchResult result (λ snapshot. (known : Known) → Means self.old histogram known → HasSnapshot known (view_of_recorder self.old) snapshot (view_of_recorder self.new)) (λ why. (why ≡ NoMemory) × HasSearched (view_of_recorder self.old) (view_of_recorder self.new) × IsSameIfBucketed histogram self.old self.new) }
+        ensures few { IfOk result (λ snapshot. (known : Known) → Means self.old histogram known → AreFewKeys self.old.segment.now known snapshot.counts.items) }
         ensures owed { IfOk result (λ snapshot. (known : Known) → Means self.old histogram known → HasEnough known (view_of_recorder self.old) snapshot (view_of_recorder self.new)) }
         ensures values { IfOk result (λ snapshot. (known : Known) → Means self.old histogram known → known.spec ≡ Sparse → AreUnits snapshot.counts.items) }
     {
@@ -427,13 +435,15 @@ impl<'a> Recorder<'a> {
     }
 
     /// The references of all records of the list in its order, each once: those that it had seen there come first, and each
-    /// record that it made, was given, or saw as the tail or where a shared cursor stood is among them.
+    /// record that it made, was given, or saw as the tail or where a shared cursor stood is among them. When the call found the end
+    /// of the list, these were all of it.
     ///
     /// `NoMemory` where there is none for so many as fit in a segment, of eight bytes each; then nothing has changed. It asks for that
     /// alone.
     pub fn records(&mut self) -> Result<Vec<u64>, Refusal>
         ensures same { IsSameRecorder self.old self.new }
         ensures walked { MatchResult result (λ records. HasWalked (view_of_recorder self.old) records.items (view_of_recorder self.new)) (λ why. (why ≡ NoMemory) × (self.new ≡ self.old)) }
+        ensures all { IfOk result (λ records. HasList (opened_with self.new.segment.now) self.new.seat.id (view_of_recorder self.new) records.items) }
     {
         let size = self.segment.setting.shape.size() as usize;
         let mut records = Vec::with_capacity(self.alloc, (size - HEADER_WORDS) / BLOCK_LEAST)?;
@@ -458,7 +468,8 @@ impl<'a> Recorder<'a> {
     }
 
     /// The next record of a cursor that all recorders share, and the cursor stands there then: each record goes to one
-    /// recorder alone. None where the list ends behind the cursor; a later call may answer again.
+    /// recorder alone. So what it gave all recorders is a front of the list. None where the list ends behind the cursor, which then gave all
+    /// of it; a later call may answer again.
     ///
     /// The cursor is below the number that [`Segment::create`] was given.
     pub fn next_shared(&mut self, cursor: usize) -> Option<u64>
@@ -466,6 +477,7 @@ impl<'a> Recorder<'a> {
         ensures same { IsSameRecorder self.old self.new }
         ensures answer { AnswersNext cursor (view_of_recorder self.old) result (view_of_recorder self.new) }
         ensures given { (view_of_recorder self.new).done.given ≡ (view_of_recorder self.old).done.given ++ gift cursor result }
+        ensures shared { HasShared (opened_with self.new.segment.now) self.new.seat.id (view_of_recorder self.new) cursor result }
     {
         self.segment.next_shared(&mut self.seat, cursor)
     }

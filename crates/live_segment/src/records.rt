@@ -32,7 +32,9 @@ impl WalkPlace {
 }
 
 impl Segment {
+    ghost use Rattle.live_segment.specs.Holders.{opened_with};
     ghost use Rattle.live_segment.specs.Seated.{IsSeated};
+    ghost use Rattle.live_segment.specs.Standing.{HasList};
     ghost use Rattle.live_segment.specs.Steps.{IsSame};
 
     // Walks along the list, on from a place to its end, and lists the records behind. There is room for as many as fit in a
@@ -44,6 +46,7 @@ impl Segment {
         requires room { (records.old.items ≡ []) × ((self.now.setting.shape.size - 16) / 5 ≤ vec_capacity records.old) }
         ensures same { IsSame seat.old seat.new }
         ensures walked { WalksOn self.now.setting.shape.size seat.old.me.0 place.old records.new.items seat.new.me.0 place.new }
+        ensures all { HasList (opened_with self.now) seat.new.id seat.new.me.0 seat.new.me.0.seen.chain }
     {
         loop {
             let next = self.load_next(seat, place.at);

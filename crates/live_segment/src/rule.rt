@@ -31,6 +31,8 @@ pub(crate) struct Opening {
 pub(crate) enum Announcement {
     /// The units that the next recorder is to have.
     Units(u32),
+    /// The words that a block wants for which the free pointer is raised.
+    Wanted(u64),
     /// A histogram that a record is to hold, or that a `hist` was answered with or refused.
     Histogram(Asked),
     /// The sample of a sparse histogram that a record is to hold.
@@ -61,7 +63,7 @@ pub(crate) struct SegmentRule;
 impl TableRule<Announcement, Actor, Opening> for SegmentRule {
     ghost use Rattle.live_segment.specs.Rule.{Runs, opener_for};
 
-    ghost holds = { λ opening. Runs opening.setting };
+    ghost holds = { Runs };
 
     ghost first = { opener_for };
 }

@@ -2,7 +2,6 @@
 
 ghost use Rattle.std.specs.Prelude.{◌≡◌, ◌+◌, ◌≤◌, true, false, length, IfSome};
 ghost use Rattle.bucket_ranges.specs.declared.spec.Spec.TheVariants.{Sparse};
-ghost use Rattle.segment_machine.specs.Taking.{is_looking};
 ghost use Rattle.live_segment.specs.Names.Finding.{Meets, SeesWords};
 ghost use Rattle.live_segment.specs.Known.{known_view};
 ghost use Rattle.live_segment.specs.Readings.Samples.{CountsSample, SamplesAreFew, SamplesStandBehind, SeesSample, ShowsSample};
@@ -17,7 +16,9 @@ use segment_image::layout::{SAMPLE_COUNT, SAMPLE_HISTOGRAM, SAMPLE_VALUE, TYPE_S
 
 impl Segment {
     ghost use Rattle.segment_machine.specs.declared.actor.Actor.{Actor};
+    ghost use Rattle.segment_machine.specs.Actor.{has_buckets};
     ghost use Rattle.segment_machine.specs.Calls.{MayTurn};
+    ghost use Rattle.segment_promises.specs.Onward.{is_holding};
     ghost use Rattle.live_segment.specs.declared.indexing.KeyKind.TheVariants.{Sample as OfSample};
     ghost use Rattle.live_segment.specs.declared.rule.Setting.{Setting};
     ghost use Rattle.live_segment.specs.Known.{KnowsRight};
@@ -61,7 +62,7 @@ impl Segment {
     ) -> Option<(i32, u64)>
         requires seat { IsSeated self.now seat.old }
         requires sparse { KnowsAlone seat.old.me.0 (known_view histogram.now) × (histogram.now.spec ≡ Sparse) }
-        requires apart { is_looking seat.old.me.0.hand.place ≡ false }
+        requires apart { is_holding seat.old.me.0.hand.place ≡ false }
         requires since { seat.old.me.0.since.counts ≤ length seat.old.me.0.seen.counts }
         requires met { Meets at seat.old.me.0 }
         requires room { at + 5 ≤ self.now.setting.shape.size }
@@ -96,6 +97,7 @@ impl Segment {
         ensures free { MayTurn seat.new.me.0 }
         ensures indexed { IsIndexed OfSample self.now.setting.shape.size seat.new.me.0.seen index.new }
         ensures passed { result ≡ true → HasPassedAll self.now.setting.shape.size seat.new.me.0.seen index.new × (histogram.now.spec ≡ Sparse) }
+        ensures still { has_buckets histogram.now.spec ≡ true → (seat.new ≡ seat.old) × (index.new ≡ index.old) }
     {
         histogram.ranges.len() == 0 && self.look_on(seat, index)
     }

@@ -73,10 +73,10 @@ impl Segment {
     ghost use Rattle.segment_machine.specs.Seats.{MayOffer, offering, MaySplit, parent, newcomer, MayFill, lender, purse, MayPour, getter, joined};
     ghost use Rattle.live_segment.specs.Adopted.{MayGoOn};
     ghost use Rattle.live_segment.specs.Closing.{IsImageOf, ReadsJoined, DeltasAddUp, SnapshotsAgree, ReadsStopped};
-    ghost use Rattle.live_segment.specs.Rule.{IsKeptOpening, open_checks, opener_for};
+    ghost use Rattle.live_segment.specs.Rule.{IsKeptOpening, open_checks, opener_for, words_of};
     ghost use Rattle.live_segment.specs.Seated.{IsSeated};
     ghost use Rattle.live_segment.specs.Steps.{IsAtRest, IsSame, Joinable};
-    ghost use Rattle.live_segment.specs.Holders.{IsNew, IsOpened, IsMadeWith, view_of_opener};
+    ghost use Rattle.live_segment.specs.Holders.{IsNew, IsOpened, IsMadeWith, opened_with, view_of_opener};
 
     /// A new segment without records, and its opener, which has all 4,294,967,295 units.
     ///
@@ -175,7 +175,7 @@ impl Segment {
     ) -> Result<(Segment, Opener), AllocError>
         requires kept { IsKeptOpening opening }
         requires units { units ≡ (opener_for opening).units.share }
-        ensures { IfOk result (λ made. IsOpened opening.setting (opener_for opening) made.0 made.1) }
+        ensures { IfOk result (λ made. IsOpened opening.setting (words_of opening) (opener_for opening) made.0 made.1) }
     {
         let (table, seat) = Table::of_words(memory, opening.words.as_slice(), &opening)?;
         let segment = Segment {
@@ -201,7 +201,7 @@ impl Segment {
         ensures joined { outstanding_of (view_of_opener opener).role ≡ 0 → ReadsJoined self.setting (view_of_opener opener) result }
         ensures deltas { outstanding_of (view_of_opener opener).role ≡ 0 → DeltasAddUp (view_of_opener opener) }
         ensures snapshots { outstanding_of (view_of_opener opener).role ≡ 0 → SnapshotsAgree (view_of_opener opener) }
-        ensures stopped { ReadsStopped self.setting (view_of_opener opener) result }
+        ensures stopped { ReadsStopped (opened_with self) (view_of_opener opener) result }
         ensures goes_on { MayGoOn result }
     {
         let Segment {

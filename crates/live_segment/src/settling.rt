@@ -1,6 +1,6 @@
 //! How a `hist` of a recorder is answered.
 
-ghost use Rattle.std.specs.Prelude.{◌≡◌, [], MatchResult};
+ghost use Rattle.std.specs.Prelude.{◌≡◌, [], IfOk, MatchResult};
 ghost use Rattle.segment_calls.specs.declared.refusal.Refusal.TheVariants.{OtherSpec};
 ghost use Rattle.segment_machine.specs.Calls.{MayTurn};
 ghost use Rattle.live_segment.specs.Names.Finding.{IsAsked};
@@ -17,7 +17,9 @@ use segment_calls::{Asked, Refusal};
 impl Segment {
     ghost use Rattle.live_segment.specs.declared.indexing.KeyKind.TheVariants.{Name};
     ghost use Rattle.live_segment.specs.Lists.Indexed.{IsIndexed};
+    ghost use Rattle.live_segment.specs.Holders.{opened_with};
     ghost use Rattle.live_segment.specs.Seated.{IsSeated};
+    ghost use Rattle.live_segment.specs.Standing.{Standing};
     ghost use Rattle.live_segment.specs.Steps.{IsSame};
 
     // The first record of the name that is asked for, which is made where there is none.
@@ -73,10 +75,12 @@ impl Segment {
         ensures indexed { IsIndexed Name self.now.setting.shape.size seat.new.me.0.seen index.new }
         ensures outcome { Settles asked.now seat.old.me.0 result seat.new.me.0 }
         ensures claims { MatchResult result (λ _. MakesFor asked.now seat.old.me.0 seat.new.me.0) (λ why. why ≡ OtherSpec → MakesFor asked.now seat.old.me.0 seat.new.me.0) }
+        ensures stands { IfOk result (λ _. Standing (opened_with self.now) seat.new.id seat.new.me.0) }
     {
         match self.first_named(seat, index, asked, said) {
             Ok(reference) => {
                 self.know(seat, reference, said);
+                self.stand(seat);
                 Ok(reference)
             }
             Err(why) => {
@@ -104,6 +108,7 @@ impl Segment {
         ensures indexed { IsIndexed Name self.now.setting.shape.size seat.new.me.0.seen index.new }
         ensures outcome { IsAnnouncedOf asked seat.old.me.0 result seat.new.me.0 }
         ensures claims { MatchResult result (λ _. MakesFor asked seat.old.me.0 seat.new.me.0) (λ why. why ≡ OtherSpec → MakesFor asked seat.old.me.0 seat.new.me.0) }
+        ensures stands { IfOk result (λ _. Standing (opened_with self.now) seat.new.id seat.new.me.0) }
     {
         let said = Announcement::Histogram(asked);
         let Announcement::Histogram(asked) = &said else {

@@ -9,7 +9,9 @@ use crate::segment::Segment;
 use segment_image::layout::QUEUE;
 
 impl Segment {
+    ghost use Rattle.live_segment.specs.Holders.{opened_with};
     ghost use Rattle.live_segment.specs.Seated.{IsSeated};
+    ghost use Rattle.live_segment.specs.Standing.{HasShared};
     ghost use Rattle.live_segment.specs.Steps.{IsSame};
 
     /// Moves a shared cursor on to the record behind it, and gives that; none where the list ends there.
@@ -20,6 +22,7 @@ impl Segment {
         ensures same { IsSame seat.old seat.new }
         ensures answer { AnswersNext cursor seat.old.me.0 result seat.new.me.0 }
         ensures given { seat.new.me.0.done.given ≡ seat.old.me.0.done.given ++ gift cursor result }
+        ensures shared { HasShared (opened_with self.now) seat.new.id seat.new.me.0 cursor result }
     {
         loop {
             let at = self.load_cursor(seat, cursor);
@@ -28,6 +31,7 @@ impl Segment {
                 return None;
             }
             if self.move_cursor(seat, cursor, at, next) == at {
+                self.stand(seat);
                 return Some(next);
             }
         }

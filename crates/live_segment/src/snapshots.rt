@@ -53,21 +53,21 @@ impl Segment {
     ghost use Rattle.segment_machine.specs.declared.actor.Actor.{Actor};
     ghost use Rattle.live_segment.specs.declared.rule.Setting.{Setting};
     ghost use Rattle.live_segment.specs.Readings.Deltas.{AreUnits};
-    ghost use Rattle.live_segment.specs.Readings.Values.{LooksAlong, LooksAtValues, OpensWith};
+    ghost use Rattle.live_segment.specs.Readings.Values.{AreFewKeys, LooksAlong, LooksAtValues, OpensWith};
     ghost use Rattle.live_segment.specs.Readings.Listed.{AreOwn, LooksListed};
     ghost use Rattle.bucket_ranges.specs.Spec.{buckets_of};
     ghost use Rattle.segment_machine.specs.Actor.{has_buckets, is_opener};
     ghost use Rattle.segment_machine.specs.Event.{taking_event};
     ghost use Rattle.segment_machine.specs.Note.{answers, MayNote, noted};
     ghost use Rattle.segment_machine.specs.Taking.{load_sum};
-    ghost use Rattle.live_segment.specs.Holders.{MayStep, table_of};
+    ghost use Rattle.live_segment.specs.Holders.{MayStep, opened_with, table_of};
     ghost use Rattle.live_segment.specs.Seated.{IsSeated};
     ghost use Rattle.live_segment.specs.Known.{known_view, KnowsRight};
     ghost use Rattle.live_segment.specs.Steps.{IsAtRest, IsSame};
     ghost use Rattle.live_segment.specs.Readings.Snapshots.{HasSeenBuckets, HasSnapshot, saw_sum};
     ghost use Rattle.live_segment.specs.Readings.Taking.{answered_as};
     ghost use Rattle.live_segment.specs.GhostNotes.{KnowsAlone};
-    ghost use Rattle.live_segment.specs.Readings.Owed.{Standing};
+    ghost use Rattle.live_segment.specs.Standing.{Standing};
 
     // The units of all buckets of a histogram stand beside their keys.
     fn look_at_buckets(
@@ -122,13 +122,14 @@ impl Segment {
         ensures same { IsSame seat.old seat.new }
         ensures answer { result ≡ snapshot }
         ensures view { seat.new.me.0 ≡ noted seat.old.me.0 (answers (answered_as seat.old.me.0 (known_view histogram.now) snapshot)) }
-        ensures stands { Standing seat.new.me.0 }
+        ensures stands { Standing (opened_with self.now) seat.new.id seat.new.me.0 }
     {
         let said = Announcement::Answer {
             histogram: histogram.reference,
             snapshot,
         };
         self.answer(seat, &said);
+        self.stand(seat);
         snapshot_said(said)
     }
 
@@ -146,7 +147,8 @@ impl Segment {
         requires blank { totals.items ≡ blank_totals histogram.now.ranges }
         ensures same { IsSame seat.old seat.new }
         ensures answer { HasSnapshot (known_view histogram.now) seat.old.me.0 result seat.new.me.0 }
-        ensures stands { Standing seat.new.me.0 }
+        ensures few { AreFewKeys self.now (known_view histogram.now) result.counts.items }
+        ensures stands { Standing (opened_with self.now) seat.new.id seat.new.me.0 }
     {
         self.look_at_buckets(seat, histogram, totals.as_mut_slice());
         let (sum, redundant) = self.look_at_sum(seat, histogram.reference);
@@ -195,8 +197,9 @@ impl Segment {
         requires room { (totals.items ≡ []) × ((self.now.setting.shape.size - 16) / 5 ≤ vec_capacity totals) }
         ensures same { IsSame seat.old seat.new }
         ensures answer { HasSnapshot (known_view histogram.now) seat.old.me.0 result seat.new.me.0 }
-        ensures stands { Standing seat.new.me.0 }
+        ensures stands { Standing (opened_with self.now) seat.new.id seat.new.me.0 }
         ensures units { AreUnits result.counts.items }
+        ensures few { AreFewKeys self.now (known_view histogram.now) result.counts.items }
     {
         let first = self.look_next(seat, histogram.reference);
         self.look_at_values(seat, histogram, first, &mut totals);
@@ -248,8 +251,9 @@ impl Segment {
         requires room { (totals.items ≡ []) × (length samples.now ≤ vec_capacity totals) }
         ensures same { IsSame seat.old seat.new }
         ensures answer { HasSnapshot (known_view histogram.now) seat.old.me.0 result seat.new.me.0 }
-        ensures stands { Standing seat.new.me.0 }
+        ensures stands { Standing (opened_with self.now) seat.new.id seat.new.me.0 }
         ensures units { AreUnits result.counts.items }
+        ensures few { AreFewKeys self.now (known_view histogram.now) result.counts.items }
     {
         self.look_type(seat, histogram.reference);
         self.look_at_listed(seat, histogram, samples, &mut totals);
@@ -294,8 +298,9 @@ impl Segment {
         requires totals { MatchOption samples (OpensWith self.now histogram.now totals) (λ own. (totals.items ≡ []) × (length own.now ≤ vec_capacity totals)) }
         ensures same { IsSame seat.old seat.new }
         ensures answer { HasSnapshot (known_view histogram.now) seat.old.me.0 result seat.new.me.0 }
-        ensures stands { Standing seat.new.me.0 }
+        ensures stands { Standing (opened_with self.now) seat.new.id seat.new.me.0 }
         ensures units { histogram.now.spec ≡ Sparse → AreUnits result.counts.items }
+        ensures few { AreFewKeys self.now (known_view histogram.now) result.counts.items }
     {
         if let Some(own) = samples {
             return self.snapshot_of_listed(seat, histogram, own, totals);

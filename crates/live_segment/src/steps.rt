@@ -6,6 +6,7 @@ pub(crate) mod counting;
 pub(crate) mod cursors;
 pub(crate) mod packing;
 pub(crate) mod publishing;
+pub(crate) mod standing;
 pub(crate) mod sums;
 pub(crate) mod taking;
 pub(crate) mod walking;

@@ -1,6 +1,6 @@
 -- What the calls of a recorder answer and make of its desk: the clauses of `Recorder`, of the desk before a call, its answer, and the desk
 -- behind it.
-use Rattle.std.specs.Prelude.{◌≡◌, ℕ, ℤ, List, Result, Err, IfOk, MatchOption, MatchResult}
+use Rattle.std.specs.Prelude.{◌≡◌, true, ℕ, ℤ, List, Option, Result, Err, IfOk, MatchOption, MatchResult}
 use Rattle.std.specs.declared.vec.Vec.{Vec}
 use Rattle.std.specs.declared.alloc.Global.{Global}
 use Rattle.bucket_ranges.specs.declared.spec.Spec.{Spec}
@@ -13,18 +13,30 @@ use Rattle.segment_calls.specs.declared.refusal.BatchRefusal.{BatchRefusal}
 use Rattle.segment_calls.specs.declared.answer.Delta.{Delta}
 use Rattle.segment_calls.specs.declared.answer.Snapshot.{Snapshot}
 use Rattle.segment_machine.specs.declared.actor.Known.{Known}
+use Rattle.segment_machine.specs.Actor.{has_buckets}
 use Rattle.live_segment.specs.declared.recorder.Hist.{Hist}
 use Rattle.live_segment.specs.declared.recorder.desk.Desk.{Desk}
+use Rattle.live_segment.specs.declared.segment.Segment.{Segment}
 use Rattle.live_segment.specs.Claims.{ClaimsFor, ClaimsForAll, NamesAtMostOne}
 use Rattle.live_segment.specs.Counts.Adding.{add_checks, AnswersSample}
 use Rattle.live_segment.specs.Counts.Batching.{batch_checks, IsBatched, IsCutShort}
+use Rattle.live_segment.specs.declared.segment.Segment.{Segment}
+use Rattle.live_segment.specs.Holders.{opened_with}
 use Rattle.live_segment.specs.Lists.Records.{HasWalked}
 use Rattle.live_segment.specs.Names.Hist.{IsAnsweredWith, IsRefusedWith}
 use Rattle.live_segment.specs.Names.Searching.{HasSearched}
 use Rattle.live_segment.specs.Readings.Deltas.{AreUnits, HasTaken}
 use Rattle.live_segment.specs.Readings.Owed.{HasEnough, TookEnough}
 use Rattle.live_segment.specs.Readings.Snapshots.{HasSnapshot}
+use Rattle.live_segment.specs.Readings.Values.{AreFewKeys}
+use Rattle.live_segment.specs.Standing.{HasFirst, HasList, HasShared}
 use Rattle.owned_recorder.specs.Desks.{GivesFresh, Means, view_of_desk}
+
+-- ---- a call that is refused
+
+-- it has the same desk where it is of a histogram with buckets
+abbrev pub IsSameIfBucketed : Hist → Desk → Desk → Type 0
+IsSameIfBucketed histogram old new = (known : Known) → Means old histogram known → has_buckets known.spec ≡ true → new ≡ old
 
 -- ---- `hist`
 
@@ -39,6 +51,11 @@ abbrev pub ClaimsHist : List ℕ → Spec → Desk → Result Hist Refusal → D
 ClaimsHist name spec old result new =
     MatchResult result (λ _. NamesAtMostOne name spec (record_words name spec) (view_of_desk old) (view_of_desk new))
     (λ why. why ≡ OtherSpec → NamesAtMostOne name spec (record_words name spec) (view_of_desk old) (view_of_desk new))
+
+-- the histogram that it answers with is the first of its name on the list
+abbrev pub AnswersFirst : Segment → Result Hist Refusal → Desk → Type 0
+AnswersFirst segment result new =
+    IfOk result (λ histogram. (known : Known) → Means new histogram known → HasFirst (opened_with segment) new.seat.id (view_of_desk new) known)
 
 -- ---- `add`
 
@@ -72,27 +89,38 @@ ClaimsBatch histogram items old result new =
 
 -- ---- `delta`
 
--- the delta is what it has taken; or there was no memory, and it has looked along the list
+-- the delta is what it has taken; or there was no memory, and of a sparse histogram it may have looked along the list
 abbrev pub AnswersDelta : Hist → Desk → Result Delta Refusal → Desk → Type 0
 AnswersDelta histogram old result new =
     MatchResult result
     (λ delta. (known : Known) → Means old histogram known
     → HasTaken known delta.counts.items delta.sum (view_of_desk old) (view_of_desk new))
-    (λ why. (why ≡ NoMemory) × HasSearched (view_of_desk old) (view_of_desk new))
+    (λ why. (why ≡ NoMemory) × HasSearched (view_of_desk old) (view_of_desk new) × IsSameIfBucketed histogram old new)
+
+-- it has no more keys than the histogram may have
+abbrev pub TakesFewKeys : Segment → Hist → Desk → Result Delta Refusal → Type 0
+TakesFewKeys segment histogram old result =
+    IfOk result (λ delta. (known : Known) → Means old histogram known → AreFewKeys segment known delta.counts.items)
 
 -- all deltas together have taken enough
-abbrev pub TakesEnough : Hist → Desk → Result Delta Refusal → Desk → Type 0
-TakesEnough histogram old result new =
-    IfOk result (λ _. (known : Known) → Means old histogram known → TookEnough known (view_of_desk old) (view_of_desk new))
+abbrev pub TakesEnough : Segment → Hist → Desk → Result Delta Refusal → Desk → Type 0
+TakesEnough segment histogram old result new =
+    IfOk result (λ _. (known : Known) → Means old histogram known
+    → TookEnough (opened_with segment) new.seat.id known (view_of_desk old) (view_of_desk new))
 
 -- ---- `snapshot`
 
--- the snapshot is what it saw; or there was no memory, and it has looked along the list
+-- the snapshot is what it saw; or there was no memory, and of a sparse histogram it may have looked along the list
 abbrev pub AnswersSnapshot : Hist → Desk → Result Snapshot Refusal → Desk → Type 0
 AnswersSnapshot histogram old result new =
     MatchResult result
     (λ snapshot. (known : Known) → Means old histogram known → HasSnapshot known (view_of_desk old) snapshot (view_of_desk new))
-    (λ why. (why ≡ NoMemory) × HasSearched (view_of_desk old) (view_of_desk new))
+    (λ why. (why ≡ NoMemory) × HasSearched (view_of_desk old) (view_of_desk new) × IsSameIfBucketed histogram old new)
+
+-- it has no more keys than the histogram may have
+abbrev pub ShowsFewKeys : Segment → Hist → Desk → Result Snapshot Refusal → Type 0
+ShowsFewKeys segment histogram old result =
+    IfOk result (λ snapshot. (known : Known) → Means old histogram known → AreFewKeys segment known snapshot.counts.items)
 
 -- the snapshot has enough
 abbrev pub ShowsEnough : Hist → Desk → Result Snapshot Refusal → Desk → Type 0
@@ -112,7 +140,17 @@ abbrev pub AnswersRecords : Desk → Result (Vec ℕ Global) Refusal → Desk �
 AnswersRecords old result new =
     MatchResult result (λ records. HasWalked (view_of_desk old) records.items (view_of_desk new)) (λ why. (why ≡ NoMemory) × (new ≡ old))
 
+-- the list has exactly these
+abbrev pub AnswersList : Segment → Result (Vec ℕ Global) Refusal → Desk → Type 0
+AnswersList segment result new = IfOk result (λ records. HasList (opened_with segment) new.seat.id (view_of_desk new) records.items)
+
 -- the records are those that it was not given before; or there was no memory, and the desk is the same
 abbrev pub AnswersFresh : Desk → Result (Vec ℕ Global) Refusal → Desk → Type 0
 AnswersFresh old result new =
     MatchResult result (λ records. GivesFresh old records.items new) (λ why. (why ≡ NoMemory) × (new ≡ old))
+
+-- ---- `next_shared`
+
+-- what the cursor gave to all is a front of the list
+abbrev pub AnswersFront : Segment → ℕ → Option ℕ → Desk → Type 0
+AnswersFront segment cursor result new = HasShared (opened_with segment) new.seat.id (view_of_desk new) cursor result

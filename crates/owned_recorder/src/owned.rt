@@ -6,7 +6,7 @@ ghost use Rattle.std.proofs.Props.{props};
 ghost use Rattle.live_segment.specs.Desk.{IsDeskAt};
 ghost use Rattle.live_segment.specs.Lists.Allocation.{spoiled};
 ghost use Rattle.live_segment.specs.Lists.Cursors.{AnswersNext, gift};
-ghost use Rattle.owned_recorder.specs.Answers.{AnswersAdd, AnswersBatch, AnswersDelta, AnswersFresh, AnswersHist, AnswersRecords, AnswersSnapshot, ClaimsAdd, ClaimsBatch, ClaimsHist, ShowsEnough, ShowsUnits, TakesEnough};
+ghost use Rattle.owned_recorder.specs.Answers.{AnswersAdd, AnswersBatch, AnswersDelta, AnswersFirst, AnswersFresh, AnswersFront, AnswersHist, AnswersList, AnswersRecords, AnswersSnapshot, ClaimsAdd, ClaimsBatch, ClaimsHist, ShowsEnough, ShowsFewKeys, ShowsUnits, TakesEnough, TakesFewKeys};
 ghost use Rattle.owned_recorder.specs.Desks.{IsNamed, IsSameDesk, Knows, KnowsOn, Means, view_of_desk};
 ghost use Rattle.live_segment.specs.Readings.Values.{AreMostKeys};
 ghost use Rattle.segment_machine.specs.declared.actor.Known.{Known};
@@ -80,6 +80,7 @@ impl OwnedRecorder {
         ensures same { KnowsOn self.desk result.0.desk }
         ensures named { IfOk result.1 (IsNamed asked.entry.0.now asked.entry.1.now result.0.desk) }
         ensures answer { AnswersHist asked.entry.0.now asked.entry.1.now self.desk result.1 result.0.desk }
+        ensures first { AnswersFirst (arc_value result.0.segment) result.1 result.0.desk }
         ensures claims { ClaimsHist asked.entry.0.now asked.entry.1.now self.desk result.1 result.0.desk }
     {
         let OwnedRecorder { segment, desk } = self;
@@ -95,6 +96,7 @@ impl OwnedRecorder {
         ensures same { KnowsOn self.old.desk self.new.desk }
         ensures named { IfOk result (IsNamed name.now spec.now self.new.desk) }
         ensures answer { AnswersHist name.now spec.now self.old.desk result self.new.desk }
+        ensures first { AnswersFirst (arc_value self.new.segment) result self.new.desk }
         ensures claims { ClaimsHist name.now spec.now self.old.desk result self.new.desk }
     {
         replace_with(self, (name, spec), OwnedRecorder::hist_within)
@@ -150,7 +152,8 @@ impl OwnedRecorder {
         ensures kept { result.0.segment ≡ self.segment }
         ensures same { IsSameDesk self.desk result.0.desk }
         ensures taken { AnswersDelta asked self.desk result.1 result.0.desk }
-        ensures owed { TakesEnough asked self.desk result.1 result.0.desk }
+        ensures few { TakesFewKeys (arc_value self.segment) asked self.desk result.1 }
+        ensures owed { TakesEnough (arc_value result.0.segment) asked self.desk result.1 result.0.desk }
     {
         let OwnedRecorder { segment, desk } = self;
         let mut recorder = Recorder::at_desk(&segment, desk);
@@ -165,7 +168,8 @@ impl OwnedRecorder {
         ensures kept { self.new.segment ≡ self.old.segment }
         ensures same { IsSameDesk self.old.desk self.new.desk }
         ensures taken { AnswersDelta histogram self.old.desk result self.new.desk }
-        ensures owed { TakesEnough histogram self.old.desk result self.new.desk }
+        ensures few { TakesFewKeys (arc_value self.old.segment) histogram self.old.desk result }
+        ensures owed { TakesEnough (arc_value self.new.segment) histogram self.old.desk result self.new.desk }
     {
         replace_with(self, histogram, OwnedRecorder::delta_within)
     }
@@ -175,6 +179,7 @@ impl OwnedRecorder {
         ensures kept { result.0.segment ≡ self.segment }
         ensures same { IsSameDesk self.desk result.0.desk }
         ensures answer { AnswersSnapshot asked self.desk result.1 result.0.desk }
+        ensures few { ShowsFewKeys (arc_value self.segment) asked self.desk result.1 }
         ensures owed { ShowsEnough asked self.desk result.1 result.0.desk }
         ensures values { ShowsUnits asked self.desk result.1 }
     {
@@ -191,6 +196,7 @@ impl OwnedRecorder {
         ensures kept { self.new.segment ≡ self.old.segment }
         ensures same { IsSameDesk self.old.desk self.new.desk }
         ensures answer { AnswersSnapshot histogram self.old.desk result self.new.desk }
+        ensures few { ShowsFewKeys (arc_value self.old.segment) histogram self.old.desk result }
         ensures owed { ShowsEnough histogram self.old.desk result self.new.desk }
         ensures values { ShowsUnits histogram self.old.desk result }
     {
@@ -222,6 +228,7 @@ impl OwnedRecorder {
         ensures kept { result.0.segment ≡ self.segment }
         ensures same { IsSameDesk self.desk result.0.desk }
         ensures walked { AnswersRecords self.desk result.1 result.0.desk }
+        ensures all { AnswersList (arc_value result.0.segment) result.1 result.0.desk }
     {
         let OwnedRecorder { segment, desk } = self;
         let mut recorder = Recorder::at_desk(&segment, desk);
@@ -235,6 +242,7 @@ impl OwnedRecorder {
         ensures kept { self.new.segment ≡ self.old.segment }
         ensures same { IsSameDesk self.old.desk self.new.desk }
         ensures walked { AnswersRecords self.old.desk result self.new.desk }
+        ensures all { AnswersList (arc_value self.new.segment) result self.new.desk }
     {
         replace_with(self, (), OwnedRecorder::records_within)
     }
@@ -264,6 +272,7 @@ impl OwnedRecorder {
         ensures same { IsSameDesk self.desk result.0.desk }
         ensures answer { AnswersNext asked (view_of_desk self.desk) result.1 (view_of_desk result.0.desk) }
         ensures given { (view_of_desk result.0.desk).done.given ≡ (view_of_desk self.desk).done.given ++ gift asked result.1 }
+        ensures shared { AnswersFront (arc_value result.0.segment) asked result.1 result.0.desk }
     {
         let OwnedRecorder { segment, desk } = self;
         let mut recorder = Recorder::at_desk(&segment, desk);
@@ -279,6 +288,7 @@ impl OwnedRecorder {
         ensures same { IsSameDesk self.old.desk self.new.desk }
         ensures answer { AnswersNext cursor (view_of_desk self.old.desk) result (view_of_desk self.new.desk) }
         ensures given { (view_of_desk self.new.desk).done.given ≡ (view_of_desk self.old.desk).done.given ++ gift cursor result }
+        ensures shared { AnswersFront (arc_value self.new.segment) cursor result self.new.desk }
     {
         replace_with(self, cursor, OwnedRecorder::next_shared_within)
     }

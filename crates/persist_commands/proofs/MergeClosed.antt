@@ -10,8 +10,11 @@ use Rattle.segment_machine.specs.Seats.{joined, longer, offering, parent}
 use Rattle.segment_invariant.proofs.Lists.Elements.{at_from}
 use Rattle.segment_promises.proofs.Names.{others_differ}
 use Rattle.segment_calls.specs.declared.asked.Asked.{Asked}
+use Rattle.live_segment.specs.declared.rule.Opening.{Opening}
 use Rattle.live_segment.specs.declared.rule.Setting.{Setting}
+use Rattle.live_segment.specs.declared.segment.Segment.{Segment}
 use Rattle.live_segment.specs.Closing.{IsImageOf, ReadsJoined, ReadsStopped}
+use Rattle.live_segment.specs.Holders.{opened_with}
 use Rattle.live_segment.specs.Names.Hist.{KnowsNone}
 use Rattle.live_segment.specs.Rule.{first_view}
 use Rattle.live_segment.specs.Names.Searching.{SawOther}
@@ -24,18 +27,23 @@ closing setting last = joined (parent (offering (first_view setting) 4294967295)
 pub record IsClosed (setting : Setting) (last : Actor) (words : List ℕ) : Type 0 where
   pub image : IsImageOf setting words
   pub reads : ReadsJoined setting (closing setting last) words
-  pub stopped : ReadsStopped setting (closing setting last) words
+  pub opening : Opening
+  pub stopped : ReadsStopped (record opening { setting = setting }) (closing setting last) words
 
-pub closed_so : (setting given : Setting) (opener mid new last : Actor) (words : List ℕ) → given ≡ setting → opener ≡ first_view setting
+pub closed_so : (setting : Setting) (segment : Segment) (opener mid new last : Actor) (words : List ℕ) → segment.setting ≡ setting → opener ≡ first_view setting
     → mid ≡ parent (offering opener 4294967295) → new ≡ joined mid last
-    → IsImageOf given words → (outstanding_of new.role ≡ 0 → ReadsJoined given new words) → ReadsStopped given new words → IsClosed setting last words
-closed_so setting given opener mid new last words is first handed joins image reads stopped =
+    → IsImageOf segment.setting words → (outstanding_of new.role ≡ 0 → ReadsJoined segment.setting new words) → ReadsStopped (opened_with segment) new words
+    → IsClosed setting last words
+closed_so setting segment opener mid new last words is first handed joins image reads stopped =
+    let given : Opening = opened_with segment in
     let whole : new ≡ closing setting last =
     joins ∙ ap (λ (o : Actor). joined o last) (handed ∙ ap (λ (o : Actor). parent (offering o 4294967295)) first) in record {
       image = subst (λ (s : Setting). IsImageOf s words) is image;
       reads = subst (λ (s : Setting). ReadsJoined s (closing setting last) words) is
-          (subst (λ (o : Actor). ReadsJoined given o words) whole (reads (ap (λ (o : Actor). outstanding_of o.role) whole)));
-      stopped = subst (λ (s : Setting). ReadsStopped s (closing setting last) words) is (subst (λ (o : Actor). ReadsStopped given o words) whole stopped);
+          (subst (λ (o : Actor). ReadsJoined segment.setting o words) whole (reads (ap (λ (o : Actor). outstanding_of o.role) whole)));
+      opening = given;
+      stopped = subst (λ (s : Setting). ReadsStopped (record given { setting = s }) (closing setting last) words) (segment.keyed ∙ is)
+          (subst (λ (o : Actor). ReadsStopped given o words) whole stopped);
     }
 
 -- what the longer of nothing and a chain is

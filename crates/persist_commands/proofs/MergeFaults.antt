@@ -51,8 +51,8 @@ module _ (first : SegmentHead) (units : ℕ) (front : List Histogram) (h : Histo
     (full : (block : ℕ) → Lacks h new block → new.segment.shape.size < new.seen.free + block → LacksRoomFor first front h) where
   -- no block could be claimed
   no_room : (why : Refusal) (words : ℕ) (before : Actor) → Lacks h new words → HasNoRoom why words before new → MayStop first units front h why
-  no_room refusal.Full words before lacks (done, passes) = full words lacks passes
-  no_room refusal.Corrupt words before lacks (done, corrupt, warned) = absurd (sound corrupt)
+  no_room refusal.Full words before lacks (done, wastes, passes) = full words lacks passes
+  no_room refusal.Corrupt words before lacks (done, wastes, corrupt, warned) = absurd (sound corrupt)
   no_room why words before lacks has = absurd has
 
   -- it may not be asked for
@@ -68,9 +68,9 @@ module _ (first : SegmentHead) (units : ℕ) (front : List Histogram) (h : Histo
   not_found : (asked : Asked) (why : Refusal) (before : Actor) → IsAskedFor before.segment.shape h.name h.spec asked → KnowsNone h.name new
       → IsRefusedBy asked why before new → MayStop first units front h why
   not_found asked refusal.OtherSpec before asks none is = absurd (unseen asked is (subst (λ (name : List ℕ). KnowsNone name new) (sym asks.named) none))
-  not_found asked refusal.Full before asks none (others, all, (done, passes)) =
+  not_found asked refusal.Full before asks none (others, all, (done, wastes, passes)) =
       full (BLOCK_HEADER + length asked.payload.items) (inl (record_long before.segment.shape h asked asks, none)) passes
-  not_found asked refusal.Corrupt before asks none (others, all, (done, corrupt, warned)) = absurd (sound corrupt)
+  not_found asked refusal.Corrupt before asks none (others, all, (done, wastes, corrupt, warned)) = absurd (sound corrupt)
   not_found asked why before asks none is = absurd is.2
 
   -- the recorder knew one of the name, with another spec

@@ -7,7 +7,9 @@ use Rattle.clap.specs.declared.error.kind.ErrorKind.TheVariants.{DisplayHelp, Di
 use Rattle.persist_report_core.specs.declared.fault.CliFault.{CliFault}
 use Rattle.persist_report_core.specs.declared.fault.CliFault.TheVariants.{Read, Write, TooLong, NotWords, Image, BadLine, Refused, Gate, Merge, NoThread, NoMemory, Adopt, NoSegment}
 use Rattle.persist_report.specs.declared.failure.Failure.{Failure}
-use Rattle.persist_report.specs.declared.failure.Failure.TheVariants.{Usage, Fault, Explained}
+use Rattle.persist_report.specs.declared.failure.Failure.TheVariants.{Usage, Fault, Explained, Busy}
+use Rattle.persist_report.specs.declared.lock.Unopened.{Unopened}
+use Rattle.persist_report.specs.declared.lock.Unopened.TheVariants as unopened
 
 -- the status of a fault: 3 for bytes that are no image or no script, and for what is refused, as an image that is to be
 -- recorded into again; 4 for a device that failed; 5 for want of a thread or of memory
@@ -26,11 +28,13 @@ fault_status NoMemory = 5
 fault_status (Adopt fault) = 3
 fault_status NoSegment = 3
 
--- the status of a failure: 2 for a command line that asks for nothing that the program does
+-- the status of a failure: 2 for a command line that asks for nothing that the program does, and 4 for a file that another
+-- has locked
 abbrev pub failure_status : Failure → ℕ
 failure_status (Usage error) = 2
 failure_status (Fault fault) = fault_status fault
 failure_status (Explained fault lines) = fault_status fault
+failure_status (Busy lines) = 4
 
 -- what an error of the command line's parse comes to: want of memory is no mistake in the words
 abbrev pub IsFailureOf : Error → Failure → Type 0
@@ -49,3 +53,9 @@ abbrev pub UsageIsMistake : Failure → Type 0
 UsageIsMistake (Usage error) = IsMistake (kind_of error)
 UsageIsMistake (Fault fault) = ⊤
 UsageIsMistake (Explained fault lines) = ⊤
+UsageIsMistake (Busy lines) = ⊤
+
+-- why a file is not locked: another has its lock, or the system cannot lock it
+abbrev pub IsBusyOrWrite : Unopened → Type 0
+IsBusyOrWrite unopened.Busy = ⊤
+IsBusyOrWrite (unopened.Failed cause) = cause.fault ≡ Write

@@ -4,9 +4,10 @@ ghost use Rattle.persist_report.specs.Failure.{UsageIsMistake};
 
 use crate::cause::Cause;
 use crate::failure::Failure;
+use crate::lock::Unopened;
 use fault_texts::{
     Origin, Source, adopt_lines, base_lines, device_lines, image_lines, merge_lines, remedy_lines,
-    script_lines, size_lines,
+    remedy_lines_of, script_lines, size_lines,
 };
 use persist_report_core::CliFault;
 use std::alloc::{AllocError, Global};
@@ -94,4 +95,26 @@ pub fn unopened(alloc: Global, cause: Cause, explains: bool, path: &str) -> Fail
         reason,
     };
     told(alloc, fault, explains, known)
+}
+
+// The lines that follow where another has the lock of a file.
+fn busy_lines(alloc: Global, path: &str) -> Result<String, AllocError> {
+    let mut lines = device_lines(alloc, Origin::File(path), None)?;
+    let more = remedy_lines_of(alloc, "Busy")?;
+    lines.push_str(more.as_str())?;
+    Ok(lines)
+}
+
+/// The failure where the file that a command writes was not opened.
+pub fn unopened_out(alloc: Global, why: Unopened, explains: bool, path: &str) -> Failure
+    ensures { UsageIsMistake result }
+{
+    match why {
+        Unopened::Failed(cause) => unopened(alloc, cause, explains, path),
+        Unopened::Busy if explains => match busy_lines(alloc, path) {
+            Ok(lines) => Failure::Busy(lines),
+            Err(_) => Failure::Busy(String::new(alloc)),
+        },
+        Unopened::Busy => Failure::Busy(String::new(alloc)),
+    }
 }

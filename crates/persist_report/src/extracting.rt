@@ -14,10 +14,12 @@ use persist_report_core::CliFault;
 use segment_image::Watched;
 use segment_search::{SearchFault, extract};
 use std::alloc::{AllocError, Global};
+use std::fs::File;
 use std::io;
 use std::io::{Read, Write};
 use std::random::RandomSource;
 use std::rt::Files;
+use std::time::Clock;
 
 // The fault of the program that a fault of a search is.
 fn fault_of(fault: SearchFault) -> CliFault {
@@ -56,7 +58,7 @@ fn extract_both<I: Read, W: Write, L: Write>(
 
 /// Finds a segment in a file, writes its image to another, and to standard output how many bytes stand before it. The image
 /// takes the other file's place behind that line. No copy is kept of what is read: it may be long.
-pub fn extract_file<'a, R: Files + Print + RandomSource + AllocGlobal>(
+pub fn extract_file<'a, R: Files<File = File> + Clock + Print + RandomSource + AllocGlobal>(
     rt: &R,
     file: &'a str,
     out: &'a str,

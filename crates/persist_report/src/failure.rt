@@ -19,16 +19,19 @@ pub enum Failure {
     Fault(CliFault),
     /// It failed, and these lines follow the line of the fault.
     Explained(CliFault, String),
+    /// Another has the lock of the file that it writes. These lines follow, where there are any.
+    Busy(String),
 }
 
 impl Failure {
-    /// The status with which the program ends: 2 for `Usage`, and else that of the fault.
+    /// The status with which the program ends: 2 for `Usage`, 4 for `Busy`, and else that of the fault.
     pub fn status(&self) -> u8
         ensures { result ≡ failure_status self.now }
     {
         match self {
             Failure::Usage(_) => 2,
             Failure::Fault(fault) | Failure::Explained(fault, _) => fault_status(fault),
+            Failure::Busy(_) => 4,
         }
     }
 }
@@ -84,6 +87,10 @@ impl fmt::Display for Failure {
             Failure::Fault(fault) => writeln!(f, "persist_report: {fault}"),
             Failure::Explained(fault, lines) => {
                 writeln!(f, "persist_report: {fault}")?;
+                f.write_str(lines.as_str())
+            }
+            Failure::Busy(lines) => {
+                f.write_str("persist_report: Busy\n")?;
                 f.write_str(lines.as_str())
             }
         }

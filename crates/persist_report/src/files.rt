@@ -6,7 +6,7 @@ ghost use Rattle.persist_report.specs.Failure.{UsageIsMistake};
 ghost use Rattle.segment_image.specs.Watched.{has_failed};
 
 use crate::cause::Cause;
-use crate::explaining::{Known, told, unopened};
+use crate::explaining::{Known, told, unopened, unopened_out};
 use crate::failure::Failure;
 use crate::form::{Form, write_form};
 use crate::noted::Noted;
@@ -16,11 +16,13 @@ use fault_texts::{Origin, Source};
 use persist_commands::{OpenGate, merge_files, resume_script, run_script};
 use persist_report_core::CliFault;
 use segment_image::Watched;
+use std::fs::File;
 use std::io::Read;
 use std::random::RandomSource;
 use std::rt::Files;
 use std::sync::Wait;
 use std::thread::Threads;
+use std::time::Clock;
 use std::{fs, io};
 
 /// A file that is there, to read it. A copy of what is read is kept where it `copies`.
@@ -55,17 +57,17 @@ fn open<R: Files + AllocGlobal>(
 }
 
 /// The file that is written.
-pub fn open_out<R: Files + RandomSource + AllocGlobal>(
+pub fn open_out<R: Files<File = File> + Clock + RandomSource + AllocGlobal>(
     rt: &R,
     path: &str,
     explains: bool,
-) -> Result<Watched<Noted<Output<R::File>>>, Failure>
+) -> Result<Watched<Noted<Output<File>>>, Failure>
     ensures file { IfOk result (λ file. has_failed file ≡ false) }
     ensures fault { IfErr result UsageIsMistake }
 {
     match open_output(rt, path) {
         Ok(output) => Ok(Watched::new(Noted::new(output))),
-        Err(cause) => Err(unopened(rt.alloc(), cause, explains, path)),
+        Err(why) => Err(unopened_out(rt.alloc(), why, explains, path)),
     }
 }
 
@@ -153,13 +155,10 @@ pub fn write_file<R: Files + Input + Print + AllocGlobal>(
 
 /// Runs the script in a file, and writes the image to another and its report to standard output. The image takes the other
 /// file's place behind the report.
-pub fn run_file<'a, R: Files + Print + RandomSource + AllocGlobal + Threads + Wait>(
-    rt: &R,
-    script: &'a str,
-    out: &'a str,
-    workers: Workers,
-    explains: bool,
-) -> Result<(), Failure>
+pub fn run_file<
+    'a,
+    R: Files<File = File> + Clock + Print + RandomSource + AllocGlobal + Threads + Wait,
+>(rt: &R, script: &'a str, out: &'a str, workers: Workers, explains: bool) -> Result<(), Failure>
     ensures { IfErr result UsageIsMistake }
 {
     let mut reader = open(rt, script, explains)?;
@@ -194,7 +193,10 @@ pub fn run_file<'a, R: Files + Print + RandomSource + AllocGlobal + Threads + Wa
 
 /// Goes on with the image in a file and runs the script in another on it. Writes the new image to a third file and its report to
 /// standard output. The image takes the third file's place behind the report.
-pub fn resume_file<'a, R: Files + Print + RandomSource + AllocGlobal + Threads + Wait>(
+pub fn resume_file<
+    'a,
+    R: Files<File = File> + Clock + Print + RandomSource + AllocGlobal + Threads + Wait,
+>(
     rt: &R,
     base: &'a str,
     script: &'a str,
@@ -238,7 +240,7 @@ pub fn resume_file<'a, R: Files + Print + RandomSource + AllocGlobal + Threads +
 }
 
 /// Merges the images in two files into a new one, and writes it to a third.
-pub fn merge_files_into<'a, R: Files + RandomSource + AllocGlobal>(
+pub fn merge_files_into<'a, R: Files<File = File> + Clock + RandomSource + AllocGlobal>(
     rt: &R,
     base: &'a str,
     dead: &'a str,

@@ -8,6 +8,7 @@ mod extracting;
 mod failure;
 mod files;
 mod form;
+mod lock;
 mod noted;
 mod nth;
 mod output;

@@ -5,23 +5,31 @@
 //! may leave it there, and leaves OUT as it was.
 //!
 //! What has no bytes to keep is written itself, as a device or a pipe.
+//!
+//! A process that records into a file has its lock. So a command takes the lock of an old OUT before it does anything else, and
+//! has it until the new file has OUT's name. It replaces no file that another has locked, and none that came to OUT meanwhile.
 
 ghost use Rattle.std.specs.Prelude.{◌≡◌, IfErr, IsErrAnd, OnOk};
 
 use crate::cause::Cause;
+use crate::lock::{Unopened, take_lock};
 use crate::place::{has_name, place_of};
 use persist_report_core::CliFault;
 use std::alloc::AllocError;
-use std::fs::{OpenFile, OpenOptions, Permissions};
+use std::fs::{File, Metadata, OpenFile, OpenOptions, Permissions};
 use std::io::{ErrorKind, Write};
-use std::os::unix::fs::OpenOptionsExt;
+use std::os::unix::fs::{MetadataExt, OpenOptionsExt};
 use std::path::PathBuf;
 use std::random::RandomSource;
 use std::rt::Files;
+use std::time::Clock;
 use std::{fs, io};
 
 // How many names are tried for a new file. They are random, so two that clash are hardly met.
 const MOST_NAMES: u32 = 16;
+
+// How often OUT is opened, where another file takes its name each time before it is locked.
+const MOST_OPENINGS: u32 = 16;
 
 // Who may use a new file that has yet to be given the permissions of the old one.
 const OWNER_ALONE: u32 = 0o600;
@@ -29,8 +37,13 @@ const OWNER_ALONE: u32 = 0o600;
 /// The file that a command writes.
 #[derive(Drop)]
 pub enum Output<F> {
-    /// A new file at the path `new`, which takes the path `out`.
-    New { file: F, new: PathBuf, out: PathBuf },
+    /// A new file at the path `new`, which takes the path `out`, and the locked file that stands there, where one does.
+    New {
+        file: F,
+        new: PathBuf,
+        out: PathBuf,
+        old: Option<F>,
+    },
     /// What OUT leads to.
     Itself(F),
 }
@@ -58,27 +71,32 @@ impl<F: Drop> Output<F> {
         ensures same { IfErr outcome (λ fault. IsErrAnd result (λ cause. cause.fault ≡ fault)) }
         ensures write { OnOk outcome (IfErr result (λ cause. cause.fault ≡ CliFault.Write)) }
     {
-        let Output::New { new, out, .. } = self else {
+        let Output::New { new, out, old, .. } = self else {
             return match outcome {
                 Ok(()) => Ok(()),
                 Err(fault) => Err(Cause::from(fault)),
             };
         };
         let ended = match outcome {
-            Ok(()) => rename(rt, &new, &out),
+            Ok(()) => rename(rt, &new, &out, old.is_some()),
             Err(fault) => Err(Cause::from(fault)),
         };
         if ended.is_err() {
             remove(rt, &new);
         }
+        drop(old);
         ended
     }
 }
 
-// Gives a new file OUT's name.
-fn rename<R: Files>(rt: &R, new: &PathBuf, out: &PathBuf) -> Result<(), Cause>
+// Gives a new file OUT's name. What came there meanwhile is not replaced, where it did not stand there at first.
+fn rename<R: Files>(rt: &R, new: &PathBuf, out: &PathBuf, stood: bool) -> Result<(), Cause>
     ensures { IfErr result (λ cause. cause.fault ≡ CliFault.Write) }
 {
+    if !stood && fs::symlink_metadata(rt, out).is_ok() {
+        let error = io::Error::from(ErrorKind::AlreadyExists);
+        return Err(Cause::of_write(error));
+    }
     match fs::rename(rt, new, out) {
         Ok(()) => Ok(()),
         Err(error) => Err(Cause::of_write(error)),
@@ -87,37 +105,66 @@ fn rename<R: Files>(rt: &R, new: &PathBuf, out: &PathBuf) -> Result<(), Cause>
 
 /// Opens the output for OUT, and leaves OUT as it is.
 ///
-/// `Write` where OUT cannot be written, or no new file can be made in its folder.
-pub fn open_output<R: Files + RandomSource + AllocGlobal>(
+/// `Busy` where another has had the lock of OUT for 100 ms. `Write` where OUT cannot be written, or no new file can be made in
+/// its folder.
+pub fn open_output<R: Files<File = File> + Clock + RandomSource + AllocGlobal>(
     rt: &R,
     out: &str,
-) -> Result<Output<R::File>, Cause> {
+) -> Result<Output<File>, Unopened> {
+    for _ in 0..MOST_OPENINGS {
+        let opened = try_output(rt, out)?;
+        if let Some(output) = opened {
+            return Ok(output);
+        }
+    }
+    Err(Unopened::Busy)
+}
+
+// The same; none where another file took the name of the one that was opened before it was locked.
+fn try_output<R: Files<File = File> + Clock + RandomSource + AllocGlobal>(
+    rt: &R,
+    out: &str,
+) -> Result<Option<Output<File>>, Unopened> {
     match OpenOptions::new().write(true).open(rt, out) {
         Ok(file) => open_for(rt, out, file),
         Err(error) if error.kind() == ErrorKind::NotFound => match place_of(rt, out)? {
-            Some(place) => create_beside(rt, place, None),
-            None => Err(Cause::of_write(error)),
+            Some(place) => Ok(Some(create_beside(rt, place, None)?)),
+            None => Err(Unopened::from(Cause::of_write(error))),
         },
-        Err(error) => Err(Cause::of_write(error)),
+        Err(error) => Err(Unopened::from(Cause::of_write(error))),
     }
 }
 
 // The output where OUT is there, as an open file.
-fn open_for<R: Files + RandomSource + AllocGlobal>(
+fn open_for<R: Files<File = File> + Clock + RandomSource + AllocGlobal>(
     rt: &R,
     out: &str,
-    file: R::File,
-) -> Result<Output<R::File>, Cause> {
+    file: File,
+) -> Result<Option<Output<File>>, Unopened> {
     let found = file.metadata().map_err(Cause::of_write)?;
     if !found.is_file() {
-        return Ok(Output::Itself(file));
+        return Ok(Some(Output::Itself(file)));
     }
+    take_lock(rt, &file)?;
     match place_of(rt, out)? {
-        Some(place) => create_beside(rt, place, Some(found.permissions())),
+        Some(place) if !stands_at(rt, &found, &place)? => Ok(None),
+        Some(place) => {
+            let output = create_beside(rt, place, Some((file, found.permissions())))?;
+            Ok(Some(output))
+        }
         None => {
             file.set_len(0).map_err(Cause::of_write)?;
-            Ok(Output::Itself(file))
+            Ok(Some(Output::Itself(file)))
         }
+    }
+}
+
+// Whether the file of which this is known stands at a path.
+fn stands_at<R: Files>(rt: &R, found: &Metadata, place: &PathBuf) -> Result<bool, Cause> {
+    match fs::symlink_metadata(rt, place) {
+        Ok(named) => Ok(named.dev() == found.dev() && named.ino() == found.ino()),
+        Err(error) if error.kind() == ErrorKind::NotFound => Ok(false),
+        Err(error) => Err(Cause::of_write(error)),
     }
 }
 
@@ -125,21 +172,30 @@ fn open_for<R: Files + RandomSource + AllocGlobal>(
 fn create_beside<R: Files + RandomSource + AllocGlobal>(
     rt: &R,
     out: PathBuf,
-    permissions: Option<Permissions>,
+    old: Option<(R::File, Permissions)>,
 ) -> Result<Output<R::File>, Cause> {
     if !has_name(&out) {
         return Err(Cause::from(CliFault::Write));
     }
-    let (file, new) = create_new(rt, &out, permissions.is_some())?;
-    let granted = match permissions {
-        Some(permissions) => file.set_permissions(permissions),
-        None => Ok(()),
+    let (file, new) = create_new(rt, &out, old.is_some())?;
+    let Some((old, permissions)) = old else {
+        return Ok(Output::New {
+            file,
+            new,
+            out,
+            old: None,
+        });
     };
-    if let Err(error) = granted {
+    if let Err(error) = file.set_permissions(permissions) {
         remove(rt, &new);
         return Err(Cause::of_write(error));
     }
-    Ok(Output::New { file, new, out })
+    Ok(Output::New {
+        file,
+        new,
+        out,
+        old: Some(old),
+    })
 }
 
 // Removes a new file behind a fault. The fault is told, and nothing is left to do where this fails too.

@@ -13,19 +13,29 @@ use fault_texts::{AllTexts, text_of};
 use persist_report_core::CliFault;
 use reading_shows::{Choice, Style};
 use reading_texts::is_prefix;
+use std::fs::File;
 use std::random::RandomSource;
 use std::rt::{Env, Files};
 use std::sync::Wait;
 use std::thread::Threads;
+use std::time::Clock;
 use std::{env, io};
 
 /// Does what the arguments ask for.
 ///
 /// `Usage` where they ask for nothing that the program does; `Fault` where the request failed, `NoMemory` also
 /// where there was none to read the arguments, and `Write` also where a help or version text could not be written.
-pub fn run<R: Env + Files + Input + Print + RandomSource + AllocGlobal + Threads + Wait>(
-    rt: &R,
-) -> Result<(), Failure>
+pub fn run<
+    R: Env
+        + Files<File = File>
+        + Clock
+        + Input
+        + Print
+        + RandomSource
+        + AllocGlobal
+        + Threads
+        + Wait,
+>(rt: &R) -> Result<(), Failure>
     ensures { IfErr result UsageIsMistake }
 {
     let words = words(rt)?;
@@ -99,10 +109,9 @@ fn form_of<'a>(style: Style, is_page: bool, choice: Choice<'a>) -> Form<'a> {
     }
 }
 
-fn meet<R: Files + Input + Print + RandomSource + AllocGlobal + Threads + Wait>(
-    rt: &R,
-    request: Request<'_>,
-) -> Result<(), Failure>
+fn meet<
+    R: Files<File = File> + Clock + Input + Print + RandomSource + AllocGlobal + Threads + Wait,
+>(rt: &R, request: Request<'_>) -> Result<(), Failure>
     ensures { IfErr result UsageIsMistake }
 {
     match request {

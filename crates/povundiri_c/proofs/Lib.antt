@@ -1,6 +1,7 @@
 pub mod AsBox
 pub mod Calling
 pub mod Ending
+pub mod Fitting
 pub mod Holding
 pub mod Joining
 pub mod Making

@@ -1,5 +1,5 @@
 -- What C asks beside a handle, and how it is answered.
-use Rattle.std.specs.Prelude.{◌≡◌, ◌≢◌, ◌<◌, ◌≤◌, ◌⊎◌, ◌==◌, ◌++◌, if◌then◌else◌, ℕ, ℤ, List, length, map, take, drop, Option, Some, None, Result, Ok, Err}
+use Rattle.std.specs.Prelude.{◌≡◌, ◌≢◌, ◌<◌, ◌≤◌, ◌⊎◌, ◌==◌, ◌++◌, if◌then◌else◌, ℕ, ℤ, List, length, map, drop, Option, Some, None, Result, Ok, Err}
 use Rattle.std.specs.declared.vec.Vec.{Vec}
 use Rattle.std.specs.declared.alloc.Global.{Global}
 use Rattle.bucket_ranges.specs.declared.spec.Spec.{Spec}
@@ -59,9 +59,9 @@ AnswersBatchCall place items sum held status added added' held' =
 abbrev pub count_of : ℤ × ℕ → Count
 count_of given = record { key = given.0; count = given.1 }
 
--- counts stand at the front of the array, as many as it has room for; what stands behind them is as before
-abbrev pub with_counts : List (ℤ × ℕ) → List Count → List Count
-with_counts counts old = map count_of (take (length old) counts) ++ drop (length counts) old
+-- all counts stand at the front of the array, which has room for them; what stands behind them is as before
+abbrev pub AreGiven : List (ℤ × ℕ) → List Count → List Count → Type 0
+AreGiven counts old new = (length counts ≤ length old) × (new ≡ map count_of counts ++ drop (length counts) old)
 
 -- The status says why a call is refused, and the length that goes with it is told; all else is as before.
 abbrev pub IsRefused : Refused → ℕ → Totals → Totals → List Count → List Count → Type 0
@@ -72,14 +72,14 @@ IsRefused refused status totals totals' old new =
 abbrev pub IsDeltaGiven : Result Delta Refused → ℕ → Totals → Totals → List Count → List Count → Type 0
 IsDeltaGiven (Ok delta) status totals totals' old new =
     (status ≡ 0) × (totals' ≡ record { length = length delta.counts.items; sum = delta.sum; redundant = 0 })
-    × (new ≡ with_counts delta.counts.items old)
+    × AreGiven delta.counts.items old new
 IsDeltaGiven (Err refused) status totals totals' old new = IsRefused refused status totals totals' old new
 
 -- the counts of a snapshot and how many they are, its sum, and its redundant count; or why there is none
 abbrev pub IsSnapshotGiven : Result Snapshot Refused → ℕ → Totals → Totals → List Count → List Count → Type 0
 IsSnapshotGiven (Ok snapshot) status totals totals' old new =
     (status ≡ 0) × (totals' ≡ record { length = length snapshot.counts.items; sum = snapshot.sum; redundant = snapshot.redundant })
-    × (new ≡ with_counts snapshot.counts.items old)
+    × AreGiven snapshot.counts.items old new
 IsSnapshotGiven (Err refused) status totals totals' old new = IsRefused refused status totals totals' old new
 
 -- a delta of the histogram at a place is answered, where the array has room for all of its keys, or the status says why not

@@ -14,7 +14,7 @@ use Rattle.live_segment.specs.Lists.Allocation.{spoiled}
 use Rattle.live_segment.specs.Lists.Cursors.{AnswersNext, gift}
 use Rattle.live_segment.specs.Readings.Values.{AreMostKeys}
 use Rattle.live_segment.specs.declared.recorder.Hist.{Hist}
-use Rattle.owned_recorder.specs.Answers.{AnswersAdd, AnswersBatch, AnswersDelta, AnswersHist, AnswersRecords, AnswersSnapshot, ClaimsAdd, ClaimsBatch, ClaimsHist, ShowsEnough, ShowsUnits, TakesEnough}
+use Rattle.owned_recorder.specs.Answers.{AnswersAdd, AnswersBatch, AnswersDelta, AnswersFirst, AnswersFront, AnswersHist, AnswersList, AnswersRecords, AnswersSnapshot, ClaimsAdd, ClaimsBatch, ClaimsHist, ShowsEnough, ShowsFewKeys, ShowsUnits, TakesEnough, TakesFewKeys}
 use Rattle.owned_recorder.specs.Desks.{IsNamed, IsSameDesk, KnowsOn, Means, view_of_desk}
 use Rattle.owned_recorder.specs.declared.owned.OwnedRecorder.{OwnedRecorder}
 use Rattle.povundiri_c.specs.declared.status.Refused.{Refused}
@@ -117,14 +117,15 @@ Finds histogram old given new = (given ≡ Ok histogram) × (new ≡ old)
 abbrev pub TakesDelta : Hist → OwnedRecorder → Result Delta Refused → OwnedRecorder → Type 0
 TakesDelta histogram old given new =
     (answer : Result Delta Refusal) × (given ≡ with_refused answer) × GoesOn old new
-    × AnswersDelta histogram old.desk answer new.desk × TakesEnough histogram old.desk answer new.desk
+    × AnswersDelta histogram old.desk answer new.desk × TakesEnough (arc_value new.segment) histogram old.desk answer new.desk
+    × TakesFewKeys (arc_value old.segment) histogram old.desk answer
 
 -- a snapshot is answered as `OwnedRecorder::snapshot` says
 abbrev pub TakesSnapshot : Hist → OwnedRecorder → Result Snapshot Refused → OwnedRecorder → Type 0
 TakesSnapshot histogram old given new =
     (answer : Result Snapshot Refusal) × (given ≡ with_refused answer) × GoesOn old new
     × AnswersSnapshot histogram old.desk answer new.desk × ShowsEnough histogram old.desk answer new.desk
-    × ShowsUnits histogram old.desk answer
+    × ShowsUnits histogram old.desk answer × ShowsFewKeys (arc_value old.segment) histogram old.desk answer
 
 -- ---- other calls
 
@@ -133,6 +134,7 @@ abbrev pub FindsHist : List ℕ → Spec → OwnedRecorder → Result ℕ ℕ �
 FindsHist name spec old place new =
     (answer : Result Hist Refusal) × (place ≡ place_of_answer answer) × (new.segment ≡ old.segment) × KnowsOn old.desk new.desk
     × IfOk answer (IsNamed name spec new.desk) × AnswersHist name spec old.desk answer new.desk × ClaimsHist name spec old.desk answer new.desk
+    × AnswersFirst (arc_value new.segment) answer new.desk
 
 -- the segment is marked as corrupt
 abbrev pub Marks : OwnedRecorder → ℕ → OwnedRecorder → Type 0
@@ -142,6 +144,7 @@ Marks old status new = (status ≡ 0) × GoesOn old new × (view_of_desk new.des
 abbrev pub WalksAll : OwnedRecorder → Result (Vec ℕ Global) ℕ → OwnedRecorder → Type 0
 WalksAll old given new =
     (answer : Result (Vec ℕ Global) Refusal) × (given ≡ with_status answer) × GoesOn old new × AnswersRecords old.desk answer new.desk
+    × AnswersList (arc_value new.segment) answer new.desk
 
 -- the next record of a shared cursor, where the segment has that
 abbrev pub TakesNext : ℕ → OwnedRecorder → Result ℕ ℕ → OwnedRecorder → Type 0
@@ -149,4 +152,5 @@ TakesNext cursor old given new =
     (cursors_by old ≤ cursor → (given ≡ Err 9) × (new ≡ old))
     × (cursor < cursors_by old → (answer : Option ℕ) × (given ≡ next_of answer) × GoesOn old new
     × AnswersNext cursor (view_of_desk old.desk) answer (view_of_desk new.desk)
-    × ((view_of_desk new.desk).done.given ≡ (view_of_desk old.desk).done.given ++ gift cursor answer))
+    × ((view_of_desk new.desk).done.given ≡ (view_of_desk old.desk).done.given ++ gift cursor answer)
+    × AnswersFront (arc_value new.segment) cursor answer new.desk)

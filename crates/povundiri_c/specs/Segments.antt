@@ -11,7 +11,7 @@ use Rattle.live_segment.specs.declared.rule.Setting.{Setting}
 use Rattle.live_segment.specs.declared.segment.Segment.{Segment}
 use Rattle.live_segment.specs.Adopted.{IsAdopted, MayGoOn}
 use Rattle.live_segment.specs.Closing.{DeltasAddUp, IsImageOf, ReadsJoined, ReadsStopped, SnapshotsAgree}
-use Rattle.live_segment.specs.Holders.{IsNew, view_of_opener}
+use Rattle.live_segment.specs.Holders.{IsNew, opened_with, view_of_opener}
 use Rattle.live_segment.specs.Rule.{open_checks}
 use Rattle.povundiri_c.specs.declared.held.Held.{Held}
 use Rattle.povundiri_c.specs.declared.held.Held.TheVariants as held
@@ -77,7 +77,7 @@ pub record IsImageFrom (segment : Segment) (opener : Opener) (image : List ℕ) 
   pub joined : outstanding_of (view_of_opener opener).role ≡ 0 → ReadsJoined segment.setting (view_of_opener opener) image
   pub deltas : outstanding_of (view_of_opener opener).role ≡ 0 → DeltasAddUp (view_of_opener opener)
   pub snapshots : outstanding_of (view_of_opener opener).role ≡ 0 → SnapshotsAgree (view_of_opener opener)
-  pub stopped : ReadsStopped segment.setting (view_of_opener opener) image
+  pub stopped : ReadsStopped (opened_with segment) (view_of_opener opener) image
   pub goes_on : MayGoOn image
   pub whole : length image ≡ segment.setting.shape.size
 

@@ -4,3 +4,4 @@ pub mod Events
 pub mod Headers
 pub mod Keeps
 pub mod Payloads
+pub mod Rises

@@ -208,8 +208,8 @@ StandsRight shape anatomy id a Spent = a ≡ purse a.units.share
 StandsRight shape anatomy id a Idle = ⊤
 StandsRight shape anatomy id a FlagsLoaded = ⊤
 StandsRight shape anatomy id a (FreeLoaded free) = a.seen.free ≡ free
-StandsRight shape anatomy id a (Raised at size) = IsPlace shape at size × HasPlain anatomy.pieces id at (replicate size 0)
-StandsRight shape anatomy id a (Sized at size) = IsPlace shape at size × HasPlain anatomy.pieces id at (size ∷ replicate (size - 1) 0)
+StandsRight shape anatomy id a (Raised at size wanted) = IsPlace shape at size × HasPlain anatomy.pieces id at (replicate size 0)
+StandsRight shape anatomy id a (Sized at size wanted) = IsPlace shape at size × HasPlain anatomy.pieces id at (size ∷ replicate (size - 1) 0)
 StandsRight shape anatomy id a (Marked at size) =
     IsPlace shape at size × HasPlain anatomy.pieces id at (size ∷ CLAIMED_COOKIE ∷ replicate (size - 2) 0)
 StandsRight shape anatomy id a (TailLoaded tail) = Contains a.seen.tails tail × IsReachedAt (order_of anatomy) a.done.beaten tail

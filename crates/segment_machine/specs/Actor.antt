@@ -81,8 +81,8 @@ transit_of actors histogram i = sum_by (λ a. transit_at a.hand.place histogram 
 -- lost block, to add moved units; one that was joined does nothing at all
 abbrev pub is_bound : Place → Bool
 is_bound Spent = true
-is_bound (Raised at size) = true
-is_bound (Sized at size) = true
+is_bound (Raised at size wanted) = true
+is_bound (Sized at size wanted) = true
 is_bound (Marked at size) = true
 is_bound (Beaten tail behind) = true
 is_bound (Linked at tail) = true

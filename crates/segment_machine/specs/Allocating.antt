@@ -1,9 +1,10 @@
 -- Allocating: the flags, the free pointer, and the words of a block of its own.
 -- An event is read here in one place: what it acts on, when it is ready, what becomes of its actor, and what this learns.
-use Rattle.std.specs.Prelude.{◌≡◌, ◌⊎◌, Bool, true, false, ℕ, ◌+◌, ◌-◌, ◌<◌, ◌≤◌, List, [], ◌∷◌, ◌++◌, length, None, ◌==◌, if◌then◌else◌, replicate, bit_and, ⊤}
-use Rattle.alloc_core.specs.Planned.{is_pointer}
-use Rattle.alloc_core.specs.Alloc.{IsRise}
-use Rattle.segment_image.specs.declared.layout.TheConstants.{BLOCK_HEADER, CLAIMED_COOKIE, FLAG_CORRUPT, FLAG_FULL, TYPE_HISTOGRAM, TYPE_SAMPLE, WASTED_COOKIE}
+use Rattle.std.specs.Prelude.{◌≡◌, ◌⊎◌, Bool, true, false, ℕ, ◌+◌, ◌-◌, ◌<◌, ◌≤◌, List, [], ◌∷◌, ◌++◌, length, None, ◌==◌, if◌then◌else◌, nat_lt, replicate, bit_and, ⊤}
+use Rattle.alloc_core.specs.declared.planned.Planned.TheVariants as plan
+use Rattle.alloc_core.specs.Planned.{planned, is_pointer}
+use Rattle.segment_image.specs.Shape.{Dimensions}
+use Rattle.segment_image.specs.declared.layout.TheConstants.{BLOCK_HEADER, BLOCK_LEAST, CLAIMED_COOKIE, FLAG_CORRUPT, FLAG_FULL, TYPE_HISTOGRAM, TYPE_SAMPLE, WASTED_COOKIE}
 use Rattle.segment_machine.specs.declared.place.Place.{Place}
 use Rattle.segment_machine.specs.declared.place.Place.TheVariants.{FlagsLoaded, FreeLoaded, Raised, Sized, Marked, Idle}
 use Rattle.segment_machine.specs.declared.actor.Actor.{Actor}
@@ -17,7 +18,7 @@ use Rattle.segment_machine.specs.Calls.{MayTurn, Fills, change_own}
 pub data AllocatingEvent : Type 0 where
   load_flags : AllocatingEvent
   load_free : AllocatingEvent
-  exchange_free : (old new : ℕ) → AllocatingEvent
+  exchange_free : (old new wanted : ℕ) → AllocatingEvent
   store_size : (at size : ℕ) → AllocatingEvent
   store_cookie : (at cookie : ℕ) → AllocatingEvent
   store_type : (at tag : ℕ) → AllocatingEvent
@@ -30,7 +31,7 @@ pub data AllocatingEvent : Type 0 where
 abbrev pub operation : ℕ → ℕ → AllocatingEvent → Operation
 operation size version load_flags = single atomic.load_flags
 operation size version load_free = single atomic.load_free
-operation size version (exchange_free old new) = single (atomic.exchange_free old new)
+operation size version (exchange_free old new wanted) = single (atomic.exchange_free old new)
 operation size version (store_size at words) = single (atomic.store_size at words)
 operation size version (store_cookie at cookie) = single (atomic.store_cookie at cookie)
 operation size version (store_type at tag) = single (atomic.store_type at tag)
@@ -40,14 +41,24 @@ operation size version (set_full wanted) = single (atomic.set_flag FLAG_FULL)
 
 -- ---- when they are ready
 
+-- For a block that wants so many words the free pointer may rise so: it claims the block, or it wastes the rest of a page that is too
+-- short for it.
+abbrev pub MayRise : Dimensions → (old new wanted : ℕ) → Type 0
+MayRise shape old new wanted =
+    (BLOCK_LEAST ≤ wanted) × (wanted ≤ shape.page)
+    × (((size : ℕ) × (planned old wanted shape ≡ plan.Claim size new)) ⊎ ((room : ℕ) × (planned old wanted shape ≡ plan.Waste room) × (new ≡ old + room)))
+
+-- the cookie of words that an allocation has taken: where they are fewer than its block wants, they are wasted
+abbrev pub cookie_for : (size wanted : ℕ) → ℕ
+cookie_for size wanted = if nat_lt size wanted then WASTED_COOKIE else CLAIMED_COOKIE
+
 abbrev pub Ready : Actor → AllocatingEvent → Type 0
 Ready a load_flags = MayTurn a
 Ready a load_free = a.hand.place ≡ FlagsLoaded
-Ready a (exchange_free old new) =
-    (a.hand.place ≡ FreeLoaded old) × (is_pointer a.segment.shape old ≡ true) × IsRise a.segment.shape old new
-Ready a (store_size at size) = a.hand.place ≡ Raised at size
-Ready a (store_cookie at cookie) =
-    ((size : ℕ) × (a.hand.place ≡ Sized at size)) × ((cookie ≡ CLAIMED_COOKIE) ⊎ (cookie ≡ WASTED_COOKIE))
+Ready a (exchange_free old new wanted) =
+    (a.hand.place ≡ FreeLoaded old) × (is_pointer a.segment.shape old ≡ true) × MayRise a.segment.shape old new wanted
+Ready a (store_size at size) = (wanted : ℕ) × (a.hand.place ≡ Raised at size wanted)
+Ready a (store_cookie at cookie) = (size wanted : ℕ) × (a.hand.place ≡ Sized at size wanted) × (cookie ≡ cookie_for size wanted)
 Ready a (store_type at tag) = ((size : ℕ) × (a.hand.place ≡ Marked at size)) × (TYPE_HISTOGRAM ≤ tag) × (tag ≤ TYPE_SAMPLE)
 Ready a (store_payload at index value) =
     (own : Own) × Fills a own × (own.at ≡ at) × (length own.payload ≤ index) × (BLOCK_HEADER + index < own.size)
@@ -59,10 +70,16 @@ Ready a (set_full wanted) =
 
 -- the size of the words that an allocation has taken
 abbrev pub size_at : Place → ℕ
-size_at (Raised at size) = size
-size_at (Sized at size) = size
+size_at (Raised at size wanted) = size
+size_at (Sized at size wanted) = size
 size_at (Marked at size) = size
 size_at _ = 0
+
+-- how many words its block wants, until they are claimed or wasted
+abbrev pub wanted_at : Place → ℕ
+wanted_at (Raised at size wanted) = wanted
+wanted_at (Sized at size wanted) = wanted
+wanted_at _ = 0
 
 -- the free pointer that an allocation has loaded
 abbrev pub free_at : Place → ℕ
@@ -78,9 +95,13 @@ abbrev pub stored : List ℕ → ℕ → ℕ → List ℕ
 stored payload index value = payload ++ replicate (index - length payload) 0 ++ value ∷ []
 
 -- after an exchange of the free pointer, which went through or not
-abbrev pub after_free : Bool → Actor → ℕ → ℕ → ℕ → Actor
-after_free true a old new found = record a { hand = record a.hand { place = Raised old (new - old) }; seen = record a.seen { free = new } }
-after_free false a old new found = record a { hand = record a.hand { place = Idle }; seen = record a.seen { free = found } }
+abbrev pub after_free : Bool → Actor → (old new wanted found : ℕ) → Actor
+after_free true a old new wanted found = record a {
+  hand = record a.hand { place = Raised old (new - old) wanted };
+  done = record a.done { raised = a.done.raised ++ record { from = old; to = new; wanted = wanted } ∷ [] };
+  seen = record a.seen { free = new };
+}
+after_free false a old new wanted found = record a { hand = record a.hand { place = Idle }; seen = record a.seen { free = found } }
 
 abbrev pub next : Actor → AllocatingEvent → ℕ → Actor
 next a load_flags found = record a {
@@ -91,8 +112,8 @@ next a load_flags found = record a {
   };
 }
 next a load_free found = record a { hand = record a.hand { place = FreeLoaded found }; seen = record a.seen { free = found } }
-next a (exchange_free old new) found = after_free (found == old) a old new found
-next a (store_size at size) found = record a { hand = record a.hand { place = Sized at size } }
+next a (exchange_free old new wanted) found = after_free (found == old) a old new wanted found
+next a (store_size at size) found = record a { hand = record a.hand { place = Sized at size (wanted_at a.hand.place) } }
 next a (store_cookie at cookie) found =
     record a { hand = record a.hand { place = if cookie == CLAIMED_COOKIE then Marked at (size_at a.hand.place) else Idle } }
 next a (store_type at tag) found = record a {
@@ -113,5 +134,5 @@ next a (set_full wanted) found = record a {
 abbrev pub Learned : Actor → AllocatingEvent → ℕ → Type 0
 Learned a load_flags found = a.done.spoiled ≡ true → bit_and found FLAG_CORRUPT ≡ FLAG_CORRUPT
 Learned a load_free found = Behind a.seen.free found × (is_pointer a.segment.shape found ≡ true)
-Learned a (exchange_free old new) found = Behind old found × (is_pointer a.segment.shape found ≡ true)
+Learned a (exchange_free old new wanted) found = Behind old found × (is_pointer a.segment.shape found ≡ true)
 Learned a _ found = ⊤

@@ -102,6 +102,7 @@ maker values = record (opener_of shape 1 0) {
   entries = record { first = []; first_noted = []; inherited = []; log = map (λ value. whole (one value)) values; running = [] };
   done = record (opener_of shape 1 0).done {
     claimed = record { at = 16; size = 16 } ∷ [];
+    raised = record { from = 16; to = 32; wanted = 16 } ∷ [];
     published = record { reference = 16; made = made.Histogram letter_a spec.Boolean } ∷ [];
   };
   seen = record nothing_seen { free = 32; chain = 16 ∷ []; tails = 16 ∷ [] };
@@ -111,7 +112,10 @@ maker values = record (opener_of shape 1 0) {
 -- the same, with the counts block
 abbrev pub mounter : List ℕ → Actor
 mounter values = record (maker values) {
-  done = record (maker values).done { claimed = record { at = 16; size = 16 } ∷ record { at = 32; size = 10 } ∷ [] };
+  done = record (maker values).done {
+    claimed = record { at = 16; size = 16 } ∷ record { at = 32; size = 10 } ∷ [];
+    raised = record { from = 16; to = 32; wanted = 16 } ∷ record { from = 32; to = 42; wanted = 10 } ∷ [];
+  };
   seen = record (maker values).seen { free = 42 };
 }
 
@@ -220,7 +224,7 @@ run a (e ∷ rest) = run (next a e.0 e.1) rest
 -- two units, and counts its own.
 abbrev pub mounting : List (Event × ℕ)
 mounting =
-    (packing_event (load_single 16), 4294967298) ∷ (counting_event (load_counts 16), 0) ∷ (allocating_event load_flags, 0) ∷ (allocating_event load_free, 32) ∷ (allocating_event (exchange_free 32 42), 32)
+    (packing_event (load_single 16), 4294967298) ∷ (counting_event (load_counts 16), 0) ∷ (allocating_event load_flags, 0) ∷ (allocating_event load_free, 32) ∷ (allocating_event (exchange_free 32 42 10), 32)
     ∷ (allocating_event (store_size 32 10), 0) ∷ (allocating_event (store_cookie 32 0xC8799269), 0) ∷ (allocating_event (store_type 32 2), 0) ∷ (packing_event (mount_counts 16 32), 0)
     ∷ (packing_event (load_single 16), 4294967298) ∷ (packing_event (disable 16 4294967298), 4294967298) ∷ (packing_event (add_moved 32 1 2), 0) ∷ (counting_event (add_count 36 1), 0)
     ∷ (counting_event (add_redundant 16 1), 2) ∷ []

@@ -4,13 +4,13 @@ use Rattle.bucket_ranges.specs.declared.spec.Spec.TheVariants as spec
 use Rattle.segment_machine.specs.declared.actor.Actor.{Actor}
 use Rattle.segment_machine.specs.declared.actor.Made.TheVariants as made
 use Rattle.segment_machine.specs.declared.place.Look.{Look}
-use Rattle.segment_machine.specs.declared.place.Place.TheVariants.{Looking, Moving, CountLoaded}
+use Rattle.segment_machine.specs.declared.place.Place.TheVariants.{FreeLoaded, Sized, Looking, Moving, CountLoaded}
 use Rattle.segment_machine.specs.declared.actor.Answered.{Answered}
 use Rattle.alloc_core.specs.Event as atomic
 use Rattle.segment_machine.specs.Operation as does
 use Rattle.segment_machine.specs.Entry.{fresh, tally_noted}
 use Rattle.segment_machine.specs.Event.{Event, allocating_event, packing_event, taking_event, counting_event, cursor_event, Ready, next}
-use Rattle.segment_machine.specs.Allocating.{load_flags}
+use Rattle.segment_machine.specs.Allocating.{load_flags, exchange_free, store_cookie}
 use Rattle.segment_machine.specs.Packing.{load_single, pack, disable, add_moved}
 use Rattle.segment_machine.specs.Note.{MayNote, noted, goes_on, looks, takes, answers, ends, refused}
 use Rattle.segment_machine.specs.Taking.{TakingEvent, operation, load_sum, load_redundant, swap_sum_mark, load_count, raise_mark, raise_single_mark}
@@ -53,6 +53,15 @@ ValuesApart = Ready (counting (negsuc 4)) (counting_event (add_count 62 1)) × (
 -- nothing is counted while units are moving
 abbrev pub MovesFirst : Type 0
 MovesFirst = ¬ (Ready (at_place (counting (negsuc 4)) (Moving (look 9223372036854775809 32) 1 2)) (counting_event (add_count 62 1)))
+
+-- For a block of 16 words the free pointer rises from 16 to 32, and not over the rest of that page, which has room for it. A rest of six
+-- words is wasted for it, and its cookie is not that of a claimed block.
+abbrev pub RoomStays : Type 0
+RoomStays =
+    Ready (at_place recorder (FreeLoaded 16)) (allocating_event (exchange_free 16 32 16))
+    × (¬ (Ready (at_place recorder (FreeLoaded 16)) (allocating_event (exchange_free 16 64 16))))
+    × Ready (at_place recorder (FreeLoaded 58)) (allocating_event (exchange_free 58 64 16))
+    × (¬ (Ready (at_place recorder (Sized 58 6 16)) (allocating_event (store_cookie 58 0xC8799269))))
 
 -- a cursor that is not there is not loaded
 abbrev pub CursorsThere : Type 0

@@ -25,6 +25,7 @@ idle shape version cursors free share = record {
   hand = record { place = Idle; own = [] };
   done = record {
     claimed = [];
+    raised = [];
     published = [];
     spoiled = false;
     filled = false;
@@ -155,6 +156,7 @@ joined a b = record a {
   hand = record a.hand { own = a.hand.own ++ b.hand.own };
   done = record a.done {
     claimed = a.done.claimed ++ b.done.claimed;
+    raised = a.done.raised ++ b.done.raised;
     published = a.done.published ++ b.done.published;
     spoiled = a.done.spoiled || b.done.spoiled;
     filled = a.done.filled || b.done.filled;

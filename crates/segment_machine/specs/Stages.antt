@@ -5,10 +5,10 @@ use Rattle.std.specs.List.{Contains}
 use Rattle.segment_image.specs.declared.layout.TheConstants.{BLOCK_NEXT, QUEUE, TYPE_HISTOGRAM, TYPE_SAMPLE}
 use Rattle.alloc_core.specs.declared.alloc.Stage.{Stage as AllocStage}
 use Rattle.alloc_core.specs.declared.alloc.Stage.TheVariants.{LoadFlags, LoadFree, ExchangeFree, StoreSize, StoreCookie, StoreType, SetFull, Claimed, Full, Corrupt}
-use Rattle.alloc_core.specs.Alloc.{Allocation, cookie_of, IsLawful}
+use Rattle.alloc_core.specs.Alloc.{Allocation, cookie_of, stage_of_plan, IsLawful}
 use Rattle.alloc_core.specs.Alloc as alloc
 use Rattle.alloc_core.specs.Event as atomic
-use Rattle.alloc_core.specs.Planned.{is_pointer}
+use Rattle.alloc_core.specs.Planned.{planned, is_pointer}
 use Rattle.list_core.specs.declared.publish.Stage.{Stage as PublishStage}
 use Rattle.list_core.specs.declared.publish.Stage.TheVariants.{StoreOwnNext, LoadTail, Link, MoveTail, Published, Strayed}
 use Rattle.list_core.specs.Publish.{Publishing}
@@ -34,7 +34,7 @@ use Rattle.segment_machine.specs.Walking as walking
 abbrev pub allocates : Allocation → AllocStage → Option AllocatingEvent
 allocates allocation LoadFlags = Some load_flags
 allocates allocation LoadFree = Some load_free
-allocates allocation (ExchangeFree next purpose) = Some (exchange_free allocation.seen next)
+allocates allocation (ExchangeFree next purpose) = Some (exchange_free allocation.seen next allocation.size)
 allocates allocation (StoreSize at size purpose) = Some (store_size at size)
 allocates allocation (StoreCookie at size purpose) = Some (store_cookie at (cookie_of purpose))
 allocates allocation (StoreType at size) = Some (store_type at allocation.tag)
@@ -50,8 +50,9 @@ StandsAt a allocation LoadFlags = MayTurn a
 StandsAt a allocation LoadFree = a.hand.place ≡ FlagsLoaded
 StandsAt a allocation (ExchangeFree next purpose) =
     (a.hand.place ≡ FreeLoaded allocation.seen) × (is_pointer a.segment.shape allocation.seen ≡ true)
-StandsAt a allocation (StoreSize at size purpose) = a.hand.place ≡ Raised at size
-StandsAt a allocation (StoreCookie at size purpose) = a.hand.place ≡ Sized at size
+    × (stage_of_plan allocation.seen (planned allocation.seen allocation.size a.segment.shape) ≡ ExchangeFree next purpose)
+StandsAt a allocation (StoreSize at size purpose) = a.hand.place ≡ Raised at size allocation.size
+StandsAt a allocation (StoreCookie at size purpose) = a.hand.place ≡ Sized at size allocation.size
 StandsAt a allocation (StoreType at size) = a.hand.place ≡ Marked at size
 StandsAt a allocation SetFull = a.hand.place ≡ FreeLoaded allocation.seen
 StandsAt a allocation (Claimed at size) = (a.hand.place ≡ Idle) × Contains a.hand.own (new_own at size allocation.tag)

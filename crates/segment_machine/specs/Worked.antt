@@ -70,7 +70,7 @@ by id events = map (λ event. acts id [] event []) events
 -- a block of so many words is claimed at the free pointer
 abbrev pub claims : ℕ → ℕ → ℕ → List Event
 claims at size tag = map allocating_event
-    (load_flags ∷ load_free ∷ exchange_free at (at + size) ∷ store_size at size ∷ store_cookie at 0xC8799269 ∷ store_type at tag ∷ [])
+    (load_flags ∷ load_free ∷ exchange_free at (at + size) size ∷ store_size at size ∷ store_cookie at 0xC8799269 ∷ store_type at tag ∷ [])
 
 -- payload words are stored
 abbrev pub fills : ℕ → List (ℕ × ℕ) → List Event
@@ -161,7 +161,7 @@ sampling =
     hist 1 16 known_s ((0, 4) ∷ (10, 1) ∷ (11, 83) ∷ [])
     ++ acts 1 (begins letter_s 2 (minus_five ∷ []) ∷ []) (walking_event (load_next 42)) []
     ∷ by 1 (map allocating_event
-    (load_flags ∷ load_free ∷ exchange_free 58 64 ∷ store_size 58 6 ∷ store_cookie 58 0xFFFFFFFFFFFFFFFF ∷ [])
+    (load_flags ∷ load_free ∷ exchange_free 58 64 8 ∷ store_size 58 6 ∷ store_cookie 58 0xFFFFFFFFFFFFFFFF ∷ [])
     ++ claims 64 8 3 ++ fills 64 ((0, 42) ∷ (1, 18446744073709551611) ∷ []))
     ++ acts 1 (asks 64 (made.Sample 42 (negsuc 4)) ∷ []) (publishing_event (store_own_next 64)) []
     ∷ by 1 (publishes 42 64 ++ walking_event (load_next 42) ∷ meets 64 (2 ∷ 4 ∷ 5 ∷ [])

@@ -13,6 +13,13 @@ pub struct Claim {
     pub size: u64,
 }
 
+/// A rise of the free pointer: from where to where, and how many words the block wanted that it was for.
+pub struct Rise {
+    pub from: u64,
+    pub to: u64,
+    pub wanted: u64,
+}
+
 /// A claimed block that is still its claimer's own, and what was stored in it.
 pub struct Own {
     /// Where it begins.
@@ -149,6 +156,9 @@ pub struct Hand {
 pub struct Done {
     /// All blocks that it has claimed.
     pub claimed: LinkedList<Claim>,
+    /// All rises of the free pointer that it has made, for a block each: the block is claimed there, or the rest of a page that is
+    /// too short for it is wasted.
+    pub raised: LinkedList<Rise>,
     /// The records whose link it has done, in this order.
     pub published: LinkedList<Published>,
     /// Whether it has set the corrupt flag.

@@ -9,7 +9,7 @@ ghost use Rattle.segment_machine.specs.Lives.{RecorderIsJoined};
 ghost use Rattle.segment_machine.specs.Worked.{WorkedRun, FrozenRun};
 ghost use Rattle.segment_machine.specs.Looks.{SnapshotRun, CursorRun};
 ghost use Rattle.segment_machine.specs.Races.{StoppedRun, StalledRun, LostRun, RaceRun};
-ghost use Rattle.segment_machine.specs.Refused.{ValuesApart, MovesFirst, CursorsThere, SamplesMet, WordsSince, SwapsAdd, RecordsAlone, EntriesEndFirst, OffersStay, PursesCarry, DebtsStay, TailsStay, CorruptStays, FirstEntriesApart, WordsOffFirst, UnitsRemembered, SumsStay, FirstSamplesCount, CountsBound, SingleMarksApart, MarksRise, HonestAnswers};
+ghost use Rattle.segment_machine.specs.Refused.{ValuesApart, MovesFirst, RoomStays, CursorsThere, SamplesMet, WordsSince, SwapsAdd, RecordsAlone, EntriesEndFirst, OffersStay, PursesCarry, DebtsStay, TailsStay, CorruptStays, FirstEntriesApart, WordsOffFirst, UnitsRemembered, SumsStay, FirstSamplesCount, CountsBound, SingleMarksApart, MarksRise, HonestAnswers};
 
 /// A step changes one word and one actor at most.
 pub fn steps_change_one()
@@ -81,6 +81,11 @@ pub fn values_apart()
 /// Nothing is counted while units are moving.
 pub fn moves_first()
     ensures { MovesFirst }
+{}
+
+/// The rest of a page is not wasted for a block that it has room for.
+pub fn room_stays()
+    ensures { RoomStays }
 {}
 
 /// A cursor that is not there is not loaded.

@@ -22,7 +22,7 @@ mod seen;
 
 pub use actor::{
     Actor, Answered, Answers, Claim, Cost, Deltas, Done, Entries, Given, Hand, Known, Made, Moment,
-    Own, Portion, Published, Role, Segment, Since, Taken, Units,
+    Own, Portion, Published, Rise, Role, Segment, Since, Taken, Units,
 };
 pub use entry::{Entry, EntryProgress};
 pub use place::{Look, Place};

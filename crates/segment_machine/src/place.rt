@@ -21,10 +21,11 @@ pub enum Place {
     FlagsLoaded,
     /// Allocation: it loaded a lawful free pointer.
     FreeLoaded { free: u64 },
-    /// Allocation: the words from `at` on are its own, all zeros.
-    Raised { at: u64, size: u64 },
+    /// Allocation: the words from `at` on are its own, all zeros. Its block wants `wanted` words: where they are fewer, they are a
+    /// rest of a page that it wastes.
+    Raised { at: u64, size: u64, wanted: u64 },
     /// Allocation: their size is stored.
-    Sized { at: u64, size: u64 },
+    Sized { at: u64, size: u64, wanted: u64 },
     /// Allocation: the cookie of a claimed block is stored too.
     Marked { at: u64, size: u64 },
     /// Publishing: it loaded the tail, and its record is not linked.

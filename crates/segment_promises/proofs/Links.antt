@@ -68,9 +68,9 @@ module _ (a : Actor) where
   same : length a.done.published ≤ length a.done.published + 0
   same = omega arith
 
-  freed : (b : Bool) (old new found : ℕ) → Grows (after_free b a old new found) []
-  freed true old new found = same
-  freed false old new found = same
+  freed : (b : Bool) (old new wanted found : ℕ) → Grows (after_free b a old new wanted found) []
+  freed true old new wanted found = same
+  freed false old new wanted found = same
 
   linked : (b : Bool) (tail at found : ℕ) → Grows (after_link b a tail at found) (if b then at ∷ [] else [])
   linked true tail at found =
@@ -98,7 +98,7 @@ module _ (a : Actor) where
   publishes : (event : Event) (found : ℕ) → Grows (next a event found) (gain event found)
   publishes (allocating_event load_flags) found = same
   publishes (allocating_event load_free) found = same
-  publishes (allocating_event (exchange_free old new)) found = freed (found == old) old new found
+  publishes (allocating_event (exchange_free old new wanted)) found = freed (found == old) old new wanted found
   publishes (allocating_event (store_size at size)) found = same
   publishes (allocating_event (store_cookie at cookie)) found = same
   publishes (allocating_event (store_type at tag)) found = same

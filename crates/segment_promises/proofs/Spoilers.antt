@@ -43,8 +43,8 @@ use Rattle.segment_promises.proofs.Steps.{steps_follow}
 abbrev allocates : Place → Bool
 allocates place.FlagsLoaded = true
 allocates (place.FreeLoaded free) = true
-allocates (place.Raised at size) = true
-allocates (place.Sized at size) = true
+allocates (place.Raised at size wanted) = true
+allocates (place.Sized at size wanted) = true
 allocates (place.Marked at size) = true
 allocates p = false
 
@@ -101,9 +101,9 @@ module _ (a : Actor) (rests : Rests a) where
   linked true tail at found = (λ spoiled. refl, λ spoiled. (spoiled, refl))
   linked false tail at found = (λ spoiled. refl, λ spoiled. (spoiled, refl))
 
-  freed : (b : Bool) (old new found : ℕ) → (after_free b a old new found).done.spoiled ≡ a.done.spoiled
-  freed true old new found = refl
-  freed false old new found = refl
+  freed : (b : Bool) (old new wanted found : ℕ) → (after_free b a old new wanted found).done.spoiled ≡ a.done.spoiled
+  freed true old new wanted found = refl
+  freed false old new wanted found = refl
 
   packed : (b : Bool) (histogram new found : ℕ) → Steady (after_pack b a histogram new found)
   packed true histogram new found = at_rest (after_pack true a histogram new found) refl (λ spoiled. refl)
@@ -130,11 +130,12 @@ module _ (a : Actor) (rests : Rests a) where
   steady_on (allocating_event load_flags) found ready learned =
       at_rest (next a (allocating_event load_flags) found) refl (λ spoiled. flags_loaded found (learned spoiled))
   steady_on (allocating_event load_free) found ready learned = out_of (next a (allocating_event load_free) found) place.FlagsLoaded refl ready refl
-  steady_on (allocating_event (exchange_free old new)) found ready learned =
-      out_of (next a (allocating_event (exchange_free old new)) found) (place.FreeLoaded old) refl ready.0 (freed (found == old) old new found)
-  steady_on (allocating_event (store_size at size)) found ready learned = out_of (next a (allocating_event (store_size at size)) found) (place.Raised at size) refl ready refl
+  steady_on (allocating_event (exchange_free old new wanted)) found ready learned =
+      out_of (next a (allocating_event (exchange_free old new wanted)) found) (place.FreeLoaded old) refl ready.0 (freed (found == old) old new wanted found)
+  steady_on (allocating_event (store_size at size)) found ready learned =
+      out_of (next a (allocating_event (store_size at size)) found) (place.Raised at size ready.0) refl ready.1 refl
   steady_on (allocating_event (store_cookie at cookie)) found ready learned =
-      out_of (next a (allocating_event (store_cookie at cookie)) found) (place.Sized at ready.0.0) refl ready.0.1 refl
+      out_of (next a (allocating_event (store_cookie at cookie)) found) (place.Sized at ready.0 ready.1) refl ready.2 refl
   steady_on (allocating_event (store_type at tag)) found ready learned =
       out_of (next a (allocating_event (store_type at tag)) found) (place.Marked at ready.0.0) refl ready.0.1 refl
   steady_on (allocating_event (store_payload at index value)) found ready learned = (rests, λ spoiled. (spoiled, refl))
@@ -203,9 +204,9 @@ module _ (a : Actor) (gone : a.hand.place ≡ Spent) where
   gone_on : (event : Event) (found : ℕ) → Ready a event → (next a event found).hand.place ≡ Spent
   gone_on (allocating_event load_flags) found ready = turned ready
   gone_on (allocating_event load_free) found ready = stands place.FlagsLoaded (λ e. cc e) ready
-  gone_on (allocating_event (exchange_free old new)) found ready = stands (place.FreeLoaded old) (λ e. cc e) ready.0
-  gone_on (allocating_event (store_size at size)) found ready = stands (place.Raised at size) (λ e. cc e) ready
-  gone_on (allocating_event (store_cookie at cookie)) found ready = stands (place.Sized at ready.0.0) (λ e. cc e) ready.0.1
+  gone_on (allocating_event (exchange_free old new wanted)) found ready = stands (place.FreeLoaded old) (λ e. cc e) ready.0
+  gone_on (allocating_event (store_size at size)) found ready = stands (place.Raised at size ready.0) (λ e. cc e) ready.1
+  gone_on (allocating_event (store_cookie at cookie)) found ready = stands (place.Sized at ready.0 ready.1) (λ e. cc e) ready.2
   gone_on (allocating_event (store_type at tag)) found ready = stands (place.Marked at ready.0.0) (λ e. cc e) ready.0.1
   gone_on (allocating_event (store_payload at index value)) found ready = gone
   gone_on (allocating_event set_corrupt) found ready = turned ready

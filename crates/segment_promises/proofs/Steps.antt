@@ -29,9 +29,9 @@ use Rattle.segment_machine.specs.Actor.{is_opener}
 
 -- nor does what becomes of an actor whose exchange went through or not
 module _ (a : Actor) where
-  freed : (b : Bool) (old new found : ℕ) → is_opener (after_free b a old new found).role ≡ is_opener a.role
-  freed true old new found = refl
-  freed false old new found = refl
+  freed : (b : Bool) (old new wanted found : ℕ) → is_opener (after_free b a old new wanted found).role ≡ is_opener a.role
+  freed true old new wanted found = refl
+  freed false old new wanted found = refl
 
   linked : (b : Bool) (tail at found : ℕ) → is_opener (after_link b a tail at found).role ≡ is_opener a.role
   linked true tail at found = refl
@@ -57,7 +57,7 @@ module _ (a : Actor) where
 acts_on : (a : Actor) (event : Event) (found : ℕ) → is_opener (next a event found).role ≡ is_opener a.role
 acts_on a (allocating_event load_flags) found = refl
 acts_on a (allocating_event load_free) found = refl
-acts_on a (allocating_event (exchange_free old new)) found = freed a (eqb found old) old new found
+acts_on a (allocating_event (exchange_free old new wanted)) found = freed a (eqb found old) old new wanted found
 acts_on a (allocating_event (store_size at size)) found = refl
 acts_on a (allocating_event (store_cookie at cookie)) found = refl
 acts_on a (allocating_event (store_type at tag)) found = refl

@@ -1,7 +1,9 @@
 -- What a call of a recorder leaves as it was, and what only grows.
-use Rattle.std.specs.Prelude.{◌≡◌, ◌≤◌, true, false, List, ◌++◌}
+use Rattle.std.specs.Prelude.{◌≡◌, ◌≤◌, Bool, true, false, List, ◌++◌}
 use Rattle.segment_machine.specs.declared.actor.Actor.{Actor}
 use Rattle.segment_machine.specs.declared.actor.Done.{Done}
+use Rattle.segment_machine.specs.declared.place.Place.{Place}
+use Rattle.segment_machine.specs.declared.place.Place.TheVariants.{FreeLoaded}
 use Rattle.segment_machine.specs.declared.seen.Seen.{Seen}
 use Rattle.segment_machine.specs.Taking.{is_looking}
 
@@ -9,9 +11,14 @@ use Rattle.segment_machine.specs.Taking.{is_looking}
 abbrev pub Grows : {X : Type 0} → List X → List X → Type 0
 Grows {X} old new = (more : List X) × (new ≡ old ++ more)
 
--- a recorder that stood at no single word and no counts of a histogram stands at none still
+-- whether a call that stands here goes on with what it has loaded: a free pointer, or the single word or the counts of a histogram
+abbrev pub is_holding : Place → Bool
+is_holding (FreeLoaded free) = true
+is_holding place = is_looking place
+
+-- a recorder that held none of these holds none still
 abbrev pub StaysApart : Actor → Actor → Type 0
-StaysApart old new = is_looking old.hand.place ≡ false → is_looking new.hand.place ≡ false
+StaysApart old new = is_holding old.hand.place ≡ false → is_holding new.hand.place ≡ false
 
 -- what an actor had seen it has still seen, and it may have seen more
 pub record SeesOn (old new : Seen) : Type 0 where
@@ -26,10 +33,11 @@ pub record SeesOn (old new : Seen) : Type 0 where
   pub words : Grows old.words new.words
   pub cursors : Grows old.cursors new.cursors
 
--- it may have claimed and published more, and set the full flag; once it has set the corrupt flag, it claims nothing
+-- it may have raised the free pointer, claimed and published more, and set the full flag; once it has set the corrupt flag, it claims nothing
 pub record DoesOn (old new : Done) : Type 0 where
-  pub same : new ≡ record old { claimed = new.claimed; published = new.published; filled = new.filled; lacked = new.lacked; beaten = new.beaten }
+  pub same : new ≡ record old { claimed = new.claimed; raised = new.raised; published = new.published; filled = new.filled; lacked = new.lacked; beaten = new.beaten }
   pub claimed : Grows old.claimed new.claimed
+  pub raised : Grows old.raised new.raised
   pub published : Grows old.published new.published
   pub filled : old.filled ≡ true → new.filled ≡ true
   pub lacked : Grows old.lacked new.lacked

@@ -24,14 +24,14 @@ use Rattle.segment_promises.proofs.Spoilers.{notes_leave}
 use Rattle.hist_core.specs.declared.actor_run.Running.{Running}
 use Rattle.hist_core.specs.declared.actor_run.Running.TheVariants.{Add}
 use Rattle.hist_core.specs.declared.actor_run.ActorRun.{ActorRun}
-use Rattle.hist_core.specs.Add.{Amid, alone, block_words, counted_entry, ended_entry, FrameOfAdd, HasEntry, HasMetNoCounts, HasEnded, StandsAtStage, IsAdd, IsSomeAdd, AddSteps, AddGives, links_counted}
+use Rattle.hist_core.specs.Add.{Amid, alone, block_words, counted_entry, ended_entry, FrameOfAdd, HasEntry, NeedsBlock, HasEnded, StandsAtStage, IsAdd, IsSomeAdd, AddSteps, AddGives, serves_counted}
 use Rattle.hist_core.specs.Batch.{Runs, HaveEnded, IsCutAt}
-use Rattle.hist_core.specs.StepsBy.{DoesOnly, StepsBy}
+use Rattle.hist_core.specs.StepsBy.{Deed, links, raises, DoesOnly, StepsBy}
 use Rattle.hist_core.proofs.Worlds.Landing.{Landing, does_as_said}
-use Rattle.hist_core.specs.ActorRun.{ended_by, begun_by, pending_by, held_by, IsGhostNoting, IsAdding, StandsIn, IsRun, IsAddAnnounced, LandsBack, MayBeRefused, Answers, DoesAsSaid, IsRefusedBy, MayLink, is_flagged, lacks_room}
+use Rattle.hist_core.specs.ActorRun.{known_of, ended_by, begun_by, pending_by, held_by, IsGhostNoting, IsAdding, StandsIn, IsRun, IsAddAnnounced, LandsBack, MayBeRefused, Answers, DoesAsSaid, IsRefusedBy, Serves, is_flagged, lacks_room}
 use Rattle.segment_calls.specs.declared.refusal.Refusal.{Refusal}
 use Rattle.hist_core.specs.Making.{IsCause}
-use Rattle.hist_core.proofs.AddCall.Refusals.{HasOnlyNoted, cause_noted}
+use Rattle.hist_core.proofs.AddCall.Refusals.{HasOnlyNoted, cause_noted, needs_still}
 use Rattle.hist_core.proofs.Parts.Allocations.{goes_with}
 use Rattle.hist_core.proofs.AddCall.Entries.{ended_is_over}
 use Rattle.hist_core.proofs.Worlds.Apart.{asks_not, looks_not, batches_not, sets_not}
@@ -111,20 +111,32 @@ module _ (shape : Dimensions) (version : ℕ) (old : ActorRun) (add : AddCall) (
             unsummed = subst (All (λ (c : EntryProgress). c.summed ≡ false)) (sym none) (All-nil (λ (c : EntryProgress). c.summed ≡ false));
           }
 
-      -- a record that it links is the sample of its value
-      does_it : (said : Stepped) (first b d : Actor) → a.done ≡ first.done → d.done ≡ b.done → DoesOnly (is_flagged said) (lacks_room said) (links_counted now) a b
-          → DoesAsSaid old.running said first d
-      does_it said first b d before behind = does_as_said old.running said (links_counted now) (λ made it. subst (λ running. MayLink running made) (sym is) it) first a b d before behind
+      -- it does what the call is for
+      does_it : (said : Stepped) (first b d : Actor) → map known_of old.known.items ≡ first.answers.names → HasOnlyNoted first a → d.done ≡ b.done
+          → DoesOnly (is_flagged said) (lacks_room said) (serves_counted known now a) a b → DoesAsSaid old.running said first d
+      does_it said first b d names from behind = does_as_said old.running said (serves_counted known now a) first a b d serves from.2 behind
+        where
+          as_first : (deed : Deed) → serves_counted known now a deed → serves_counted known now first deed
+          as_first (links made) it = it
+          as_first (raises words) (it, needs) = (it, needs_still known (add.value, add.units) a first (sym from.3) needs)
+
+          serves : (deed : Deed) → serves_counted known now a deed → Serves old.running first deed
+          serves deed it = subst (λ running. Serves running first deed) (sym is) (
+            known,
+            subst (λ (l : List MachineKnown). Contains l known) (sym counts.run.names ∙ names) counts.counting.knows,
+            counts.counting.counting.reference,
+            as_first deed it,
+          )
 
       -- why it is refused
-      refused_by : (first b : Actor) → HasOnlyNoted first a → FrameOfAdd a b → (why : Refusal) → IsCause why (block_words known) a b → HasMetNoCounts known b
+      refused_by : (first b : Actor) → HasOnlyNoted first a → FrameOfAdd a b → (why : Refusal) → IsCause why (block_words known) a b → NeedsBlock known (add.value, add.units) b
           → IsRefusedBy old.running why first (noted b (refused 0))
       refused_by first b from aside why cause met = subst (λ running. IsRefusedBy running why first (noted b (refused 0))) (sym is) (
         known,
         subst (λ (l : List MachineKnown). Contains l known) (sym aside.names) counts.counting.knows,
         counts.counting.counting.reference,
         cause_noted why (block_words known) first a b (noted b (refused 0)) from refl refl cause,
-        met,
+        record { counts = met.counts; value = met.value },
       )
 
       its_steps : (words new_words : List ℕ) (said : AddStep) → length words ≡ shape.size → AddSteps add words now new_words said
@@ -148,14 +160,14 @@ module _ (shape : Dimensions) (version : ℕ) (old : ActorRun) (add : AddCall) (
         subst (λ said. Landing shape version old words new new_words said a) (sym result_is) (goes (λ b from counts. goes_with (its_steps its at b counts words new_words More long steps)
         (λ c (aside, stays, does, counting). (
           subst (λ (r : ActorRun). IsRun shape version r c) (sym new_is) (goes_on its at b counts c (aside, stays, does, counting)),
-          does_it its at b counts stepped.More a c c from.2 refl does,
+          does_it its at b counts stepped.More a c c run.names from refl does,
         ))))
     goes_so Done result steps (new_is, result_is) =
         subst (λ said. Landing shape version old words new new_words said a) (sym result_is) (goes (λ b from counts. goes_noting (its_steps its at b counts words new_words Done long steps)
         (λ c (aside, stays, does, turns, over).
         let (notes, d, told, run_then) = subst (λ (r : ActorRun). (notes : List Note) × (d : Actor) × Notes c notes d × IsRun shape version r d) (sym new_is)
         (has_counted shape version old its.name add.units (entries its) (standing its) (runs its) (into its) b counts c aside stays turns counts.counting.rests (ends_so its at b counts c over)) in
-        (notes, d, told, (run_then, does_it its at b counts (stepped.Done answer.Added) a c d from.2 (notes_leave notes c d told).1 does)))))
+        (notes, d, told, (run_then, does_it its at b counts (stepped.Done answer.Added) a c d run.names from (notes_leave notes c d told).1 does)))))
     goes_so (Refused why) result steps (new_is, items, result_is) =
         subst (λ said. Landing shape version old words new new_words said a) (sym result_is) (goes (λ b from counts. goes_noting (its_steps its at b counts words new_words (Refused why) long steps)
         (λ c (aside, stays, does, turns, cause, has, met).
@@ -164,7 +176,7 @@ module _ (shape : Dimensions) (version : ℕ) (old : ActorRun) (add : AddCall) (
         (is_cut shape version old its.name add.units (entries its) (standing its) (runs its) (into its) b counts c aside stays turns counts.counting.rests counts.counting.held
         0 add.units (omega arith) (nothing_yet its at b counts c has) (let none : tally_noted (take 0 (entries its)) its.name ≡ 0 = refl in omega (arith, none)) new old.ended (omega arith) new_is items
         (λ d. IsRefusedBy old.running why a d) (refused_by its at b counts a c from aside why cause met)) in
-        (notes, d, told, (lands, does_it its at b counts (stepped.Done (answer.Refused why)) a c d from.2 (notes_leave notes c d told).1 does)))))
+        (notes, d, told, (lands, does_it its at b counts (stepped.Done (answer.Refused why)) a c d run.names from (notes_leave notes c d told).1 does)))))
 
   pub add_goes : (a : Actor) (run : IsRun shape version old a) (now : AddCall) → now ≡ record add { stage = now.stage } → (words new_words : List ℕ) → length words ≡ shape.size
       → (said : AddStep) (new : ActorRun) (result : Stepped) → AddSteps add words now new_words said → IsAddAnnounced (record old { running = Some (Add now) }) said new result

@@ -22,7 +22,7 @@ use Rattle.hist_core.specs.declared.add.AddStep.TheVariants.{More}
 use Rattle.hist_core.specs.declared.add.Stage.{Stage}
 use Rattle.hist_core.specs.declared.add.Stage.TheVariants.{Counting, Summing, Noting}
 use Rattle.hist_core.specs.StepsBy.{StepsBy}
-use Rattle.hist_core.specs.Add.{Amid, IsCounting, HasEntry, IsSomeAdd, StandsAtStage, IsAdd, AddGives, behind_count, links_counted}
+use Rattle.hist_core.specs.Add.{Amid, IsCounting, HasEntry, IsSomeAdd, StandsAtStage, IsAdd, AddGives, behind_count, serves_counted}
 use Rattle.hist_core.proofs.Parts.Deeds.{does_nothing}
 use Rattle.hist_core.proofs.AddCall.Entries.{still_open, only_open, only_changed, counting_of}
 use Rattle.segment_machine.specs.Packing.{CountsIn}
@@ -122,7 +122,7 @@ module _ (shape : Dimensions) (known : Known) (amid : Amid) (add : Add) (a : Act
             stands.1,
       );
       words_are = are;
-      goes = λ learned apart. (
+      goes = λ learned apart ordered. (
         [],
         acted,
         refl,
@@ -136,7 +136,7 @@ module _ (shape : Dimensions) (known : Known) (amid : Amid) (add : Add) (a : Act
             words = ([], sym (append-nil a.seen.words));
           },
           (refl, refl),
-          does_nothing (links_counted add) a acted refl,
+          does_nothing (serves_counted known add a) a acted refl,
           record {
             counting = counts_on shape known add (behind_count add.amount) is.counting;
             segment = is.segment;

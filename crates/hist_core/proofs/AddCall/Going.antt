@@ -12,7 +12,7 @@ use Rattle.hist_core.specs.declared.add.Add.{Add}
 use Rattle.hist_core.specs.declared.add.AddStep.TheVariants.{More}
 use Rattle.hist_core.specs.declared.add.Stage.{Stage}
 use Rattle.hist_core.specs.StepsBy.{DoesOnly, StepsBy}
-use Rattle.hist_core.specs.Add.{Amid, FrameOfAdd, StaysOpen, StandsAtStage, IsAdd, AddGives, links_counted}
+use Rattle.hist_core.specs.Add.{Amid, FrameOfAdd, StaysOpen, StandsAtStage, IsAdd, AddGives, serves_counted}
 use Rattle.hist_core.proofs.Parts.Deeds.{does_nothing}
 use Rattle.hist_core.proofs.AddCall.Counts.{counts_on}
 use Rattle.std.specs.List.{Contains}
@@ -73,7 +73,7 @@ packing_aside a (add_moved counts bucket units) found =
 
 module _ (shape : Dimensions) (known : Known) (amid : Amid) (add : Add) (a : Actor) (is : IsAdd shape known amid add a) (stage : Stage) where
   -- it goes on from another stage
-  pub goes_still : (b : Actor) → FrameOfAdd a b → StaysOpen a b → DoesOnly false false (links_counted add) a b → StandsAtStage shape known amid (record add { stage = stage }) b stage
+  pub goes_still : (b : Actor) → FrameOfAdd a b → StaysOpen a b → DoesOnly false false (serves_counted known add a) a b → StandsAtStage shape known amid (record add { stage = stage }) b stage
       → AddGives shape known amid (record add { stage = stage }) More a b
   goes_still b beside (units, entries) does stands = (
     beside,
@@ -111,7 +111,7 @@ module _ (shape : Dimensions) (known : Known) (amid : Amid) (add : Add) (a : Act
       event = event;
       ready = ready;
       words_are = are;
-      goes = λ learned apart. ([], acted, refl, goes_still acted beside.0 beside.1 (does_nothing (links_counted add) a acted beside.2) (stands learned));
+      goes = λ learned apart ordered. ([], acted, refl, goes_still acted beside.0 beside.1 (does_nothing (serves_counted known add a) a acted beside.2) (stands learned));
     }
 
   pub packs_on : (words new_words : List ℕ) (e : PackingEvent) → Ready a (packing_event e) → new_words ≡ after shape.size add.version (packing_event e) words

@@ -20,7 +20,7 @@ use Rattle.hist_core.specs.declared.add.Add.{Add}
 use Rattle.hist_core.specs.declared.add.AddStep.TheVariants.{More}
 use Rattle.hist_core.specs.declared.add.Stage.TheVariants.{LoadingCounts, Counting}
 use Rattle.hist_core.specs.StepsBy.{StepsBy}
-use Rattle.hist_core.specs.Add.{Amid, StandsAtStage, IsAdd, AddGives, links_counted}
+use Rattle.hist_core.specs.Add.{Amid, StandsAtStage, IsAdd, AddGives, serves_counted}
 use Rattle.hist_core.proofs.Parts.Deeds.{does_nothing}
 use Rattle.hist_core.proofs.AddCall.Counts.{counts_on}
 
@@ -86,14 +86,14 @@ module _ (shape : Dimensions) (known : Known) (amid : Amid) (add : Add) (a : Act
     event = event;
     ready = (may_turn, (known, has_them));
     words_are = sym (set-get_or words (known.reference + 8) 0);
-    goes = λ learned apart. (
+    goes = λ learned apart ordered. (
       [],
       acted,
       refl,
       (
         aside_counts a acted known.reference found refl refl refl refl refl refl,
         (refl, refl),
-        does_nothing (links_counted add) a acted refl,
+        does_nothing (serves_counted known add a) a acted refl,
         record {
           counting = counts_on shape known add (Counting at) is.counting;
           segment = is.segment;

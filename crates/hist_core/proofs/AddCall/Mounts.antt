@@ -1,8 +1,10 @@
 -- An `add` puts the counts in use: it loads their reference, claims a block for them, and mounts it, or marks it as of no use.
-use Rattle.std.proofs.Common.{◌≡◌, ◌≢◌, ◌≤◌, ℕ, ◌+◌, ◌*◌, ◌==◌, Bool, true, false, List, [], length, ◌++◌, refl, sym, ap, subst, ◌∙◌, arith}
+use Rattle.std.proofs.Common.{◌≡◌, ◌≢◌, ◌≤◌, ℕ, ◌+◌, ◌*◌, ◌==◌, Bool, true, false, true≢false, List, [], length, ◌++◌, refl, sym, ap, subst, ◌∙◌, arith}
 use Rattle.std.specs.Prelude.{None, if◌then◌else◌, is_some, max}
+use Rattle.std.specs.List.{Contains}
 use lib.Seq.{set-get_or}
 use Rattle.std.proofs.lemmas.List.{append-nil}
+use Rattle.std.proofs.lemmas.List.Elements.{Contains-push}
 use Rattle.alloc_core.specs.declared.alloc.AllocStep.{AllocStep}
 use Rattle.alloc_core.specs.declared.alloc.AllocStep.TheVariants as said
 use Rattle.alloc_core.specs.declared.alloc.Stage.TheVariants.{Claimed}
@@ -18,9 +20,9 @@ use Rattle.segment_machine.specs.declared.actor.Known.{Known}
 use Rattle.segment_machine.specs.declared.actor.Segment.{Segment}
 use Rattle.segment_machine.specs.declared.place.Place.TheVariants.{Looking}
 use Rattle.segment_machine.specs.declared.seen.Sighting.{Sighting}
-use Rattle.segment_machine.specs.Actor.{is_bound, word_seen, Buckets, AreApart}
+use Rattle.segment_machine.specs.Actor.{has_buckets, is_bound, word_seen, Buckets, AreApart}
 use Rattle.segment_machine.specs.Allocating.{new_own}
-use Rattle.segment_machine.specs.Calls.{look_of, sight_counts, AreCountsOf, CountsStay, back}
+use Rattle.segment_machine.specs.Calls.{ended, look_of, sight_counts, AreCountsOf, CountsStay, back}
 use Rattle.segment_machine.specs.Counting.{load_counts}
 use Rattle.segment_machine.specs.Event.{Event, next, counting_event, packing_event}
 use Rattle.segment_machine.specs.Note.{Note, Notes}
@@ -34,8 +36,8 @@ use Rattle.hist_core.specs.declared.add.Stage.{Stage}
 use Rattle.hist_core.specs.declared.add.Stage.TheVariants.{SeekingCounts, Allocating, Mounting, Purging, LoadingAgain}
 use Rattle.segment_calls.specs.declared.refusal.Refusal.{Refusal}
 use Rattle.segment_calls.specs.declared.refusal.Refusal.TheVariants as why
-use Rattle.hist_core.specs.StepsBy.{DoesOnly, FrameOfStep, StepsBy, is_tied}
-use Rattle.hist_core.specs.Add.{Amid, HasEntry, HasMetNoCounts, AreCounts, StandsAtStage, IsAdd, AddGives, BeginsToAllocate, IsAllocated, block_words, links_counted}
+use Rattle.hist_core.specs.StepsBy.{DoesOnly, FrameOfStep, SeesNoMore, StepsBy, is_tied}
+use Rattle.hist_core.specs.Add.{Amid, HasEntry, HasMetNoCounts, AreCounts, NeedsBlock, NeedsCounts, StandsAtStage, IsAdd, AddGives, BeginsToAllocate, IsAllocated, block_words, serves_counted}
 use Rattle.hist_core.specs.Making.{IsCause}
 use Rattle.hist_core.proofs.AddCall.Counts.{counts_in}
 use Rattle.hist_core.proofs.AddCall.Entries.{counting_of}
@@ -78,7 +80,7 @@ module _ (shape : Dimensions) (known : Known) (amid : Amid) (add : Add) (a : Act
     seeks_on : (stage : Stage) → (AreCountsOf a known.reference sought → CountsStay a.seen known.reference sought → StandsAtStage shape known amid (record add { stage = stage }) loaded stage)
         → StepsBy shape.size add.version a words words (AddGives shape known amid (record add { stage = stage }) More a)
     seeks_on stage stands = acts_on shape known amid add a is stage words words load
-        (stood_seeking.2, (known, has_them shape known amid add a words is stood_seeking.0))
+        (stood_seeking.2.0, (known, has_them shape known amid add a words is stood_seeking.0))
         (sym (set-get_or words (known.reference + 8) 0))
         (aside_counts a loaded known.reference sought refl refl refl refl refl refl, (refl, refl), refl)
         (λ learned. stands learned.0 learned.1)
@@ -102,6 +104,16 @@ module _ (shape : Dimensions) (known : Known) (amid : Amid) (add : Add) (a : Act
     none_met none stays bucketed counts seen =
         let same : loaded.seen.words ≡ a.seen.words = ap (λ (n : ℕ). a.seen.words ++ sight_counts known.reference n) none ∙ append-nil a.seen.words in
         sym (stays.0 counts (ap (λ (l : List Sighting). word_seen l (known.reference + 8)) (sym same) ∙ seen)) ∙ none
+
+    -- so it needs some
+    needs_counts : sought ≡ 0 → CountsStay a.seen known.reference sought → NeedsCounts known (add.value, add.units) loaded
+    needs_counts none stays =
+        let (turns, (word, saw, on, packs)) = stood_seeking.2 in (
+          (word, saw, on, packs),
+          subst (λ (b : Bool). Contains (ended a.seen.ends (known.reference + 8) b) (known.reference + 8)) (sym (eq-eqb sought 0 none))
+              (Contains-push a.seen.ends (known.reference + 8)),
+          none_met none stays,
+        )
 
     -- there are none: it begins to allocate
     pub seeks_none : word_at words (add.histogram + 8) ≡ 0 → (new : Add) (result : AddStep) → BeginsToAllocate add new result → StepsBy shape.size add.version a words words (AddGives shape known amid new result a)
@@ -129,7 +141,7 @@ module _ (shape : Dimensions) (known : Known) (amid : Amid) (add : Add) (a : Act
             refl,
             refl,
             omega (arith, same),
-            none_met (ap (λ (r : ℕ). word_at words (r + 8)) is.counting.reference ∙ none) stays,
+            needs_counts (ap (λ (r : ℕ). word_at words (r + 8)) is.counting.reference ∙ none) stays,
           ),
         )))
     seeks_none none new Done begins = absurd begins
@@ -141,34 +153,56 @@ module _ (shape : Dimensions) (known : Known) (amid : Amid) (add : Add) (a : Act
     stood_allocating : StandsAtStage shape known amid add a (Allocating x)
     stood_allocating = subst (StandsAtStage shape known amid add a) allocates is.stands
 
+    -- the block that it allocates is that of the counts
+    its_words : x.size ≡ block_words known
+    its_words = stood_allocating.2.3
+        ∙ (ap (λ (n : ℕ). 4 + 2 * n) is.counting.buckets ∙ ap (λ (t : Bool). if t then 4 + 2 * buckets_of known.spec else 8) (sym stood_allocating.0))
+
+    -- it needs it
+    needs_here : NeedsBlock known (add.value, add.units) a
+    needs_here = record {
+      counts = λ bucketed. stood_allocating.2.4;
+      value = λ sparse. absurd (true≢false (sym stood_allocating.0 ∙ ap has_buckets sparse));
+    }
+
     module _ (long : length words ≡ shape.size) (y : Allocation) (new_words : List ℕ) (says : AllocStep) (step : alloc.IsStep x words y new_words says) where
-      claims : StepsBy shape.size add.version a words new_words (λ b. FrameOfStep a b × DoesOnly false (is_full_end says) (links_counted add) a b × AreApart b × Allocates b y × (b.seen.words ≡ a.seen.words) × IsEnd says x.size a b)
+      claims : StepsBy shape.size add.version a words new_words (λ b. FrameOfStep a b × DoesOnly false (is_full_end says) (serves_counted known add a) a b × AreApart b × Allocates b y × (b.seen.words ≡ a.seen.words) × SeesNoMore a b × IsEnd says x.size a b)
       claims =
           let size = ap (λ (d : Dimensions). d.size) is.segment in
-          subst (λ (n : ℕ). StepsBy n add.version a words new_words (λ b. FrameOfStep a b × DoesOnly false (is_full_end says) (links_counted add) a b × AreApart b × Allocates b y × (b.seen.words ≡ a.seen.words) × IsEnd says x.size a b)) size
-          (allocates_on (links_counted add) add.version a x y words new_words says stood_allocating.2.0 (long ∙ sym size) step)
+          subst (λ (n : ℕ). StepsBy n add.version a words new_words (λ b. FrameOfStep a b × DoesOnly false (is_full_end says) (serves_counted known add a) a b × AreApart b × Allocates b y × (b.seen.words ≡ a.seen.words) × SeesNoMore a b × IsEnd says x.size a b)) size
+          (allocates_on (serves_counted known add a) add.version a x y words new_words says stood_allocating.2.0 (its_words, needs_here) (long ∙ sym size) step)
 
       -- its entry is as it was
       entry_still : (b : Actor) → FrameOfStep a b → HasEntry known amid add b false false
       entry_still b beside = ap (λ e. e.running) beside.entries ∙ stood_allocating.1
 
-      -- it has met no counts still
-      none_still : (b : Actor) → b.seen.words ≡ a.seen.words → HasMetNoCounts known b
-      none_still b same bucketed counts seen =
-          stood_allocating.2.4 bucketed counts (ap (λ (l : List Sighting). word_seen l (known.reference + 8)) (sym same) ∙ seen)
+      -- it needs counts still
+      needs_still : (b : Actor) → b.seen.words ≡ a.seen.words → SeesNoMore a b → NeedsCounts known (add.value, add.units) b
+      needs_still b same (chain, ends, singles) =
+          let (claims_so, more, tag, size, ((word, saw, on, packs), none, met_none)) = stood_allocating.2 in (
+            (word, subst (λ (l : List Sighting). Contains l (record { at = known.reference + 9; word = word })) (sym singles) saw, on, packs),
+            subst (λ (l : List ℕ). Contains l (known.reference + 8)) (sym ends) none,
+            λ bucketed counts seen. met_none bucketed counts (ap (λ (l : List Sighting). word_seen l (known.reference + 8)) (sym same) ∙ seen),
+          )
 
-      still : (b : Actor) → FrameOfStep a b → DoesOnly false false (links_counted add) a b → (stage : Stage) → StandsAtStage shape known amid (record add { stage = stage }) b stage
+      needs_block : (b : Actor) → b.seen.words ≡ a.seen.words → SeesNoMore a b → NeedsBlock known (add.value, add.units) b
+      needs_block b same list = record {
+        counts = λ bucketed. needs_still b same list;
+        value = λ sparse. absurd (true≢false (sym stood_allocating.0 ∙ ap has_buckets sparse));
+      }
+
+      still : (b : Actor) → FrameOfStep a b → DoesOnly false false (serves_counted known add a) a b → (stage : Stage) → StandsAtStage shape known amid (record add { stage = stage }) b stage
           → AddGives shape known amid (record add { stage = stage }) More a b
       still b beside does stage stands =
           goes_still shape known amid add a is stage b (beside_aside a b beside) (beside.units, beside.entries ∙ ap (λ e. record a.entries { running = e.running }) (sym beside.entries)) does stands
 
       -- it goes on
       still_claims : says ≡ said.More → is_some (alloc.next_event y) ≡ true → StepsBy shape.size add.version a words new_words (AddGives shape known amid (record add { stage = Allocating y }) More a)
-      still_claims goes_on more = goes_noting claims (λ b (beside, does, apart, goes, same, ends). (
+      still_claims goes_on more = goes_noting claims (λ b (beside, does, apart, goes, same, list, ends). (
         [],
         b,
         refl,
-        still b beside (subst (λ (s : AllocStep). DoesOnly false (is_full_end s) (links_counted add) a b) goes_on does) (Allocating y) (
+        still b beside (subst (λ (s : AllocStep). DoesOnly false (is_full_end s) (serves_counted known add a) a b) goes_on does) (Allocating y) (
           stood_allocating.0,
           entry_still b beside,
           (
@@ -176,16 +210,16 @@ module _ (shape : Dimensions) (known : Known) (amid : Amid) (add : Add) (a : Act
             more,
             ap (λ (z : Allocation). z.tag) step.new_is ∙ stood_allocating.2.2,
             ap (λ (z : Allocation). z.size) step.new_is ∙ stood_allocating.2.3,
-            none_still b same,
+            needs_still b same list,
           ),
         ),
       ))
 
       -- it has a block, which it mounts
       has_claimed : (at : ℕ) → says ≡ said.Done at → StepsBy shape.size add.version a words new_words (AddGives shape known amid (record add { stage = Mounting at }) More a)
-      has_claimed at done = goes_noting claims (λ b (beside, does, apart, goes, same, ends). claimed b beside (subst (λ (s : AllocStep). DoesOnly false (is_full_end s) (links_counted add) a b) done does) goes (claimed_of y.stage at (sym done ∙ step.answers)))
+      has_claimed at done = goes_noting claims (λ b (beside, does, apart, goes, same, list, ends). claimed b beside (subst (λ (s : AllocStep). DoesOnly false (is_full_end s) (serves_counted known add a) a b) done does) goes (claimed_of y.stage at (sym done ∙ step.answers)))
         where
-          claimed : (b : Actor) → FrameOfStep a b → DoesOnly false false (links_counted add) a b → Allocates b y → (size : ℕ) × (y.stage ≡ Claimed at size)
+          claimed : (b : Actor) → FrameOfStep a b → DoesOnly false false (serves_counted known add a) a b → Allocates b y → (size : ℕ) × (y.stage ≡ Claimed at size)
               → (notes : List Note) × (c : Actor) × Notes b notes c × AddGives shape known amid (record add { stage = Mounting at }) More a c
           claimed b beside does goes (size, ends) =
               let has = subst (StandsAt b y) ends goes.stands in
@@ -213,9 +247,7 @@ module _ (shape : Dimensions) (known : Known) (amid : Amid) (add : Add) (a : Act
 
     -- it is refused for the words of the counts
     needed : (why : Refusal) (b : Actor) → IsCause why x.size a b → IsCause why (block_words known) a b
-    needed why b = subst (λ (n : ℕ). IsCause why n a b)
-        (stood_allocating.2.3 ∙ (ap (λ (n : ℕ). 4 + 2 * n) is.counting.buckets
-        ∙ ap (λ (t : Bool). if t then 4 + 2 * buckets_of known.spec else 8) (sym stood_allocating.0)))
+    needed why b = subst (λ (n : ℕ). IsCause why n a b) its_words
 
     -- whatever the allocation says
     pub allocates_so : length words ≡ shape.size → (y : Allocation) (new_words : List ℕ) (says : AllocStep) (new : Add) (result : AddStep) → alloc.IsStep x words y new_words says
@@ -229,13 +261,13 @@ module _ (shape : Dimensions) (known : Known) (amid : Amid) (add : Add) (a : Act
         (has_claimed long y new_words (said.Done at) step at refl)
     allocates_so long y new_words said.Full new result step more (new_is, result_is) =
         subst (λ (r : AddStep). StepsBy shape.size add.version a words new_words (AddGives shape known amid new r a)) (sym result_is)
-        (goes_with (claims long y new_words said.Full step) (λ b (beside, does, apart, goes, same, ends).
-        refuses shape known amid add new a stood_allocating.1 b beside why.Full (subst (λ (n : Add). DoesOnly false true (links_counted n) a b) (sym new_is) does) (none_still long y new_words said.Full step b same) (ap (λ (n : Add). counting_of known n false false) new_is)
+        (goes_with (claims long y new_words said.Full step) (λ b (beside, does, apart, goes, same, list, ends).
+        refuses shape known amid add new a stood_allocating.1 b beside why.Full (subst (λ (n : Add). DoesOnly false true (serves_counted known n a) a b) (sym new_is) does) (subst (λ (n : Add). NeedsBlock known (n.value, n.units) b) (sym new_is) (needs_block long y new_words said.Full step b same list)) (ap (λ (n : Add). counting_of known n false false) new_is)
         (ap is_tied (rests_at b y y.stage (λ e. cc (step.answers ∙ e)) goes.stands)) (needed why.Full b ends)))
     allocates_so long y new_words said.Corrupt new result step more (new_is, result_is) =
         subst (λ (r : AddStep). StepsBy shape.size add.version a words new_words (AddGives shape known amid new r a)) (sym result_is)
-        (goes_with (claims long y new_words said.Corrupt step) (λ b (beside, does, apart, goes, same, ends).
-        refuses shape known amid add new a stood_allocating.1 b beside why.Corrupt (subst (λ (n : Add). DoesOnly false false (links_counted n) a b) (sym new_is) does) (none_still long y new_words said.Corrupt step b same) (ap (λ (n : Add). counting_of known n false false) new_is)
+        (goes_with (claims long y new_words said.Corrupt step) (λ b (beside, does, apart, goes, same, list, ends).
+        refuses shape known amid add new a stood_allocating.1 b beside why.Corrupt (subst (λ (n : Add). DoesOnly false false (serves_counted known n a) a b) (sym new_is) does) (subst (λ (n : Add). NeedsBlock known (n.value, n.units) b) (sym new_is) (needs_block long y new_words said.Corrupt step b same list)) (ap (λ (n : Add). counting_of known n false false) new_is)
         (ap is_tied (rests_at b y y.stage (λ e. cc (step.answers ∙ e)) goes.stands)) (needed why.Corrupt b ends)))
 
     -- what the step of its allocation asks for

@@ -18,6 +18,8 @@ use Rattle.segment_machine.specs.Event.{next, packing_event}
 use Rattle.segment_machine.specs.Form.{is_off, IsPacking}
 use Rattle.segment_machine.specs.Packing.{load_single, IsSingleOf, PackingEvent, after_pack, pack}
 use Rattle.segment_promises.proofs.Calls.Places.{looks_there}
+use Rattle.segment_promises.proofs.Calls.SpecBuckets.{apart}
+use Rattle.segment_invariant.proofs.Consistency.Keys.{one_key}
 use Rattle.hist_core.specs.declared.add.Add.{Add}
 use Rattle.hist_core.specs.declared.add.AddStep.TheVariants.{More}
 use Rattle.hist_core.specs.declared.add.Stage.{Stage}
@@ -86,7 +88,22 @@ module _ (shape : Dimensions) (known : Known) (amid : Amid) (add : Add) (a : Act
           subst (λ (w : ℕ). IsPacking add.bucket add.units w new) (sym same) (packs (packable learned on)),
         ),
       )
-      stood SeekingCounts (on, none) learned = (has, entry, ap is_bound looks_then)
+      stood SeekingCounts (on, none) learned = (
+        has,
+        entry,
+        (
+          ap is_bound looks_then,
+          (
+            found,
+            seen_then,
+            on,
+            λ bucket packed key packs.
+                let its = is.counting.bucket has in
+                let same : bucket ≡ add.bucket = one_key known.spec bucket add.bucket is.counting.lawful (apart known.spec is.counting.lawful has) key.0 its.0 (key.1 ∙ sym its.1) in
+                none packed (subst (λ (n : ℕ). IsPacking n add.units found packed) same packs),
+          ),
+        ),
+      )
       stood LoadingSingle is learned = absurd is
       stood (Allocating x) is learned = absurd is
       stood (Mounting at) is learned = absurd is

@@ -13,7 +13,7 @@ use Rattle.hist_core.specs.declared.add.Add.{Add}
 use Rattle.hist_core.specs.declared.add.AddStep.TheVariants.{Done}
 use Rattle.hist_core.specs.declared.add.Stage.TheVariants.{Noting}
 use Rattle.hist_core.specs.StepsBy.{StepsBy}
-use Rattle.hist_core.specs.Add.{Amid, StandsAtStage, IsAdd, AddGives, links_counted}
+use Rattle.hist_core.specs.Add.{Amid, StandsAtStage, IsAdd, AddGives, serves_counted}
 use Rattle.hist_core.proofs.Parts.Deeds.{does_nothing}
 use Rattle.hist_core.proofs.AddCall.Counts.{next_is, changed_is}
 use Rattle.hist_core.proofs.AddCall.Entries.{counting_of}
@@ -57,14 +57,14 @@ module _ (shape : Dimensions) (known : Known) (amid : Amid) (add : Add) (a : Act
       refl,
     );
     words_are = are;
-    goes = λ learned apart. (
+    goes = λ learned apart ordered. (
       [],
       acted,
       refl,
       (
         aside_still a acted refl refl refl refl refl refl,
         (refl, refl),
-        does_nothing (links_counted add) a acted refl,
+        does_nothing (serves_counted known add a) a acted refl,
         refl,
         changed_is shape known amid add a is true summed stands.1 (λ c. record c { noted = true }),
       ),

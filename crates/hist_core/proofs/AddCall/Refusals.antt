@@ -1,5 +1,6 @@
 -- An `add` is refused: nothing was counted.
-use Rattle.std.proofs.Common.{◌≡◌, ℕ, ◌+◌, ◌<◌, true, false, [], ◌∷◌, ◌++◌, map, sym, ap, subst, ◌∙◌}
+use Rattle.std.proofs.Common.{◌≡◌, ℕ, ℤ, ◌+◌, ◌<◌, true, false, [], ◌∷◌, ◌++◌, map, sym, ap, subst, ◌∙◌}
+use Rattle.std.specs.List.{Contains}
 use Rattle.segment_image.specs.Shape.{Dimensions}
 use Rattle.segment_machine.specs.declared.actor.Actor.{Actor}
 use Rattle.segment_machine.specs.declared.actor.Done.{Done}
@@ -7,14 +8,16 @@ use Rattle.segment_machine.specs.declared.actor.Hand.{Hand}
 use Rattle.segment_machine.specs.declared.actor.Known.{Known}
 use Rattle.segment_machine.specs.declared.actor.Segment.{Segment}
 use Rattle.segment_machine.specs.declared.seen.Seen.{Seen}
+use Rattle.segment_machine.specs.Actor.{word_seen}
 use Rattle.segment_machine.specs.Entry.{fresh}
 use Rattle.hist_core.specs.declared.add.Add.{Add}
 use Rattle.hist_core.specs.declared.add.AddStep.TheVariants.{Refused}
 use Rattle.segment_calls.specs.declared.refusal.Refusal.{Refusal}
 use Rattle.segment_calls.specs.declared.refusal.Refusal.TheVariants as why
 use Rattle.hist_core.specs.StepsBy.{DoesOnly, FrameOfStep, IsFree}
-use Rattle.hist_core.specs.Add.{Amid, HasEntry, HasMetNoCounts, FrameOfAdd, AddGives, block_words, links_counted}
+use Rattle.hist_core.specs.Add.{Amid, HasEntry, NeedsBlock, FrameOfAdd, AddGives, block_words, serves_counted}
 use Rattle.hist_core.specs.Making.{IsCause, is_full}
+use Rattle.hist_core.specs.Sampling.{SawNoSample}
 use Rattle.hist_core.proofs.AddCall.Entries.{counting_of}
 
 -- what is beside leaves aside what no call of `add` changes
@@ -22,7 +25,7 @@ pub beside_aside : (a b : Actor) → FrameOfStep a b → FrameOfAdd a b
 beside_aside a b beside = record { role = beside.role; segment = beside.segment; deltas = beside.deltas; names = beside.names; chain = beside.chain; words = beside.words }
 
 pub refuses : (shape : Dimensions) (known : Known) (amid : Amid) (add new : Add) (a : Actor) → HasEntry known amid add a false false → (b : Actor) → FrameOfStep a b
-    → (why : Refusal) → DoesOnly false (is_full why) (links_counted new) a b → HasMetNoCounts known b → counting_of known new false false ≡ counting_of known add false false → IsFree b → IsCause why (block_words known) a b
+    → (why : Refusal) → DoesOnly false (is_full why) (serves_counted known new a) a b → NeedsBlock known (new.value, new.units) b → counting_of known new false false ≡ counting_of known add false false → IsFree b → IsCause why (block_words known) a b
     → AddGives shape known amid new (Refused why) a b
 refuses shape known amid add new a entry b beside why does met same turns cause = (
   beside_aside a b beside,
@@ -33,6 +36,18 @@ refuses shape known amid add new a entry b beside why does met same turns cause 
   ap (λ e. e.running) beside.entries ∙ entry ∙ ap (λ c. amid.before ++ c ∷ map fresh amid.behind) (sym same),
   met,
 )
+
+-- who has seen the same needs the same block
+pub needs_still : (known : Known) (sample : ℤ × ℕ) (a b : Actor) → b.seen ≡ a.seen → NeedsBlock known sample a → NeedsBlock known sample b
+needs_still known sample a b seen needs = record {
+  counts = λ bucketed.
+      let ((word, saw, on, packs), none, met) = needs.counts bucketed in (
+        (word, subst (λ (s : Seen). Contains s.singles (record { at = known.reference + 9; word = word })) (sym seen) saw, on, packs),
+        subst (λ (s : Seen). Contains s.ends (known.reference + 8)) (sym seen) none,
+        λ has counts saw_them. met has counts (ap (λ (s : Seen). word_seen s.words (known.reference + 8)) (sym seen) ∙ saw_them),
+      );
+  value = λ sparse. subst (SawNoSample known.reference sample.0) (sym seen) (needs.value sparse);
+}
 
 -- ---- why
 

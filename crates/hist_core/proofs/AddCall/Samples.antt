@@ -1,5 +1,5 @@
 -- An `add` looks for the sample of its value.
-use Rattle.std.proofs.Common.{◌≡◌, ℕ, ◌+◌, ◌*◌, ◌%◌, ◌^◌, Bool, true, false, true≢false, List, ◌∷◌, ◌++◌, inr, refl, sym, ap, subst, ◌∙◌, arith}
+use Rattle.std.proofs.Common.{◌≡◌, ℕ, ◌+◌, ◌*◌, ◌%◌, ◌^◌, ℤ, Bool, true, false, true≢false, List, ◌∷◌, ◌++◌, inr, refl, sym, ap, subst, ◌∙◌, arith}
 use Rattle.std.specs.List.{Contains}
 use Rattle.std.specs.Prelude.{if◌then◌else◌}
 use Rattle.segment_image.specs.Shape.{Dimensions}
@@ -17,9 +17,9 @@ use Rattle.hist_core.specs.declared.add.Stage.TheVariants as stage
 use Rattle.hist_core.specs.declared.sampling.Sampling.{Sampling}
 use Rattle.hist_core.specs.declared.sampling.SamplingStep.{SamplingStep}
 use Rattle.hist_core.specs.declared.sampling.SamplingStep.TheVariants as found
-use Rattle.hist_core.specs.Add.{Amid, HasEntry, IsAdd, IsSampled, OpensWith, StandsAtStage, StaysOpen, AddGives, links_counted}
-use Rattle.hist_core.specs.StepsBy.{DoesOnly, FrameOfStep, StepsBy, IsFree}
-use Rattle.hist_core.specs.Sampling.{SamplingGives, links_sample}
+use Rattle.hist_core.specs.Add.{Amid, HasEntry, IsAdd, IsSampled, OpensWith, StandsAtStage, NeedsBlock, StaysOpen, AddGives, block_words, serves_counted}
+use Rattle.hist_core.specs.StepsBy.{Deed, links, raises, DoesOnly, FrameOfStep, StepsBy, IsFree}
+use Rattle.hist_core.specs.Sampling.{SamplingGives, SawNoSample, serves_sample}
 use Rattle.hist_core.specs.Making.{IsCause, is_full}
 use Rattle.bucket_ranges.specs.Spec.{buckets_of}
 use Rattle.hist_core.proofs.AddCall.Entries.{counting_of}
@@ -70,15 +70,32 @@ module _ (shape : Dimensions) (known : Known) (amid : Amid) (add : Add) (a : Act
   still_open : (b : Actor) → FrameOfStep a b → StaysOpen a b
   still_open b beside = (beside.units, beside.entries ∙ ap (λ e. record a.entries { running = e.running }) (sym beside.entries))
 
+  -- the block that it may need is a sample
+  words_are : block_words known ≡ 8
+  words_are = ap (λ (t : Bool). if t then 4 + 2 * buckets_of known.spec else 8) (ap has_buckets stood_sampling.1)
+
   has_still : (b : Actor) → FrameOfStep a b → HasEntry known amid add b false false
   has_still b beside = ap (λ e. e.running) beside.entries ∙ stood_sampling.0
 
-  -- the sample that its search may link is that of its value
-  links_of : (full : Bool) (x : Sampling) → x ≡ record s { walk = x.walk; stage = x.stage } → (b : Actor) → DoesOnly false full (links_sample x) a b
-      → DoesOnly false full (links_counted add) a b
-  links_of full x same b does = does_less false full (links_sample x) (links_counted add) a b (λ made it. it ∙ (λ i. Sample
-      ((ap (λ (y : Sampling). y.histogram) same ∙ (stood_sampling.2 ∙ is.counting.reference)) i)
-      ((ap (λ (y : Sampling). y.value) same ∙ stood_sampling.3) i))) does
+  -- where it has seen no sample of its value, it needs one
+  needs_sample : (x : Sampling) → x ≡ record s { walk = x.walk; stage = x.stage } → (b : Actor) → SawNoSample x.histogram x.value b.seen
+      → NeedsBlock known (add.value, add.units) b
+  needs_sample x same b none = record {
+    counts = λ bucketed. absurd (true≢false (sym bucketed ∙ ap has_buckets stood_sampling.1));
+    value = λ sparse. subst (λ (p : ℕ × ℤ). SawNoSample p.0 p.1 b.seen)
+        (λ i. ((ap (λ (y : Sampling). y.histogram) same ∙ stood_sampling.2) i, (ap (λ (y : Sampling). y.value) same ∙ stood_sampling.3) i)) none;
+  }
+
+  -- its search makes the sample of its value
+  serves_it : (full : Bool) (x : Sampling) → x ≡ record s { walk = x.walk; stage = x.stage } → (b : Actor) → DoesOnly false full (serves_sample x a) a b
+      → DoesOnly false full (serves_counted known add a) a b
+  serves_it full x same b = does_less false full (serves_sample x a) (serves_counted known add a) a b so
+    where
+      so : (deed : Deed) → serves_sample x a deed → serves_counted known add a deed
+      so (links made) it = it ∙ (λ i. Sample
+          ((ap (λ (y : Sampling). y.histogram) same ∙ (stood_sampling.2 ∙ is.counting.reference)) i)
+          ((ap (λ (y : Sampling). y.value) same ∙ stood_sampling.3) i))
+      so (raises words) (it, none) = (it ∙ sym words_are, needs_sample x same a none)
 
   -- whatever the step of the search says
   pub samples_so : (x : Sampling) → x ≡ record s { walk = x.walk; stage = x.stage } → (new_words : List ℕ) (says : SamplingStep) (new : Add) (result : AddStep)
@@ -86,7 +103,7 @@ module _ (shape : Dimensions) (known : Known) (amid : Amid) (add : Add) (a : Act
       → StepsBy shape.size add.version a words new_words (AddGives shape known amid new result a)
   samples_so x same new_words found.More new result goes (new_is, result_is) =
       subst (λ (p : Add × AddStep). StepsBy shape.size add.version a words new_words (AddGives shape known amid p.0 p.1 a)) (λ i. (sym new_is i, sym result_is i))
-      (goes_with goes (λ b (beside, does, searches). goes_still shape known amid add a is (stage.Sampling x) b (beside_aside a b beside) (still_open b beside) (links_of false x same b does) (
+      (goes_with goes (λ b (beside, does, searches). goes_still shape known amid add a is (stage.Sampling x) b (beside_aside a b beside) (still_open b beside) (serves_it false x same b does) (
         has_still b beside,
         stood_sampling.1,
         ap (λ (y : Sampling). y.histogram) same ∙ stood_sampling.2,
@@ -98,7 +115,7 @@ module _ (shape : Dimensions) (known : Known) (amid : Amid) (add : Add) (a : Act
       (goes_with goes (λ b (beside, does, free, first, within).
       let many = is.lawful_shape.many in
       let here : (sample + 6) % 2 ^ 64 ≡ sample + 6 = omega (arith, within, many) in
-      goes_still shape known amid add a is (stage.Counting ((sample + 6) % 2 ^ 64)) b (beside_aside a b beside) (still_open b beside) (links_of false x same b does) (
+      goes_still shape known amid add a is (stage.Counting ((sample + 6) % 2 ^ 64)) b (beside_aside a b beside) (still_open b beside) (serves_it false x same b does) (
         has_still b beside,
         inr (
           sample,
@@ -112,6 +129,6 @@ module _ (shape : Dimensions) (known : Known) (amid : Amid) (add : Add) (a : Act
       )))
   samples_so x same new_words (found.Refused cause) new result goes (new_is, result_is) =
       subst (λ (r : AddStep). StepsBy shape.size add.version a words new_words (AddGives shape known amid new r a)) (sym result_is)
-      (goes_with goes (λ b (beside, does, free, is_cause).
-      refuses shape known amid add new a stood_sampling.0 b beside cause (subst (λ (n : Add). DoesOnly false (is_full cause) (links_counted n) a b) (sym new_is) (links_of (is_full cause) x same b does)) (λ bucketed. absurd (true≢false (sym bucketed ∙ ap has_buckets stood_sampling.1))) (ap (λ (n : Add). counting_of known n false false) new_is) free
-      (subst (λ (n : ℕ). IsCause cause n a b) (sym (ap (λ (t : Bool). if t then 4 + 2 * buckets_of known.spec else 8) (ap has_buckets stood_sampling.1))) is_cause)))
+      (goes_with goes (λ b (beside, does, free, is_cause, none).
+      refuses shape known amid add new a stood_sampling.0 b beside cause (subst (λ (n : Add). DoesOnly false (is_full cause) (serves_counted known n a) a b) (sym new_is) (serves_it (is_full cause) x same b does)) (subst (λ (n : Add). NeedsBlock known (n.value, n.units) b) (sym new_is) (needs_sample x same b none)) (ap (λ (n : Add). counting_of known n false false) new_is) free
+      (subst (λ (n : ℕ). IsCause cause n a b) (sym words_are) is_cause)))

@@ -32,14 +32,14 @@ use Rattle.hist_core.specs.declared.sampling.SamplingStep.{SamplingStep}
 use Rattle.hist_core.specs.declared.sampling.SamplingStep.TheVariants.{More, Found}
 use Rattle.hist_core.specs.declared.sampling.Stage.{Stage}
 use Rattle.hist_core.specs.declared.sampling.Stage.TheVariants.{Walking, LoadingType, LoadingHistogram, LoadingValue, Making}
-use Rattle.hist_core.specs.StepsBy.{DoesOnly, FrameOfStep, StepsBy, IsFree}
-use Rattle.hist_core.specs.Making.{MakingGives, MayMake}
+use Rattle.hist_core.specs.StepsBy.{Deed, links, raises, DoesOnly, FrameOfStep, SawEnd, SeesNoMore, StepsBy, IsFree}
+use Rattle.hist_core.specs.Making.{MakingGives, MayMake, is_full, serves_wanted}
 use Rattle.hist_core.specs.Making as making
-use Rattle.hist_core.specs.Sampling.{HaveOthers, IsIts, IsMade, IsSampling, IsSomeSampling, IsStarted, MetRecord, SamplingGives, StandsAtStage, behind_type, links_sample, wanted_of}
+use Rattle.hist_core.specs.Sampling.{HaveOthers, IsIts, IsMade, IsMakingSample, IsSampling, IsSomeSampling, IsStarted, MetRecord, SamplingGives, StandsAtStage, behind_type, serves_sample, wanted_of}
 use Rattle.hist_core.proofs.Worlds.Free.{free_turns}
 use Rattle.hist_core.proofs.Makes.Drafts.{begins}
-use Rattle.hist_core.proofs.Parts.Allocations.{goes_with, walks_saying}
-use Rattle.hist_core.proofs.Parts.Deeds.{does_nothing}
+use Rattle.hist_core.proofs.Parts.Allocations.{EndsWith, goes_with, walks_saying}
+use Rattle.hist_core.proofs.Parts.Deeds.{does_less, does_nothing}
 use Rattle.hist_core.proofs.Walks.Walking.{walk_beside}
 
 -- ---- it begins
@@ -64,6 +64,7 @@ begins_at shape histogram value s a starts segment lawful free knows valued some
   walk = starts.walk ∙ (stands_last front histogram ∙ ap (λ (h : ℕ). stands_behind (front ++ h ∷ [])) (sym starts.of));
   reach = ap (is_reference shape.size) starts.walk ∙ reach;
   chain = subst (λ (h : ℕ). IsPrefix (front ++ h ∷ []) a.seen.chain) (sym starts.of) (behind, chain ∙ sym (append_assoc front (histogram ∷ []) behind));
+  whole = λ making. absurd (subst IsMakingSample starts.stage making);
   stands = subst (StandsAtStage shape s a []) (sym starts.stage) (free, All-nil _);
 }
 
@@ -80,8 +81,9 @@ module _ (shape : Dimensions) (version : ℕ) (s : Sampling) (a : Actor) (words 
   -- it goes on, where its walk may have gone on too
   goes_further : (walk : ℕ) (behind : List ℕ) (stage : Stage) (b : Actor) → FrameOfStep a b → walk ≡ stands_behind (is.front ++ s.histogram ∷ behind)
       → is_reference shape.size walk ≡ true → IsPrefix (is.front ++ s.histogram ∷ behind) b.seen.chain
+      → (IsMakingSample stage → (is.front ++ s.histogram ∷ behind ≡ b.seen.chain) × SawEnd b.seen)
       → StandsAtStage shape (record s { walk = walk; stage = stage }) b behind stage → IsSampling shape (record s { walk = walk; stage = stage }) b
-  goes_further walk behind stage b beside here reach chain stands = record {
+  goes_further walk behind stage b beside here reach chain whole stands = record {
     shaped = is.shaped;
     segment = ap (λ x. x.shape) beside.segment ∙ is.segment;
     lawful_shape = is.lawful_shape;
@@ -93,13 +95,15 @@ module _ (shape : Dimensions) (version : ℕ) (s : Sampling) (a : Actor) (words 
     walk = here;
     reach = reach;
     chain = chain;
+    whole = whole;
     stands = stands;
   }
 
-  goes_still : (stage : Stage) (b : Actor) → FrameOfStep a b → StandsAtStage shape (record s { stage = stage }) b is.behind stage
+  goes_still : (stage : Stage) (b : Actor) → FrameOfStep a b → (IsMakingSample stage → (given ≡ b.seen.chain) × SawEnd b.seen)
+      → StandsAtStage shape (record s { stage = stage }) b is.behind stage
       → IsSampling shape (record s { stage = stage }) b
-  goes_still stage b beside stands =
-      goes_further s.walk is.behind stage b beside is.walk is.reach (prefix_of_prefix given a.seen.chain b.seen.chain is.chain beside.chain) stands
+  goes_still stage b beside whole stands =
+      goes_further s.walk is.behind stage b beside is.walk is.reach (prefix_of_prefix given a.seen.chain b.seen.chain is.chain beside.chain) whole stands
 
   -- ---- a next
 
@@ -108,7 +112,7 @@ module _ (shape : Dimensions) (version : ℕ) (s : Sampling) (a : Actor) (words 
     stood = subst (StandsAtStage shape s a is.behind) walks is.stands
 
     loads : (said : WalkStep) → said ≡ said_of (length words) (word_at words (s.walk + 3))
-        → StepsBy shape.size version a words words (λ b. FrameOfStep a b × (b.done ≡ a.done) × IsFree b × IsPrefix (given_after given said) b.seen.chain)
+        → StepsBy shape.size version a words words (λ b. FrameOfStep a b × (b.done ≡ a.done) × EndsWith given said b × IsFree b × IsPrefix (given_after given said) b.seen.chain)
     loads = walks_saying shape version a given words s.walk is.segment long is.walk stood.0 is.chain
 
     -- it met a record, whose type it loads next
@@ -118,22 +122,22 @@ module _ (shape : Dimensions) (version : ℕ) (s : Sampling) (a : Actor) (words 
     meets reference walk says walked reach here =
         let onward = append_assoc is.front (s.histogram ∷ is.behind) (reference ∷ []) in
         let within = reference_within shape reference is.lawful_shape (subst (λ (p : ℕ × ℕ). is_reference p.0 p.1 ≡ true) (λ i. (long i, here i)) reach) in
-        goes_with (loads (Record reference) says) (λ b (beside, done, free, front). (
+        goes_with (loads (Record reference) says) (λ b (beside, done, ends_so, free, front). (
           beside,
-          does_nothing (links_sample s) a b done,
+          does_nothing (serves_sample s a) a b done,
           goes_further walk (is.behind ++ reference ∷ []) (LoadingType reference) b beside (walked ∙ ap stands_behind onward)
-              (subst (λ (n : ℕ). is_reference n walk ≡ true) long reach) (subst (λ (l : List ℕ). IsPrefix l b.seen.chain) onward front)
+              (subst (λ (n : ℕ). is_reference n walk ≡ true) long reach) (subst (λ (l : List ℕ). IsPrefix l b.seen.chain) onward front) (λ none. absurd none)
               (record { free = free; passed = is.behind; are = refl; others = others_on b beside is.behind stood.1; within = within }),
         ))
 
     -- a word that no list has: it stands where it stood
     pub strays : (walk : ℕ) → Stray ≡ said_of (length words) (word_at words (s.walk + 3)) → walk ≡ s.walk
         → StepsBy shape.size version a words words (SamplingGives shape (record s { walk = walk }) More a)
-    strays walk says here = goes_with (loads Stray says) (λ b (beside, done, free, front). (
+    strays walk says here = goes_with (loads Stray says) (λ b (beside, done, ends_so, free, front). (
       beside,
-      does_nothing (links_sample s) a b done,
+      does_nothing (serves_sample s a) a b done,
       goes_further walk is.behind s.stage b beside (here ∙ is.walk) (ap (is_reference shape.size) here ∙ is.reach) front
-          (subst (StandsAtStage shape (record s { walk = walk }) b is.behind) (sym walks) (free, others_on b beside is.behind stood.1)),
+          (λ making. absurd (subst IsMakingSample walks making)) (subst (StandsAtStage shape (record s { walk = walk }) b is.behind) (sym walks) (free, others_on b beside is.behind stood.1)),
     ))
 
     -- its actor may make a sample
@@ -152,10 +156,10 @@ module _ (shape : Dimensions) (version : ℕ) (s : Sampling) (a : Actor) (words 
     -- at the end of the list it begins to make a sample
     pub ends : (walk : ℕ) (makes : MakingOf) → End ≡ said_of (length words) (word_at words (s.walk + 3)) → walk ≡ s.walk → making.IsStarted s.shape 4 3 makes
         → StepsBy shape.size version a words words (SamplingGives shape (record s { walk = walk; stage = Making makes }) More a)
-    ends walk makes says here starts = goes_with (loads End says) (λ b (beside, done, free, front). (
+    ends walk makes says here starts = goes_with (loads End says) (λ b (beside, done, ends_so, free, front). (
       beside,
-      does_nothing (links_sample s) a b done,
-      goes_further walk is.behind (Making makes) b beside (here ∙ is.walk) (ap (is_reference shape.size) here ∙ is.reach) front (
+      does_nothing (serves_sample s a) a b done,
+      goes_further walk is.behind (Making makes) b beside (here ∙ is.walk) (ap (is_reference shape.size) here ∙ is.reach) front (λ making. ends_so) (
         others_on b beside is.behind stood.1,
         begins shape (wanted_of s) makes b (ap (λ x. x.shape) beside.segment ∙ is.segment) is.lawful_shape (may_make b beside) (free_turns b.hand.place free)
             (subst (λ (d : Dimensions). making.IsStarted d 4 3 makes) is.shaped starts),
@@ -194,8 +198,8 @@ module _ (shape : Dimensions) (version : ℕ) (s : Sampling) (a : Actor) (words 
       beside = walk_beside a event found
 
       -- nothing is done to the segment
-      none : DoesOnly false false (links_sample s) a acted
-      none = does_nothing (links_sample s) a acted refl
+      none : DoesOnly false false (serves_sample s a) a acted
+      none = does_nothing (serves_sample s a) a acted refl
 
       -- its actor has seen that word then
       seen_there : Learned a (walking_event event) found → word_seen acted.seen.words (at + index) ≡ Some found
@@ -226,7 +230,7 @@ module _ (shape : Dimensions) (version : ℕ) (s : Sampling) (a : Actor) (words 
         event = walking_event event;
         ready = (free_turns a.hand.place met.free, there, fixed);
         words_are = sym (set-get_or words (at + index) 0);
-        goes = λ learned apart. ([], acted, refl, gives learned);
+        goes = λ learned apart ordered. ([], acted, refl, gives learned);
       }
 
   -- the type
@@ -244,9 +248,13 @@ module _ (shape : Dimensions) (version : ℕ) (s : Sampling) (a : Actor) (words 
     loads_type = does_load at met_type 2 (inl refl) (record s { stage = behind_type at tag }) More (λ learned. (
       beside at met_type 2 (inl refl),
       none at met_type 2 (inl refl),
-      goes_still (behind_type at tag) typed (beside at met_type 2 (inl refl)) (by (tag == 3) refl learned),
+      goes_still (behind_type at tag) typed (beside at met_type 2 (inl refl)) (λ making. absurd (makes_none (tag == 3) making)) (by (tag == 3) refl learned),
     ))
       where
+        makes_none : (test : Bool) → IsMakingSample (if test then LoadingHistogram at else Walking) → ⊥
+        makes_none true making = making
+        makes_none false making = making
+
         by : (test : Bool) → (tag == 3) ≡ test → Learned a (walking_event (load_published at 2)) tag
             → let stage = if test then LoadingHistogram at else Walking in StandsAtStage shape (record s { stage = stage }) typed is.behind stage
         by true e learned =
@@ -276,7 +284,7 @@ module _ (shape : Dimensions) (version : ℕ) (s : Sampling) (a : Actor) (words 
         does_load at met_sample.0 4 fixed_histogram (record s { stage = LoadingValue at of }) More (λ learned. (
           its_beside,
           none at met_sample.0 4 fixed_histogram,
-          goes_still (LoadingValue at of) b its_beside (
+          goes_still (LoadingValue at of) b its_beside (λ none. absurd none) (
             met_still at met_sample.0 4 fixed_histogram (LoadingValue at of),
             (seen_still at met_sample.0 4 fixed_histogram (at + 2) 3 met_sample.1.0, met_sample.1.1),
             seen_there at met_sample.0 4 fixed_histogram learned,
@@ -337,7 +345,7 @@ module _ (shape : Dimensions) (version : ℕ) (s : Sampling) (a : Actor) (words 
         does_load at met 5 fixed_value (record s { stage = Walking }) More (λ learned. (
           its_beside,
           none at met 5 fixed_value,
-          goes_still Walking valued its_beside (passes_it at met 5 fixed_value (saw_other learned other)),
+          goes_still Walking valued its_beside (λ none. absurd none) (passes_it at met 5 fixed_value (saw_other learned other)),
         ))
       where
         saw_other : Learned a (walking_event (load_published at 5)) word → IsIts s of word false → SawOther valued.seen s.histogram s.value at
@@ -353,18 +361,38 @@ module _ (shape : Dimensions) (version : ℕ) (s : Sampling) (a : Actor) (words 
     pub stood_making : StandsAtStage shape s a is.behind (Making m)
     stood_making = subst (StandsAtStage shape s a is.behind) makes is.stands
 
+    -- its actor has seen the end of the list still
+    whole_still : (b : Actor) → SeesNoMore a b → (given ≡ b.seen.chain) × SawEnd b.seen
+    whole_still b (chain, ends, singles) =
+        let (whole, saw) = is.whole (subst IsMakingSample (sym makes) tt) in (
+          whole ∙ sym chain,
+          subst (λ (p : List ℕ × List ℕ). Contains p.0 (stands_behind p.1 + 3)) (λ i. (sym ends i, sym chain i)) saw,
+        )
+
+    -- it makes the sample of its value, of which it has seen none
+    serves_it : (full : Bool) (b : Actor) → DoesOnly false full (serves_wanted (wanted_of s)) a b → DoesOnly false full (serves_sample s a) a b
+    serves_it full b = does_less false full (serves_wanted (wanted_of s)) (serves_sample s a) a b so
+      where
+        so : (deed : Deed) → serves_wanted (wanted_of s) deed → serves_sample s a deed
+        so (links made) it = it
+        so (raises words) it =
+            let (whole, saw) = is.whole (subst IsMakingSample (sym makes) tt) in
+            (it, (is.front, is.behind, sym whole, stood_making.0, saw))
+
     -- whatever the step of the making says
     pub makes_so : (x : MakingOf) (new_words : List ℕ) (says : MakingStep) (new : Sampling) (result : SamplingStep)
         → StepsBy shape.size version a words new_words (MakingGives shape (wanted_of s) x says a) → IsMade (record s { stage = Making x }) says new result
         → StepsBy shape.size version a words new_words (SamplingGives shape new result a)
     makes_so x new_words made.More new result goes (new_is, result_is) =
         subst (λ (p : Sampling × SamplingStep). StepsBy shape.size version a words new_words (SamplingGives shape p.0 p.1 a)) (λ i. (sym new_is i, sym result_is i))
-        (goes_with goes (λ b (beside, does, makes_on). (beside, does, goes_still (Making x) b beside (others_on b beside is.behind stood_making.0, makes_on))))
+        (goes_with goes (λ b (beside, does, list, makes_on). (beside, serves_it false b does, goes_still (Making x) b beside (λ making. whole_still b list) (others_on b beside is.behind stood_making.0, makes_on))))
     makes_so x new_words made.Done new result goes (new_is, result_is) =
         subst (λ (p : Sampling × SamplingStep). StepsBy shape.size version a words new_words (SamplingGives shape p.0 p.1 a)) (λ i. (sym new_is i, sym result_is i))
-        (goes_with goes (λ b (beside, does, turns). (beside, does, goes_still Walking b beside (turns, others_on b beside is.behind stood_making.0))))
+        (goes_with goes (λ b (beside, does, turns). (beside, serves_it false b does, goes_still Walking b beside (λ none. absurd none) (turns, others_on b beside is.behind stood_making.0))))
     makes_so x new_words (made.Refused cause) new result goes (new_is, result_is) =
-        subst (λ (p : Sampling × SamplingStep). StepsBy shape.size version a words new_words (SamplingGives shape p.0 p.1 a)) (λ i. (sym new_is i, sym result_is i)) goes
+        subst (λ (p : Sampling × SamplingStep). StepsBy shape.size version a words new_words (SamplingGives shape p.0 p.1 a)) (λ i. (sym new_is i, sym result_is i))
+        (goes_with goes (λ b (beside, does, list, turns, is_cause).
+        (beside, serves_it (is_full cause) b does, turns, is_cause, (is.front, is.behind, sym (whole_still b list).0, others_on b beside is.behind stood_making.0, (whole_still b list).1))))
 
 -- ---- where it loads
 

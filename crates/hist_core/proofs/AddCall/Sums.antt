@@ -14,7 +14,7 @@ use Rattle.hist_core.specs.declared.add.Add.{Add}
 use Rattle.hist_core.specs.declared.add.AddStep.TheVariants.{More}
 use Rattle.hist_core.specs.declared.add.Stage.TheVariants.{Summing, Noting}
 use Rattle.hist_core.specs.StepsBy.{StepsBy}
-use Rattle.hist_core.specs.Add.{Amid, StandsAtStage, IsAdd, AddGives, links_counted}
+use Rattle.hist_core.specs.Add.{Amid, StandsAtStage, IsAdd, AddGives, serves_counted}
 use Rattle.hist_core.proofs.Parts.Deeds.{does_nothing}
 use Rattle.hist_core.proofs.AddCall.Counts.{counts_on, next_is, changed_is}
 use Rattle.hist_core.proofs.AddCall.Entries.{counting_of}
@@ -48,14 +48,14 @@ module _ (shape : Dimensions) (known : Known) (amid : Amid) (add : Add) (a : Act
       refl,
     );
     words_are = are;
-    goes = λ learned apart. (
+    goes = λ learned apart ordered. (
       [],
       acted,
       refl,
       (
         aside_still a acted refl refl refl refl refl refl,
         (refl, refl),
-        does_nothing (links_counted add) a acted refl,
+        does_nothing (serves_counted known add a) a acted refl,
         record {
           counting = counts_on shape known add Noting is.counting;
           segment = is.segment;

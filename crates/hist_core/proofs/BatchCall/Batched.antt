@@ -13,21 +13,23 @@ use Rattle.hist_core.specs.declared.batch.BatchStep.TheVariants.{More, Done, Ref
 use Rattle.hist_core.specs.declared.call.Answer.TheVariants as answer
 use Rattle.hist_core.specs.declared.call.Stepped.{Stepped}
 use Rattle.hist_core.specs.declared.call.Stepped.TheVariants as stepped
+use mathlib.Core.Option.{some}
+use lib.ListN.{get_elem?}
 use Rattle.segment_promises.proofs.Spoilers.{notes_leave}
 use Rattle.segment_machine.specs.declared.actor.Made.TheVariants.{Sample}
 use Rattle.hist_core.specs.declared.actor_run.Running.{Running}
 use Rattle.hist_core.specs.declared.actor_run.Running.TheVariants.{Batch}
 use Rattle.hist_core.specs.declared.actor_run.ActorRun.{ActorRun}
 use Rattle.std.specs.List.{Contains}
-use Rattle.hist_core.specs.Add.{FrameOfAdd, HasMetNoCounts, block_words, counted_entry}
+use Rattle.hist_core.specs.Add.{FrameOfAdd, block_words, counted_entry}
 use Rattle.segment_machine.specs.Entry.{tally_noted}
-use Rattle.hist_core.specs.Batch.{IsBatch, IsCutAt, HaveEnded, IsSomeBatch, IsSameBatch, IsRefusedAt, BatchSteps, BatchGives, added_of, counted_entries, links_counted, sum_entries, units_among}
-use Rattle.hist_core.specs.StepsBy.{DoesOnly, StepsBy}
+use Rattle.hist_core.specs.Batch.{IsBatch, IsCutAt, HaveEnded, IsSomeBatch, IsSameBatch, IsRefusedAt, BatchSteps, BatchGives, added_of, counted_entries, serves_counted, NextNeedsBlock, sum_entries, units_among}
+use Rattle.hist_core.specs.StepsBy.{Deed, links, raises, DoesOnly, StepsBy}
 use Rattle.hist_core.proofs.Worlds.Landing.{Landing, does_as_said}
-use Rattle.hist_core.specs.ActorRun.{ended_by, begun_by, pending_by, entry_of, held_by, IsGhostNoting, IsBatching, StandsIn, IsRun, IsBatchAnnounced, LandsBack, Answers, DoesAsSaid, IsRefusedBy, MayLink, is_flagged, lacks_room}
+use Rattle.hist_core.specs.ActorRun.{known_of, ended_by, begun_by, pending_by, entry_of, held_by, IsGhostNoting, IsBatching, StandsIn, IsRun, IsBatchAnnounced, LandsBack, Answers, DoesAsSaid, IsRefusedBy, Serves, is_flagged, lacks_room}
 use Rattle.segment_calls.specs.declared.refusal.Refusal.{Refusal}
 use Rattle.hist_core.specs.Making.{IsCause}
-use Rattle.hist_core.proofs.AddCall.Refusals.{HasOnlyNoted, cause_noted}
+use Rattle.hist_core.proofs.AddCall.Refusals.{HasOnlyNoted, cause_noted, needs_still}
 use Rattle.hist_core.proofs.Parts.Allocations.{goes_with}
 use Rattle.hist_core.proofs.Worlds.Apart.{asks_not, adds_not, looks_not, sets_not}
 use Rattle.hist_core.proofs.BatchCall.Batching.{runs_so, first_units}
@@ -66,22 +68,43 @@ module _ (shape : Dimensions) (version : ℕ) (old : ActorRun) (batch : BatchCal
           (known, record { pending_are = counts.pending_are ∙ sym same_entries; stands = inr (ap (λ u. u.share) stays.0 ∙ counts.share, counting) })
           tt tt
 
-      -- a record that it links is a sample of the value of an item
-      does_it : (said : Stepped) (first b d : Actor) → a.done ≡ first.done → d.done ≡ b.done → DoesOnly (is_flagged said) (lacks_room said) (links_counted now) a b
-          → DoesAsSaid old.running said first d
-      does_it said first b d before behind = does_as_said old.running said (links_counted now)
-          (λ made (sample, inside, it). subst (λ running. MayLink running made) (sym is)
-          (sample, subst (λ (l : List (ℤ × ℕ)). Contains l sample) same.samples inside, it ∙ ap (λ (histogram : ℕ). Sample histogram sample.0) same.histogram)) first a b d before behind
+      -- it counts the same still
+      same_counted : (deed : Deed) → serves_counted known now a deed → serves_counted known batch a deed
+      same_counted (links made) (sample, inside, it) =
+          (sample, subst (λ (l : List (ℤ × ℕ)). Contains l sample) same.samples inside, it ∙ ap (λ (histogram : ℕ). Sample histogram sample.0) same.histogram)
+      same_counted (raises words) (it, (sample, inside, needs)) = (it, (sample, subst (λ (l : List (ℤ × ℕ)). Contains l sample) same.samples inside, needs))
+
+      -- it does what the call is for
+      does_it : (said : Stepped) (first b d : Actor) → map known_of old.known.items ≡ first.answers.names → HasOnlyNoted first a → d.done ≡ b.done
+          → DoesOnly (is_flagged said) (lacks_room said) (serves_counted known now a) a b → DoesAsSaid old.running said first d
+      does_it said first b d names from behind = does_as_said old.running said (serves_counted known now a) first a b d serves from.2 behind
+        where
+          as_first : (deed : Deed) → serves_counted known batch a deed → serves_counted known batch first deed
+          as_first (links made) it = it
+          as_first (raises words) (it, (sample, inside, needs)) = (it, (sample, inside, needs_still known sample a first (sym from.3) needs))
+
+          serves : (deed : Deed) → serves_counted known now a deed → Serves old.running first deed
+          serves deed it = subst (λ running. Serves running first deed) (sym is) (
+            known,
+            subst (λ (l : List MachineKnown). Contains l known) (sym counts.run.names ∙ names) counts.counting.knows,
+            counts.counting.reference,
+            as_first deed (same_counted deed it),
+          )
 
       -- why it is refused
-      refused_by : (added : ℕ) (first b : Actor) → HasOnlyNoted first a → FrameOfAdd a b → (why : Refusal) → IsCause why (block_words known) a b → HasMetNoCounts known b
+      refused_by : (added : ℕ) (first b : Actor) → HasOnlyNoted first a → FrameOfAdd a b → (why : Refusal) → IsCause why (block_words known) a b
+          → added ≡ batch.added → NextNeedsBlock known now added b
           → IsRefusedBy old.running why first (noted b (refused added))
-      refused_by added first b from aside why cause met = subst (λ running. IsRefusedBy running why first (noted b (refused added))) (sym is) (
-        known,
-        subst (λ (l : List MachineKnown). Contains l known) (sym aside.names) counts.counting.knows,
-        counts.counting.reference,
-        cause_noted why (block_words known) first a b (noted b (refused added)) from refl refl cause,
-        met,
+      refused_by added first b from aside why cause here (sample, there, needs) = subst (λ running. IsRefusedBy running why first (noted b (refused added))) (sym is) (
+        sample,
+        subst (λ (p : List (ℤ × ℕ) × ℕ). get_elem? p.0 p.1 ≡ some sample) (λ i. (same.samples i, here i)) there,
+        (
+          known,
+          subst (λ (l : List MachineKnown). Contains l known) (sym aside.names) counts.counting.knows,
+          counts.counting.reference,
+          cause_noted why (block_words known) first a b (noted b (refused added)) from refl refl cause,
+          record { counts = needs.counts; value = needs.value },
+        ),
       )
 
       its_steps : (words new_words : List ℕ) (said : BatchStep) → length words ≡ shape.size → BatchSteps batch words now new_words said
@@ -122,7 +145,7 @@ module _ (shape : Dimensions) (version : ℕ) (old : ActorRun) (batch : BatchCal
         subst (λ said. Landing shape version old words new new_words said a) (sym result_is) (goes (λ b from counts. goes_with (its_steps its now same still_same b counts words new_words More long steps)
         (λ c (aside, stays, does, counting). (
           subst (λ (r : ActorRun). IsRun shape version r c) (sym new_is) (goes_on its now same still_same b counts c (aside, stays, does, counting)),
-          does_it its now same still_same b counts stepped.More a c c from.2 refl does,
+          does_it its now same still_same b counts stepped.More a c c run.names from refl does,
         ))))
     batch_goes Done result steps at (new_is, result_is) =
         subst (λ said. Landing shape version old words new new_words said a) (sym result_is) (goes (λ b from counts. goes_noting (its_steps its now same still_same b counts words new_words Done long steps)
@@ -130,7 +153,7 @@ module _ (shape : Dimensions) (version : ℕ) (old : ActorRun) (batch : BatchCal
         let (notes, d, told, run_then) = subst (λ (r : ActorRun). (notes : List Note) × (d : Actor) × Notes c notes d × IsRun shape version r d) (sym new_is)
         (has_counted shape version old its.name batch.cost (entries its) (standing its) (runs its) (into its) b counts c aside stays turns counts.counting.rests
         (subst (λ (l : List MachineEntry). HaveEnded l c) still_same over)) in
-        (notes, d, told, (run_then, does_it its now same still_same b counts (stepped.Done answer.Added) a c d from.2 (notes_leave notes c d told).1 does)))))
+        (notes, d, told, (run_then, does_it its now same still_same b counts (stepped.Done answer.Added) a c d run.names from (notes_leave notes c d told).1 does)))))
     batch_goes (Refused refusal) result steps at (new_is, items, result_is) =
         subst (λ said. Landing shape version old words new new_words said a) (sym result_is) (goes (λ b from counts. goes_noting (its_steps its now same still_same b counts words new_words (Refused refusal) long steps)
         (λ c (aside, stays, does, turns, cause, cut, few, spent, met).
@@ -138,8 +161,8 @@ module _ (shape : Dimensions) (version : ℕ) (old : ActorRun) (batch : BatchCal
         × (LandsBack shape version units new d × IsRefusedBy old.running refusal.why a d)) (sym (ap held_by is))
         (is_cut shape version old its.name batch.cost (entries its) (standing its) (runs its) (into its) b counts c aside stays turns counts.counting.rests counts.counting.held
         refusal.added batch.left (few_entries few) (subst (λ (l : List MachineEntry). IsCutAt refusal.added l c) still_same cut) (left_so few spent) new (old.ended + refusal.added) refl new_is items
-        (λ d. IsRefusedBy old.running refusal.why a d) (refused_by its now same still_same b counts refusal.added a c from aside refusal.why cause met)) in
-        (notes, d, told, (lands, does_it its now same still_same b counts (stepped.Done (answer.BatchRefused refusal)) a c d from.2 (notes_leave notes c d told).1 does)))))
+        (λ d. IsRefusedBy old.running refusal.why a d) (refused_by its now same still_same b counts refusal.added a c from aside refusal.why cause at.0 met)) in
+        (notes, d, told, (lands, does_it its now same still_same b counts (stepped.Done (answer.BatchRefused refusal)) a c d run.names from (notes_leave notes c d told).1 does)))))
       where
         few_entries : refusal.added ≤ length now.items.items → refusal.added ≤ length (entries its)
         few_entries few =

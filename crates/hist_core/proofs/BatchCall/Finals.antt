@@ -18,7 +18,7 @@ use Rattle.hist_core.proofs.AddCall.Going.{aside_still}
 use Rattle.hist_core.specs.declared.batch.Batch.{Batch}
 use Rattle.hist_core.specs.declared.batch.BatchStep.TheVariants.{Done}
 use Rattle.hist_core.specs.Add.{counted_entry, ended_entry}
-use Rattle.hist_core.specs.Batch.{IsBatch, SumsUp, BatchGives, links_counted}
+use Rattle.hist_core.specs.Batch.{IsBatch, SumsUp, BatchGives, serves_counted}
 use Rattle.hist_core.proofs.Parts.Deeds.{does_nothing}
 use Rattle.hist_core.specs.StepsBy.{StepsBy}
 use Rattle.hist_core.proofs.AddCall.Entries.{only_open, only_changed}
@@ -60,14 +60,14 @@ module _ (shape : Dimensions) (known : Known) (batch : Batch) (a : Actor) (words
     event = event;
     ready = (sums.turns, its, known, (its_next, refl, sums.some), refl, is.knows, is.reference, refl);
     words_are = are;
-    goes = λ learned apart. (
+    goes = λ learned apart ordered. (
       [],
       acted,
       refl,
       (
         aside_still a acted refl refl refl refl refl refl,
         (refl, refl),
-        does_nothing (links_counted batch) a acted refl,
+        does_nothing (serves_counted known batch a) a acted refl,
         refl,
         (
           ap (map (λ (c : EntryProgress). c.entry)) then_are

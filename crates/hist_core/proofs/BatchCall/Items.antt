@@ -8,6 +8,9 @@ use Rattle.std.proofs.lemmas.List.Elements.{All-cons, All-head, All-tail, All-ta
 use Rattle.std.proofs.lemmas.List.Sums.{sum_by-cons, sum_by-append, sum_by_push}
 use Rattle.segment_image.specs.Shape.{Dimensions}
 use Rattle.segment_invariant.proofs.Lists.Elements.{contains_at}
+use Rattle.atomic_table.proofs.Lists.{at_map}
+use mathlib.Core.Option.{some}
+use lib.ListN.{get_elem?}
 use Rattle.segment_invariant.proofs.Lists.Maps.{contains_map}
 use Rattle.segment_machine.specs.declared.actor.Actor.{Actor}
 use Rattle.segment_machine.specs.declared.actor.Known.{Known}
@@ -26,11 +29,11 @@ use Rattle.hist_core.specs.declared.batch.Batch.{Batch}
 use Rattle.hist_core.specs.declared.batch.BatchStep.{BatchStep}
 use Rattle.hist_core.specs.declared.batch.BatchStep.TheVariants.{More, Done, Refused}
 use Rattle.segment_calls.specs.declared.refusal.Refusal.{Refusal}
-use Rattle.hist_core.specs.Add.{IsAdd, FrameOfAdd, HasMetNoCounts, StaysOpen, HasEntry, HasEnded, AddSteps, AddGives, block_words, counted_entry, ended_entry}
-use Rattle.hist_core.specs.Add.{links_counted as add_links}
+use Rattle.hist_core.specs.Add.{IsAdd, FrameOfAdd, NeedsBlock, StaysOpen, HasEntry, HasEnded, AddSteps, AddGives, block_words, counted_entry, ended_entry}
+use Rattle.hist_core.specs.Add.{serves_counted as add_serves}
 use Rattle.hist_core.specs.Making.{IsCause, is_full}
-use Rattle.hist_core.specs.Batch.{IsBatch, IsItem, CountsItem, SumsUp, HaveEnded, BatchGives, IsItemSaid, Waits, amid_of, counted_entries, links_counted, sample_of, sum_entries, units_among}
-use Rattle.hist_core.specs.StepsBy.{DoesOnly, StepsBy, IsFree}
+use Rattle.hist_core.specs.Batch.{IsBatch, IsItem, CountsItem, SumsUp, HaveEnded, BatchGives, IsItemSaid, Waits, amid_of, counted_entries, serves_counted, sample_of, sum_entries, units_among}
+use Rattle.hist_core.specs.StepsBy.{Deed, links, raises, DoesOnly, StepsBy, IsFree}
 use Rattle.hist_core.proofs.Parts.Allocations.{goes_with}
 use Rattle.hist_core.proofs.Parts.Deeds.{does_less}
 use Rattle.hist_core.proofs.Worlds.Free.{free_turns}
@@ -53,6 +56,11 @@ module _ {X : Type 0} where
   pub set_behind : (xs : List X) (x y : X) (ys : List X) → set (xs ++ x ∷ ys) (length xs) y ≡ xs ++ y ∷ ys
   set_behind [] x y ys = refl
   set_behind (z ∷ xs) x y ys = ap (λ (l : List X). z ∷ l) (set_behind xs x y ys)
+
+-- what stands behind a front
+at_front : {X : Type 0} (xs : List X) (x : X) (ys : List X) → get_elem? (xs ++ x ∷ ys) (length xs) ≡ some x
+at_front [] x ys = refl
+at_front (y ∷ xs) x ys = at_front xs x ys
 
 -- the entries of a call whose next item has this entry
 pub parts_are : (known : Known) (name : List ℕ) (sum : ℤ) (done rest : List Add) (item : Add) (c : EntryProgress) → c.entry ≡ counted_entry known item
@@ -103,14 +111,21 @@ module _ (shape : Dimensions) (known : Known) (batch : Batch) (a : Actor) (is : 
   still_one : IsOne item
   still_one = record { counting = counts_on shape known c.item at one.counting; versioned = one.versioned; amount = one.amount }
 
-  -- the sample that it may link is of an item's value
-  item_links : (full : Bool) (b : Actor) → DoesOnly false full (add_links item) a b → DoesOnly false full (links_counted now) a b
-  item_links full b does = does_less false full (add_links item) (links_counted now) a b (λ made it. (
-    sample_of item,
-    subst (λ (l : List Add). Contains (map sample_of l) (sample_of item)) (sym there)
-        (contains_map sample_of (c.done ++ item ∷ c.rest) item (Contains-append_right c.done (item ∷ c.rest) item (contains_at (item ∷ c.rest) 0 item refl))),
-    it ∙ ap (λ (histogram : ℕ). Sample histogram item.value) (sym still_one.counting.reference ∙ is.reference),
-  )) does
+  -- a sample that it makes is of an item's value
+  serves_item : (full : Bool) (b : Actor) → DoesOnly false full (add_serves known item a) a b → DoesOnly false full (serves_counted known now a) a b
+  serves_item full b = does_less false full (add_serves known item a) (serves_counted known now a) a b so
+    where
+      inside : Contains (map sample_of mid.items.items) (sample_of item)
+      inside = subst (λ (l : List Add). Contains (map sample_of l) (sample_of item)) (sym there)
+          (contains_map sample_of (c.done ++ item ∷ c.rest) item (Contains-append_right c.done (item ∷ c.rest) item (contains_at (item ∷ c.rest) 0 item refl)))
+
+      so : (deed : Deed) → add_serves known item a deed → serves_counted known now a deed
+      so (links made) it = (
+        sample_of item,
+        inside,
+        it ∙ ap (λ (histogram : ℕ). Sample histogram item.value) (sym still_one.counting.reference ∙ is.reference),
+      )
+      so (raises words) (it, needs) = (it, (sample_of item, inside, needs))
 
   module _ (b : Actor) (aside : FrameOfAdd a b) (stays : StaysOpen a b) where
     -- it has met the histogram's record
@@ -138,16 +153,16 @@ module _ (shape : Dimensions) (known : Known) (batch : Batch) (a : Actor) (is : 
     }
 
     -- the item goes on
-    pub still_counted : DoesOnly false false (add_links item) a b → IsAdd shape known (amid_of known batch c.done c.rest) item b → BatchGives shape known now More a b
+    pub still_counted : DoesOnly false false (add_serves known item a) a b → IsAdd shape known (amid_of known batch c.done c.rest) item b → BatchGives shape known now More a b
     still_counted does counting = (
       aside,
       stays,
-      item_links false b does,
+      serves_item false b does,
       still_batch batch.added batch.left (inl (record { done = c.done; item = item; rest = c.rest; are = there; added = c.added; left = c.left; waits = c.waits; stands = counting })),
     )
 
     -- it is counted
-    module _ (does : DoesOnly false false (add_links item) a b) (turns : IsFree b) (over : HasEnded known (amid_of known batch c.done c.rest) item b) where
+    module _ (does : DoesOnly false false (add_serves known item a) a b) (turns : IsFree b) (over : HasEnded known (amid_of known batch c.done c.rest) item b) where
       abbrev next : Batch
       next = record now { added = batch.added + 1; left = batch.left - c.item.units }
 
@@ -214,11 +229,11 @@ module _ (shape : Dimensions) (known : Known) (batch : Batch) (a : Actor) (is : 
           ∙ ap (λ (l : List Add). map (ended_entry known) l ++ map fresh (sum_entries known.name batch.sum)) (sym (there ∙ ap (λ (l : List Add). c.done ++ item ∷ l) are))))
 
       sums_next : c.rest ≡ [] → int_eq batch.sum (pos 0) ≡ false → IsBatch shape known next b
-      sums_next are some = still_batch (batch.added + 1) (batch.left - c.item.units) (inr (record {
+      sums_next are sums = still_batch (batch.added + 1) (batch.left - c.item.units) (inr (record {
         added = added_now ∙ ap length (sym (there ∙ ap (λ (l : List Add). c.done ++ item ∷ l) are));
         turns = free_turns b.hand.place turns;
-        some = some;
-        runs = last_over are ∙ ap (λ (l : List Entry). map (ended_entry known) mid.items.items ++ map fresh l) (one_sum known.name batch.sum some);
+        some = sums;
+        runs = last_over are ∙ ap (λ (l : List Entry). map (ended_entry known) mid.items.items ++ map fresh l) (one_sum known.name batch.sum sums);
       }))
 
       has_counted : c.rest ≡ [] → int_eq batch.sum (pos 0) ≡ true → HaveEnded (counted_entries known next) b
@@ -245,27 +260,28 @@ module _ (shape : Dimensions) (known : Known) (batch : Batch) (a : Actor) (is : 
           at_sum : (none : Bool) → int_eq batch.sum (pos 0) ≡ none → c.rest ≡ [] → BatchGives shape known next result a b
           at_sum true none are = subst (λ (r : BatchStep). BatchGives shape known next r a b)
               (says true true (eq-eqb _ _ (let count = count_is in let last = ap length are in omega (arith, count, last))) none)
-              (aside, stays, item_links false b does, turns, has_counted are none)
-          at_sum false some are = subst (λ (r : BatchStep). BatchGives shape known next r a b)
-              (says true false (eq-eqb _ _ (let count = count_is in let last = ap length are in omega (arith, count, last))) some)
-              (aside, stays, item_links false b does, sums_next are some)
+              (aside, stays, serves_item false b does, turns, has_counted are none)
+          at_sum false sums are = subst (λ (r : BatchStep). BatchGives shape known next r a b)
+              (says true false (eq-eqb _ _ (let count = count_is in let last = ap length are in omega (arith, count, last))) sums)
+              (aside, stays, serves_item false b does, sums_next are sums)
 
           by : (rest : List Add) → c.rest ≡ rest → BatchGives shape known next result a b
           by [] are = at_sum (int_eq batch.sum (pos 0)) refl are
           by (x ∷ rest) are = subst (λ (r : BatchStep). BatchGives shape known next r a b)
               (says false (int_eq batch.sum (pos 0)) (ne_eqb _ _ (λ e. let count = count_is in let long = ap length are in omega (arith, count, e, long))) refl)
-              (aside, stays, item_links false b does, counts_next x rest are)
+              (aside, stays, serves_item false b does, counts_next x rest are)
 
     abbrev others : List EntryProgress
     others = counting_of known item false false ∷ map fresh (map (counted_entry known) c.rest ++ sum_entries known.name batch.sum)
 
     -- it is refused
-    pub refused_so : (why : Refusal) → DoesOnly false (is_full why) (add_links item) a b → IsFree b → IsCause why (block_words known) a b → HasEntry known (amid_of known batch c.done c.rest) item b false false → HasMetNoCounts known b
+    pub refused_so : (why : Refusal) → DoesOnly false (is_full why) (add_serves known item a) a b → IsFree b → IsCause why (block_words known) a b → HasEntry known (amid_of known batch c.done c.rest) item b false false
+        → NeedsBlock known (item.value, item.units) b
         → BatchGives shape known now (Refused (record { added = batch.added; why = why })) a b
     refused_so why does turns cause has met = (
       aside,
       stays,
-      item_links (is_full why) b does,
+      serves_item (is_full why) b does,
       turns,
       cause,
       record {
@@ -280,7 +296,7 @@ module _ (shape : Dimensions) (known : Known) (batch : Batch) (a : Actor) (is : 
       },
       (let whole = ap length there ∙ length-append c.done (item ∷ c.rest) in let added = c.added in omega (arith, whole, added)),
       ap (λ (l : List Add). batch.left + units_among l) (ap (take batch.added) there ∙ (ap (λ n. take n (c.done ++ item ∷ c.rest)) c.added ∙ front_is c.done (item ∷ c.rest))) ∙ c.left,
-      met,
+      (sample_of item, at_next, met),
     )
       where
         long : batch.added ≡ length (map (ended_entry known) c.done)
@@ -288,6 +304,10 @@ module _ (shape : Dimensions) (known : Known) (batch : Batch) (a : Actor) (is : 
 
         first_are : take batch.added b.entries.running ≡ map (ended_entry known) c.done
         first_are = (λ i. take (long i) (has i)) ∙ front_is (map (ended_entry known) c.done) others
+
+        -- it is the next item
+        at_next : get_elem? (map sample_of mid.items.items) batch.added ≡ some (sample_of item)
+        at_next = at_map sample_of mid.items.items batch.added item ((λ i. get_elem? (there i) (c.added i)) ∙ at_front c.done item c.rest)
 
         others_are : drop batch.added b.entries.running ≡ others
         others_are = (λ i. drop (long i) (has i)) ∙ behind_is (map (ended_entry known) c.done) others

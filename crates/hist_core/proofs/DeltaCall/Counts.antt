@@ -232,7 +232,7 @@ module _ (shape : Dimensions) (known : Known) (earlier : List Taken) (delta_call
           event = event;
           ready = (is.turns, (known, knows_it shape known earlier delta_call a is before_counts.4.0));
           words_are = sym (set-get_or words (known.reference + 8) 0);
-          goes = λ learned apart. (
+          goes = λ learned apart ordered. (
             [],
             acted,
             refl,

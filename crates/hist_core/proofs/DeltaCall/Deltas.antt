@@ -46,7 +46,7 @@ use Rattle.hist_core.specs.declared.walk.Walk.{Walk}
 use Rattle.hist_core.specs.declared.walk.Walk.TheVariants.{LoadingFirst, LoadingType, LoadingHistogram, LoadingValue, LoadingNext}
 use Rattle.hist_core.specs.Walk.{HasSetOut}
 use Rattle.hist_core.proofs.Worlds.Landing.{Landing}
-use Rattle.hist_core.specs.ActorRun.{Answers, AreShown, BeginsDelta, Becomes, Fits, HasDraft, HasPlace, HasRoom, IsDeltaAnnounced, IsDraft, IsDrawing, IsKnown, IsLast, IsQuiet, IsRun, IsShown, IsSomeRun, IsTimely, IsTook, MayLink, StandsIn, TakenGoes, apart_from_delta, begun_by, ended_by, ended_deltas, known_of, looked_by, pending_by}
+use Rattle.hist_core.specs.ActorRun.{Answers, AreShown, BeginsDelta, Becomes, Fits, HasDraft, HasPlace, HasRoom, IsDeltaAnnounced, IsDraft, IsDrawing, IsKnown, IsLast, IsQuiet, IsRun, IsShown, IsSomeRun, IsTimely, IsTook, Serves, StandsIn, TakenGoes, apart_from_delta, begun_by, ended_by, ended_deltas, known_of, looked_by, pending_by}
 use Rattle.hist_core.specs.DeltaCall.{HasBegun, HasEnded, IsFirst, IsSomeDeltaCall, IsDeltaCall, IsUnderWay, Lists, OpensWith, StandsAtStage, DeltaCallGives, DeltaCallSteps, TakesAlong, FrameOfDelta, insert_by_key, place_of}
 use Rattle.hist_core.proofs.Parts.Allocations.{goes_with}
 use Rattle.hist_core.proofs.Parts.Deeds.{does_nothing}
@@ -328,7 +328,7 @@ module _ (shape : Dimensions) (version : ℕ) (old : ActorRun) (a : Actor) (run 
       subst (λ said. Landing shape version old words new new_words said a) (sym result_is) (goes_with (its_steps More steps) (λ b (aside, its). (
         goes_on b aside new before last then_is shown taken on.0 on.1 new_is its
             (ap (λ (t : Taken). vec_capacity t.counts) becomes ∙ (draft.1 ∙ sym room)) (ap (λ (t : Taken). t.sum) becomes ∙ draft.2),
-        does_nothing (MayLink old.running) a b aside.done,
+        does_nothing (Serves old.running a) a b aside.done,
       )))
   delta_goes (Took key units) new result steps lists ((before, last, then_is, shown, taken, becomes), new_is, result_is) =
       let draft = drafted old delta_call fresh has_draft before last shown in
@@ -336,7 +336,7 @@ module _ (shape : Dimensions) (version : ℕ) (old : ActorRun) (a : Actor) (run 
       subst (λ said. Landing shape version old words new new_words said a) (sym result_is) (goes_with (its_steps (Took key units) steps) (λ b (aside, its). (
         goes_on b aside new before last then_is shown taken on.0 on.1 new_is its
             (becomes.2 ∙ (draft.1 ∙ sym room)) (ap (λ (t : Taken). t.sum) becomes.0 ∙ draft.2),
-        does_nothing (MayLink old.running) a b aside.done,
+        does_nothing (Serves old.running a) a b aside.done,
       )))
   delta_goes (Done sum) new result steps lists ((before, last, then_is, shown, taken, becomes), new_is, result_is) =
       let draft = drafted old delta_call fresh has_draft before last shown in
@@ -346,7 +346,7 @@ module _ (shape : Dimensions) (version : ℕ) (old : ActorRun) (a : Actor) (run 
           ends b aside new before last then_is shown taken on.0 on.1 sum new_is turns ended (ap (λ (t : Taken). t.sum) becomes),
           is_took b aside sum ended,
         ),
-        does_nothing (MayLink old.running) a b aside.done,
+        does_nothing (Serves old.running a) a b aside.done,
       )))
 
 -- ---- there is room for what it says

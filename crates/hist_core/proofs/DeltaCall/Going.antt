@@ -132,7 +132,7 @@ module _ (shape : Dimensions) (known : Known) (earlier : List Taken) (delta_call
       event = event;
       ready = ready;
       words_are = are;
-      goes = λ learned apart. ([], acted, refl, (taking_aside a e found, goes_still new acted same (taking_aside a e found) turns units (stands learned)));
+      goes = λ learned apart ordered. ([], acted, refl, (taking_aside a e found, goes_still new acted same (taking_aside a e found) turns units (stands learned)));
     }
 
 -- the boundaries of a lawful spec are few

@@ -136,7 +136,7 @@ module _ (shape : Dimensions) (known : Known) (earlier : List Taken) (delta_call
       event = event;
       ready = (known, takes_it shape known earlier delta_call a is way, stands.2);
       words_are = are ∙ ap (λ (h : ℕ). slice_set words (h + 12) (cast_unsigned w64 sum)) (sym is.reference);
-      goes = λ learned apart. (
+      goes = λ learned apart ordered. (
         has_taken ∷ [],
         noted acted has_taken,
         ((way.taking, (known, is.knows, took_all)), refl),

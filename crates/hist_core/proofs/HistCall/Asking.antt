@@ -4,7 +4,7 @@ use Rattle.std.specs.Prelude.{Option, Some, None, Result, Ok, Err, vec_capacity}
 use Rattle.std.specs.declared.alloc.AllocError.{AllocError}
 use Rattle.bucket_ranges.specs.declared.spec.Spec.{Spec}
 use Rattle.alloc_core.specs.Layout.{IsShape}
-use Rattle.segment_calls.specs.Asked.{IsAskedFor}
+use Rattle.segment_calls.specs.Asked.{payload_words, IsAskedFor}
 use Rattle.segment_calls.specs.declared.asked.Asked.{Asked}
 use Rattle.hist_core.specs.declared.call.Begun.{Begun}
 use Rattle.hist_core.specs.declared.call.Begun.TheVariants.{Going, Ended}
@@ -21,6 +21,7 @@ use Rattle.segment_machine.specs.declared.actor.Actor.{Actor}
 use Rattle.segment_machine.specs.declared.actor.Known.{Known as MachineKnown}
 use Rattle.segment_machine.specs.declared.actor.Made.{Made}
 use Rattle.segment_machine.specs.declared.actor.Made.TheVariants.{Histogram}
+use Rattle.segment_machine.specs.Made.{AreNameWords}
 use Rattle.segment_machine.specs.Actor.{is_opener}
 use Rattle.segment_machine.specs.Note.{Note, Notes, MayNote, noted, knows}
 use Rattle.hist_core.specs.declared.call.Answer.TheVariants as answer
@@ -39,11 +40,11 @@ use Rattle.hist_core.proofs.Worlds.Apart.{adds_not, looks_not, batches_not, sets
 use Rattle.hist_core.proofs.Worlds.Free.{free_turns}
 use Rattle.hist_core.proofs.Worlds.Quiet.{met_on, quiet_on, gives_none, begun_there, takes_none, takes_not}
 use Rattle.hist_core.specs.declared.actor_run.ActorRun.{ActorRun}
-use Rattle.hist_core.specs.StepsBy.{DoesOnly, FrameOfStep, StepsBy, IsFree}
-use Rattle.hist_core.specs.Hist.{IsCause, IsSomeHist, HistSteps, asked_of, links_asked}
+use Rattle.hist_core.specs.StepsBy.{Deed, links, raises, DoesOnly, FrameOfStep, StepsBy, IsFree}
+use Rattle.hist_core.specs.Hist.{IsCause, IsSomeHist, HistSteps, SawNone, asked_of, serves_asked}
 use Rattle.segment_calls.specs.declared.refusal.Refusal.{Refusal}
 use Rattle.hist_core.proofs.Worlds.Landing.{Landing, does_as_said}
-use Rattle.hist_core.specs.ActorRun.{known_of, AreShown, HasDraft, IsKnown, NoneHasName, HaveOwnNames, StandsIn, HasRoom, IsRun, IsSomeRun, IsHistAnnounced, IsRefusedBy, MayBeRefused, BeginsHist, IsAsItWas, IsQuiet, Answers, DoesAsSaid, MayLink, is_flagged, lacks_room, held_by, entry_of, ended_by, begun_by, pending_by}
+use Rattle.hist_core.specs.ActorRun.{known_of, AreShown, HasDraft, IsKnown, NoneHasName, HaveOwnNames, StandsIn, HasRoom, IsRun, IsSomeRun, IsHistAnnounced, IsRefusedBy, MayBeRefused, BeginsHist, IsAsItWas, IsQuiet, Answers, DoesAsSaid, Serves, is_flagged, lacks_room, held_by, entry_of, ended_by, begun_by, pending_by}
 
 -- ---- a note more
 
@@ -61,8 +62,8 @@ goes_noting go notes = record {
   event = go.event;
   ready = go.ready;
   words_are = go.words_are;
-  goes = λ learned apart.
-      let did = go.goes learned apart in let more = notes did.1 did.3 in
+  goes = λ learned apart ordered.
+      let did = go.goes learned apart ordered in let more = notes did.1 did.3 in
       (did.0 ++ more.0 ∷ [], noted did.1 more.0, notes_more _ did.1 did.0 more.0 did.2 more.1, more.2);
 }
 
@@ -168,10 +169,16 @@ module _ (shape : Dimensions) (version : ℕ) (old : ActorRun) (a : Actor) (run 
   refused_by : (cause : Refusal) (b : Actor) → IsCause now.asked.name.items now.asked.spec cause a b → IsRefusedBy old.running cause a b
   refused_by cause b its = subst (λ running. IsRefusedBy running cause a b) (sym is) (subst (λ (k : Known). IsCause k.name.items k.spec cause a b) same its)
 
-  -- a record that it links is one that it asks for
-  does_it : (said : Stepped) (b c : Actor) → c.done ≡ b.done → DoesOnly (is_flagged said) (lacks_room said) (links_asked now) a b → DoesAsSaid old.running said a c
-  does_it said b c same_done = does_as_said old.running said (links_asked now)
-      (λ made it. subst (λ running. MayLink running made) (sym is) (it ∙ ap (λ (k : Known). Histogram k.name.items k.spec) same)) a a b c refl same_done
+  -- it asks for the same still
+  same_asked : (deed : Deed) → serves_asked now a deed → serves_asked h a deed
+  same_asked (links made) it = it ∙ ap (λ (k : Known). Histogram k.name.items k.spec) same
+  same_asked (raises words) it =
+      subst (λ (k : Known). SawNone k.name.items a.seen × ((letters : List ℕ) × AreNameWords k.name.items letters × (words ≡ 4 + length (payload_words k.name.items k.spec letters)))) same it
+
+  -- it makes the record that it asks for
+  does_it : (said : Stepped) (b c : Actor) → c.done ≡ b.done → DoesOnly (is_flagged said) (lacks_room said) (serves_asked now a) a b → DoesAsSaid old.running said a c
+  does_it said b c same_done = does_as_said old.running said (serves_asked now a) a a b c
+      (λ deed it. subst (λ running. Serves running a deed) (sym is) (same_asked deed it)) refl same_done
 
   -- what the machine's actor does, and what becomes of that at run time
   pub hist_goes : (said : HistStep) (new : ActorRun) (result : Stepped) → HistSteps h words now new_words said

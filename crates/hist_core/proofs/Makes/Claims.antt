@@ -24,8 +24,8 @@ use Rattle.hist_core.specs.declared.making.Making.{Making}
 use Rattle.hist_core.specs.declared.making.MakingStep.{MakingStep}
 use Rattle.hist_core.specs.declared.making.MakingStep.TheVariants.{More, Refused}
 use Rattle.hist_core.specs.declared.making.Stage.TheVariants.{Allocating, Filling}
-use Rattle.hist_core.specs.StepsBy.{DoesOnly, FrameOfStep, StepsBy, is_tied}
-use Rattle.hist_core.specs.Making.{Wanted, IsMaking, StandsAtStage, MakingGives, IsAllocated, IsCause, is_full, links_wanted}
+use Rattle.hist_core.specs.StepsBy.{DoesOnly, FrameOfStep, SeesNoMore, StepsBy, is_tied}
+use Rattle.hist_core.specs.Making.{Wanted, IsMaking, StandsAtStage, MakingGives, IsAllocated, IsCause, is_full, serves_wanted}
 use Rattle.hist_core.proofs.Makes.Drafts.{may_still}
 use Rattle.hist_core.proofs.Parts.Allocations.{allocates_on, goes_with}
 use Rattle.hist_core.proofs.Parts.Deeds.{does_still, is_full_end}
@@ -37,17 +37,18 @@ module _ (shape : Dimensions) (version : ℕ) (wanted : Wanted) (m : Making) (a 
   stands = subst (StandsAtStage shape wanted a) allocates is.stands
 
   module _ (y : Allocation) (new_words : List ℕ) (says : AllocStep) (step : alloc.IsStep x words y new_words says) where
-    claims : StepsBy shape.size version a words new_words (λ b. FrameOfStep a b × DoesOnly false (is_full_end says) (links_wanted wanted) a b × AreApart b × Allocates b y × (b.seen.words ≡ a.seen.words) × IsEnd says x.size a b)
+    claims : StepsBy shape.size version a words new_words (λ b. FrameOfStep a b × DoesOnly false (is_full_end says) (serves_wanted wanted) a b × AreApart b × Allocates b y × (b.seen.words ≡ a.seen.words) × SeesNoMore a b × IsEnd says x.size a b)
     claims =
         let size = ap (λ (d : Dimensions). d.size) is.segment in
-        subst (λ (n : ℕ). StepsBy n version a words new_words (λ b. FrameOfStep a b × DoesOnly false (is_full_end says) (links_wanted wanted) a b × AreApart b × Allocates b y × (b.seen.words ≡ a.seen.words) × IsEnd says x.size a b)) size
-        (allocates_on (links_wanted wanted) version a x y words new_words says stands.0 (long ∙ sym size) step)
+        subst (λ (n : ℕ). StepsBy n version a words new_words (λ b. FrameOfStep a b × DoesOnly false (is_full_end says) (serves_wanted wanted) a b × AreApart b × Allocates b y × (b.seen.words ≡ a.seen.words) × SeesNoMore a b × IsEnd says x.size a b)) size
+        (allocates_on (serves_wanted wanted) version a x y words new_words says stands.0 stands.3 (long ∙ sym size) step)
 
     -- it goes on
     still_claims : says ≡ said.More → is_some (alloc.next_event y) ≡ true → StepsBy shape.size version a words new_words (MakingGives shape wanted (record { stage = Allocating y }) More a)
-    still_claims goes_on more = goes_with claims (λ b (beside, does, apart, goes, words_same, ends). (
+    still_claims goes_on more = goes_with claims (λ b (beside, does, apart, goes, words_same, list, ends). (
       beside,
-      subst (λ (s : AllocStep). DoesOnly false (is_full_end s) (links_wanted wanted) a b) goes_on does,
+      subst (λ (s : AllocStep). DoesOnly false (is_full_end s) (serves_wanted wanted) a b) goes_on does,
+      list,
       record {
         segment = ap (λ s. s.shape) beside.segment ∙ is.segment;
         lawful_shape = is.lawful_shape;
@@ -64,16 +65,16 @@ module _ (shape : Dimensions) (version : ℕ) (wanted : Wanted) (m : Making) (a 
     -- it is refused
     is_refused : (why : Refusal) (new : Making) → is_full_end says ≡ is_full why → ((b : Actor) → Allocates b y → b.hand.place ≡ Idle) → ((b : Actor) → IsEnd says x.size a b → IsCause why x.size a b)
         → StepsBy shape.size version a words new_words (MakingGives shape wanted new (Refused why) a)
-    is_refused why new fills idle cause = goes_with claims (λ b (beside, does, apart, goes, words_same, ends).
-        (beside, subst (λ (full : Bool). DoesOnly false full (links_wanted wanted) a b) fills does, ap is_tied (idle b goes), subst (λ (n : ℕ). IsCause why n a b) stands.3 (cause b ends)))
+    is_refused why new fills idle cause = goes_with claims (λ b (beside, does, apart, goes, words_same, list, ends).
+        (beside, subst (λ (full : Bool). DoesOnly false full (serves_wanted wanted) a b) fills does, list, ap is_tied (idle b goes), subst (λ (n : ℕ). IsCause why n a b) stands.3 (cause b ends)))
 
     -- it has a block, which is to be the record: it stores the payload there
     has_claimed : (at : ℕ) → says ≡ said.Done at → StepsBy shape.size version a words new_words (MakingGives shape wanted (record { stage = Filling at 0 }) More a)
-    has_claimed at done = goes_noting claims (λ b (beside, does, apart, goes, words_same, ends). claimed b beside does apart goes (claimed_of y.stage at (sym done ∙ step.answers)))
+    has_claimed at done = goes_noting claims (λ b (beside, does, apart, goes, words_same, list, ends). claimed b beside does list apart goes (claimed_of y.stage at (sym done ∙ step.answers)))
       where
-        claimed : (b : Actor) → FrameOfStep a b → DoesOnly false (is_full_end says) (links_wanted wanted) a b → AreApart b → Allocates b y → (size : ℕ) × (y.stage ≡ Claimed at size)
+        claimed : (b : Actor) → FrameOfStep a b → DoesOnly false (is_full_end says) (serves_wanted wanted) a b → SeesNoMore a b → AreApart b → Allocates b y → (size : ℕ) × (y.stage ≡ Claimed at size)
             → (notes : List Note) × (c : Actor) × Notes b notes c × MakingGives shape wanted (record { stage = Filling at 0 }) More a c
-        claimed b beside does apart goes (size, ends) =
+        claimed b beside does list apart goes (size, ends) =
             let has = subst (StandsAt b y) ends goes.stands in
             let place = subst (IsAimed y) ends goes.lawful.aimed in
             let suits : x.size ≤ size = claimed_suits x x.stage (word_at words (atomic.spot step.event)) at size step.event step.next stands.0.lawful.aimed
@@ -99,8 +100,9 @@ module _ (shape : Dimensions) (version : ℕ) (wanted : Wanted) (m : Making) (a 
               ((own, has.1, refl, refl), refl),
               (
                 then_beside,
-                does_still false false (links_wanted wanted) a a b c refl refl
-                    (subst (λ (s : AllocStep). DoesOnly false (is_full_end s) (links_wanted wanted) a b) done does),
+                does_still false false (serves_wanted wanted) a a b c refl refl
+                    (subst (λ (s : AllocStep). DoesOnly false (is_full_end s) (serves_wanted wanted) a b) done does),
+                list,
                 record {
                   segment = ap (λ s. s.shape) beside.segment ∙ is.segment;
                   lawful_shape = is.lawful_shape;

@@ -19,7 +19,7 @@ use Rattle.hist_core.specs.declared.making.Making.{Making}
 use Rattle.hist_core.specs.declared.making.MakingStep.TheVariants.{More}
 use Rattle.hist_core.specs.declared.making.Stage.TheVariants.{Filling, Publishing}
 use Rattle.hist_core.specs.StepsBy.{FrameOfStep, StepsBy}
-use Rattle.hist_core.specs.Making.{Wanted, IsMaking, IsFilledTo, IsNextFilled, IsFilled, StandsAtStage, MakingGives, links_wanted}
+use Rattle.hist_core.specs.Making.{Wanted, IsMaking, IsFilledTo, IsNextFilled, IsFilled, StandsAtStage, MakingGives, serves_wanted}
 use Rattle.hist_core.proofs.Worlds.Free.{free_turns}
 use Rattle.hist_core.proofs.Makes.Drafts.{is_wide, may_still}
 use Rattle.hist_core.proofs.Parts.Alone.{makes_so, allocating_beside}
@@ -120,13 +120,14 @@ module _ (shape : Dimensions) (version : ℕ) (wanted : Wanted) (m : Making) (a 
       (let size = stands.4.1.4 in let inside = stands.1 in let enough = is.draft.enough in omega (arith, size, inside, enough)),
     );
     words_are = are ∙ sym (makes_so shape.size version event (atomic.store_payload at index value) refl refl words);
-    goes = λ learned apart. (
+    goes = λ learned apart ordered. (
       [],
       acted,
       refl,
       (
         beside,
-        stores_payload (links_wanted wanted) a at index value 0,
+        stores_payload (serves_wanted wanted) a at index value 0,
+        (refl, refl, refl),
         record {
           segment = is.segment;
           lawful_shape = is.lawful_shape;

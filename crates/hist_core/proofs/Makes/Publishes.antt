@@ -16,8 +16,8 @@ use Rattle.hist_core.specs.declared.making.Making.{Making}
 use Rattle.hist_core.specs.declared.making.MakingStep.{MakingStep}
 use Rattle.hist_core.specs.declared.making.MakingStep.TheVariants.{More, Done}
 use Rattle.hist_core.specs.declared.making.Stage.TheVariants.{Publishing}
-use Rattle.hist_core.specs.StepsBy.{DoesOnly, FrameOfStep, StepsBy, IsFree, is_tied}
-use Rattle.hist_core.specs.Making.{Wanted, IsMaking, StandsAtStage, MakingGives, IsPublished, links_wanted}
+use Rattle.hist_core.specs.StepsBy.{DoesOnly, FrameOfStep, SeesNoMore, StepsBy, IsFree, is_tied}
+use Rattle.hist_core.specs.Making.{Wanted, IsMaking, StandsAtStage, MakingGives, IsPublished, serves_wanted}
 use Rattle.hist_core.proofs.Makes.Drafts.{may_still}
 use Rattle.hist_core.proofs.Parts.Allocations.{goes_with, publishes_on}
 
@@ -53,18 +53,19 @@ module _ (shape : Dimensions) (version : ℕ) (wanted : Wanted) (m : Making) (a 
   stands = subst (StandsAtStage shape wanted a) publishes is.stands
 
   module _ (y : PublishingOf) (new_words : List ℕ) (says : PubStep) (step : publish.IsStep x words y new_words says) where
-    puts : StepsBy shape.size version a words new_words (λ b. FrameOfStep a b × DoesOnly false false (links_wanted wanted) a b × PublishesAt b y.reference wanted.made y.stage)
+    puts : StepsBy shape.size version a words new_words (λ b. FrameOfStep a b × DoesOnly false false (serves_wanted wanted) a b × SeesNoMore a b × PublishesAt b y.reference wanted.made y.stage)
     puts =
         let size = ap (λ (d : Dimensions). d.size) is.segment in
-        subst (λ (n : ℕ). StepsBy n version a words new_words (λ b. FrameOfStep a b × DoesOnly false false (links_wanted wanted) a b × PublishesAt b y.reference wanted.made y.stage)) size
-        (publishes_on version a wanted.made x y words new_words says stands.0 (long ∙ sym size) step)
+        subst (λ (n : ℕ). StepsBy n version a words new_words (λ b. FrameOfStep a b × DoesOnly false false (serves_wanted wanted) a b × SeesNoMore a b × PublishesAt b y.reference wanted.made y.stage)) size
+        (publishes_on (serves_wanted wanted) version a wanted.made x y words new_words says refl stands.0 (long ∙ sym size) step)
 
     -- it goes on
     still_puts : is_some (publish.next_event y) ≡ true → IsReach shape.size y
         → StepsBy shape.size version a words new_words (MakingGives shape wanted (record { stage = Publishing y }) More a)
-    still_puts more reach = goes_with puts (λ b (beside, does, goes). (
+    still_puts more reach = goes_with puts (λ b (beside, does, list, goes). (
       beside,
       does,
+      list,
       record {
         segment = ap (λ s. s.shape) beside.segment ∙ is.segment;
         lawful_shape = is.lawful_shape;
@@ -75,7 +76,7 @@ module _ (shape : Dimensions) (version : ℕ) (wanted : Wanted) (m : Making) (a 
 
     -- the record is on the list
     has_put : (new : Making) → says ≡ put.Done → StepsBy shape.size version a words new_words (MakingGives shape wanted new Done a)
-    has_put new done = goes_with puts (λ b (beside, does, goes). (beside, does, rests_at b y.reference wanted.made y.stage (sym step.answers ∙ done) goes))
+    has_put new done = goes_with puts (λ b (beside, does, list, goes). (beside, does, rests_at b y.reference wanted.made y.stage (sym step.answers ∙ done) goes))
 
   -- whatever the publish says
   pub publishes_so : (y : PublishingOf) (new_words : List ℕ) (says : PubStep) (result : MakingStep) → publish.IsStep x words y new_words says
@@ -88,7 +89,7 @@ module _ (shape : Dimensions) (version : ℕ) (wanted : Wanted) (m : Making) (a 
       subst (λ (r : MakingStep). StepsBy shape.size version a words new_words (MakingGives shape wanted (record { stage = Publishing y }) r a)) (sym result_is)
       (has_put y new_words put.Done step (record { stage = Publishing y }) refl)
   publishes_so y new_words put.Stray result step more reach result_is =
-      goes_with (puts y new_words put.Stray step) (λ b (beside, does, goes). absurd (never_strays b y.reference wanted.made y.stage (sym step.answers) goes))
+      goes_with (puts y new_words put.Stray step) (λ b (beside, does, list, goes). absurd (never_strays b y.reference wanted.made y.stage (sym step.answers) goes))
 
   -- what the step of its publish asks for
   pub asks_reach : IsReach (length words) x

@@ -7,7 +7,7 @@ use Rattle.alloc_core.specs.Event as atomic
 use Rattle.segment_machine.specs.declared.actor.Actor.{Actor}
 use Rattle.segment_machine.specs.declared.seen.Sighting.{Sighting}
 use Rattle.segment_machine.specs.Operation.{single, spot_of, change_of}
-use Rattle.hist_core.specs.StepsBy.{FrameOfStep}
+use Rattle.hist_core.specs.StepsBy.{FrameOfStep, SeesNoMore}
 use Rattle.segment_machine.specs.Event.{Event, operation, spot, after, next, allocating_event, publishing_event}
 use Rattle.segment_machine.specs.Allocating.{AllocatingEvent, load_flags, load_free, exchange_free, store_size, store_cookie, store_type, store_payload, set_corrupt, set_full, after_free}
 use Rattle.segment_machine.specs.Publishing.{PublishingEvent, store_own_next, load_tail, link, move_tail, after_link}
@@ -44,14 +44,14 @@ pub seen_alike : (a b : Actor) → b.role ≡ a.role → b.segment ≡ a.segment
 seen_alike a b role segment units entries deltas names chain words =
     seen_words a b [] role segment units entries deltas names chain (words ∙ sym (append-nil a.seen.words))
 
-freed : (b : Bool) (a : Actor) (old new found : ℕ) → FrameOfStep a (after_free b a old new found)
-freed true a old new found = seen_alike a (after_free true a old new found) refl refl refl refl refl refl refl refl
-freed false a old new found = seen_alike a (after_free false a old new found) refl refl refl refl refl refl refl refl
+freed : (b : Bool) (a : Actor) (old new wanted found : ℕ) → FrameOfStep a (after_free b a old new wanted found)
+freed true a old new wanted found = seen_alike a (after_free true a old new wanted found) refl refl refl refl refl refl refl refl
+freed false a old new wanted found = seen_alike a (after_free false a old new wanted found) refl refl refl refl refl refl refl refl
 
 pub allocating_beside : (a : Actor) (act : AllocatingEvent) (found : ℕ) → FrameOfStep a (next a (allocating_event act) found)
 allocating_beside a load_flags found = seen_alike a (next a (allocating_event load_flags) found) refl refl refl refl refl refl refl refl
 allocating_beside a load_free found = seen_alike a (next a (allocating_event load_free) found) refl refl refl refl refl refl refl refl
-allocating_beside a (exchange_free old new) found = freed (found == old) a old new found
+allocating_beside a (exchange_free old new wanted) found = freed (found == old) a old new wanted found
 allocating_beside a (store_size at size) found = seen_alike a (next a (allocating_event (store_size at size)) found) refl refl refl refl refl refl refl refl
 allocating_beside a (store_cookie at cookie) found = seen_alike a (next a (allocating_event (store_cookie at cookie)) found) refl refl refl refl refl refl refl refl
 allocating_beside a (store_type at tag) found = seen_alike a (next a (allocating_event (store_type at tag)) found) refl refl refl refl refl refl refl refl
@@ -60,20 +60,46 @@ allocating_beside a set_corrupt found = seen_alike a (next a (allocating_event s
 allocating_beside a (set_full wanted) found = seen_alike a (next a (allocating_event (set_full wanted)) found) refl refl refl refl refl refl refl refl
 
 -- an allocation sees no word of a record
-freed_words : (b : Bool) (a : Actor) (old new found : ℕ) → (after_free b a old new found).seen.words ≡ a.seen.words
-freed_words true a old new found = refl
-freed_words false a old new found = refl
+freed_words : (b : Bool) (a : Actor) (old new wanted found : ℕ) → (after_free b a old new wanted found).seen.words ≡ a.seen.words
+freed_words true a old new wanted found = refl
+freed_words false a old new wanted found = refl
 
 pub allocating_words : (a : Actor) (act : AllocatingEvent) (found : ℕ) → (next a (allocating_event act) found).seen.words ≡ a.seen.words
 allocating_words a load_flags found = refl
 allocating_words a load_free found = refl
-allocating_words a (exchange_free old new) found = freed_words (found == old) a old new found
+allocating_words a (exchange_free old new wanted) found = freed_words (found == old) a old new wanted found
 allocating_words a (store_size at size) found = refl
 allocating_words a (store_cookie at cookie) found = refl
 allocating_words a (store_type at tag) found = refl
 allocating_words a (store_payload at index value) found = refl
 allocating_words a set_corrupt found = refl
 allocating_words a (set_full wanted) found = refl
+
+-- it sees no more of the list
+freed_list : (b : Bool) (a : Actor) (old new wanted found : ℕ) → SeesNoMore a (after_free b a old new wanted found)
+freed_list true a old new wanted found = (refl, refl, refl)
+freed_list false a old new wanted found = (refl, refl, refl)
+
+pub allocating_list : (a : Actor) (act : AllocatingEvent) (found : ℕ) → SeesNoMore a (next a (allocating_event act) found)
+allocating_list a load_flags found = (refl, refl, refl)
+allocating_list a load_free found = (refl, refl, refl)
+allocating_list a (exchange_free old new wanted) found = freed_list (found == old) a old new wanted found
+allocating_list a (store_size at size) found = (refl, refl, refl)
+allocating_list a (store_cookie at cookie) found = (refl, refl, refl)
+allocating_list a (store_type at tag) found = (refl, refl, refl)
+allocating_list a (store_payload at index value) found = (refl, refl, refl)
+allocating_list a set_corrupt found = (refl, refl, refl)
+allocating_list a (set_full wanted) found = (refl, refl, refl)
+
+linked_list : (b : Bool) (a : Actor) (tail at found : ℕ) → SeesNoMore a (after_link b a tail at found)
+linked_list true a tail at found = (refl, refl, refl)
+linked_list false a tail at found = (refl, refl, refl)
+
+pub publishing_list : (a : Actor) (act : PublishingEvent) (found : ℕ) → SeesNoMore a (next a (publishing_event act) found)
+publishing_list a (store_own_next at) found = (refl, refl, refl)
+publishing_list a load_tail found = (refl, refl, refl)
+publishing_list a (link tail at) found = linked_list (found == 12) a tail at found
+publishing_list a (move_tail old new) found = (refl, refl, refl)
 
 linked : (b : Bool) (a : Actor) (tail at found : ℕ) → FrameOfStep a (after_link b a tail at found)
 linked true a tail at found = seen_alike a (after_link true a tail at found) refl refl refl refl refl refl refl refl

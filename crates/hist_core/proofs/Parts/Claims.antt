@@ -94,8 +94,8 @@ goes_noting go then_notes = record {
   event = go.event;
   ready = go.ready;
   words_are = go.words_are;
-  goes = λ learned apart.
-      let did = go.goes learned apart in let more = then_notes did.1 did.3 in
+  goes = λ learned apart ordered.
+      let did = go.goes learned apart ordered in let more = then_notes did.1 did.3 in
       (did.0 ++ more.0, more.1, notes_append _ did.1 more.1 did.0 more.0 did.2 more.2, more.3);
 }
 

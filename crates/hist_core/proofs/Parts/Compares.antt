@@ -28,7 +28,7 @@ use Rattle.hist_core.specs.declared.hist.Stage.TheVariants.{Walking, Comparing}
 use Rattle.segment_calls.specs.declared.refusal.Refusal.{Refusal}
 use Rattle.hist_core.specs.StepsBy.{DoesOnly, FrameOfStep, StepsBy}
 use Rattle.hist_core.proofs.Worlds.Free.{free_turns}
-use Rattle.hist_core.specs.Hist.{IsHist, StandsAtStage, HaveOtherNames, AreSame, Reaches, HistGives, IsMatched, IsDifferent, IsCause, HasOtherSpec, asked_of, links_asked, compared_place, compared_index, compared_word}
+use Rattle.hist_core.specs.Hist.{IsHist, StandsAtStage, HaveOtherNames, AreSame, Reaches, HistGives, IsMatched, IsDifferent, IsCause, HasOtherSpec, asked_of, serves_asked, compared_place, compared_index, compared_word}
 use Rattle.segment_invariant.proofs.Walking.Words.{letters_long}
 use Rattle.hist_core.proofs.Parts.Comparisons.{Part, part_of, index_of_rest, then_length, letter_word, field_word, range_word, ranges_if_custom, payload_long, compared_all}
 use Rattle.hist_core.proofs.Parts.Differences.{saw_word, saw_spec, first_named, saw_other_name, saw_other_spec}
@@ -231,8 +231,8 @@ module _ (shape : Dimensions) (h : Hist) (a : Actor) (is : IsHist shape h a) (k 
     beside = seen_words a acted (sight (h.reference + compared_index h.letters k) found) refl refl refl refl refl refl refl refl
 
     -- nothing is done to the segment
-    none : (new : Hist) → DoesOnly false false (links_asked new) a acted
-    none new = does_nothing (links_asked new) a acted refl
+    none : (new : Hist) → DoesOnly false false (serves_asked new a) a acted
+    none new = does_nothing (serves_asked new a) a acted refl
 
     abbrev Learns : Type 0
     Learns = EndsWithin a h.reference (compared_index h.letters k) found × IsSame a (h.reference + compared_index h.letters k) found
@@ -249,7 +249,7 @@ module _ (shape : Dimensions) (h : Hist) (a : Actor) (is : IsHist shape h a) (k 
       event = event;
       ready = (free_turns a.hand.place stands.0, is_met, is_fixed);
       words_are = sym (set-get_or words (h.reference + compared_index h.letters k) 0);
-      goes = λ learned apart. ([], acted, refl, gives learned);
+      goes = λ learned apart ordered. ([], acted, refl, gives learned);
     }
 
     -- it was the same: the next is compared, or all were the same
@@ -315,7 +315,7 @@ module _ (shape : Dimensions) (h : Hist) (a : Actor) (is : IsHist shape h a) (k 
     differs_so new (Refused cause) other small small_own (late, new_is, why_is) =
         does new (Refused cause) (λ learned. (
           beside,
-          subst (λ (c : Refusal). DoesOnly false (is_full c) (links_asked new) a acted) (sym why_is) (none new),
+          subst (λ (c : Refusal). DoesOnly false (is_full c) (serves_asked new a) a acted) (sym why_is) (none new),
           stands.0,
           subst (λ (p : Hist × Refusal). IsCause p.0.asked.name.items p.0.asked.spec p.1 a acted) (λ i. (sym new_is i, sym why_is i)) (inr (refl, declined learned)),
         ))

@@ -24,8 +24,8 @@ use Rattle.hist_core.proofs.Parts.Records.{may_make, some_to_compare_is}
 use Rattle.hist_core.specs.StepsBy.{FrameOfStep, StepsBy, IsFree}
 use Rattle.hist_core.proofs.Worlds.Free.{free_turns}
 use Rattle.list_core.specs.Walk.{IsPrefix}
-use Rattle.hist_core.specs.Hist.{IsAsking, IsHist, HaveOtherNames, StandsAtStage, HistGives, comparisons, links_asked, wanted_of}
-use Rattle.hist_core.proofs.Parts.Allocations.{goes_with, walks_saying}
+use Rattle.hist_core.specs.Hist.{IsAsking, IsHist, HaveOtherNames, StandsAtStage, HistGives, comparisons, serves_asked, wanted_of}
+use Rattle.hist_core.proofs.Parts.Allocations.{EndsWith, goes_with, walks_saying}
 use Rattle.hist_core.proofs.Parts.Deeds.{does_nothing}
 
 -- ---- what is seen stays
@@ -83,7 +83,7 @@ module _ (shape : Dimensions) (version : ℕ) (h : Hist) (a : Actor) (words : Li
 
   -- the event, and what it makes of the walk
   abbrev Walked : WalkStep → Actor → Type 0
-  Walked said b = FrameOfStep a b × (b.done ≡ a.done) × IsFree b × IsPrefix (given_after is.given said) b.seen.chain
+  Walked said b = FrameOfStep a b × (b.done ≡ a.done) × EndsWith is.given said b × IsFree b × IsPrefix (given_after is.given said) b.seen.chain
 
   loads : (said : WalkStep) → said ≡ said_of (length words) (word_at words (h.walk + 3)) → StepsBy shape.size version a words words (Walked said)
   loads = walks_saying shape version a is.given words h.walk is.segment long is.walk stands.0 is.front
@@ -94,9 +94,9 @@ module _ (shape : Dimensions) (version : ℕ) (h : Hist) (a : Actor) (words : Li
       → StepsBy shape.size version a words words (HistGives shape (record h { reference = reference; walk = walk; stage = Comparing 0 }) More a)
   meets reference walk says walked reach here =
       let within = reference_within shape.size reference (is_wide shape is.lawful_shape) (subst (λ (p : ℕ × ℕ). is_reference p.0 p.1 ≡ true) (λ i. (long i, here i)) reach) in
-      goes_with (loads (Record reference) says) (λ b (beside, done, free, front). (
+      goes_with (loads (Record reference) says) (λ b (beside, done, ends_so, free, front). (
         beside,
-        does_nothing (links_asked h) a b done,
+        does_nothing (serves_asked h a) a b done,
         record {
           asking = asks_on shape h is.asking reference walk (Comparing 0);
           segment = ap (λ s. s.shape) beside.segment ∙ is.segment;
@@ -124,9 +124,9 @@ module _ (shape : Dimensions) (version : ℕ) (h : Hist) (a : Actor) (words : Li
   pub strays : (walk : ℕ) → Stray ≡ said_of (length words) (word_at words (h.walk + 3)) → walk ≡ h.walk
       → StepsBy shape.size version a words words (HistGives shape (record h { walk = walk }) More a)
   strays walk says here =
-      goes_with (loads Stray says) (λ b (beside, done, free, front). (
+      goes_with (loads Stray says) (λ b (beside, done, ends_so, free, front). (
         beside,
-        does_nothing (links_asked h) a b done,
+        does_nothing (serves_asked h a) a b done,
         record {
           asking = asks_on shape h is.asking h.reference walk h.stage;
           segment = ap (λ s. s.shape) beside.segment ∙ is.segment;
@@ -143,9 +143,9 @@ module _ (shape : Dimensions) (version : ℕ) (h : Hist) (a : Actor) (words : Li
   pub ends : (walk : ℕ) (making : MakingOf) → End ≡ said_of (length words) (word_at words (h.walk + 3)) → walk ≡ h.walk
       → IsStarted h.shape (vec_len h.payload) 1 making
       → StepsBy shape.size version a words words (HistGives shape (record h { walk = walk; stage = Making making }) More a)
-  ends walk making says here starts = goes_with (loads End says) (λ b (beside, done, free, front). (
+  ends walk making says here starts = goes_with (loads End says) (λ b (beside, done, ends_so, free, front). (
     beside,
-    does_nothing (links_asked h) a b done,
+    does_nothing (serves_asked h a) a b done,
     record {
       asking = asks_on shape h is.asking h.reference walk (Making making);
       segment = ap (λ s. s.shape) beside.segment ∙ is.segment;
@@ -155,6 +155,8 @@ module _ (shape : Dimensions) (version : ℕ) (h : Hist) (a : Actor) (words : Li
       reach = ap (is_reference shape.size) here ∙ is.reach;
       front = front;
       stands = (
+        ends_so.0,
+        ends_so.1,
         others_still a b beside h is.given stands.1,
         begins shape (wanted_of h) making b (ap (λ s. s.shape) beside.segment ∙ is.segment) is.lawful_shape
             (may_make shape h is.asking b (ap (λ s. s.shape) beside.segment ∙ is.segment)) (free_turns b.hand.place free)

@@ -204,7 +204,7 @@ module _ (shape : Dimensions) (known : Known) (snapshot_call : SnapshotCall) (a 
       event = event;
       ready = (is.turns, (known, knows_it has_single));
       words_are = sym (set-get_or words (known.reference + 9) 0);
-      goes = λ learned apart.
+      goes = λ learned apart ordered.
           let there : IsBehindSingle snapshot_call found new new.stage = subst (λ (h : ℕ). IsBehindSingle snapshot_call (word_at words (h + 9)) new new.stage) (sym is.reference) behind in
           let same = same_behind learned new new.stage there in
           ([], acted, refl, (beside, refl, subst (λ (stage : Stage). LooksAnew stage a acted) (sym loads) refl, goes_still new acted same.version same.histogram beside refl (stands_behind learned new new.stage there)));
@@ -242,7 +242,7 @@ module _ (shape : Dimensions) (known : Known) (snapshot_call : SnapshotCall) (a 
           event = event;
           ready = (is.turns, (known, knows_it has_counts));
           words_are = sym (set-get_or words (known.reference + 8) 0);
-          goes = λ learned apart. (
+          goes = λ learned apart ordered. (
             [],
             acted,
             refl,
@@ -344,7 +344,7 @@ module _ (shape : Dimensions) (known : Known) (snapshot_call : SnapshotCall) (a 
             event = taking_event (load_count at);
             ready = may_load known mounted word a are bucket stands.2 count;
             words_are = sym (set-get_or words at 0);
-            goes = λ learned apart. (
+            goes = λ learned apart ordered. (
               [],
               counted,
               refl,
@@ -376,7 +376,7 @@ module _ (shape : Dimensions) (known : Known) (snapshot_call : SnapshotCall) (a 
           event = event;
           ready = (is.turns, (known, is.knows, refl));
           words_are = sym (set-get_or words (known.reference + 11) 0);
-          goes = λ learned apart. (
+          goes = λ learned apart ordered. (
             [],
             acted,
             refl,
@@ -457,7 +457,7 @@ module _ (shape : Dimensions) (known : Known) (snapshot_call : SnapshotCall) (a 
       event = loading;
       ready = ((sum, before_last.2), (known, is.knows, refl));
       words_are = sym (set-get_or words (known.reference + 13) 0);
-      goes = λ learned apart. (
+      goes = λ learned apart ordered. (
         answers answered ∷ [],
         noted loaded (answers answered),
         ((known, is.knows, refl, saw, refl), refl),

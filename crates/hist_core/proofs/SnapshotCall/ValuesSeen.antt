@@ -215,7 +215,7 @@ module _ (shape : Dimensions) (known : Known) (snapshot_call : SnapshotCall) (a 
       event = loading;
       ready = inr (known, at, value, sparse_there, met_there, met_count.2, refl, is.turns, its_way.apart);
       words_are = sym (set-get_or words (at + 6) 0);
-      goes = λ learned apart. (
+      goes = λ learned apart ordered. (
         [],
         counted,
         refl,

@@ -17,7 +17,7 @@ use Rattle.hist_core.specs.declared.actor_run.Running.TheVariants.{Snapshot}
 use Rattle.hist_core.specs.declared.actor_run.ActorRun.{ActorRun}
 use Rattle.hist_core.specs.StepsBy.{StepsBy, IsFree, WalksInOrder}
 use Rattle.hist_core.specs.SnapshotCall.{HasJustBegun, HasLooked, IsSnapshotCall, IsSomeSnapshotCall, LooksAnew, SnapshotCallGives, SnapshotCallSteps}
-use Rattle.hist_core.specs.ActorRun.{Advances, Answers, AreShown, BeginsSnapshot, IsKnown, known_of, IsAnswer, IsQuiet, IsRun, IsSnapshotAnnounced, IsSomeRun, LooksSince, MayLink, StandsIn, begun_by, ended_by, looked_by, pending_by}
+use Rattle.hist_core.specs.ActorRun.{Advances, Answers, AreShown, BeginsSnapshot, IsKnown, known_of, IsAnswer, IsQuiet, IsRun, IsSnapshotAnnounced, IsSomeRun, LooksSince, Serves, StandsIn, begun_by, ended_by, looked_by, pending_by}
 use Rattle.std.specs.List.{range_with_len}
 use mathlib.Core.Option.{some}
 use lib.ListN.{get_elem?}
@@ -129,7 +129,7 @@ module _ (shape : Dimensions) (version : ℕ) (old : ActorRun) (a : Actor) (run 
         subst (λ (r : ActorRun). IsRun shape version r b) (sym new_is)
             (runs_on shape version old a run b (Some (Snapshot now)) beside (quiet_on (pending_by old) a b beside.units beside.entries beside.deltas stands.0, (known, looks_on)) tt tt),
         looks_since b anew,
-        does_nothing (MayLink old.running) a b done,
+        does_nothing (Serves old.running a) a b done,
       )))
   snapshot_goes (Done sum redundant) new result steps (other, is_other, new_is, result_is) =
       let here : other ≡ now = sym (ap (looks_by now) is_other) in
@@ -138,7 +138,7 @@ module _ (shape : Dimensions) (version : ℕ) (old : ActorRun) (a : Actor) (run 
       subst (λ said. Advances shape version old words new new_words said a) (sym said_is) (goes_with (its_steps (Done sum redundant) steps) (λ b (turns, done, anew, looked). (
         (subst (λ (r : ActorRun). IsRun shape version r b) (sym new_is) (rests_then b sum redundant turns looked), is_answer b sum redundant looked),
         looks_since b anew,
-        does_nothing (MayLink old.running) a b done,
+        does_nothing (Serves old.running a) a b done,
       )))
 
 -- ---- what is answered

@@ -104,7 +104,7 @@ module _ (shape : Dimensions) (version : ℕ) (known : Known) (holds : OfPassed)
               (Contains-append_right front (known.reference ∷ later) known.reference (0, omega arith, refl)))),
         );
         words_are = sym (set-get_or words (known.reference + 3) 0);
-        goes = λ learned apart. (
+        goes = λ learned apart ordered. (
           [],
           acted,
           refl,
@@ -139,7 +139,7 @@ module _ (shape : Dimensions) (version : ℕ) (known : Known) (holds : OfPassed)
         event = walking_event event;
         ready = (turns, inr (inl (met a a known.reference 0 refl way.comes.front passed at rest split)));
         words_are = sym (set-get_or words (at + 3) 0);
-        goes = λ learned apart. (
+        goes = λ learned apart ordered. (
           [],
           acted,
           refl,
@@ -210,7 +210,7 @@ module _ (shape : Dimensions) (version : ℕ) (known : Known) (holds : OfPassed)
         event = walking_event event;
         ready = (turns, there, fixed);
         words_are = sym (set-get_or words (at + index) 0);
-        goes = λ learned apart. ([], acted, refl, (walk_beside a event found, refl, refl, turns, comes learned));
+        goes = λ learned apart ordered. ([], acted, refl, (walk_beside a event found, refl, refl, turns, comes learned));
       }
 
   -- the type

@@ -9,12 +9,14 @@ use Rattle.segment_image.specs.declared.layout.TheConstants.{HEADER_WORDS}
 use Rattle.alloc_core.specs.Event as atomic
 use Rattle.segment_machine.specs.declared.actor.Actor.{Actor}
 use Rattle.segment_machine.specs.declared.actor.Published.{Published}
+use Rattle.segment_machine.specs.declared.actor.Rise.{Rise}
 use Rattle.segment_machine.specs.Event.{allocating_event, next}
 use Rattle.segment_machine.specs.Allocating.{set_corrupt}
 use Rattle.hist_core.specs.declared.actor_run.Running.TheVariants.{SetCorrupt}
 use Rattle.hist_core.specs.declared.actor_run.ActorRun.{ActorRun}
 use Rattle.hist_core.proofs.Worlds.Landing.{Landing}
-use Rattle.hist_core.specs.ActorRun.{IsRun, MayLink, StandsIn, pending_by}
+use Rattle.hist_core.specs.StepsBy.{links, raises}
+use Rattle.hist_core.specs.ActorRun.{IsRun, Serves, StandsIn, pending_by}
 use Rattle.hist_core.specs.declared.call.Answer.TheVariants.{Flagged}
 use Rattle.hist_core.specs.declared.call.Stepped.TheVariants.{Done}
 use Rattle.hist_core.proofs.Worlds.Free.{free_turns}
@@ -33,7 +35,7 @@ sets_corrupt shape version a old words new_words long run is stored =
       event = allocating_event set_corrupt;
       ready = free_turns a.hand.place stands.0;
       words_are = stored;
-      goes = λ learned apart. (
+      goes = λ learned apart ordered. (
         [],
         next a (allocating_event set_corrupt) (word_at words 6),
         refl,
@@ -57,7 +59,12 @@ sets_corrupt shape version a old words new_words long run is stored =
             },
             refl,
           ),
-          record { spoiled = refl; filled = refl; linked = ([], sym (append-nil a.done.published), All-nil (λ (p : Published). MayLink old.running p.made)) },
+          record {
+            spoiled = refl;
+            filled = refl;
+            linked = ([], sym (append-nil a.done.published), All-nil (λ (p : Published). Serves old.running a (links p.made)));
+            raised = ([], sym (append-nil a.done.raised), All-nil (λ (r : Rise). Serves old.running a (raises r.wanted)));
+          },
         ),
       );
     }

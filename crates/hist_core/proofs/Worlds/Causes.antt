@@ -1,5 +1,5 @@
 -- Why a call is refused.
-use Rattle.std.proofs.Common.{◌≡◌, ◌≢◌, ℕ, ◌+◌, Bool, true, false, ◌||◌, map, inl, inr, refl, sym, ap, subst, ◌∙◌}
+use Rattle.std.proofs.Common.{◌≡◌, ◌≢◌, ℕ, ℤ, ◌+◌, Bool, true, false, ◌||◌, map, inl, inr, refl, sym, ap, subst, ◌∙◌}
 use Rattle.std.specs.Prelude.{List, Option, Some, None, ⊤, bit_and}
 use Rattle.std.specs.List.{Contains}
 use Rattle.atomic_table.proofs.Lists.{at_map}
@@ -29,31 +29,32 @@ use Rattle.hist_core.specs.declared.actor_run.Running.TheVariants.{SetCorrupt, H
 use Rattle.hist_core.specs.Start.{Start}
 use Rattle.hist_core.specs.WorldState.{IsFlagSet, IsReachedAs}
 use Rattle.hist_core.proofs.Worlds.Starts.{kept_there}
-use Rattle.hist_core.specs.Hist.{HasOtherSpec}
+use Rattle.hist_core.specs.Hist.{HasOtherSpec, SawNone}
 use Rattle.hist_core.specs.Making.{IsCause}
 use Rattle.hist_core.specs.ActorRun.{IsRefusedBy, LacksBlock}
-use Rattle.hist_core.proofs.AddCall.Refusals.{cause_noted}
+use Rattle.hist_core.proofs.AddCall.Refusals.{cause_noted, needs_still}
 
 -- who knows, and has done and seen the same, is refused for the same
 module _ (cause : Refusal) (a b c : Actor) (names : c.answers.names ≡ b.answers.names) (done : c.done ≡ b.done) (seen : c.seen ≡ b.seen) where
-  lacks_still : (histogram : ℕ) → LacksBlock histogram cause a b → LacksBlock histogram cause a c
-  lacks_still histogram (known, knows, reference, is, met) = (
+  lacks_still : (histogram : ℕ) (sample : ℤ × ℕ) → LacksBlock histogram sample cause a b → LacksBlock histogram sample cause a c
+  lacks_still histogram sample (known, knows, reference, is, needs) = (
     known,
     subst (λ (l : List Known). Contains l known) (sym names) knows,
     reference,
     cause_noted cause _ a a b c (refl, refl, refl, refl) done seen is,
-    λ bucketed counts saw. met bucketed counts (ap (λ (s : Seen). word_seen s.words (known.reference + 8)) (sym seen) ∙ saw),
+    needs_still known sample b c seen needs,
   )
 
   pub refused_still : (running : Option Running) → IsRefusedBy running cause a b → IsRefusedBy running cause a c
   refused_still None is = is
   refused_still (Some SetCorrupt) is = is
-  refused_still (Some (Hist hist)) (inl (letters, spells, is)) = inl (letters, spells, cause_noted cause _ a a b c (refl, refl, refl, refl) done seen is)
+  refused_still (Some (Hist hist)) (inl (none, letters, spells, is)) =
+      inl (subst (SawNone hist.asked.name.items) (sym seen) none, letters, spells, cause_noted cause _ a a b c (refl, refl, refl, refl) done seen is)
   refused_still (Some (Hist hist)) (inr (other, saw)) = inr (other, subst (λ (s : Seen). HasOtherSpec hist.asked.name.items hist.asked.spec s) (sym seen) saw)
-  refused_still (Some (Add add)) is = lacks_still add.histogram is
+  refused_still (Some (Add add)) is = lacks_still add.histogram (add.value, add.units) is
   refused_still (Some (Delta delta_call fresh)) is = is
   refused_still (Some (Snapshot snapshot_call)) is = is
-  refused_still (Some (Batch batch)) is = lacks_still batch.histogram is
+  refused_still (Some (Batch batch)) (sample, there, is) = (sample, there, lacks_still batch.histogram sample is)
 
 -- ---- a full or a corrupt segment has its flag set
 
@@ -71,12 +72,12 @@ own_flag _ words a b none = absurd none
 has_flag : (running : Option Running) (cause : Refusal) (a b : Actor) → IsRefusedBy running cause a b → HasFlag cause b
 has_flag None cause a b is = absurd is
 has_flag (Some SetCorrupt) cause a b is = absurd is
-has_flag (Some (Hist hist)) cause a b (inl (letters, spells, is)) = own_flag cause _ a b is
+has_flag (Some (Hist hist)) cause a b (inl (none, letters, spells, is)) = own_flag cause _ a b is
 has_flag (Some (Hist hist)) cause a b (inr (other, saw)) = subst (λ (c : Refusal). HasFlag c b) (sym other) tt
-has_flag (Some (Add add)) cause a b (known, knows, reference, is, met) = own_flag cause _ a b is
+has_flag (Some (Add add)) cause a b (known, knows, reference, is, needs) = own_flag cause _ a b is
 has_flag (Some (Delta delta_call fresh)) cause a b is = absurd is
 has_flag (Some (Snapshot snapshot_call)) cause a b is = absurd is
-has_flag (Some (Batch batch)) cause a b (known, knows, reference, is, met) = own_flag cause _ a b is
+has_flag (Some (Batch batch)) cause a b (sample, there, (known, knows, reference, is, needs)) = own_flag cause _ a b is
 
 -- a flag that an actor has set or seen is set in the words of a kept state
 or_true : (b : Bool) → (b || true) ≡ true

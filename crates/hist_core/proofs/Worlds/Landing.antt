@@ -3,7 +3,6 @@ use Rattle.std.proofs.Common.{◌≡◌, ◌∙◌}
 use Rattle.std.specs.Prelude.{ℕ, List, Option, Some, None}
 use Rattle.segment_image.specs.Shape.{Dimensions}
 use Rattle.segment_machine.specs.declared.actor.Actor.{Actor}
-use Rattle.segment_machine.specs.declared.actor.Made.{Made}
 use Rattle.hist_core.specs.declared.call.Stepped.{Stepped}
 use Rattle.hist_core.specs.declared.actor_run.ActorRun.{ActorRun}
 use Rattle.hist_core.specs.declared.actor_run.Running.{Running}
@@ -12,8 +11,8 @@ use Rattle.hist_core.specs.declared.snapshot_call.Stage.{Stage}
 use Rattle.hist_core.specs.declared.snapshot_call.Stage.TheVariants.{LoadingSingle, LoadingCounts, LoadingCount, Walking, LoadingSample, LoadingSum, LoadingRedundant}
 use Rattle.hist_core.specs.declared.walk.Walk.TheVariants.{LoadingFirst, LoadingType, LoadingHistogram, LoadingValue, LoadingNext}
 use Rattle.hist_core.specs.SnapshotCall.{LooksAnew}
-use Rattle.hist_core.specs.StepsBy.{DoesOnly, StepsBy}
-use Rattle.hist_core.specs.ActorRun.{Advances, DoesAsSaid, Lands, LooksSince, MayLink, is_flagged, lacks_room}
+use Rattle.hist_core.specs.StepsBy.{Deed, DoesOnly, StepsBy}
+use Rattle.hist_core.specs.ActorRun.{Advances, DoesAsSaid, Lands, LooksSince, Serves, is_flagged, lacks_room}
 use Rattle.hist_core.proofs.Parts.Allocations.{goes_with}
 use Rattle.hist_core.proofs.Parts.Deeds.{does_less, does_still}
 use Rattle.hist_core.proofs.Worlds.Apart.{looks_not}
@@ -24,11 +23,11 @@ Landing shape version old words new new_words said a =
     StepsBy shape.size version a words new_words (λ b. Lands shape version old new said a b × DoesAsSaid old.running said a b)
 
 -- what it has done is so still, whatever is noted before and behind
-pub does_as_said : (running : Option Running) (said : Stepped) (links : Made → Type 0) → ((made : Made) → links made → MayLink running made) → (a b c d : Actor)
-    → b.done ≡ a.done → d.done ≡ c.done → DoesOnly (is_flagged said) (lacks_room said) links b c → DoesAsSaid running said a d
-does_as_said running said links linked a b c d first last does =
-    does_still (is_flagged said) (lacks_room said) (MayLink running) a b c d first last
-    (does_less (is_flagged said) (lacks_room said) links (MayLink running) b c linked does)
+pub does_as_said : (running : Option Running) (said : Stepped) (may : Deed → Type 0) (a b c d : Actor) → ((deed : Deed) → may deed → Serves running a deed)
+    → b.done ≡ a.done → d.done ≡ c.done → DoesOnly (is_flagged said) (lacks_room said) may b c → DoesAsSaid running said a d
+does_as_said running said may a b c d serves first last does =
+    does_still (is_flagged said) (lacks_room said) (Serves running a) a b c d first last
+    (does_less (is_flagged said) (lacks_room said) may (Serves running a) b c serves does)
 
 looks_none : (running : Option Running) (a b : Actor) → looks_not running → LooksSince running a b
 looks_none None a b none = tt

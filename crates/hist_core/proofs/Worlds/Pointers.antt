@@ -56,9 +56,9 @@ module _ (free : ℕ) where
     linked true tail at found is = cc is
     linked false tail at found is = cc is
 
-    freed : {X : Type 0} (b : Bool) (old new found : ℕ) → (after_free b a old new found).hand.place ≡ FreeLoaded free → X
-    freed true old new found is = cc is
-    freed false old new found is = cc is
+    freed : {X : Type 0} (b : Bool) (old new wanted found : ℕ) → (after_free b a old new wanted found).hand.place ≡ FreeLoaded free → X
+    freed true old new wanted found is = cc is
+    freed false old new wanted found is = cc is
 
     packed : {X : Type 0} (b : Bool) (histogram new found : ℕ) → (after_pack b a histogram new found).hand.place ≡ FreeLoaded free → X
     packed true histogram new found is = cc is
@@ -79,7 +79,7 @@ module _ (free : ℕ) where
     pub pointer_from : (event : Event) (found : ℕ) → (next a event found).hand.place ≡ FreeLoaded free → From event found
     pointer_from (allocating_event load_flags) found is = either_not (bit_and found 1 == 0) place.FlagsLoaded Idle (λ e. cc e) (λ e. cc e) is
     pointer_from (allocating_event load_free) found is = inr (refl, let same : found ≡ free = cc is in sym same)
-    pointer_from (allocating_event (exchange_free old new)) found is = freed (found == old) old new found is
+    pointer_from (allocating_event (exchange_free old new wanted)) found is = freed (found == old) old new wanted found is
     pointer_from (allocating_event (store_size at size)) found is = cc is
     pointer_from (allocating_event (store_cookie at cookie)) found is =
         either_not (cookie == CLAIMED_COOKIE) (place.Marked at (size_at a.hand.place)) Idle (λ e. cc e) (λ e. cc e) is

@@ -88,7 +88,7 @@ module _ (a : Actor) (look : Look) (bucket units : ℕ) (at : a.hand.place ≡ M
   asks_none : {X : Type 0} (shape : Dimensions) (h : HistCall) (given : List ℕ) (stage : HistStage) → hist.StandsAtStage shape h a given stage → X
   asks_none shape h given hists.Walking stands = freed stands.0
   asks_none shape h given (hists.Comparing same) stands = freed stands.0
-  asks_none shape h given (hists.Making m) stands = makes_not shape (wanted_of h) m.stage stands.1.stands
+  asks_none shape h given (hists.Making m) stands = makes_not shape (wanted_of h) m.stage stands.3.stands
 
   samples_not : {X : Type 0} (shape : Dimensions) (s : Sampling) (behind : List ℕ) (stage : SamplingStage) → sampling.StandsAtStage shape s a behind stage → X
   samples_not shape s behind samples.Walking stands = freed stands.0
@@ -104,7 +104,7 @@ module _ (a : Actor) (look : Look) (bucket units : ℕ) (at : a.hand.place ≡ M
     here adds.LoadingSingle stands = turned stands.2
     here (adds.Packing old new) stands = cc (sym stands.2.0.1 ∙ at)
     here adds.LoadingCounts stands = cc (sym stands.2.2 ∙ at)
-    here adds.SeekingCounts stands = turned stands.2
+    here adds.SeekingCounts stands = turned stands.2.0
     here (adds.Allocating allocation) stands = claims_not allocation allocation.stage stands.2.0.stands
     here (adds.Mounting from) stands = turned stands.2.0
     here (adds.Purging from counts) stands = cc (sym stands.2.1 ∙ at)

@@ -56,7 +56,7 @@ use Rattle.hist_core.specs.declared.call.Stepped.TheVariants.{More, Done}
 use Rattle.hist_core.specs.declared.call.Answer.TheVariants as answer
 use Rattle.hist_core.specs.Start.{MayStart, Start, start_state}
 use Rattle.hist_core.specs.StepsBy.{StepsBy, WalksInOrder, has_pointer}
-use Rattle.hist_core.specs.ActorRun.{IsAnswer, IsTook, IsKnown, IsRun, IsSomeRun, Lands, Advances, held_by, looked_by, returned_by, DoesAsSaid, LooksSince, MayLink, is_flagged, lacks_room, StandsIn, known_of, pending_by, IsRefusedBy}
+use Rattle.hist_core.specs.ActorRun.{IsAnswer, IsTook, IsKnown, IsRun, IsSomeRun, Lands, Advances, held_by, looked_by, returned_by, DoesAsSaid, LooksSince, Serves, is_flagged, lacks_room, StandsIn, known_of, pending_by, IsRefusedBy}
 use Rattle.hist_core.specs.WorldState.{AreRun, IsReachedAs, IsReached, IsConsistentAs, IsReadAs, MayBeAdopted, AreKnownFirst, HasSeen, HasTaken, ClaimsNothing, DoesOnlySo, HoldsNoPointer, LoadsPointer, IsPromised, StepsTo, Rests, BeginsFrom, IsDue, LooksFrom}
 use Rattle.bucket_ranges.specs.Ranges.{boundaries_of}
 use Rattle.bucket_ranges.specs.Spec.{spec_fault}
@@ -201,7 +201,9 @@ module _ (start : Start) (old : WorldState) (state : State) (reach : IsReachedAs
         let learned = subst (Learned e.at event) (finds event) did.1 in
         let stood = set_at state.actors (actor + 1) its.0 (next e.at event (found_at state event)) there in
         let apart = subst (λ (n : ℕ). AreApart (next e.at event n)) (finds event) (λ living. (did.0.each (actor + 1) (next e.at event (found_at state event)) stood living).apart) in
-        let goes = e.goes learned apart in
+        let ordered = subst (λ (n : ℕ). WalksInOrder (next e.at event n)) (finds event)
+        (walks_in_order old.shape start.opened _ did.0 (actor + 1) (next e.at event (found_at state event)) stood) in
+        let goes = e.goes learned apart ordered in
         let long : length new.words.items ≡ length state.words =
         ap length e.words_are ∙ length-set words (spot old.shape.size event) _ ∙ sym (ap length reach.shows.words) in (
           event,
@@ -292,7 +294,7 @@ module _ (start : Start) (old : WorldState) (state : State) (reach : IsReachedAs
         → DoesOnlySo old actor state said last
     does_so said b does last c is_last done before x d was is_x is_d =
         let so : DoesAsSaid r.running said its.0 d =
-        does_still (is_flagged said) (lacks_room said) (MayLink r.running) its.0 its.0 b d refl (ap (λ (y : Actor). y.done) (sym (some-injective c d (sym is_last ∙ is_d))) ∙ done) does in
+        does_still (is_flagged said) (lacks_room said) (Serves r.running its.0) its.0 its.0 b d refl (ap (λ (y : Actor). y.done) (sym (some-injective c d (sym is_last ∙ is_d))) ∙ done) does in
         subst (λ (p : ActorRun × Actor). DoesAsSaid p.0.running said p.1 d)
         (λ i. (some-injective r before (sym at ∙ was) i, some-injective its.0 x (sym there ∙ is_x) i)) so
 

@@ -12,12 +12,11 @@ use Rattle.segment_machine.specs.declared.actor.Known.{Known}
 use Rattle.segment_machine.specs.declared.actor.Units.{Units}
 use Rattle.segment_machine.specs.Actor.{cost_of, has_buckets, is_bound, is_opener, known_at}
 use Rattle.segment_machine.specs.Entry.{fresh}
-use Rattle.segment_machine.specs.Taking.{is_looking}
 use Rattle.segment_machine.specs.Note.{Note, begins}
 use Rattle.segment_promises.specs.Follows.{noted_by}
 use Rattle.live_segment.specs.Counts.Adding.{IsAdded}
 use Rattle.live_segment.specs.Counts.Finishing.{counted_entry, item_of, sample_of, HasSample, HasEnded}
-use Rattle.segment_promises.specs.Onward.{DoesOn, GoesOn, SeesOn}
+use Rattle.segment_promises.specs.Onward.{DoesOn, GoesOn, SeesOn, is_holding}
 use Rattle.live_segment.specs.Steps.{IsAtRest}
 use Rattle.live_segment.specs.GhostNotes.{bucket_entry, entry_notes, KnowsAlone}
 use Rattle.live_segment.specs.Counts.Working.{counted_next, CountsAlone, HasCounted, MayCount}
@@ -132,7 +131,7 @@ module _ (known : Known) (value : ℤ) (units : ℕ) (old mid : Actor) (rest : I
     added_rests = record {
       recorder = ap (λ (x : Actor). is_opener x.role) new_is ∙ rest.recorder;
       free = ap is_bound ended.idle;
-      apart = ap is_looking ended.idle;
+      apart = ap is_holding ended.idle;
       holds = ap (λ (x : Actor). x.units.held) new_is;
       runs = ap (λ (x : Actor). x.entries.running) new_is ∙ rest.runs;
       takes = ap (λ (x : Actor). x.deltas.taking) new_is ∙ rest.takes;

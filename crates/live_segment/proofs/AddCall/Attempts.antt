@@ -93,7 +93,7 @@ module _ {segment : Segment} {known : Known} {bucket units : ℕ} {first old : P
         (subst (LooksOn old.me.0) (sym step.view) (singled old.me.0 (Looking look) (seen_here ∷ []) refl)))
 
     pub keeps_still : KeepsBlocks first.me.0 seat.me.0
-    keeps_still = keeps_on first.me.0 old.me.0 seat.me.0 attempt.keeps (subst (KeepsBlocks old.me.0) (sym step.view) (record { done = refl; own = refl; chain = refl; words = refl; ends = grows_not old.me.0.seen.ends }))
+    keeps_still = keeps_on first.me.0 old.me.0 seat.me.0 attempt.keeps (subst (KeepsBlocks old.me.0) (sym step.view) (record { segment = refl; done = refl; own = refl; chain = refl; words = refl; ends = grows_not old.me.0.seen.ends }))
 
     pub counts_still : seat.me.0.seen.counts ≡ first.me.0.seen.counts
     counts_still = ap (λ (x : Actor). x.seen.counts) step.view ∙ attempt.counts
@@ -192,7 +192,7 @@ module _ {segment : Segment} {known : Known} {bucket units : ℕ} {first old : P
                   loaded_may.counts refl
                   (subst (λ (y : Actor). SeesOn seat.me.0.seen (record y.seen { singles = y.seen.singles ++ sight at packed })) (sym only) (sees_single seat.me.0.seen (sight at packed)))
                   view),
-              keeps_on first.me.0 x after.me.0 keeps_begins (subst (KeepsBlocks x) (sym view) (record { done = refl; own = refl; chain = refl; words = refl; ends = grows_not x.seen.ends })),
+              keeps_on first.me.0 x after.me.0 keeps_begins (subst (KeepsBlocks x) (sym view) (record { segment = refl; done = refl; own = refl; chain = refl; words = refl; ends = grows_not x.seen.ends })),
             )
 
         module _ (lost : found ≢ word) where
@@ -210,7 +210,7 @@ module _ {segment : Segment} {known : Known} {bucket units : ℕ} {first old : P
             may = attempt.may;
             same = same_after;
             looks = looks_for_on first.me.0 seat.me.0 after.me.0 known (bucket_entry known bucket units) attempt.may.counts looks_at came_late.0;
-            keeps = keeps_on first.me.0 x after.me.0 keeps_begins (subst (KeepsBlocks x) (sym view) (record { done = refl; own = refl; chain = refl; words = refl; ends = grows_not x.seen.ends }));
+            keeps = keeps_on first.me.0 x after.me.0 keeps_begins (subst (KeepsBlocks x) (sym view) (record { segment = refl; done = refl; own = refl; chain = refl; words = refl; ends = grows_not x.seen.ends }));
             counts = came_late.2 ∙ counts_still;
           }
 

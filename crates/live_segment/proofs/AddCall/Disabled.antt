@@ -118,7 +118,7 @@ module _ {segment : Segment} {known : Known} {counts : ℕ} {first old : Pass} (
     looks_still = looks_on first.me.0 old.me.0 b attempt.looks loads
 
     keeps_still : KeepsBlocks first.me.0 b
-    keeps_still = keeps_on first.me.0 old.me.0 b attempt.keeps (subst (KeepsBlocks old.me.0) (sym step.view) (record { done = refl; own = refl; chain = refl; words = refl; ends = grows_not old.me.0.seen.ends }))
+    keeps_still = keeps_on first.me.0 old.me.0 b attempt.keeps (subst (KeepsBlocks old.me.0) (sym step.view) (record { segment = refl; done = refl; own = refl; chain = refl; words = refl; ends = grows_not old.me.0.seen.ends }))
 
     pub same_seat : IsSame first seat
     same_seat = (step.same.0 ∙ attempt.same.0, step.same.1 ∙ attempt.same.1, step.same.2 ∙ attempt.same.2)
@@ -178,7 +178,7 @@ module _ {segment : Segment} {known : Known} {counts : ℕ} {first old : Pass} (
               let on_it = looks_on first.me.0 b after.me.0 looks_still
               (subst (LooksOn b) (sym all) (singled b (place_by false) (sight (known.reference + 9) off) refl)) in record {
                 looks = on_it;
-                keeps = keeps_on first.me.0 b after.me.0 keeps_still (subst (KeepsBlocks b) (sym all) (record { done = refl; own = refl; chain = refl; words = refl; ends = grows_not b.seen.ends }));
+                keeps = keeps_on first.me.0 b after.me.0 keeps_still (subst (KeepsBlocks b) (sym all) (record { segment = refl; done = refl; own = refl; chain = refl; words = refl; ends = grows_not b.seen.ends }));
                 stands = ((off, ap (λ (x : Actor). x.hand.place) all, off_is b.segment.version word), within_on after.me.0 on_it);
               }
 
@@ -243,7 +243,7 @@ module _ {segment : Segment} {known : Known} {counts : ℕ} {first old : Pass} (
                   entries = refl;
                 })) in record {
                   looks = on_it;
-                  keeps = keeps_on first.me.0 b last.me.0 keeps_still (subst (KeepsBlocks b) (sym all) (record { done = refl; own = refl; chain = refl; words = refl; ends = grows_not b.seen.ends }));
+                  keeps = keeps_on first.me.0 b last.me.0 keeps_still (subst (KeepsBlocks b) (sym all) (record { segment = refl; done = refl; own = refl; chain = refl; words = refl; ends = grows_not b.seen.ends }));
                   stands = ((off, ap (λ (x : Actor). x.hand.place) all, off_is b.segment.version word), within_on last.me.0 on_it);
                 }
 
@@ -264,7 +264,7 @@ module _ {segment : Segment} {known : Known} {counts : ℕ} {first old : Pass} (
               (subst (LooksOn b) (sym late) (singled b (Looking (look None)) (sight (known.reference + 9) found) refl))
 
           pub keeps_after : KeepsBlocks first.me.0 after.me.0
-          keeps_after = keeps_on first.me.0 b after.me.0 keeps_still (subst (KeepsBlocks b) (sym late) (record { done = refl; own = refl; chain = refl; words = refl; ends = grows_not b.seen.ends }))
+          keeps_after = keeps_on first.me.0 b after.me.0 keeps_still (subst (KeepsBlocks b) (sym late) (record { segment = refl; done = refl; own = refl; chain = refl; words = refl; ends = grows_not b.seen.ends }))
 
           pub stands_after : (single : Option ℕ) × LooksAt after.me.0 known.reference single counts
           stands_after = (None, ap (λ (x : Actor). x.hand.place) late)

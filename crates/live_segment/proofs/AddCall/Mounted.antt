@@ -18,7 +18,9 @@ use Rattle.segment_machine.specs.declared.actor.Actor.{Actor}
 use Rattle.segment_machine.specs.declared.actor.Entries.{Entries}
 use Rattle.segment_machine.specs.declared.actor.Hand.{Hand}
 use Rattle.segment_machine.specs.declared.actor.Known.{Known}
+use Rattle.segment_machine.specs.declared.actor.Done.{Done}
 use Rattle.segment_machine.specs.declared.actor.Own.{Own}
+use Rattle.segment_machine.specs.declared.actor.Rise.{Rise}
 use Rattle.segment_machine.specs.declared.entry.EntryProgress.{EntryProgress}
 use Rattle.segment_machine.specs.declared.place.Look.{Look}
 use Rattle.segment_machine.specs.declared.place.Place.TheVariants.{Idle, Looking, Spent}
@@ -32,10 +34,11 @@ use Rattle.segment_machine.specs.Entry.{has_ended}
 use Rattle.segment_machine.specs.Event.{counting_event, packing_event, change, next, Ready}
 use Rattle.segment_machine.specs.Packing.{mount_counts, purge_block, after_mount}
 use Rattle.segment_invariant.proofs.Counting.Looks.{knows_of, counts_seen}
-use Rattle.live_segment.specs.declared.rule.Setting.{Setting}
+use Rattle.live_segment.specs.declared.rule.Opening.{Opening}
 use Rattle.live_segment.specs.declared.segment.Segment.{Segment}
 use Rattle.live_segment.specs.Counts.Adding.{HasNoRoom, block_words}
 use Rattle.live_segment.specs.Lists.Allocation.{Allocates, filled, noticed, saw_free}
+use Rattle.live_segment.specs.Rises.{RaisesFor}
 use Rattle.live_segment.specs.Counts.Refusing.{given_up}
 use Rattle.live_segment.specs.Holders.{table_of, MayStep}
 use Rattle.live_segment.specs.Counts.Mounting.{SawNoNone, LoadsCounts, MayMount, HasBlank, HasMounted, HasNotMounted, MountsAt, MountsAtMostOne}
@@ -56,19 +59,19 @@ use Rattle.live_segment.proofs.Walks.Ends.{found_now, found_on}
 -- ---- the counts reference
 
 -- what it saw of the reference was the record's, which is not 0
-pub loads_counts : (setting : Setting) (slots id : ℕ) (me : Sat) (word : ℕ) → is_opener me.0.role ≡ false → (histogram : ℕ)
+pub loads_counts : (given : Opening) (slots id : ℕ) (me : Sat) (word : ℕ) → is_opener me.0.role ≡ false → (histogram : ℕ)
     → word ≡ histogram + 8 + 1 → Ready me.0 (counting_event (load_counts histogram))
-    → Allows (Runs setting) slots id me word (change setting.version (counting_event (load_counts histogram))) (LoadsCounts word me)
-loads_counts setting slots id me word records histogram at ready s run wide mine small =
+    → Allows (Runs given) slots id me word (change given.setting.version (counting_event (load_counts histogram))) (LoadsCounts word me)
+loads_counts given slots id me word records histogram at ready s run wide mine small =
     let (view, act, valid, holds, told) =
-    does_at setting slots id me word records (λ (x : ℕ). counting_event (load_counts x)) histogram at (λ y e. omega (arith, at, e)) ready s run wide mine small in
+    does_at given slots id me word records (λ (x : ℕ). counting_event (load_counts x)) histogram at (λ y e. omega (arith, at, e)) ready s run wide mine small in
     let there : get_elem? run.running.segment.actors id ≡ some me.0 = ap (λ list. get_elem? list id) (sym run.running.views) ∙ mine in
     let lives : me.0.hand.place ≢ Spent = λ e. true≢false (sym (ap is_bound e) ∙ ready.0) in
     let (known, of) = ready.1 in
     let (has, refers, bucketed) = of in
-    let (r, first, stands, named, many, keys) = knows_of setting.shape run.opened run.running.segment run.running.kept id me.0 there records lives known has in
+    let (r, first, stands, named, many, keys) = knows_of given.setting.shape run.opened run.running.segment run.running.kept id me.0 there records lives known has in
     let saw : SawNoNone me.0.seen known.reference =
-    λ counts seen. let (is, some_there) = counts_seen setting.shape run.opened run.running.segment run.running.kept id me.0 there records lives known.reference counts r stands seen in
+    λ counts seen. let (is, some_there) = counts_seen given.setting.shape run.opened run.running.segment run.running.kept id me.0 there records lives known.reference counts r stands seen in
     λ none. some_there (is ∙ none) in
     (view, act, valid, holds, λ y same. (told y same, subst (SawNoNone me.0.seen) (let e = refers in omega (arith, e, at, same)) saw))
 
@@ -265,6 +268,7 @@ module _ (segment : Segment) (known : Known) (old : Pass) (table : old.table_id 
       inl (ap (λ (b : Actor). b.done) step.view),
       subst (λ (b : Actor). Grows first.seen.words b.seen.words) (sym step.view) (grows_by first.seen.words (sight_counts known.reference found)),
       subst (λ (b : Actor). Grows first.seen.ends b.seen.ends) (sym step.view) ends_more,
+      ap (λ (b : Actor). b.segment) step.view,
     )
 
     -- there are none, and a block is claimed
@@ -278,7 +282,7 @@ module _ (segment : Segment) (known : Known) (old : Pass) (table : old.table_id 
 
       pub has_blank : HasBlank new.me.0 known at
       has_blank =
-          let (to, view, behind, enough, few, place) = made in (
+          let (to, view, behind, enough, few, place, raises) = made in (
             new_own at (to - at) 2,
             subst (λ (b : Actor). Contains b.hand.own (new_own at (to - at) 2)) (sym view)
                 (Contains-append_right seat.me.0.hand.own (new_own at (to - at) 2 ∷ []) (new_own at (to - at) 2) (0, omega arith, refl)),
@@ -288,13 +292,13 @@ module _ (segment : Segment) (known : Known) (old : Pass) (table : old.table_id 
 
       pub block_within : CountsWithin new.me.0 known at
       block_within =
-          let (to, view, behind, enough, few, place) = made in
+          let (to, view, behind, enough, few, place, raises) = made in
           let from = place.from in let within = place.within in
           (λ none. omega (arith, none, from), subst (λ (b : Actor). at + (4 + 2 * buckets_of known.spec) ≤ b.segment.shape.size) (sym view) (omega (arith, words, enough, within)))
 
       pub block_least : at + 5 ≤ seat.me.0.segment.shape.size
       block_least =
-          let (to, view, behind, enough, few, place) = made in
+          let (to, view, behind, enough, few, place, raises) = made in
           let within = place.within in let five = place.five in omega (arith, within, five)
 
       -- it is mounted
@@ -333,14 +337,20 @@ module _ (segment : Segment) (known : Known) (old : Pass) (table : old.table_id 
 
       -- it claims one block for them, and mounts it
       pub claims_block : (at size : ℕ) (new last : Pass) (counts : ℕ) → size ≡ block_words known → Allocates size 2 seat.me.0 (Ok at) new.me.0
-          → MountsAt known at new.me.0 counts last.me.0 → Grows new.me.0.seen.ends last.me.0.seen.ends → MountsAtMostOne known first last.me.0
-      claims_block at size new last counts words (to, view, behind, enough, few, place) mounts more = (
+          → MountsAt known at new.me.0 counts last.me.0 → LooksOn new.me.0 last.me.0 → MountsAtMostOne known first last.me.0
+      claims_block at size new last counts words (to, view, behind, enough, few, place, raises) mounts looks = (
         inr (record {
           claim = record { at = at; size = to - at };
           block = (omega (arith, words, enough), omega (arith, words, enough, few));
+          raises = subst (λ (words : ℕ). RaisesFor first.segment.shape words (record { at = at; size = to - at }) first.done.raised last.me.0.done.raised) words
+              (subst (RaisesFor first.segment.shape size (record { at = at; size = to - at }) first.done.raised) (sym (ap (λ (d : Done). d.raised) mounts.done))
+              (subst (λ (b : Actor). RaisesFor b.segment.shape size (record { at = at; size = to - at }) b.done.raised new.me.0.done.raised) step.view raises));
           done = mounts.done
               ∙ (ap (λ (b : Actor). b.done) view
-              ∙ ap (λ (b : Actor). record b.done { claimed = b.done.claimed ++ record { at = at; size = to - at } ∷ [] }) step.view);
+              ∙ (λ i. record (step.view i).done {
+                claimed = (step.view i).done.claimed ++ record { at = at; size = to - at } ∷ [];
+                raised = sym (ap (λ (d : Done). d.raised) mounts.done) i;
+              }));
           none = none_before;
           loaded = loaded_on last.me.0 more_yet;
           counts = counts;
@@ -349,8 +359,12 @@ module _ (segment : Segment) (known : Known) (old : Pass) (table : old.table_id 
         }),
         subst (Grows first.seen.words) (sym saw_one) (grows_by first.seen.words (sight (known.reference + 8) counts)),
         grows_on first.seen.ends seat.me.0.seen.ends last.me.0.seen.ends looks_loaded.proceeds.seen.ends more_yet,
+        ap (λ (b : Actor). b.segment) looks.proceeds.same ∙ (ap (λ (b : Actor). b.segment) view ∙ ap (λ (b : Actor). b.segment) step.view),
       )
         where
+          more : Grows new.me.0.seen.ends last.me.0.seen.ends
+          more = looks.proceeds.seen.ends
+
           more_yet : Grows seat.me.0.seen.ends last.me.0.seen.ends
           more_yet = subst (λ (l : List ℕ). Grows l last.me.0.seen.ends) (ap (λ (b : Actor). b.seen.ends) view) more
 
@@ -359,16 +373,16 @@ module _ (segment : Segment) (known : Known) (old : Pass) (table : old.table_id 
               ∙ ap (λ (l : List Sighting). l ++ sight (known.reference + 8) counts) (ap (λ (b : Actor). b.seen.words) view ∙ words_still)
 
       -- what was refused there
-      module _ (last : Actor) (free : ℕ) (filled corrupt : Bool) (lacked : List ℕ) (warned : ℕ)
+      module _ (last : Actor) (free : ℕ) (raised : List Rise) (filled corrupt : Bool) (lacked : List ℕ) (warned : ℕ)
           (is : last ≡ record seat.me.0 {
             hand = record seat.me.0.hand { place = Idle };
-            done = record seat.me.0.done { filled = filled; lacked = lacked };
+            done = record seat.me.0.done { raised = raised; filled = filled; lacked = lacked };
             seen = record seat.me.0.seen { free = free; corrupt = corrupt; warned = warned };
           })
-          (later : seat.me.0.seen.free ≤ free) (still : seat.me.0.done.filled ≡ true → filled ≡ true) (noticing : seat.me.0.seen.corrupt ≡ true → corrupt ≡ true)
+          (later : seat.me.0.seen.free ≤ free) (rises : Grows seat.me.0.done.raised raised) (still : seat.me.0.done.filled ≡ true → filled ≡ true) (noticing : seat.me.0.seen.corrupt ≡ true → corrupt ≡ true)
           (longer : Grows seat.me.0.done.lacked lacked) (more : seat.me.0.seen.warned ≤ warned) where
         looks_last : LooksOn first last
-        looks_last = looks_on first seat.me.0 last looks_loaded (looks_refused seat.me.0 last free filled corrupt lacked warned is later still noticing longer more)
+        looks_last = looks_on first seat.me.0 last looks_loaded (looks_refused seat.me.0 last free raised filled corrupt lacked warned is later rises still noticing longer more)
 
         turned : (why : Refusal) (new : Actor) → new ≡ given_up last → HasNoRoom why (block_words known) seat.me.0 new → HasNotMounted why known first new
         turned why new ends room =
@@ -386,12 +400,14 @@ module _ (segment : Segment) (known : Known) (old : Pass) (table : old.table_id 
 
       pub refused_block : (why : Refusal) (size : ℕ) (new : Pass) → size ≡ block_words known → Allocates size 2 seat.me.0 (Err why) new.me.0
           → HasNotMounted why known first new.me.0
-      refused_block Full size new words (free, view, later, passes) =
-          let last = filled (saw_free seat.me.0 Idle free) in
-          turned last free true seat.me.0.seen.corrupt last.done.lacked seat.me.0.seen.warned refl later (λ e. refl) (λ e. e) (grows_by seat.me.0.done.lacked _) (omega arith) Full new.me.0 view
-          (subst (λ (n : ℕ). HasNoRoom Full n seat.me.0 new.me.0) words (lacks_room Full size 2 seat.me.0 new.me.0 (free, view, later, passes)))
-      refused_block Corrupt size new words (free, view, later) =
-          let last = noticed (saw_free seat.me.0 Idle free) in
-          turned last free seat.me.0.done.filled true seat.me.0.done.lacked last.seen.warned refl later (λ e. e) (λ e. refl) (grows_not seat.me.0.done.lacked) (omega arith) Corrupt new.me.0 view
-          (subst (λ (n : ℕ). HasNoRoom Corrupt n seat.me.0 new.me.0) words (lacks_room Corrupt size 2 seat.me.0 new.me.0 (free, view, later)))
+      refused_block Full size new words (free, view, later, passes, wastes) =
+          let last = filled (saw_free seat.me.0 Idle free new.me.0.done.raised) in
+          turned last free new.me.0.done.raised true seat.me.0.seen.corrupt last.done.lacked seat.me.0.seen.warned refl later (wastes.0, wastes.1) (λ e. refl) (λ e. e)
+          (grows_by seat.me.0.done.lacked _) (omega arith) Full new.me.0 view
+          (subst (λ (n : ℕ). HasNoRoom Full n seat.me.0 new.me.0) words (lacks_room Full size 2 seat.me.0 new.me.0 (free, view, later, passes, wastes)))
+      refused_block Corrupt size new words (free, view, later, wastes) =
+          let last = noticed (saw_free seat.me.0 Idle free new.me.0.done.raised) in
+          turned last free new.me.0.done.raised seat.me.0.done.filled true seat.me.0.done.lacked last.seen.warned refl later (wastes.0, wastes.1) (λ e. e) (λ e. refl)
+          (grows_not seat.me.0.done.lacked) (omega arith) Corrupt new.me.0 view
+          (subst (λ (n : ℕ). HasNoRoom Corrupt n seat.me.0 new.me.0) words (lacks_room Corrupt size 2 seat.me.0 new.me.0 (free, view, later, wastes)))
       refused_block _ size new words none_there = absurd none_there

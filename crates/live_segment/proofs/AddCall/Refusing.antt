@@ -12,7 +12,7 @@ use Rattle.segment_machine.specs.Event.{allocating_event, next, Ready, spot, cha
 use Rattle.segment_machine.specs.Note.{is_untouched}
 use Rattle.segment_promises.specs.Follows.{MayNoteAll, noted_by}
 use Rattle.atomic_table.specs.Table.{Allows}
-use Rattle.live_segment.specs.declared.rule.Setting.{Setting}
+use Rattle.live_segment.specs.declared.rule.Opening.{Opening}
 use Rattle.live_segment.specs.Rule.{Runs}
 use Rattle.live_segment.specs.Steps.{Pass, Sat, Stepped}
 use Rattle.live_segment.specs.GhostNotes.{Noted}
@@ -78,11 +78,11 @@ flags_seen a clear = record a {
   seen = record a.seen { corrupt = if clear then a.seen.corrupt else true; warned = if clear then a.seen.warned else a.seen.warned + 1 };
 }
 
-module _ (setting : Setting) (slots id : ℕ) (me : Sat) (word : ℕ) (records : is_opener me.0.role ≡ false) (may : MayGiveUp me.0) where
-  pub loads_flags : word ≡ spot setting.shape.size (allocating_event load_flags) + 1 → Ready me.0 (allocating_event load_flags)
-      → Allows (Runs setting) slots id me word (change setting.version (allocating_event load_flags)) (LoadsFlags me)
+module _ (given : Opening) (slots id : ℕ) (me : Sat) (word : ℕ) (records : is_opener me.0.role ≡ false) (may : MayGiveUp me.0) where
+  pub loads_flags : word ≡ spot given.setting.shape.size (allocating_event load_flags) + 1 → Ready me.0 (allocating_event load_flags)
+      → Allows (Runs given) slots id me word (change given.setting.version (allocating_event load_flags)) (LoadsFlags me)
   loads_flags at ready =
-      follows setting [] (allocating_event load_flags) (flags_notes me.0.entries.running) slots id me word at records
+      follows given [] (allocating_event load_flags) (flags_notes me.0.entries.running) slots id me word at records
       refl ready (λ found learned. by_test found (bit_and found 1 == 0) refl)
     where
       by_test : (found : ℕ) (b : Bool) → (bit_and found 1 == 0) ≡ b
@@ -95,8 +95,8 @@ module _ (setting : Setting) (slots id : ℕ) (me : Sat) (word : ℕ) (records :
           by true = refl
           by false = may_end (flags_seen me.0 false) me.0.entries.running may refl refl
 
-  pub sets_full : (wanted : ℕ) → word ≡ spot setting.shape.size (allocating_event (set_full wanted)) + 1 → Ready me.0 (allocating_event (set_full wanted))
-      → Allows (Runs setting) slots id me word (change setting.version (allocating_event (set_full wanted))) (SetsFull me)
+  pub sets_full : (wanted : ℕ) → word ≡ spot given.setting.shape.size (allocating_event (set_full wanted)) + 1 → Ready me.0 (allocating_event (set_full wanted))
+      → Allows (Runs given) slots id me word (change given.setting.version (allocating_event (set_full wanted))) (SetsFull me)
   sets_full wanted at ready =
-      follows setting [] (allocating_event (set_full wanted)) (λ found. refusing_notes me.0.entries.running) slots id me word at
+      follows given [] (allocating_event (set_full wanted)) (λ found. refusing_notes me.0.entries.running) slots id me word at
       records refl ready (λ found learned. may_end (next me.0 (allocating_event (set_full wanted)) found) me.0.entries.running may refl refl)

@@ -20,6 +20,7 @@ use Rattle.live_segment.specs.declared.recorder.KnownHistogram.{KnownHistogram}
 use Rattle.live_segment.specs.declared.rule.Setting.{Setting}
 use Rattle.live_segment.specs.declared.sampling.SampleSearch.TheVariants as search
 use Rattle.live_segment.specs.Known.{known_view, KnowsRight}
+use Rattle.live_segment.specs.Claims.{MakesOne}
 use Rattle.segment_promises.specs.Onward.{DoesOn, Grows}
 use Rattle.live_segment.specs.Counts.Refusing.{MayGiveUp}
 use Rattle.live_segment.specs.Rule.{IsOf}
@@ -161,7 +162,9 @@ module _ (known : Known) (value : ℤ) (a b : Actor) (searched : HasSearched a b
           untouched = last.untouched ∙ (made.counts ∙ ap (λ (x : Actor). x.seen.counts) searched.view);
           claims = inr (
               let (front, behind, parts, others) = none in record {
-                makes = makes_between (Sample known.reference value) 8 a.done b.done c.done d.done (ap (λ (x : Actor). x.done) searched.view) made.makes (ap (λ (x : Actor). x.done) again.view);
+                makes = makes_between a.segment.shape (Sample known.reference value) 8 a.done b.done c.done d.done (ap (λ (x : Actor). x.done) searched.view)
+                    (subst (λ (s : Dimensions). MakesOne s (Sample known.reference value) 8 b.done c.done) (ap (λ (x : Actor). x.segment.shape) searched.view) made.makes)
+                    (ap (λ (x : Actor). x.done) again.view);
                 front = front;
                 behind = behind;
                 more = (

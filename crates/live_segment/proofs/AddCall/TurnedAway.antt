@@ -20,12 +20,11 @@ use Rattle.segment_machine.specs.Calls.{IsKeyOfBucket}
 use Rattle.segment_machine.specs.Form.{IsPacking}
 use Rattle.bucket_ranges.specs.Ranges.{boundaries_of}
 use Rattle.segment_machine.specs.Note.{Note, refused}
-use Rattle.segment_machine.specs.Taking.{is_looking}
 use Rattle.segment_promises.specs.Follows.{noted_by}
 use Rattle.live_segment.specs.Counts.Adding.{IsRefused}
 use Rattle.live_segment.specs.Counts.Finishing.{item_of}
 use Rattle.live_segment.specs.GhostNotes.{bucket_entry}
-use Rattle.segment_promises.specs.Onward.{DoesOn, GoesOn, SeesOn}
+use Rattle.segment_promises.specs.Onward.{DoesOn, GoesOn, SeesOn, is_holding}
 use Rattle.live_segment.specs.Counts.Refusing.{given_up, how_many_ended, refusing_notes, IsNotCounted, IsTurnedAway}
 use Rattle.live_segment.specs.Steps.{IsAtRest}
 use Rattle.live_segment.specs.Counts.Working.{HasBegun, HasCounted, LooksFor}
@@ -112,7 +111,7 @@ module _ (entry : Entry) (old last new : Actor) (rest : IsAtRest old) (some : 1 
   turned_rests idle = let kept = turned_onward.same in record {
     recorder = ap (λ (x : Actor). is_opener x.role) kept ∙ rest.recorder;
     free = ap (λ (x : Actor). is_bound x.hand.place) back.else_as_last ∙ looks.proceeds.free;
-    apart = ap is_looking idle;
+    apart = ap is_holding idle;
     holds = back.held_back;
     runs = ap (λ (e : Entries). e.running) back.entries_back ∙ rest.runs;
     takes = ap (λ (x : Actor). x.deltas.taking) kept ∙ rest.takes;

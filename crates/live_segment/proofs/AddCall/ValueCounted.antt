@@ -106,6 +106,7 @@ module _ (known : Known) (value : ℤ) (units sample : ℕ) (old mid : Pass) (ma
     pub value_claims : ClaimsFor known value old.me.0 after.me.0
     value_claims =
         let behind = keeps_counted known entry (sample + 6) found mid after may_mid told in record {
+          segment = behind.segment ∙ ap (λ (b : Actor). b.segment) has.looks.proceeds.same;
           buckets = λ bucketed. absurd (true≢false (sym bucketed ∙ ap has_buckets sparse));
           values = λ is. makes_kept known.reference value old.me.0 a after.me.0 has.looks.proceeds.seen.ends has.claims behind;
           words = subst (Grows old.me.0.seen.words) (sym behind.words) has.looks.proceeds.seen.words;

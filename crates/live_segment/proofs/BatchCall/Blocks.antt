@@ -19,12 +19,12 @@ use Rattle.live_segment.specs.Steps.{Pass, Stepped}
 pub keeps_noted : (histogram units found : ℕ) (old new : Pass) → Stepped old (counting_event (add_redundant histogram units)) found new
     → KeepsBlocks old.me.0 new.me.0
 keeps_noted histogram units found old new step =
-    subst (KeepsBlocks old.me.0) (sym step.view) (record { done = refl; own = refl; chain = refl; words = refl; ends = grows_not old.me.0.seen.ends })
+    subst (KeepsBlocks old.me.0) (sym step.view) (record { segment = refl; done = refl; own = refl; chain = refl; words = refl; ends = grows_not old.me.0.seen.ends })
 
 pub keeps_last : (histogram units found : ℕ) (old new : Pass) → Noted old [] (counting_event (add_redundant histogram units)) (ends ∷ []) found new
     → KeepsBlocks old.me.0 new.me.0
 keeps_last histogram units found old new noted =
-    subst (KeepsBlocks old.me.0) (sym noted.view) (record { done = refl; own = refl; chain = refl; words = refl; ends = grows_not old.me.0.seen.ends })
+    subst (KeepsBlocks old.me.0) (sym noted.view) (record { segment = refl; done = refl; own = refl; chain = refl; words = refl; ends = grows_not old.me.0.seen.ends })
 
 -- one item more
 pub each_more : (known : Known) (items : List (ℤ × ℕ)) (item : ℤ × ℕ) (a b c : Actor) → ClaimsForEach known items a b → ClaimsFor known item.0 b c

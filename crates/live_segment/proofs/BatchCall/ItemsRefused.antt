@@ -18,12 +18,11 @@ use Rattle.segment_machine.specs.declared.entry.Entry.{Entry}
 use Rattle.segment_machine.specs.Actor.{cost_of, is_bound, is_opener}
 use Rattle.segment_machine.specs.Entry.{fresh, tally_noted}
 use Rattle.segment_machine.specs.Note.{refused, units_running}
-use Rattle.segment_machine.specs.Taking.{is_looking}
 use Rattle.segment_promises.specs.Follows.{noted_by}
 use Rattle.live_segment.specs.Claims.{ClaimsForEach}
 use Rattle.live_segment.specs.Counts.Batching.{HasItems, StopsAt, ended_item, holding}
 use Rattle.live_segment.specs.Counts.Finishing.{item_of}
-use Rattle.segment_promises.specs.Onward.{DoesOn, GoesOn, SeesOn}
+use Rattle.segment_promises.specs.Onward.{DoesOn, GoesOn, SeesOn, is_holding}
 use Rattle.live_segment.specs.Counts.Refusing.{IsNotCounted, given_up, how_many_ended, refusing_notes}
 use Rattle.live_segment.specs.Steps.{IsAtRest}
 use Rattle.live_segment.specs.Counts.Working.{HasBegun, LooksFor, FrameOfCall}
@@ -187,7 +186,7 @@ module _ (known : Known) (all : List (ℤ × ℕ)) (k : ℕ) (d : ℤ × ℕ) (o
   stops_rests = let kept = stops_onward.same in record {
     recorder = ap (λ (x : Actor). is_opener x.role) kept ∙ rest.recorder;
     free = ap is_bound not.idle;
-    apart = ap is_looking not.idle;
+    apart = ap is_holding not.idle;
     holds = is_back.held;
     runs = ap (λ (e : Entries). e.running) is_back.entries_are;
     takes = ap (λ (x : Actor). x.deltas.taking) kept ∙ rest.takes;

@@ -1,7 +1,7 @@
 -- The last item of a batch without a sum is counted, and the batch ends.
-use Rattle.std.proofs.Common.{◌≡◌, ℕ, ◌+◌, ◌-◌, ◌≤◌, true, false, if◌then◌else◌, ℤ, pos, List, [], ◌∷◌, ◌++◌, map, refl, sym, ap, ◌∙◌, subst, arith}
+use Rattle.std.proofs.Common.{◌≡◌, ℕ, ◌+◌, ◌-◌, ◌≤◌, true, false, if◌then◌else◌, ℤ, pos, List, [], ◌∷◌, ◌++◌, length, map, refl, sym, ap, ◌∙◌, subst, arith}
 use Rattle.std.specs.Str.{bytes_eq}
-use Rattle.std.proofs.lemmas.List.{append_assoc, append-nil, map-append}
+use Rattle.std.proofs.lemmas.List.{append_assoc, append-nil, length_push, map-append}
 use Rattle.std.proofs.lemmas.List.Sums.{sum_by-append}
 use Rattle.bucket_ranges.specs.Ranges.{boundaries_of}
 use Rattle.bucket_ranges.specs.Tally.{units_of}
@@ -17,10 +17,9 @@ use Rattle.segment_machine.specs.Counting.{add_redundant}
 use Rattle.segment_machine.specs.Entry.{batch_cost, fresh, item_entry}
 use Rattle.segment_machine.specs.Event.{counting_event}
 use Rattle.segment_machine.specs.Note.{ends}
-use Rattle.segment_machine.specs.Taking.{is_looking}
 use Rattle.live_segment.specs.Counts.Batching.{HasItems, IsBatched, ended_item}
 use Rattle.live_segment.specs.Counts.Finishing.{HasEnded, IsSummed, counted_entry, item_of}
-use Rattle.segment_promises.specs.Onward.{DoesOn, GoesOn, SeesOn}
+use Rattle.segment_promises.specs.Onward.{DoesOn, GoesOn, SeesOn, is_holding}
 use Rattle.live_segment.specs.Steps.{IsAtRest, IsSame, Pass}
 use Rattle.live_segment.specs.GhostNotes.{KnowsAlone, MayDo, Noted}
 use Rattle.live_segment.specs.Counts.Working.{HasCounted, FrameOfCall, counted_next}
@@ -134,7 +133,7 @@ module _ (known : Known) (front : List (ℤ × ℕ)) (item : ℤ × ℕ) (old a 
     last_rests = let kept = onward_last.same in record {
       recorder = ap (λ (x : Actor). is_opener x.role) kept ∙ rest.recorder;
       free = ap is_bound ended.idle;
-      apart = ap is_looking ended.idle;
+      apart = ap is_holding ended.idle;
       holds = ap (λ (u : Units). u.held) units_new;
       runs = ap (λ (e : Entries). e.running) entries_new;
       takes = ap (λ (x : Actor). x.deltas.taking) kept ∙ rest.takes;
@@ -158,4 +157,5 @@ module _ (known : Known) (front : List (ℤ × ℕ)) (item : ℤ × ℕ) (old a 
           };
           filled = ap (λ (x : Actor). x.done.filled) ended.same ∙ (counted.filled ∙ has.filled);
           onward = onward_last;
+          nothing = λ none zero. let long = ap length none in let one = length_push front item in absurd (omega (arith, long, one));
         }

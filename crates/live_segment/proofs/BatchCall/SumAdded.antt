@@ -22,11 +22,10 @@ use Rattle.segment_machine.specs.Counting.{add_sum}
 use Rattle.segment_machine.specs.Entry.{AreWithin, batch_cost, batch_entries, fresh, has_ended, sum_entry}
 use Rattle.segment_machine.specs.Event.{counting_event, next}
 use Rattle.segment_machine.specs.Note.{Note, begins, ends, goes_on}
-use Rattle.segment_machine.specs.Taking.{is_looking}
 use Rattle.segment_promises.specs.Follows.{MayNoteAll, noted_by}
 use Rattle.live_segment.specs.Claims.{KeepsBlocks}
 use Rattle.live_segment.specs.Counts.Batching.{HasItems, IsBatched, ended_item}
-use Rattle.segment_promises.specs.Onward.{DoesOn, GoesOn, SeesOn}
+use Rattle.segment_promises.specs.Onward.{DoesOn, GoesOn, SeesOn, is_holding}
 use Rattle.segment_promises.proofs.Growing.{grows_not}
 use Rattle.live_segment.specs.Steps.{IsAtRest, IsSame, Pass}
 use Rattle.live_segment.specs.GhostNotes.{HasSum, KnowsAlone, MaySum, Noted, opening_notes, sum_cost, sum_notes}
@@ -216,7 +215,7 @@ module _ (known : Known) (sum : ℤ) (old : Actor) (seat : Pass) (rest : IsAtRes
       new = after.me.0
 
       pub keeps_summed : KeepsBlocks a new
-      keeps_summed = subst (KeepsBlocks a) (sym sum_view) (record { done = refl; own = refl; chain = refl; words = refl; ends = grows_not a.seen.ends })
+      keeps_summed = subst (KeepsBlocks a) (sym sum_view) (record { segment = refl; done = refl; own = refl; chain = refl; words = refl; ends = grows_not a.seen.ends })
 
       as_before : new ≡ record a { units = new.units; entries = new.entries; hand = new.hand; since = new.since }
       as_before = subst (λ (y : Actor). y ≡ record a { units = y.units; entries = y.entries; hand = y.hand; since = y.since }) (sym sum_view) refl
@@ -250,7 +249,7 @@ module _ (known : Known) (sum : ℤ) (old : Actor) (seat : Pass) (rest : IsAtRes
       sum_rests = let kept = sum_onward.same in record {
         recorder = ap (λ (y : Actor). is_opener y.role) kept ∙ rest.recorder;
         free = ap (λ (y : Actor). is_bound y.hand.place) sum_view;
-        apart = ap (λ (y : Actor). is_looking y.hand.place) sum_view;
+        apart = ap (λ (y : Actor). is_holding y.hand.place) sum_view;
         holds = ap (λ (y : Actor). y.units.held) sum_view;
         runs = ap (λ (e : Entries). e.running) entries_after;
         takes = ap (λ (y : Actor). y.deltas.taking) kept ∙ rest.takes;
@@ -279,4 +278,5 @@ module _ (known : Known) (sum : ℤ) (old : Actor) (seat : Pass) (rest : IsAtRes
         };
         filled = ap (λ (y : Actor). y.done.filled) as_before ∙ has.filled;
         onward = sum_onward;
+        nothing = λ none zero. absurd (some_sum zero);
       }

@@ -39,6 +39,7 @@ batched_none known [] a none = record {
   };
   filled = refl;
   onward = record { same = refl; done = does_not a.done; seen = sees_not a.seen };
+  nothing = λ none zero. refl;
 }
 batched_none known (item ∷ rest) a none = absurd (omega (arith, none))
 

@@ -16,13 +16,15 @@ use Rattle.segment_promises.proofs.Joined.{opener_is, final_deltas_take_all, lon
 use Rattle.segment_promises.proofs.Readings.Heads.{shape_is, version_is, reads_head}
 use Rattle.segment_promises.proofs.Readings.Joined.{joined_reads}
 use Rattle.segment_promises.proofs.Readings.Lists.{is_list}
-use Rattle.live_segment.specs.declared.rule.Setting.{Setting}
+use Rattle.live_segment.specs.declared.rule.Opening.{Opening}
 use Rattle.live_segment.specs.Rule.{Closes, IsOpenedAs}
 use Rattle.live_segment.specs.Closing.{IsImageOf, ReadsJoined, DeltasAddUp, SnapshotsAgree}
 
 -- the words of a kept state are an image of what the segment was opened as
-pub of_kept : (setting : Setting) (opened : Anatomy) (state : State) → IsOpenedAs setting opened → Invariant setting.shape opened state → IsImageOf setting state.words
-of_kept setting opened state as_said kept =
+pub of_kept : (given : Opening) (opened : Anatomy) (state : State) → IsOpenedAs given opened → Invariant given.setting.shape opened state
+    → IsImageOf given.setting state.words
+of_kept given opened state as_said kept =
+    let setting = given.setting in
     let reading = reading_along state.words (head_of state.words) (order_of kept.anatomy) in
     let is : IsReading state.words (head_of state.words) reading = (order_of kept.anatomy, is_list setting.shape opened state kept, refl) in
     record {
@@ -39,22 +41,22 @@ pub knows_noted : (shape : Dimensions) (opened : Anatomy) (state : State) (opene
 knows_noted shape opened state opener kept stands name =
     sym (kept.first_noted name) ∙ ap (λ (a : Actor). cost_of a.entries.first_noted name) (opener_is shape opened state opener kept stands)
 
-module _ (setting : Setting) (opener : Actor) (words : List ℕ) (closes : Closes setting opener words) where
-  pub image_of : IsImageOf setting words
-  image_of = subst (IsImageOf setting) (sym closes.words_are) (of_kept setting closes.opened closes.state closes.as_said closes.kept)
+module _ (given : Opening) (opener : Actor) (words : List ℕ) (closes : Closes given opener words) where
+  pub image_of : IsImageOf given.setting words
+  image_of = subst (IsImageOf given.setting) (sym closes.words_are) (of_kept given closes.opened closes.state closes.as_said closes.kept)
 
   -- what is read of the words is read of the state's
   pub read_there : (reading : Reading) → IsReading words (head_of words) reading → IsReading closes.state.words (head_of closes.state.words) reading
   read_there reading is = subst (λ (ws : List ℕ). IsReading ws (head_of ws) reading) closes.words_are is
 
   pub known : (name : List ℕ) → noted_at_opening closes.opened name ≡ cost_of opener.entries.first_noted name
-  known = knows_noted setting.shape closes.opened closes.state opener closes.kept closes.stands
+  known = knows_noted given.setting.shape closes.opened closes.state opener closes.kept closes.stands
 
   module _ (none : outstanding_of opener.role ≡ 0) where
-    pub joined : ReadsJoined setting opener words
+    pub joined : ReadsJoined given.setting opener words
     joined reading is =
         let (lawful, answers, logs, id, corrupt, full) =
-        joined_reads setting.shape closes.opened closes.state opener reading closes.kept (closes.stands, none) (read_there reading is) in
+        joined_reads given.setting.shape closes.opened closes.state opener reading closes.kept (closes.stands, none) (read_there reading is) in
         record {
           lawful = lawful;
           answers = answers;
@@ -70,16 +72,16 @@ module _ (setting : Setting) (opener : Actor) (words : List ℕ) (closes : Close
 
     pub deltas : DeltasAddUp opener
     deltas = record {
-      all = λ delta among final. final_deltas_take_all setting.shape closes.opened closes.state opener delta closes.kept (closes.stands, none) among final;
-      each = λ front behind delta. lone_deltas_take_all setting.shape closes.opened closes.state opener front behind delta closes.kept (closes.stands, none);
+      all = λ delta among final. final_deltas_take_all given.setting.shape closes.opened closes.state opener delta closes.kept (closes.stands, none) among final;
+      each = λ front behind delta. lone_deltas_take_all given.setting.shape closes.opened closes.state opener front behind delta closes.kept (closes.stands, none);
     }
 
     pub snapshots : SnapshotsAgree opener
     snapshots = record {
-      below = λ answer among. snapshots_stay_below setting.shape closes.opened closes.state opener answer closes.kept (closes.stands, none) among;
+      below = λ answer among. snapshots_stay_below given.setting.shape closes.opened closes.state opener answer closes.kept (closes.stands, none) among;
       exact = λ answer among final.
           let (units, sum, noted) =
-          final_snapshots_are_exact setting.shape closes.opened closes.state opener answer closes.kept (closes.stands, none) among final in
+          final_snapshots_are_exact given.setting.shape closes.opened closes.state opener answer closes.kept (closes.stands, none) among final in
           let first = known answer.name in
           (units, sum, omega (arith, noted, first));
     }

@@ -2,14 +2,14 @@
 use Rattle.std.proofs.Common.{List, ℕ, sym, subst, ◌∙◌}
 use Rattle.segment_machine.specs.declared.actor.Actor.{Actor}
 use Rattle.segment_promises.proofs.Adopting.Kept.{kept_are_adoptable}
-use Rattle.live_segment.specs.declared.rule.Setting.{Setting}
+use Rattle.live_segment.specs.declared.rule.Opening.{Opening}
 use Rattle.live_segment.specs.Adopted.{MayGoOn}
 use Rattle.live_segment.specs.Rule.{Closes}
 use Rattle.live_segment.proofs.Closing.Joined.{of_kept}
 
-pub goes_on : (setting : Setting) (opener : Actor) (words : List ℕ) → Closes setting opener words → MayGoOn words
-goes_on setting opener words closes =
-    let image = of_kept setting closes.opened closes.state closes.as_said closes.kept in
+pub goes_on : (given : Opening) (opener : Actor) (words : List ℕ) → Closes given opener words → MayGoOn words
+goes_on given opener words closes =
+    let image = of_kept given closes.opened closes.state closes.as_said closes.kept in
     subst MayGoOn (sym closes.words_are)
     (λ frozen intact references listed.
-    kept_are_adoptable setting.shape closes.opened closes.state references closes.kept (closes.as_said.version ∙ (sym image.version ∙ frozen)) intact listed)
+    kept_are_adoptable given.setting.shape closes.opened closes.state references closes.kept (closes.as_said.version ∙ (sym image.version ∙ frozen)) intact listed)

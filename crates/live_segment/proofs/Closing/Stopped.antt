@@ -29,6 +29,7 @@ use Rattle.segment_promises.proofs.Adopting.Sums.{under, covered}
 use Rattle.segment_promises.proofs.Adopting.Units.{under_key, sum_below, spent_spread}
 use Rattle.segment_promises.proofs.Joined.{fits, own_log}
 use Rattle.segment_promises.proofs.Readings.Stopped.{stopped_reads}
+use Rattle.live_segment.specs.declared.rule.Opening.{Opening}
 use Rattle.live_segment.specs.declared.rule.Setting.{Setting}
 use Rattle.live_segment.specs.Rule.{Closes}
 use Rattle.live_segment.specs.Closing.{units_beyond, units_out, ReadsStopped}
@@ -136,13 +137,14 @@ module _ (setting : Setting) (opened : Anatomy) (state : State) (kept : Invarian
 
 -- ---- the reading
 
-pub stopped : (setting : Setting) (opener : Actor) (words : List ℕ) → Closes setting opener words → ReadsStopped setting opener words
-stopped setting opener words closes = record {
+pub stopped : (given : Opening) (opener : Actor) (words : List ℕ) → Closes given opener words → ReadsStopped given opener words
+stopped given opener words closes = record {
   closed = closes;
   reads = λ reading is.
+      let setting = given.setting in
       let state = closes.state in
       let kept = closes.kept in
-      let (lawful, head, names, each) = stopped_reads setting.shape closes.opened state reading kept (read_there setting opener words closes reading is) in
+      let (lawful, head, names, each) = stopped_reads setting.shape closes.opened state reading kept (read_there given opener words closes reading is) in
       let (rest, all) = behind_first opener state.actors closes.stands in
       let units = λ (h : Histogram) (there : Contains reading.hists h).
       subst (λ (version : ℕ). ReadsUnits version state h) closes.as_said.version (each h there).0 in
@@ -151,7 +153,7 @@ stopped setting opener words closes = record {
         head = head;
         names = names;
         each = λ h there. (units h there, (each h there).1);
-        first_noted = known setting opener words closes;
+        first_noted = known given opener words closes;
         answered = answers_read setting closes.opened state kept opener closes.stands reading names;
         least = least setting closes.opened state kept opener closes.stands rest all reading names units;
         most = most setting closes.opened state kept opener closes.stands rest all reading names units;

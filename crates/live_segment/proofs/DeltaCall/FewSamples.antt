@@ -25,7 +25,7 @@ use Rattle.segment_invariant.specs.Body.{Anatomy, Piece, extent_of, sample}
 use Rattle.segment_invariant.specs.Invariant.{Invariant}
 use Rattle.segment_invariant.proofs.Blocks.Pieces.{first_piece, free_least, free_within, one_piece, piece_ends, piece_from, pieces_apart, some_first}
 use Rattle.segment_invariant.proofs.Counting.Samples.{sample_met}
-use Rattle.live_segment.specs.declared.rule.Setting.{Setting}
+use Rattle.live_segment.specs.declared.rule.Opening.{Opening}
 use Rattle.segment_promises.specs.Onward.{Grows}
 use Rattle.live_segment.specs.Rule.{Runs}
 use Rattle.live_segment.specs.Readings.Samples.{LoadsCountOfSample, MeetsSample, SamplesAreFew}
@@ -128,14 +128,14 @@ counts_live a at (inl (look, known, bucket, inl off, low, is)) spent = cc (sym s
 counts_live a at (inl (look, known, bucket, inr (b, count, there, of), low, is)) spent = cc (sym spent ∙ there)
 counts_live a at (inr (known, of, value, sparse, met, saw, is, free, apart)) spent = true≢false (sym (ap is_bound spent) ∙ free)
 
-module _ (setting : Setting) (slots id : ℕ) (me : Sat) (word : ℕ) (records : is_opener me.0.role ≡ false) where
+module _ (given : Opening) (slots id : ℕ) (me : Sat) (word : ℕ) (records : is_opener me.0.role ≡ false) where
   pub counts_sample : (at : ℕ) → word ≡ at + 1 → Ready me.0 (taking_event (load_count at))
-      → Allows (Runs setting) slots id me word (change setting.version (taking_event (load_count at))) (LoadsCountOfSample word me)
+      → Allows (Runs given) slots id me word (change given.setting.version (taking_event (load_count at))) (LoadsCountOfSample word me)
   counts_sample at is ready s run wide mine small =
       let (view, act, valid, holds, told) =
-      does_at setting slots id me word records (λ (x : ℕ). taking_event (load_count x)) at (omega (arith, is)) (λ y e. omega (arith, is, e)) ready s run wide mine small in
+      does_at given slots id me word records (λ (x : ℕ). taking_event (load_count x)) at (omega (arith, is)) (λ y e. omega (arith, is, e)) ready s run wide mine small in
       let there = ap (λ list. get_elem? list id) (sym run.running.views) ∙ mine in
-      (view, act, valid, holds, (told, few_samples setting.shape _ run.running.segment run.running.kept id me.0 there (counts_live me.0 at ready)))
+      (view, act, valid, holds, (told, few_samples given.setting.shape _ run.running.segment run.running.kept id me.0 there (counts_live me.0 at ready)))
 
 -- ---- those of a walk
 

@@ -4,7 +4,7 @@ use Rattle.std.specs.Prelude.{List}
 use Rattle.segment_machine.specs.declared.actor.Actor.{Actor}
 use Rattle.segment_machine.specs.declared.actor.Known.{Known}
 use Rattle.segment_machine.specs.Actor.{is_bound, is_opener}
-use Rattle.segment_machine.specs.Taking.{is_looking}
+use Rattle.segment_promises.specs.Onward.{is_holding}
 use Rattle.live_segment.specs.declared.rule.Setting.{Setting}
 use Rattle.live_segment.specs.Readings.Deltas.{HasTaken}
 use Rattle.live_segment.specs.Rule.{IsOf}
@@ -19,7 +19,7 @@ module _ (known : Known) (delta : List (ℤ × ℕ)) (sum : ℤ) (old new : Acto
   taken_rests rest = record {
     recorder = ap (λ (x : Actor). is_opener x.role) taken.same ∙ rest.recorder;
     free = ap (λ (x : Actor). is_bound x.hand.place) taken.same;
-    apart = ap (λ (x : Actor). is_looking x.hand.place) taken.same;
+    apart = ap (λ (x : Actor). is_holding x.hand.place) taken.same;
     holds = ap (λ (x : Actor). x.units.held) taken.same ∙ rest.holds;
     runs = ap (λ (x : Actor). x.entries.running) taken.same ∙ rest.runs;
     takes = ap (λ (x : Actor). x.deltas.taking) taken.same;
@@ -45,7 +45,7 @@ module _ (known : Known) (snapshot : Snapshot) (old new : Actor) (has : HasSnaps
   looked_rests rest = record {
     recorder = ap (λ (x : Actor). is_opener x.role) has.same ∙ rest.recorder;
     free = has.free;
-    apart = ap is_looking has.saw.sum;
+    apart = ap is_holding has.saw.sum;
     holds = ap (λ (x : Actor). x.units.held) has.same ∙ rest.holds;
     runs = ap (λ (x : Actor). x.entries.running) has.same ∙ rest.runs;
     takes = ap (λ (x : Actor). x.deltas.taking) has.same ∙ rest.takes;

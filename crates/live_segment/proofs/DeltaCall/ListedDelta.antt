@@ -12,11 +12,11 @@ use Rattle.segment_machine.specs.Actor.{has_buckets, is_bound, is_opener}
 use Rattle.segment_machine.specs.Calls.{sight}
 use Rattle.segment_machine.specs.Event.{Event, next, walking_event}
 use Rattle.segment_machine.specs.Note.{TookSample, noted, takes}
-use Rattle.segment_machine.specs.Taking.{Takes, is_looking}
+use Rattle.segment_machine.specs.Taking.{Takes}
 use Rattle.segment_machine.specs.Walking.{load_published}
 use Rattle.segment_invariant.proofs.Lists.Maps.{contains_map}
 use Rattle.segment_promises.specs.Calls.{SamplesStandBehind}
-use Rattle.segment_promises.specs.Onward.{Grows, SeesOn}
+use Rattle.segment_promises.specs.Onward.{Grows, SeesOn, is_holding}
 use Rattle.segment_promises.specs.Values.{AreSorted, ListsOf, listed_of}
 use Rattle.segment_promises.proofs.Calls.SampleLists.{did_with}
 use Rattle.segment_promises.proofs.Calls.Sights.{took_sample}
@@ -102,7 +102,7 @@ module _ {segment : Segment} (known : Known) {first : Pass} (seated : IsSeated s
       sparse = sparse;
       takes = subst (λ (a : Actor). Takes a known.reference known) (sym view) (refl, has, refl, (first.me.0.deltas.taken, _, refl, refl));
       free = ap (λ (a : Actor). is_bound a.hand.place) view ∙ rests.free;
-      apart = ap (λ (a : Actor). is_looking a.hand.place) view ∙ rests.apart;
+      apart = ap (λ (a : Actor). is_holding a.hand.place) view ∙ rests.apart;
       singles = subst (λ (a : Actor). a.since.singles ≤ length a.seen.singles) (sym view) (omega arith);
       counts = subst (λ (a : Actor). a.since.counts ≤ length a.seen.counts) (sym view) (omega arith);
     }

@@ -232,6 +232,7 @@ module _ (segment : Segment) (known : Known) (word : ℕ) (old : Pass) (takes : 
           free = free;
           took = λ bucket below. took_else old.me.0 bucket takes.saw refl (λ e. let there : None ≡ Some bucket = none ∙ e in cc there);
           units = record { ascending = tt; some = λ k d low. absurd (omega arith) };
+          few = omega arith;
         }
 
     module _ (bucket units : ℕ) (says : SaysPacked segment.setting.version (buckets_of known.spec) word (Some bucket) units) where
@@ -340,6 +341,7 @@ module _ (segment : Segment) (known : Known) (word : ℕ) (old : Pass) (takes : 
           free = free_still;
           took = λ i below. took_packed i;
           units = record { ascending = (tt, tt); some = All-push (λ (c : ℤ × ℕ). 1 ≤ c.1) [] (key, units - found) (λ k d low. absurd (omega arith)) (omega (arith, more)) };
+          few = let below = within in omega (arith, below);
         }
 
         pub took_no_more : units ≤ found → HasTakenBuckets known [] old.me.0 new.me.0
@@ -350,4 +352,5 @@ module _ (segment : Segment) (known : Known) (word : ℕ) (old : Pass) (takes : 
           free = free_still;
           took = λ i below. took_packed i;
           units = record { ascending = tt; some = λ k d low. absurd (omega arith) };
+          few = omega arith;
         }

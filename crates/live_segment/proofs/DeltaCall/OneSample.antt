@@ -10,8 +10,9 @@ use Rattle.segment_machine.specs.declared.seen.Seen.{Seen}
 use Rattle.segment_machine.specs.Actor.{SawCount, is_bound, is_opener, known_at}
 use Rattle.segment_machine.specs.Calls.{back, sight}
 use Rattle.segment_machine.specs.Event.{taking_event}
-use Rattle.segment_machine.specs.Taking.{is_looking, raise_mark, taken_key}
+use Rattle.segment_machine.specs.Taking.{raise_mark, taken_key}
 use Rattle.segment_machine.proofs.Values.{value_word}
+use Rattle.segment_promises.specs.Onward.{is_holding}
 use Rattle.live_segment.specs.declared.segment.Segment.{Segment}
 use Rattle.live_segment.specs.Readings.Deltas.{HasTakenSample, MayTakeSample, TakesOn, TakesValues, units_of_key}
 use Rattle.live_segment.specs.Holders.{MayStep}
@@ -25,7 +26,7 @@ use Rattle.live_segment.proofs.SnapshotCall.Seeing.{began, takes_sees}
 module _ (segment : Segment) (known : Known) (old : Pass) (takes : TakesValues segment known old) where
   -- it takes them still once its delta went on
   pub values_on : (new : Pass) (more : List (ℤ × ℕ)) → IsSame old new → TakesOn more old.me.0 new.me.0 → is_bound new.me.0.hand.place ≡ false
-      → is_looking new.me.0.hand.place ≡ false → TakesValues segment known new
+      → is_holding new.me.0.hand.place ≡ false → TakesValues segment known new
   values_on new more same on free apart = record {
     table = same.0 ∙ takes.table;
     recorder = ap (λ (a : Actor). is_opener a.role) on.view ∙ takes.recorder;
@@ -75,7 +76,7 @@ module _ (segment : Segment) (known : Known) (value : ℤ) (sample count : ℕ) 
 
     pub took_units : (units : ℕ) → units ≡ count - found → HasTakenSample segment known value sample units old new
     took_units units is = record {
-      takes = values_on segment known old may.takes new (units_of_key value (count - found)) raise.same raised (ap is_bound idle) (ap is_looking idle);
+      takes = values_on segment known old may.takes new (units_of_key value (count - found)) raise.same raised (ap is_bound idle) (ap is_holding idle);
       on = subst (λ (n : ℕ). TakesOn (units_of_key value n) old.me.0 new.me.0) (sym is) raised;
       seen = ap (λ (a : Actor). a.seen) raise.view ∙ (λ i. record old.me.0.seen { counts = sym (ap (λ (a : Actor). a.seen.counts) raise.view) i });
       took = (

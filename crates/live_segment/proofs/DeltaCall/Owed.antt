@@ -46,6 +46,7 @@ use Rattle.segment_invariant.proofs.Lists.Firsts.{first_unique}
 use Rattle.segment_invariant.proofs.Lists.Maps.{contains_map, contains_mapped}
 use Rattle.segment_invariant.proofs.Lists.Tallies.{tally_at}
 use Rattle.segment_invariant.proofs.Walking.Words.{word_contains}
+use Rattle.live_segment.specs.declared.rule.Opening.{Opening}
 use Rattle.segment_promises.specs.Deltas as laws
 use Rattle.segment_promises.specs.Onward.{SeesOn}
 use Rattle.segment_promises.proofs.Deltas.{deltas_take_accepted}
@@ -54,7 +55,8 @@ use Rattle.segment_promises.proofs.ListedValues.{sample_still}
 use Rattle.segment_promises.proofs.Enough.{knower_lives}
 use Rattle.segment_promises.proofs.Snapshots.{snapshots_see_accepted}
 use Rattle.live_segment.specs.Readings.Deltas.{HasTaken}
-use Rattle.live_segment.specs.Readings.Owed.{HadCount, HadPacked, HadSample, HasEnough, IsEnough, IsWhole, Standing, TookEnough}
+use Rattle.live_segment.specs.Readings.Owed.{HadCount, HadPacked, HadSample, HasEnough, IsEnough, IsWhole, TookEnough}
+use Rattle.live_segment.specs.Standing.{Standing}
 use Rattle.live_segment.specs.Readings.Snapshots.{HasSnapshot}
 use Rattle.live_segment.specs.Readings.Taking.{answered_as}
 
@@ -104,23 +106,23 @@ kind_is {name} kind other at place same = ap (λ (l : Listed). spec_in l.made) s
     spec_in (Some (made.Histogram n s)) = s
     spec_in _ = kind
 
-module _ (old new : Actor) (since : new.since ≡ record { singles = length old.seen.singles; counts = length old.seen.counts })
+module _ (given : Opening) (number : ℕ) (old new : Actor) (since : new.since ≡ record { singles = length old.seen.singles; counts = length old.seen.counts })
     (segment : new.segment ≡ old.segment) (entries : new.entries ≡ old.entries) (sees : SeesOn old.seen new.seen) (records : is_opener new.role ≡ false)
-    (known : Known) (has : Contains new.answers.names known) (standing : Standing new) where
+    (known : Known) (has : Contains new.answers.names known) (standing : Standing given number new) where
   abbrev state : State
   state = standing.state
 
   abbrev opened : Anatomy
   opened = standing.opened
 
-  abbrev kept : Invariant new.segment.shape opened state
+  abbrev kept : Invariant given.setting.shape opened state
   kept = standing.kept
 
   lives : new.hand.place ≢ Spent
-  lives = knower_lives new.segment.shape opened state kept standing.who new standing.stands known has
+  lives = knower_lives given.setting.shape opened state kept number new standing.stands known has
 
   knows : Knows kept.anatomy known
-  knows = All-contains (Knows kept.anatomy) new.answers.names known (kept.each standing.who new standing.stands lives).names has
+  knows = All-contains (Knows kept.anatomy) new.answers.names known (kept.each number new standing.stands lives).names has
 
   -- ---- what it had seen before
 
@@ -147,10 +149,10 @@ module _ (old new : Actor) (since : new.since ≡ record { singles = length old.
   counts_are : (counts : ℕ) (r : Record) → HasRecord kept.anatomy.pieces known.reference r → word_seen new.seen.words (known.reference + 8) ≡ Some counts
       → (r.counts ≡ counts) × (r.counts ≢ 0)
   counts_are counts r (k, there) saw =
-      let fixed_words = (kept.each standing.who new standing.stands lives).sees.fixed in
+      let fixed_words = (kept.each number new standing.stands lives).sees.fixed in
       let (from, j, body, (m, here), is, fixed, value) =
       All-contains (WasFixed kept.anatomy.pieces) new.seen.words _ fixed_words (word_contains new.seen.words (known.reference + 8) counts saw) in
-      let index = one_index new.segment.shape state.words kept.anatomy kept.shown k m _ _ 8 j there here (omega arith) (fixed_within body j fixed) is in
+      let index = one_index given.setting.shape state.words kept.anatomy kept.shown k m _ _ 8 j there here (omega arith) (fixed_within body j fixed) is in
       let same = some-injective _ _ (sym there ∙ (ap (get_elem? kept.anatomy.pieces) index ∙ here)) in
       let spot : known.reference ≡ from = ap (λ (p : Piece). p.at) same in
       let word_is : j ≡ 8 = omega (arith, spot, is) in (
@@ -160,11 +162,11 @@ module _ (old new : Actor) (since : new.since ≡ record { singles = length old.
 
   had_counted : (bucket n : ℕ) → HadCount old known bucket n → laws.HadCount state.words new known bucket n
   had_counted bucket n (counts, seen, had) =
-      let (r, first, stands, named, many, keys) = known_first new.segment.shape opened state kept known knows in
+      let (r, first, stands, named, many, keys) = known_first given.setting.shape opened state kept known knows in
       let now = still old.seen.words new.seen.words sees.words (known.reference + 8) counts seen in
       let (is, some_counts) = counts_are counts r stands now in
       let (k, there) = stands in
-      let word : field_at state.words known.reference 8 ≡ r.counts = piece_word new.segment.shape state.words kept.anatomy kept.shown k _ 8 there (omega arith) in (
+      let word : field_at state.words known.reference 8 ≡ r.counts = piece_word given.setting.shape state.words kept.anatomy kept.shown k _ 8 there (omega arith) in (
         λ none. some_counts (sym word ∙ none),
         subst (λ (c : ℕ). Contains (take new.since.counts new.seen.counts) (record { at = c + 4 + bucket; word = n })) (sym (word ∙ is)) (had_count _ had),
       )
@@ -189,7 +191,7 @@ module _ (old new : Actor) (since : new.since ≡ record { singles = length old.
         ),
       ) in (
         sample,
-        first_met new.segment.shape opened state kept standing.who new standing.stands lives known.reference value sample first,
+        first_met given.setting.shape opened state kept number new standing.stands lives known.reference value sample first,
         had_count _ had,
       )
 
@@ -213,17 +215,17 @@ module _ (old new : Actor) (since : new.since ≡ record { singles = length old.
       (λ before.
       let opener = kept.roles.opener in
       let living : is_living new ≡ true = lives_on new records lives in
-      let (more, whole, alone) = kept.roles.heirs standing.who new standing.stands living in
+      let (more, whole, alone) = kept.roles.heirs number new standing.stands living in
       ended_calls 0 opener kept.roles.stands (λ spent. cc (spent, kept.roles.idle)) entry
       (subst (λ (l : List Entry). Contains l entry) (sym whole) (Contains-append_left new.entries.inherited more entry before)))
-      (λ own. ended_calls standing.who new standing.stands lives entry own)
+      (λ own. ended_calls number new standing.stands lives entry own)
       (Contains-append_cases new.entries.inherited _ entry among)
 
   -- so its key is that of a bucket
   bucket_of : has_buckets known.spec ≡ true → (key : ℤ) → HasKey kept.anatomy.records known.name key
       → (bucket : ℕ) × (bucket < buckets_of known.spec) × (bucket_key (Some known) bucket ≡ key)
   bucket_of bucketed key (kind, at, first, either) =
-      let (r, first_is, stands, named, many, keys) = known_first new.segment.shape opened state kept known knows in
+      let (r, first_is, stands, named, many, keys) = known_first given.setting.shape opened state kept known knows in
       let specified : kind ≡ r.spec = kind_is kind r.spec at known.reference (first_unique (IsNamed known.name) kept.anatomy.records _ _ first first_is) in
       ⊎_elim
       (λ (bucket, below, is).
@@ -275,22 +277,22 @@ module _ (old new : Actor) (since : new.since ≡ record { singles = length old.
 -- ---- what a call owes
 
 -- of a delta
-pub took_enough : (known : Known) (delta : List (ℤ × ℕ)) (sum : ℤ) (old new : Actor) → HasTaken known delta sum old new → Contains old.answers.names known
-    → is_opener old.role ≡ false → Standing new → TookEnough known old new
-took_enough known delta sum old new taken has records standing =
+pub took_enough : (given : Opening) (number : ℕ) (known : Known) (delta : List (ℤ × ℕ)) (sum : ℤ) (old new : Actor) → HasTaken known delta sum old new
+    → Contains old.answers.names known → is_opener old.role ≡ false → Standing given number new → TookEnough given number known old new
+took_enough given number known delta sum old new taken has records standing =
     let knows = subst (λ (names : List Known). Contains names known) (sym (ap (λ (x : Actor). x.answers.names) taken.same)) has in
     let recorder = ap (λ (x : Actor). is_opener x.role) taken.same ∙ records in
     let opened = standing.opened in record {
       standing = standing;
-      enough = is_enough old new (ap (λ (x : Actor). x.since) taken.same) (ap (λ (x : Actor). x.segment) taken.same) (ap (λ (x : Actor). x.entries) taken.same)
+      enough = is_enough given number old new (ap (λ (x : Actor). x.since) taken.same) (ap (λ (x : Actor). x.segment) taken.same) (ap (λ (x : Actor). x.entries) taken.same)
           taken.seen recorder known knows standing (units_taken standing.state.actors known.name)
-          (deltas_take_accepted new.segment.shape opened standing.state standing.who new known standing.kept standing.stands recorder knows taken.all);
+          (deltas_take_accepted given.setting.shape opened standing.state number new known standing.kept standing.stands recorder knows taken.all);
     }
 
 -- of a snapshot
-pub has_enough : (known : Known) (snapshot : Snapshot) (old new : Actor) → HasSnapshot known old snapshot new → Contains old.answers.names known
-    → is_opener old.role ≡ false → Standing new → HasEnough known old snapshot new
-has_enough known snapshot old new seen has records standing =
+pub has_enough : (given : Opening) (number : ℕ) (known : Known) (snapshot : Snapshot) (old new : Actor) → HasSnapshot known old snapshot new
+    → Contains old.answers.names known → is_opener old.role ≡ false → Standing given number new → HasEnough known old snapshot new
+has_enough given number known snapshot old new seen has records standing =
     let knows = subst (λ (names : List Known). Contains names known) (sym (ap (λ (x : Actor). x.answers.names) seen.same)) has in
     let recorder = ap (λ (x : Actor). is_opener x.role) seen.same ∙ records in
     let opened = standing.opened in
@@ -298,15 +300,15 @@ has_enough known snapshot old new seen has records standing =
     let segment = ap (λ (x : Actor). x.segment) seen.same in
     let entries = ap (λ (x : Actor). x.entries) seen.same in
     let opener = standing.kept.roles.opener in
-    let law = snapshots_see_accepted new.segment.shape opened standing.state standing.who opener new known (answered_as old known snapshot) standing.kept
+    let law = snapshots_see_accepted given.setting.shape opened standing.state number opener new known (answered_as old known snapshot) standing.kept
     standing.kept.roles.stands standing.stands recorder knows seen.saw in
     let own = map (λ (c : EntryProgress). c.entry) new.entries.log in
     let noted = λ (entry : Entry). if is_of known.name entry then entry.units else 0 in
     let parts = sum_by-append noted (drop (length opener.entries.first) new.entries.inherited) own in
     let least = law.1 in record {
-      enough = is_enough old new since segment entries seen.seen recorder known knows standing (units_listed snapshot.counts.items) law.0;
+      enough = is_enough given number old new since segment entries seen.seen recorder known knows standing (units_listed snapshot.counts.items) law.0;
       accepted = subst (λ (e : Entries). tally_noted (map (λ (c : EntryProgress). c.entry) e.log) known.name ≤ snapshot.redundant) entries
           (omega (arith, parts, least));
       redundant = λ count had.
-          law.2 count (had_count old new since segment entries seen.seen recorder known knows standing _ had);
+          law.2 count (had_count given number old new since segment entries seen.seen recorder known knows standing _ had);
     }

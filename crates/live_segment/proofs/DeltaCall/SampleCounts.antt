@@ -14,7 +14,8 @@ use Rattle.segment_machine.specs.Actor.{SawCount, is_bound, is_opener}
 use Rattle.segment_machine.specs.Calls.{MayTurn, sight}
 use Rattle.segment_machine.specs.Event.{Event, next, taking_event}
 use Rattle.segment_machine.specs.Made.{SawSample}
-use Rattle.segment_machine.specs.Taking.{IsLaterSample, at_count, is_looking, load_count}
+use Rattle.segment_machine.specs.Taking.{IsLaterSample, at_count, load_count}
+use Rattle.segment_promises.specs.Onward.{is_holding}
 use Rattle.live_segment.specs.declared.segment.Segment.{Segment}
 use Rattle.live_segment.specs.Names.Finding.{Meets, SeesWords}
 use Rattle.live_segment.specs.Holders.{table_of, MayStep}
@@ -23,20 +24,21 @@ use Rattle.live_segment.specs.Steps.{Pass, IsSame, Stepped}
 use Rattle.live_segment.specs.GhostNotes.{KnowsAlone}
 use Rattle.live_segment.proofs.AddCall.Beginning.{known_there}
 use Rattle.live_segment.proofs.Walks.Showing.{meets_still}
+use Rattle.segment_promises.proofs.Calls.Places.{not_looking}
 
 -- where it stands that has loaded the count of a sample
-loads_sample : (p : Place) (at found : ℕ) → is_looking p ≡ false → (is_looking (at_count p at found) ≡ false) × (is_bound (at_count p at found) ≡ false)
+loads_sample : (p : Place) (at found : ℕ) → is_holding p ≡ false → (is_holding (at_count p at found) ≡ false) × (is_bound (at_count p at found) ≡ false)
 loads_sample (place.Looking look) at found apart = absurd (cc apart)
 loads_sample (place.CountLoaded look bucket count) at found apart = absurd (cc apart)
 loads_sample p at found apart = (refl, refl)
 
-at_sample : (p : Place) (at found : ℕ) → is_looking p ≡ false → at_count p (at + 6) found ≡ SampleLoaded at found
+at_sample : (p : Place) (at found : ℕ) → is_holding p ≡ false → at_count p (at + 6) found ≡ SampleLoaded at found
 at_sample (place.Looking look) at found apart = absurd (cc apart)
 at_sample (place.CountLoaded look bucket count) at found apart = absurd (cc apart)
 at_sample p at found apart = let same : at + 6 - 6 ≡ at = omega arith in ap (λ (n : ℕ). SampleLoaded n found) same
 
 -- it has only seen words
-pub sees_no_count : (a b : Actor) → MayTurn a → is_looking a.hand.place ≡ false → SeesWords a b → SeesSample a b
+pub sees_no_count : (a b : Actor) → MayTurn a → is_holding a.hand.place ≡ false → SeesWords a b → SeesSample a b
 sees_no_count a b free apart sees = record {
   view = sees.view ∙ (λ i. record a {
     hand = record a.hand { place = sym (ap (λ (x : Actor). x.hand.place) sees.view) i };
@@ -45,12 +47,12 @@ sees_no_count a b free apart sees = record {
   words = sees.words;
   counts = ([], ap (λ (x : Actor). x.seen.counts) sees.view ∙ sym (append-nil a.seen.counts));
   free = ap (λ (x : Actor). is_bound x.hand.place) sees.view ∙ free;
-  apart = ap (λ (x : Actor). is_looking x.hand.place) sees.view ∙ apart;
+  apart = ap (λ (x : Actor). is_holding x.hand.place) sees.view ∙ apart;
 }
 
 module _ (segment : Segment) (known : Known) (first old : Pass) (at : ℕ) (value : ℤ) (table : first.table_id ≡ table_of segment)
     (records : is_opener first.me.0.role ≡ false) (alone : KnowsAlone first.me.0 known) (sparse : known.spec ≡ spec.Sparse)
-    (apart : is_looking first.me.0.hand.place ≡ false) (since : first.me.0.since.counts ≤ length first.me.0.seen.counts) (met : Meets at first.me.0)
+    (apart : is_holding first.me.0.hand.place ≡ false) (since : first.me.0.since.counts ≤ length first.me.0.seen.counts) (met : Meets at first.me.0)
     (same : IsSame first old) (sees : SeesWords first.me.0 old.me.0) (saw : SawSample old.me.0.seen known.reference value at) where
   abbrev event : Event
   event = taking_event (load_count (at + 6))
@@ -72,13 +74,13 @@ module _ (segment : Segment) (known : Known) (first old : Pass) (at : ℕ) (valu
       saw,
       refl,
       there.0,
-      ap (λ (x : Actor). is_looking x.hand.place) sees.view ∙ apart,
+      not_looking old.me.0.hand.place (ap (λ (x : Actor). is_holding x.hand.place) sees.view ∙ apart),
     );
   }
 
   module _ (found : ℕ) (new : Pass) (step : Stepped old event found new) where
-    apart_old : is_looking old.me.0.hand.place ≡ false
-    apart_old = ap (λ (x : Actor). is_looking x.hand.place) sees.view ∙ apart
+    apart_old : is_holding old.me.0.hand.place ≡ false
+    apart_old = ap (λ (x : Actor). is_holding x.hand.place) sees.view ∙ apart
 
     counts_are : new.me.0.seen.counts ≡ first.me.0.seen.counts ++ sight (at + 6) found
     counts_are = ap (λ (x : Actor). x.seen.counts) step.view ∙ ap (λ (x : Actor). x.seen.counts ++ sight (at + 6) found) sees.view
@@ -95,7 +97,7 @@ module _ (segment : Segment) (known : Known) (first old : Pass) (at : ℕ) (valu
       words = (sees.words.0, words_are ∙ sees.words.1);
       counts = (sight (at + 6) found, counts_are);
       free = ap (λ (x : Actor). is_bound x.hand.place) step.view ∙ (loads_sample old.me.0.hand.place (at + 6) found apart_old).1;
-      apart = ap (λ (x : Actor). is_looking x.hand.place) step.view ∙ (loads_sample old.me.0.hand.place (at + 6) found apart_old).0;
+      apart = ap (λ (x : Actor). is_holding x.hand.place) step.view ∙ (loads_sample old.me.0.hand.place (at + 6) found apart_old).0;
     }
 
     pub saw_sample : SawSample new.me.0.seen known.reference value at

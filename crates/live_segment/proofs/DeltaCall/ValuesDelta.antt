@@ -10,13 +10,13 @@ use Rattle.segment_machine.specs.declared.actor.Known.{Known}
 use Rattle.segment_machine.specs.Actor.{has_buckets, is_bound, is_opener}
 use Rattle.segment_machine.specs.Event.{Event, next, walking_event}
 use Rattle.segment_machine.specs.Note.{TookSample, noted, takes}
-use Rattle.segment_machine.specs.Taking.{Takes, is_looking}
+use Rattle.segment_machine.specs.Taking.{Takes}
 use Rattle.segment_machine.specs.Walking.{load_next}
 use Rattle.segment_invariant.proofs.Lists.Maps.{contains_map}
 use Rattle.live_segment.specs.declared.segment.Segment.{Segment}
 use Rattle.live_segment.specs.Readings.Deltas.{HasTaken, HasTakenSum, MayTakeSum, TakesValues}
 use Rattle.live_segment.specs.Seated.{IsSeated}
-use Rattle.segment_promises.specs.Onward.{SeesOn}
+use Rattle.segment_promises.specs.Onward.{SeesOn, is_holding}
 use Rattle.segment_promises.specs.Values.{NoRepeats, AreSorted, ComesTo}
 use Rattle.live_segment.specs.Rule.{IsOf}
 use Rattle.live_segment.specs.Readings.Samples.{SamplesStandBehind}
@@ -89,7 +89,7 @@ module _ {segment : Segment} (known : Known) {first : Pass} (seated : IsSeated s
       sparse = sparse;
       takes = subst (λ (a : Actor). Takes a known.reference known) (sym view) (refl, has, refl, (first.me.0.deltas.taken, _, refl, refl));
       free = ap (λ (a : Actor). is_bound a.hand.place) view ∙ behind_free first.me.0.hand.place known.reference found rests.free;
-      apart = ap (λ (a : Actor). is_looking a.hand.place) view ∙ behind_apart first.me.0.hand.place known.reference found rests.apart;
+      apart = ap (λ (a : Actor). is_holding a.hand.place) view ∙ behind_apart first.me.0.hand.place known.reference found rests.apart;
       singles = subst (λ (a : Actor). a.since.singles ≤ length a.seen.singles) (sym view) (omega arith);
       counts = subst (λ (a : Actor). a.since.counts ≤ length a.seen.counts) (sym view) (omega arith);
     }

@@ -9,13 +9,12 @@ use Rattle.segment_machine.specs.declared.seen.Seen.{Seen}
 use Rattle.segment_machine.specs.Actor.{is_bound}
 use Rattle.segment_machine.specs.Event.{Event, walking_event}
 use Rattle.segment_machine.specs.Note.{TookSample}
-use Rattle.segment_machine.specs.Taking.{is_looking}
 use Rattle.segment_machine.specs.Calls.{ended}
 use Rattle.segment_machine.specs.Walking.{extended, load_next}
 use Rattle.live_segment.specs.declared.segment.Segment.{Segment}
 use Rattle.live_segment.specs.Readings.Deltas.{TakesOn, TakesValues}
 use Rattle.live_segment.specs.Holders.{MayStep}
-use Rattle.segment_promises.specs.Onward.{SeesOn}
+use Rattle.segment_promises.specs.Onward.{SeesOn, is_holding}
 use Rattle.segment_promises.specs.Values.{NoRepeats, ComesTo, ListsValues, listed_of}
 use Rattle.live_segment.specs.Steps.{IsSame, Pass, Stepped}
 use Rattle.live_segment.specs.Readings.Values.{TakesAlong, TakesValue}
@@ -112,7 +111,7 @@ module _ (segment : Segment) (known : Known) (passed : List ℕ) (at : ℕ) (tak
       takes_new : TakesValues segment known new
       takes_new = values_on segment known mid value.takes new [] step.same on_step
           (ap (λ (a : Actor). is_bound a.hand.place) step.view ∙ behind_free mid.me.0.hand.place at found value.takes.free)
-          (ap (λ (a : Actor). is_looking a.hand.place) step.view ∙ behind_apart mid.me.0.hand.place at found value.takes.apart)
+          (ap (λ (a : Actor). is_holding a.hand.place) step.view ∙ behind_apart mid.me.0.hand.place at found value.takes.apart)
 
       on_new : TakesOn (taken ++ listed_of one) first.me.0 new.me.0
       on_new = subst (λ (l : List (ℤ × ℕ)). TakesOn l first.me.0 new.me.0) (append-nil (taken ++ listed_of one))

@@ -36,8 +36,11 @@ searches_none asked a b searched = inl (ap (λ (x : Actor). x.done) searched.vie
 pub makes_one : (asked : Asked) (a b c d : Actor) → HasSearched a b → All (SawOtherName b.seen asked.name.items) b.seen.chain
     → SawAllOfList a.seen b.seen → HasMade asked b c → HasSearched c d → MakesFor asked a d
 makes_one asked a b c d first others all made second = inr (record {
-  makes = makes_between (Histogram asked.name.items asked.spec) (4 + length asked.payload.items) a.done b.done c.done d.done
-      (ap (λ (x : Actor). x.done) first.view) made.makes (ap (λ (x : Actor). x.done) second.view);
+  makes = makes_between a.segment.shape (Histogram asked.name.items asked.spec) (4 + length asked.payload.items) a.done b.done c.done d.done
+      (ap (λ (x : Actor). x.done) first.view)
+      (subst (λ (s : Dimensions). MakesOne s (Histogram asked.name.items asked.spec) (4 + length asked.payload.items) b.done c.done)
+      (ap (λ (x : Actor). x.segment.shape) first.view) made.makes)
+      (ap (λ (x : Actor). x.done) second.view);
   met = b.seen.chain;
   more = (first.chain, subst (λ (l : List ℕ). Grows l d.seen.chain) (ap (λ (x : Actor). x.seen.chain) made.view) second.chain);
   all = found_on a.seen a.seen b.seen d.seen (grows_not a.seen.ends) first.ends
@@ -50,7 +53,7 @@ makes_one asked a b c d first others all made second = inr (record {
 pub makes_kept : (asked : Asked) (a b c : Actor) → Grows a.seen.ends b.seen.ends → MakesFor asked a b → KeepsBlocks b c → MakesFor asked a c
 makes_kept asked a b c grows (inl same) behind = inl (behind.done ∙ same)
 makes_kept asked a b c grows (inr one) behind = inr (record {
-  makes = subst (MakesOne _ (4 + length asked.payload.items) a.done) (sym behind.done) one.makes;
+  makes = subst (MakesOne a.segment.shape _ (4 + length asked.payload.items) a.done) (sym behind.done) one.makes;
   met = one.met;
   more = (one.more.0, subst (Grows one.met) (sym behind.chain) one.more.1);
   all = found_on a.seen a.seen b.seen c.seen (grows_not a.seen.ends) grows behind.ends (stands_behind one.met + 3) one.all;
@@ -59,12 +62,12 @@ makes_kept asked a b c grows (inr one) behind = inr (record {
 
 -- its answer is given, or refused
 pub knows_none : (b c : Actor) (known : Known) → c ≡ noted b (knows known) → KeepsBlocks b c
-knows_none b c known is = subst (KeepsBlocks b) (sym is) (record { done = refl; own = refl; chain = refl; words = refl; ends = grows_not b.seen.ends })
+knows_none b c known is = subst (KeepsBlocks b) (sym is) (record { segment = refl; done = refl; own = refl; chain = refl; words = refl; ends = grows_not b.seen.ends })
 
 declines_none : (b : Actor) (list : List Known) → KeepsBlocks b (noted_by b (map declines list))
-declines_none b [] = record { done = refl; own = refl; chain = refl; words = refl; ends = grows_not b.seen.ends }
+declines_none b [] = record { segment = refl; done = refl; own = refl; chain = refl; words = refl; ends = grows_not b.seen.ends }
 declines_none b (k ∷ rest) =
-    let behind = declines_none (noted b (declines k)) rest in record { done = behind.done; own = behind.own; chain = behind.chain; words = behind.words; ends = behind.ends }
+    let behind = declines_none (noted b (declines k)) rest in record { segment = behind.segment; done = behind.done; own = behind.own; chain = behind.chain; words = behind.words; ends = behind.ends }
 
 pub declined_none : (b c : Actor) → c ≡ noted_by b (map declines b.answers.owed) → KeepsBlocks b c
 declined_none b c is = subst (KeepsBlocks b) (sym is) (declines_none b b.answers.owed)

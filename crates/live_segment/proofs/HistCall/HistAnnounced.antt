@@ -24,7 +24,7 @@ use Rattle.segment_invariant.proofs.Lists.Firsts.{split_among}
 use Rattle.segment_invariant.proofs.Notes.Names.{first_right}
 use Rattle.segment_promises.specs.Follows.{MayNoteAll}
 use Rattle.live_segment.specs.declared.rule.Announcement.{Announcement}
-use Rattle.live_segment.specs.declared.rule.Setting.{Setting}
+use Rattle.live_segment.specs.declared.rule.Opening.{Opening}
 use Rattle.live_segment.specs.Names.Answering.{Declines, HaveOneName, IsSaid, Knows}
 use Rattle.live_segment.specs.Rule.{Runs}
 use Rattle.live_segment.specs.Steps.{Sat}
@@ -58,12 +58,12 @@ module _ (shape : Dimensions) (opened : Anatomy) (state : State) (kept : Invaria
       one_record shape opened state kept known.reference s r (subst (λ (at : ℕ). HasRecord kept.anatomy.pieces at s) same there) has in
       sym other_is ∙ (ap (λ (x : Record). x.name) one ∙ name_is)
 
-module _ (setting : Setting) (slots id : ℕ) (me : Sat) (records : is_opener me.0.role ≡ false) where
+module _ (given : Opening) (slots id : ℕ) (me : Sat) (records : is_opener me.0.role ≡ false) where
   pub knows_said : (reference : ℕ) (said : Announcement) (known : Known) → IsSaid reference said known → is_bound me.0.hand.place ≡ false → MayNote me.0 (knows known)
-      → Allows (Runs setting) slots id me 0 (λ n. either (n == reference) reference n) (Knows (step slots 0 reference reference (some said)) me)
+      → Allows (Runs given) slots id me 0 (λ n. either (n == reference) reference n) (Knows (step slots 0 reference reference (some said)) me)
   knows_said reference said known says free may s run wide mine small =
       let (view, act, valid, holds, told) =
-      announces setting (knows known ∷ []) slots id me (λ n. either (n == reference) reference n)
+      announces given (knows known ∷ []) slots id me (λ n. either (n == reference) reference n)
       (λ n. exchanged n reference reference (λ x. x ≡ n) (λ e. sym e) (λ _. refl)) records (may, refl) s run wide mine small in
       let there : get_elem? run.running.segment.actors id ≡ some me.0 = ap (λ list. get_elem? list id) (sym run.running.views) ∙ mine in
       let live : me.0.hand.place ≢ Spent = λ e. true≢false (sym (ap is_bound e) ∙ free) in (
@@ -76,10 +76,10 @@ module _ (setting : Setting) (slots id : ℕ) (me : Sat) (records : is_opener me
             let one : known ≡ other = one_said reference said known other says (subst (λ (x : Announcement). IsSaid reference x other) (sym same) also) in (
               told.0 ∙ ap (λ (k : Known). noted me.0 (knows k)) one,
               told.1,
-              subst (λ (k : Known). HaveOneName k me.0) one (one_name setting.shape run.opened run.running.segment run.running.kept id me.0 there live known may),
+              subst (λ (k : Known). HaveOneName k me.0) one (one_name given.setting.shape run.opened run.running.segment run.running.kept id me.0 there live known may),
             ),
       )
 
-  pub declines_owed : MayNoteAll me.0 (map declines me.0.answers.owed) → Allows (Runs setting) slots id me 0 (λ n. n) (Declines me)
+  pub declines_owed : MayNoteAll me.0 (map declines me.0.answers.owed) → Allows (Runs given) slots id me 0 (λ n. n) (Declines me)
   declines_owed may =
-      announces setting (map declines me.0.answers.owed) slots id me (λ n. n) (λ n. refl) records may
+      announces given (map declines me.0.answers.owed) slots id me (λ n. n) (λ n. refl) records may

@@ -16,7 +16,6 @@ use Rattle.segment_image.specs.Shape.{Dimensions}
 use Rattle.segment_machine.specs.declared.actor.Actor.{Actor}
 use Rattle.segment_machine.specs.declared.actor.Known.{Known}
 use Rattle.segment_machine.specs.Actor.{is_bound, is_opener, known_at}
-use Rattle.segment_machine.specs.Taking.{is_looking}
 use Rattle.segment_invariant.proofs.Lists.Elements.{below_length, index_at, from_map}
 use Rattle.segment_invariant.proofs.Walking.Words.{letters_long}
 use Rattle.segment_promises.proofs.Adopting.Opened.Blocks.{test_there}
@@ -27,7 +26,7 @@ use Rattle.live_segment.specs.declared.rule.Setting.{Setting}
 use Rattle.live_segment.specs.Counts.Adding.{block_words}
 use Rattle.live_segment.specs.Names.Hist.{IsKnownAt, KnowsNone, MayBeAsked, NoneHasName}
 use Rattle.live_segment.specs.Known.{known_view, KnowsRight}
-use Rattle.segment_promises.specs.Onward.{Grows, SeesOn}
+use Rattle.segment_promises.specs.Onward.{Grows, SeesOn, is_holding}
 use Rattle.live_segment.specs.Rule.{IsOf}
 use Rattle.live_segment.specs.Names.Searching.{asked_at}
 use Rattle.live_segment.specs.Names.Settling.{ComesToKnow, IsKnownAs, LooksAround}
@@ -204,7 +203,7 @@ module _ (asked : Asked) (reference : ℕ) (a b : Actor) (comes : ComesToKnow as
         runs = ap (λ (x : Actor). x.entries.running) comes.view ∙ (ap (λ (x : Actor). x.entries.running) same ∙ rests.runs);
         takes = ap (λ (x : Actor). x.deltas.taking) comes.view ∙ (ap (λ (x : Actor). x.deltas.taking) same ∙ rests.takes);
         owes = ap (λ (x : Actor). x.answers.owed) comes.view;
-        apart = ap (λ (x : Actor). is_looking x.hand.place) comes.view ∙ comes.looks.apart rests.apart;
+        apart = ap (λ (x : Actor). is_holding x.hand.place) comes.view ∙ comes.looks.apart rests.apart;
       }
 
   -- what it knew

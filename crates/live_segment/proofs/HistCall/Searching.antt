@@ -21,7 +21,6 @@ use Rattle.segment_machine.specs.Actor.{is_bound, is_opener}
 use Rattle.segment_machine.specs.Event.{walking_event, Ready}
 use Rattle.segment_machine.specs.Made.{IsFirstNamed, SawName, SawOtherName, SawSpec, SawOtherSpec}
 use Rattle.segment_machine.specs.Stages.{Walks}
-use Rattle.segment_machine.specs.Taking.{is_looking}
 use Rattle.segment_machine.specs.Walking.{load_next, extended, records_met}
 use Rattle.segment_machine.proofs.Stages.Walks.{walks_agree}
 use Rattle.segment_invariant.proofs.Lists.Maps.{contains_map}
@@ -31,7 +30,7 @@ use Rattle.live_segment.specs.declared.segment.Segment.{Segment}
 use Rattle.live_segment.specs.Steps.{Pass, IsSame, Stepped}
 use Rattle.live_segment.specs.Holders.{MayStep}
 use Rattle.live_segment.specs.Seated.{IsSeated}
-use Rattle.segment_promises.specs.Onward.{Grows}
+use Rattle.segment_promises.specs.Onward.{Grows, is_holding}
 use Rattle.segment_promises.specs.Values.{NoRepeats}
 use Rattle.live_segment.specs.Lists.Records.{KnowsOwnNames}
 use Rattle.live_segment.specs.Names.Finding.{IsAsked, Meets, SeesWords, ShowsName, ShowsSpec}
@@ -83,7 +82,7 @@ sees_searched a b sees = record {
           words = b.seen.words;
         };
       });
-  apart = λ was. ap (λ (x : Actor). is_looking x.hand.place) sees.view ∙ was;
+  apart = λ was. ap (λ (x : Actor). is_holding x.hand.place) sees.view ∙ was;
   chain = ([], ap (λ (x : Actor). x.seen.chain) sees.view ∙ sym (append-nil a.seen.chain));
   ends = ([], ap (λ (x : Actor). x.seen.ends) sees.view ∙ sym (append-nil a.seen.ends));
   words = sees.words;

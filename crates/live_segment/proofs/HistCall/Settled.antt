@@ -1,5 +1,5 @@
 -- A `hist` looks for the first record of its name, makes one where there is none, and looks on: what becomes of its recorder.
-use Rattle.std.proofs.Common.{◌≡◌, ◌≢◌, ℕ, ◌+◌, ◌≤◌, Bool, false, List, [], ◌∷◌, ◌++◌, length, map, not, ◌&&◌, ◌==◌, if◌then◌else◌, eq-eqb, All, inl, inr, refl, sym, ap, subst, ◌∙◌, arith, true}
+use Rattle.std.proofs.Common.{◌≡◌, ◌≢◌, ℕ, ◌+◌, ◌≤◌, Bool, false, List, [], ◌∷◌, ◌++◌, length, map, not, ◌&&◌, ◌==◌, if◌then◌else◌, eq-eqb, append_assoc, All, inl, inr, refl, sym, ap, subst, ◌∙◌, arith, true}
 use Rattle.std.specs.Prelude.{Ok, Err}
 use Rattle.std.specs.List.{Contains, filter}
 use Rattle.std.specs.Str.{bytes_eq}
@@ -12,6 +12,7 @@ use Rattle.segment_machine.specs.declared.actor.Done.{Done}
 use Rattle.segment_machine.specs.declared.actor.Known.{Known}
 use Rattle.segment_machine.specs.declared.actor.Made.TheVariants.{Histogram}
 use Rattle.segment_machine.specs.declared.actor.Published.{Published}
+use Rattle.segment_machine.specs.declared.actor.Rise.{Rise}
 use Rattle.segment_machine.specs.declared.place.Place.TheVariants.{Idle}
 use Rattle.segment_machine.specs.Actor.{looking}
 use Rattle.segment_machine.specs.Note.{declines, knows, noted}
@@ -28,7 +29,7 @@ use Rattle.live_segment.specs.Lists.Allocation.{Allocates, filled, noticed, saw_
 use Rattle.live_segment.specs.Names.Answering.{HaveOneName}
 use Rattle.live_segment.specs.Names.Making.{HasMade, Makes}
 use Rattle.live_segment.specs.Names.Settling.{IsRefusedBy, LooksAround, LooksUp, Owes, OwesAs, Settles}
-use Rattle.segment_promises.specs.Onward.{DoesOn}
+use Rattle.segment_promises.specs.Onward.{DoesOn, Grows}
 use Rattle.live_segment.specs.Names.Searching.{HasMadeNone, HasSearched, Searches, WalksAt, asked_at}
 use Rattle.live_segment.proofs.Walks.Ends.{all_on}
 use Rattle.live_segment.proofs.NewRecords.Claimed.{sees_header}
@@ -94,12 +95,14 @@ made_around asked a b made = record {
   done = record {
     same = ap (λ (x : Actor). x.done) made.view ∙ (λ i. record a.done {
       claimed = b.done.claimed;
+      raised = b.done.raised;
       published = sym (ap (λ (x : Actor). x.done.published) made.view) i;
       filled = sym (ap (λ (x : Actor). x.done.filled) made.view) i;
       lacked = sym (ap (λ (x : Actor). x.done.lacked) made.view) i;
       beaten = b.done.beaten;
     });
     claimed = made.claimed;
+    raised = let (wastes, are, all) = made.makes.raises in (wastes ++ _ ∷ [], are ∙ append_assoc a.done.raised wastes _);
     published = (record { reference = made.at; made = Histogram asked.name.items asked.spec } ∷ [], ap (λ (x : Actor). x.done.published) made.view);
     filled = λ set. ap (λ (x : Actor). x.done.filled) made.view ∙ set;
     lacked = grows_same a.done.lacked b.done.lacked (ap (λ (x : Actor). x.done.lacked) made.view);
@@ -121,13 +124,26 @@ made_around asked a b made = record {
 }
 
 -- an allocation that is refused, to a call that counts nothing
-saw_around : (a : Actor) (free : ℕ) (corrupt : Bool) (warned : ℕ) → a.seen.free ≤ free → (a.seen.corrupt ≡ true → corrupt ≡ true) → a.seen.warned ≤ warned
-    → LooksAround a (record a { hand = record a.hand { place = Idle }; seen = record a.seen { free = free; corrupt = corrupt; warned = warned } })
-saw_around a free corrupt warned later saw more = record {
+saw_around : (a : Actor) (free : ℕ) (raised : List Rise) (corrupt : Bool) (warned : ℕ) → a.seen.free ≤ free → Grows a.done.raised raised
+    → (a.seen.corrupt ≡ true → corrupt ≡ true) → a.seen.warned ≤ warned
+    → LooksAround a (record a {
+      hand = record a.hand { place = Idle };
+      done = record a.done { raised = raised };
+      seen = record a.seen { free = free; corrupt = corrupt; warned = warned };
+    })
+saw_around a free raised corrupt warned later rises saw more = record {
   same = refl;
   free = refl;
   apart = λ was. refl;
-  done = does_not a.done;
+  done = record {
+    same = refl;
+    claimed = grows_not a.done.claimed;
+    raised = rises;
+    published = grows_not a.done.published;
+    filled = λ set. set;
+    lacked = grows_not a.done.lacked;
+    spoiled = λ set. refl;
+  };
   seen = sees_header a.seen free corrupt warned later saw more;
   untouched = (refl, refl);
 }
@@ -140,6 +156,7 @@ filled_around a free = record {
   done = record {
     same = refl;
     claimed = grows_not a.done.claimed;
+    raised = grows_not a.done.raised;
     published = grows_not a.done.published;
     filled = λ set. refl;
     lacked = grows_by a.done.lacked _;
@@ -162,20 +179,22 @@ filled_around a free = record {
 
 pub refused_around : (size : ℕ) (a b : Actor) (cause : Refusal) → a.entries.running ≡ [] → Allocates size 1 a (Err cause) b
     → LooksAround a b × HasNoRoom cause size a b × (b.seen.chain ≡ a.seen.chain) × (b.seen.words ≡ a.seen.words) × (b.answers.owed ≡ a.answers.owed) × (cause ≢ why.OtherSpec)
-refused_around size a b why.Full none (free, view, later, beyond) =
-    let is : b ≡ filled (saw_free a Idle free) = view ∙ at_rest (filled (saw_free a Idle free)) none in
-    let around = around_on a (saw_free a Idle free) (filled (saw_free a Idle free)) (saw_around a free a.seen.corrupt a.seen.warned later (λ saw. saw) (omega arith)) (filled_around (saw_free a Idle free) refl) in (
-      subst (LooksAround a) (sym is) around,
-      lacks_room why.Full size 1 a b (free, view, later, beyond),
+refused_around size a b why.Full none (free, view, later, beyond, wastes) =
+    let last : Actor = saw_free a Idle free b.done.raised in
+    let is : b ≡ filled last = view ∙ at_rest (filled last) none in
+    let saw = saw_around a free b.done.raised a.seen.corrupt a.seen.warned later (wastes.0, wastes.1) (λ saw. saw) (omega arith) in (
+      subst (LooksAround a) (sym is) (around_on a last (filled last) saw (filled_around last refl)),
+      lacks_room why.Full size 1 a b (free, view, later, beyond, wastes),
       ap (λ (x : Actor). x.seen.chain) is,
       ap (λ (x : Actor). x.seen.words) is,
       ap (λ (x : Actor). x.answers.owed) is,
       λ e. cc e,
     )
-refused_around size a b why.Corrupt none (free, view, later) =
-    let is : b ≡ noticed (saw_free a Idle free) = view ∙ at_rest (noticed (saw_free a Idle free)) none in (
-      subst (LooksAround a) (sym is) (saw_around a free true (a.seen.warned + 1) later (λ saw. refl) (omega arith)),
-      lacks_room why.Corrupt size 1 a b (free, view, later),
+refused_around size a b why.Corrupt none (free, view, later, wastes) =
+    let last : Actor = saw_free a Idle free b.done.raised in
+    let is : b ≡ noticed last = view ∙ at_rest (noticed last) none in (
+      subst (LooksAround a) (sym is) (saw_around a free b.done.raised true (a.seen.warned + 1) later (wastes.0, wastes.1) (λ saw. refl) (omega arith)),
+      lacks_room why.Corrupt size 1 a b (free, view, later, wastes),
       ap (λ (x : Actor). x.seen.chain) is,
       ap (λ (x : Actor). x.seen.words) is,
       ap (λ (x : Actor). x.answers.owed) is,

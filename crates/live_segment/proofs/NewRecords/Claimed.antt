@@ -1,7 +1,8 @@
 -- A call that claims a block, or is refused one, has looked: what that leaves as it was.
-use Rattle.std.proofs.Common.{◌≡◌, ◌∙◌, ℕ, ◌≤◌, Bool, true, false, List, true≢false, refl, sym, subst, arith}
+use Rattle.std.proofs.Common.{◌≡◌, ◌∙◌, ℕ, ◌≤◌, Bool, true, false, List, [], ◌∷◌, ◌++◌, append_assoc, true≢false, refl, sym, subst, arith}
 use Rattle.std.specs.Prelude.{Ok}
 use Rattle.segment_machine.specs.declared.actor.Actor.{Actor}
+use Rattle.segment_machine.specs.declared.actor.Rise.{Rise}
 use Rattle.segment_machine.specs.declared.place.Place.TheVariants.{Idle}
 use Rattle.segment_machine.specs.declared.seen.Seen.{Seen}
 use Rattle.live_segment.specs.Lists.Allocation.{Allocates}
@@ -27,7 +28,7 @@ sees_header a free corrupt warned later saw more = record {
 
 -- a block is claimed
 pub looks_claimed : (size tag at : ℕ) (old new : Actor) → old.done.spoiled ≡ false → Allocates size tag old (Ok at) new → LooksOn old new
-looks_claimed size tag at old new unspoiled (behind, view, later, enough, few, place) =
+looks_claimed size tag at old new unspoiled (behind, view, later, enough, few, place, (wastes, are, all)) =
     subst (LooksOn old) (sym view) (record {
       proceeds = record {
         same = refl;
@@ -35,6 +36,7 @@ looks_claimed size tag at old new unspoiled (behind, view, later, enough, few, p
         done = record {
           same = refl;
           claimed = grows_by old.done.claimed _;
+          raised = (wastes ++ _ ∷ [], are ∙ append_assoc old.done.raised wastes _);
           published = grows_not old.done.published;
           filled = λ e. e;
           lacked = grows_not old.done.lacked;
@@ -47,10 +49,15 @@ looks_claimed size tag at old new unspoiled (behind, view, later, enough, few, p
     })
 
 -- none is; the corrupt flag may have been seen, or the full flag set
-pub looks_refused : (old last : Actor) (free : ℕ) (filled corrupt : Bool) (lacked : List ℕ) (warned : ℕ)
-    → last ≡ record old { hand = record old.hand { place = Idle }; done = record old.done { filled = filled; lacked = lacked }; seen = record old.seen { free = free; corrupt = corrupt; warned = warned } }
-    → old.seen.free ≤ free → (old.done.filled ≡ true → filled ≡ true) → (old.seen.corrupt ≡ true → corrupt ≡ true) → Grows old.done.lacked lacked → old.seen.warned ≤ warned → LooksOn old last
-looks_refused old last free filled corrupt lacked warned is later still saw longer more =
+pub looks_refused : (old last : Actor) (free : ℕ) (raised : List Rise) (filled corrupt : Bool) (lacked : List ℕ) (warned : ℕ)
+    → last ≡ record old {
+      hand = record old.hand { place = Idle };
+      done = record old.done { raised = raised; filled = filled; lacked = lacked };
+      seen = record old.seen { free = free; corrupt = corrupt; warned = warned };
+    }
+    → old.seen.free ≤ free → Grows old.done.raised raised → (old.done.filled ≡ true → filled ≡ true) → (old.seen.corrupt ≡ true → corrupt ≡ true)
+    → Grows old.done.lacked lacked → old.seen.warned ≤ warned → LooksOn old last
+looks_refused old last free raised filled corrupt lacked warned is later rises still saw longer more =
     subst (LooksOn old) (sym is) (record {
       proceeds = record {
         same = refl;
@@ -58,6 +65,7 @@ looks_refused old last free filled corrupt lacked warned is later still saw long
         done = record {
           same = refl;
           claimed = grows_not old.done.claimed;
+          raised = rises;
           published = grows_not old.done.published;
           filled = still;
           lacked = longer;

@@ -3,17 +3,18 @@ use Rattle.std.proofs.Common.{◌≡◌, ℕ, ◌+◌, ◌-◌, false, List, [],
 use Rattle.std.specs.Prelude.{Ok}
 use Rattle.segment_machine.specs.declared.actor.Actor.{Actor}
 use Rattle.segment_machine.specs.declared.actor.Made.TheVariants.{Histogram}
+use Rattle.segment_machine.specs.declared.actor.Rise.{Rise}
 use Rattle.segment_machine.specs.Actor.{is_bound}
-use Rattle.segment_machine.specs.Taking.{is_looking}
 use Rattle.segment_calls.specs.declared.asked.Asked.{Asked}
 use Rattle.live_segment.specs.declared.rule.Announcement.{Announcement}
 use Rattle.live_segment.specs.declared.segment.Segment.{Segment}
 use Rattle.live_segment.specs.Lists.Allocation.{Allocates, claimed}
+use Rattle.live_segment.specs.Rises.{RaisesFor}
 use Rattle.live_segment.specs.Names.Finding.{IsAsked}
 use Rattle.live_segment.specs.Seated.{IsSeated}
 use Rattle.live_segment.specs.Names.Making.{HasFilled, HasMade, SaysAsked}
 use Rattle.live_segment.specs.Lists.Publishing.{HasPublished, HasPublishedFor}
-use Rattle.segment_promises.specs.Onward.{Grows}
+use Rattle.segment_promises.specs.Onward.{Grows, is_holding}
 use Rattle.live_segment.specs.Names.Searching.{asked_at}
 use Rattle.live_segment.specs.Steps.{Pass, IsSame}
 
@@ -23,11 +24,14 @@ module _ (segment : Segment) (asked : Asked) (is : IsAsked segment.setting.shape
   abbrev behind : ℕ
   behind = allocates.0
 
-  view_is : mid.me.0 ≡ claimed old.me.0 at behind 1
+  abbrev raised : List Rise
+  raised = mid.me.0.done.raised
+
+  view_is : mid.me.0 ≡ claimed old.me.0 at behind 1 raised
   view_is = allocates.1
 
   module _ (full : Pass) (kept : IsSame mid full) (words : List ℕ) (all : words ≡ asked.payload.items) (filled : HasFilled at words mid.me.0 full.me.0) where
-    full_is : full.me.0 ≡ record (claimed old.me.0 at behind 1) { hand = full.me.0.hand }
+    full_is : full.me.0 ≡ record (claimed old.me.0 at behind 1 raised) { hand = full.me.0.hand }
     full_is = filled.view ∙ (λ i. record (view_is i) { hand = sym (ap (λ (a : Actor). a.hand) filled.view) i })
 
     pub made : (said : Announcement) → SaysAsked asked said → (new : Pass) → HasPublishedFor at said full.me.0 new.me.0 → old.me.0.done.spoiled ≡ false
@@ -38,6 +42,7 @@ module _ (segment : Segment) (asked : Asked) (is : IsAsked segment.setting.shape
         hand = new.me.0.hand;
         done = record old.me.0.done {
           claimed = sym claimed_is i;
+          raised = sym raised_is i;
           published = old.me.0.done.published ++ record { reference = at; made = Histogram asked.name.items asked.spec } ∷ [];
           beaten = new.me.0.done.beaten;
         };
@@ -45,13 +50,20 @@ module _ (segment : Segment) (asked : Asked) (is : IsAsked segment.setting.shape
         answers = record old.me.0.answers { owed = old.me.0.answers.owed ++ asked_at asked at ∷ [] };
       });
       free = ap (λ (a : Actor). is_bound a.hand.place) is_published.view;
-      apart = ap (λ (a : Actor). is_looking a.hand.place) is_published.view;
+      apart = ap (λ (a : Actor). is_holding a.hand.place) is_published.view;
       unspoiled = unspoiled;
       claimed = (record { at = at; size = behind - at } ∷ [], claimed_is);
       makes = record {
         claim = record { at = at; size = behind - at };
         block = let enough = allocates.3 in let few = allocates.4 in (omega (arith, sized, enough), omega (arith, sized, enough, few));
-        done = ap (λ (a : Actor). a.done) whole;
+        raises = subst (λ (words : ℕ). RaisesFor old.me.0.segment.shape words (record { at = at; size = behind - at }) old.me.0.done.raised new.me.0.done.raised) sized
+            (subst (RaisesFor old.me.0.segment.shape size (record { at = at; size = behind - at }) old.me.0.done.raised) (sym raised_is) allocates.6);
+        done = ap (λ (a : Actor). a.done) whole ∙ (λ i. record old.me.0.done {
+          claimed = old.me.0.done.claimed ++ record { at = at; size = behind - at } ∷ [];
+          raised = sym raised_is i;
+          published = old.me.0.done.published ++ record { reference = at; made = Histogram asked.name.items asked.spec } ∷ [];
+          beaten = new.me.0.done.beaten;
+        });
       };
       later = let first = allocates.2 in let enough = allocates.3 in omega (arith, first, enough, free_is);
       tails = subst (λ (a : Actor). Grows a.seen.tails new.me.0.seen.tails) full_is is_published.tails;
@@ -64,6 +76,7 @@ module _ (segment : Segment) (asked : Asked) (is : IsAsked segment.setting.shape
           hand = new.me.0.hand;
           done = record old.me.0.done {
             claimed = old.me.0.done.claimed ++ record { at = at; size = behind - at } ∷ [];
+            raised = raised;
             published = old.me.0.done.published ++ record { reference = at; made = Histogram asked.name.items asked.spec } ∷ [];
             beaten = new.me.0.done.beaten;
           };
@@ -82,6 +95,9 @@ module _ (segment : Segment) (asked : Asked) (is : IsAsked segment.setting.shape
 
         claimed_is : new.me.0.done.claimed ≡ old.me.0.done.claimed ++ record { at = at; size = behind - at } ∷ []
         claimed_is = ap (λ (a : Actor). a.done.claimed) whole
+
+        raised_is : new.me.0.done.raised ≡ raised
+        raised_is = ap (λ (a : Actor). a.done.raised) whole
 
         free_is : new.me.0.seen.free ≡ behind
         free_is = ap (λ (a : Actor). a.seen.free) whole

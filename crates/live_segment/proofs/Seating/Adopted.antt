@@ -12,7 +12,7 @@ use Rattle.segment_invariant.specs.Invariant.{Invariant}
 use Rattle.segment_promises.specs.Adoption.{IsAdoptable, adopted, adopter}
 use Rattle.segment_promises.specs.Reads.{ReadsHead}
 use Rattle.segment_promises.proofs.Adopting.Images.{size_word}
-use Rattle.segment_promises.proofs.Adopting.Opened.Anatomy.{opened}
+use Rattle.segment_promises.proofs.Adopting.Opened.Anatomy.{opened, shown}
 use Rattle.segment_promises.proofs.Adopting.Opened.Opens.{kept, image_opens}
 use Rattle.segment_promises.proofs.Readings.Heads.{reads_head, version_is}
 use Rattle.live_segment.specs.declared.rule.Opening.{Opening}
@@ -53,11 +53,14 @@ module _ (given : Opening) (words references : List ℕ) (cursors : ℕ) (narrow
   kept_image : Invariant (head_of words).shape its image
   kept_image = kept words references reading narrow listed refl adoptable cursors
 
-  image_words : words_of given ≡ words
-  image_words =
-      (λ i. take (said i).shape.size (drop 1 (same i)))
+  sized_words : take (head_of words).shape.size (drop 1 given.words.items) ≡ words
+  sized_words =
+      (λ i. take (head_of words).shape.size (drop 1 (same i)))
       ∙ (ap (λ (n : ℕ). take n (words ++ replicate cursors 12)) (size_word words references reading listed refl adoptable)
       ∙ take-append_seam words (replicate cursors 12))
+
+  image_words : words_of given ≡ words
+  image_words = (λ i. take (said i).shape.size (drop 1 given.words.items)) ∙ sized_words
 
   pub opener_is_adopter : opener_for given ≡ adopter words references reading cursors
   opener_is_adopter =
@@ -70,9 +73,10 @@ module _ (given : Opening) (words references : List ℕ) (cursors : ℕ) (narrow
   heads : ReadsHead its image reading
   heads = reads_head (head_of words).shape its image kept_image reading (references, listed, refl)
 
-  said_so : IsOpenedAs (setting_of (head_of words) cursors) its
+  said_so : IsOpenedAs (record given { setting = setting_of (head_of words) cursors }) its
   said_so = record {
     opens = image_opens words references reading narrow listed refl adoptable;
+    words = sym (shown words references reading narrow listed refl adoptable).shows ∙ sym sized_words;
     version = sym (version_is (head_of words).shape its image kept_image ∙ kept_image.same.0);
     id = sym heads.id;
     intact = no_more reading.corrupt its.corrupt heads.corrupt ∙ adoptable.intact;
@@ -82,13 +86,13 @@ module _ (given : Opening) (words references : List ℕ) (cursors : ℕ) (narrow
   pub opens_image : IsKeptOpening given
   opens_image = record {
     opened = its;
-    as_said = subst (λ (setting : Setting). IsOpenedAs setting its) (sym said) said_so;
+    as_said = subst (λ (setting : Setting). IsOpenedAs (record given { setting = setting }) its) (sym said) said_so;
     kept = subst (λ (p : Setting × State). Invariant p.0.shape its p.1) (λ i. (sym said i, sym state_is_image i)) kept_image;
     words = same ∙ ap (λ (state : State). 0 ∷ memory state) (sym state_is_image);
   }
 
   -- so a segment that is opened with them goes on with the image
-  pub goes_on : (r : Result (Segment × Opener) AllocError) → cursors ≤ 8 → IfOk r (λ made. IsOpened given.setting (opener_for given) made.0 made.1)
+  pub goes_on : (r : Result (Segment × Opener) AllocError) → cursors ≤ 8 → IfOk r (λ made. IsOpened given.setting (words_of given) (opener_for given) made.0 made.1)
       → IfOk r (λ made. IsAdopted words cursors made.0 made.1)
   goes_on (Err why) few is = tt
   goes_on (Ok made) few is = record {
@@ -96,5 +100,5 @@ module _ (given : Opening) (words references : List ℕ) (cursors : ℕ) (narrow
     listed = listed;
     adoptable = adoptable;
     few = few;
-    opened = subst (λ (p : Setting × Actor). IsOpened p.0 p.1 made.0 made.1) (λ i. (said i, opener_is_adopter i)) is;
+    opened = subst (λ (p : Setting × List ℕ × Actor). IsOpened p.0 p.1 p.2 made.0 made.1) (λ i. (said i, image_words i, opener_is_adopter i)) is;
   }

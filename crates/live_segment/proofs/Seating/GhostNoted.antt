@@ -15,7 +15,7 @@ use Rattle.segment_machine.specs.Note.{Note}
 use Rattle.segment_machine.specs.Packing.{add_moved}
 use Rattle.segment_machine.proofs.Values.{value_word}
 use Rattle.segment_promises.specs.Follows.{MayNoteAll, noted_by, GhostNoted}
-use Rattle.live_segment.specs.declared.rule.Setting.{Setting}
+use Rattle.live_segment.specs.declared.rule.Opening.{Opening}
 use Rattle.live_segment.specs.Rule.{Runs}
 use Rattle.live_segment.specs.Steps.{Sat, Does}
 use Rattle.live_segment.specs.GhostNotes.{TellsOf, InWord, InCounts, InSample, InSum, KnowsAlone, IsPacked, IsAddedTo, IsSampled, IsSummed, AddsMoved}
@@ -90,21 +90,21 @@ one_summed a word number x y here there (_, knows, is, fits) (_, known, same, sm
 
 -- ---- a step with notes
 
-module _ (setting : Setting) (slots id : ℕ) (me : Sat) (word : ℕ) (records : is_opener me.0.role ≡ false) where
+module _ (given : Opening) (slots id : ℕ) (me : Sat) (word : ℕ) (records : is_opener me.0.role ≡ false) where
   pub tells : (X : Type 0) (Fits : X → Type 0) (before : X → List Note) (event : X → Event) (behind : List Note) (x : X)
-      → ((y : X) → Fits y → x ≡ y) → word ≡ spot setting.shape.size (event x) + 1 → MayNoteAll me.0 (before x) → Ready (noted_by me.0 (before x)) (event x)
+      → ((y : X) → Fits y → x ≡ y) → word ≡ spot given.setting.shape.size (event x) + 1 → MayNoteAll me.0 (before x) → Ready (noted_by me.0 (before x)) (event x)
       → ((found : ℕ) → Learned (noted_by me.0 (before x)) (event x) found → MayNoteAll (next (noted_by me.0 (before x)) (event x) found) behind)
-      → Allows (Runs setting) slots id me word (change setting.version (event x)) (TellsOf X Fits before event behind me)
+      → Allows (Runs given) slots id me word (change given.setting.version (event x)) (TellsOf X Fits before event behind me)
   tells X Fits before event behind x one at may ready goes s run wide mine small =
       let (view, act, valid, holds, told) =
-      follows setting (before x) (event x) (λ found. behind) slots id me word at records may ready goes s run wide mine small in
+      follows given (before x) (event x) (λ found. behind) slots id me word at records may ready goes s run wide mine small in
       (view, act, valid, holds, λ y fits. subst (λ (z : X). GhostNoted (before z) (event z) (λ found. behind) me (slice_index s.words word) (view, carried_after me.1 act)) (one y fits) told)
 
   -- what is in transit says where it goes
   pub moves : (counts bucket units : ℕ) → word ≡ counts + 4 + bucket + 1 → (ready : Ready me.0 (packing_event (add_moved counts bucket units)))
-      → Allows (Runs setting) slots id me word (change setting.version (packing_event (add_moved counts bucket units))) (AddsMoved units me)
+      → Allows (Runs given) slots id me word (change given.setting.version (packing_event (add_moved counts bucket units))) (AddsMoved units me)
   moves counts bucket units at ready s run wide mine small =
-      let (view, act, valid, holds, told) = does setting slots id me word records (packing_event (add_moved counts bucket units)) at ready s run wide mine small in
+      let (view, act, valid, holds, told) = does given slots id me word records (packing_event (add_moved counts bucket units)) at ready s run wide mine small in
       let (mine_is, stands, from) = ready in (
         view,
         act,

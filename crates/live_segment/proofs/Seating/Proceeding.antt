@@ -10,7 +10,7 @@ use Rattle.live_segment.specs.Counts.Working.{FrameOfCall, LooksOn}
 -- ---- what is done and seen
 
 pub does_not : (a : Done) → DoesOn a a
-does_not a = record { same = refl; claimed = grows_not a.claimed; published = grows_not a.published; filled = λ e. e; lacked = grows_not a.lacked; spoiled = λ e. refl }
+does_not a = record { same = refl; claimed = grows_not a.claimed; raised = grows_not a.raised; published = grows_not a.published; filled = λ e. e; lacked = grows_not a.lacked; spoiled = λ e. refl }
 
 pub sees_not : (a : Seen) → SeesOn a a
 sees_not a = record {
@@ -28,8 +28,9 @@ sees_not a = record {
 
 pub does_on : (a b c : Done) → DoesOn a b → DoesOn b c → DoesOn a c
 does_on a b c first second = record {
-  same = second.same ∙ ap (λ (d : Done). record d { claimed = c.claimed; published = c.published; filled = c.filled; lacked = c.lacked; beaten = c.beaten }) first.same;
+  same = second.same ∙ ap (λ (d : Done). record d { claimed = c.claimed; raised = c.raised; published = c.published; filled = c.filled; lacked = c.lacked; beaten = c.beaten }) first.same;
   claimed = grows_on a.claimed b.claimed c.claimed first.claimed second.claimed;
+  raised = grows_on a.raised b.raised c.raised first.raised second.raised;
   published = grows_on a.published b.published c.published first.published second.published;
   filled = λ e. second.filled (first.filled e);
   lacked = grows_on a.lacked b.lacked c.lacked first.lacked second.lacked;

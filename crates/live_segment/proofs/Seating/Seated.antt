@@ -1,6 +1,6 @@
 -- That the rule of a segment's table allows what becomes of seats: a table is opened, units are offered, a recorder is made and joined, a
 -- purse is filled and poured out.
-use Rattle.std.proofs.Common.{◌≡◌, ◌≢◌, ◌⊎◌, ℕ, ◌≤◌, Bool, false, true, true≢false, if◌then◌else◌, sum_by, ◌==◌, ◌+◌, slice_index, List, [], ◌∷◌, length, take, drop, replicate, refl, sym, ap, subst, ◌∙◌, arith}
+use Rattle.std.proofs.Common.{◌≡◌, ◌≢◌, ◌⊎◌, ℕ, ◌≤◌, Bool, false, true, true≢false, if◌then◌else◌, sum_by, ◌==◌, ◌+◌, slice_index, slice_set, List, [], ◌∷◌, length, take, drop, replicate, refl, sym, ap, subst, ◌∙◌, arith}
 use Rattle.std.proofs.lemmas.List.{length-append, length-replicate}
 use mathlib.Core.Option.{none, some, some-injective}
 use lib.ListN.{get_elem?}
@@ -8,6 +8,7 @@ use lib.Seq.{set-get_or, take-append_seam}
 use prog.Atomic.{either}
 use Rattle.atomic_table.specs.Table.{step, opening, keeps, stepped, Allows, Splits, Joins, Final, Seen}
 use Rattle.atomic_table.proofs.Lists.{exchanged, set_again, set_else}
+use Rattle.segment_image.specs.Image.{blank_words}
 use Rattle.segment_image.specs.Shape.{Dimensions}
 use Rattle.alloc_core.specs.Layout.{IsShape}
 use Rattle.alloc_core.proofs.Layouts.{length_shown}
@@ -33,7 +34,7 @@ use Rattle.live_segment.specs.declared.rule.Opening.{Opening}
 use Rattle.live_segment.specs.declared.rule.Setting.{Setting}
 use Rattle.live_segment.specs.declared.segment.Segment.{Segment}
 use Rattle.live_segment.specs.declared.opener.Opener.{Opener}
-use Rattle.live_segment.specs.Holders.{view_of_opener}
+use Rattle.live_segment.specs.Holders.{opened_with, view_of_opener}
 use Rattle.live_segment.specs.Rule.{Closes, IsKeptOpening, Runs, first_view, opener_for, opener_of_words, opening_state, words_of}
 use Rattle.live_segment.specs.Steps.{Pass, Sat, IsAtRest, Joinable, Offers, Bounds}
 use Rattle.live_segment.proofs.Seating.Openings.{allows, joins_all, splits_all}
@@ -50,7 +51,7 @@ front_of shape opened state kept =
     ap (λ (n : ℕ). take n (memory state)) (sym (length_shown shape state.words (layout_of kept.anatomy) kept.shown))
     ∙ take-append_seam state.words state.cursors
 
-pub opens : (given : Opening) (words : List ℕ) → IsKeptOpening given → words ≡ given.words.items → Runs given.setting (opening words [] (opener_for given))
+pub opens : (given : Opening) (words : List ℕ) → IsKeptOpening given → words ≡ given.words.items → Runs given (opening words [] (opener_for given))
 opens given words is same = record {
   opened = is.opened;
   as_said = is.as_said;
@@ -78,20 +79,24 @@ module _ (given : Opening) (shaped : IsShape given.setting.shape) (versioned : (
   kept_new : Invariant given.setting.shape (blank given.setting.version given.setting.id given.setting.shape.size) new
   kept_new = opening_is_kept given.setting.shape given.setting.version given.setting.id given.setting.cursors shaped versioned
 
-  blank_words : words_of given ≡ new.words
-  blank_words = ap (λ (ws : List ℕ). take given.setting.shape.size (drop 1 ws)) same ∙ front_of given.setting.shape _ new kept_new
+  new_words : words_of given ≡ new.words
+  new_words = ap (λ (ws : List ℕ). take given.setting.shape.size (drop 1 ws)) same ∙ front_of given.setting.shape _ new kept_new
+
+  pub blank_but_for_version : words_of given ≡ slice_set (blank_words given.setting.shape.size given.setting.shape.page given.setting.id) 1 given.setting.version
+  blank_but_for_version = new_words
 
   pub opener_is_first : opener_for given ≡ first_view given.setting
-  opener_is_first i = opener_of_words given.setting (blank_words i) (none i)
+  opener_is_first i = opener_of_words given.setting (new_words i) (none i)
 
   state_is_new : opening_state given ≡ new
-  state_is_new i = record { words = blank_words i; cursors = new.cursors; actors = opener_is_first i ∷ [] }
+  state_is_new i = record { words = new_words i; cursors = new.cursors; actors = opener_is_first i ∷ [] }
 
   pub opens_new : IsKeptOpening given
   opens_new = record {
     opened = blank given.setting.version given.setting.id given.setting.shape.size;
     as_said = record {
       opens = (new_is_opening given.setting.shape given.setting.version given.setting.id shaped versioned).0;
+      words = sym new_words;
       version = refl;
       id = refl;
       intact = refl;
@@ -102,12 +107,13 @@ module _ (given : Opening) (shaped : IsShape given.setting.shape) (versioned : (
   }
 
 -- the words of a closed table behind the first one, as many as the segment has, are those of a kept state
-closes_as : (setting : Setting) (words image : List ℕ) (xs : List Announcement) (opener : Actor)
-    → Final (Seen (Runs setting) 0 opener) words xs → image ≡ take setting.shape.size (drop 1 words) → Closes setting opener image
-closes_as setting words image xs opener (s, (run, seen), stands, many, homes) same =
-    let (anchor, state, all, kept, first) = tables_close Announcement setting.shape run.opened words xs opener (s, (run.running, seen), stands, many, homes) in record {
+closes_as : (given : Opening) (words image : List ℕ) (xs : List Announcement) (opener : Actor)
+    → Final (Seen (Runs given) 0 opener) words xs → image ≡ take given.setting.shape.size (drop 1 words) → Closes given opener image
+closes_as given words image xs opener (s, (run, seen), stands, many, homes) same =
+    let shape = given.setting.shape in
+    let (anchor, state, all, kept, first) = tables_close Announcement shape run.opened words xs opener (s, (run.running, seen), stands, many, homes) in record {
       state = state;
-      words_are = same ∙ (ap (λ (ws : List ℕ). take setting.shape.size (drop 1 ws)) all ∙ front_of setting.shape run.opened state kept);
+      words_are = same ∙ (ap (λ (ws : List ℕ). take shape.size (drop 1 ws)) all ∙ front_of shape run.opened state kept);
       opened = run.opened;
       as_said = run.as_said;
       kept = kept;
@@ -116,27 +122,27 @@ closes_as setting words image xs opener (s, (run, seen), stands, many, homes) sa
 
 -- they were copied into a row, the first so many, and the row was cut behind these
 pub closes : (segment : Segment) (opener : Opener) (seat : Pass) (words row image : List ℕ) (xs : List Announcement) (i size : ℕ)
-    → seat ≡ opener.seat → Final (Seen (Runs segment.table.shared.key.setting) seat.id seat.me.0) words xs
+    → seat ≡ opener.seat → Final (Seen (Runs (opened_with segment)) seat.id seat.me.0) words xs
     → size ≤ i → i ≤ size → size ≡ segment.setting.shape.size → take i row ≡ take i (drop 1 words) → image ≡ take size row
-    → Closes segment.setting (view_of_opener opener) image
+    → Closes (opened_with segment) (view_of_opener opener) image
 closes segment opener seat words row image xs i size seated final from to all copied cut =
-    let setting = segment.setting in
+    let given = opened_with segment in
+    let many : size ≡ given.setting.shape.size = all ∙ ap (λ (s : Setting). s.shape.size) (sym segment.keyed) in
     let ended : i ≡ size = omega arith in
-    let whole = subst (λ (n : ℕ). take n row ≡ take n (drop 1 words)) (ended ∙ all) copied in
+    let whole = subst (λ (n : ℕ). take n row ≡ take n (drop 1 words)) (ended ∙ many) copied in
     let first : seat.id ≡ 0 = ap (λ (s : Pass). s.id) seated ∙ opener.opens.0 in
-    let keyed = subst (λ (k : Setting). Final (Seen (Runs k) seat.id seat.me.0) words xs) segment.keyed final in
-    let placed = subst (λ (n : ℕ). Final (Seen (Runs setting) n seat.me.0) words xs) first keyed in
-    closes_as setting words image xs (view_of_opener opener)
-    (subst (λ (s : Pass). Final (Seen (Runs setting) 0 s.me.0) words xs) seated placed)
-    (cut ∙ (ap (λ (n : ℕ). take n row) all ∙ whole))
+    let placed = subst (λ (n : ℕ). Final (Seen (Runs given) n seat.me.0) words xs) first final in
+    closes_as given words image xs (view_of_opener opener)
+    (subst (λ (s : Pass). Final (Seen (Runs given) 0 s.me.0) words xs) seated placed)
+    (cut ∙ (ap (λ (n : ℕ). take n row) many ∙ whole))
 
-module _ (setting : Setting) (slots id : ℕ) (me : Sat) where
+module _ (given : Opening) (slots id : ℕ) (me : Sat) where
   pub offers : (units : ℕ) → MayOffer me.0 units
-      → Allows (Runs setting) slots id me 0 (λ n. either (n == 0) 0 n) (Offers (step slots 0 0 0 (some (Units units))) me)
+      → Allows (Runs given) slots id me 0 (λ n. either (n == 0) 0 n) (Offers (step slots 0 0 0 (some (Units units))) me)
   offers units may s run wide mine small =
       let (view, act, valid, holds, told) =
-      allows setting slots id me 0 (λ n. either (n == 0) 0 n) (λ found me'. (me'.0 ≡ offering me.0 units) × (me'.1 ≡ me.1))
-      (λ opened as_said. tables_offer Announcement setting.shape opened units slots id me (λ n. either (n == 0) 0 n) nothing_exchanged may) s run wide mine small in
+      allows given slots id me 0 (λ n. either (n == 0) 0 n) (λ found me'. (me'.0 ≡ offering me.0 units) × (me'.1 ≡ me.1))
+      (λ opened as_said. tables_offer Announcement given.setting.shape opened units slots id me (λ n. either (n == 0) 0 n) nothing_exchanged may) s run wide mine small in
       (view, act, valid, holds, λ said e. (told.0 ∙ ap (λ (n : ℕ). offering me.0 n) (same said e), told.1))
     where
       units_said : Announcement → ℕ
@@ -146,7 +152,7 @@ module _ (setting : Setting) (slots id : ℕ) (me : Sat) where
       same : (said : ℕ) → some (Units units) ≡ some (Units said) → units ≡ said
       same said e = ap units_said (some-injective (Units units) (Units said) e)
 
-  pub bounds : Allows (Runs setting) slots id me 0 (λ n. n) (Bounds (step slots 0 0 0 none) me)
+  pub bounds : Allows (Runs given) slots id me 0 (λ n. n) (Bounds (step slots 0 0 0 none) me)
   bounds s run wide mine small =
       let there : get_elem? run.running.segment.actors id ≡ some me.0 = ap (λ list. get_elem? list id) (sym run.running.views) ∙ mine in
       let all : sum_by units_of run.running.segment.actors ≡ 4294967295 = run.running.kept.pool in
@@ -155,21 +161,21 @@ module _ (setting : Setting) (slots id : ℕ) (me : Sat) where
       let view = set_again s.views id me.0 mine in
       let same : stepped s 0 (slice_index s.words 0) id me.1 me.0 keeps ≡ s = λ i. record { words = first i; homes = s.homes; views = view i } in
       let few : units_of me.0 ≤ 4294967295 = subst (λ (n : ℕ). units_of me.0 ≤ n) all part in
-      (me.0, keeps, tt, subst (Runs setting) (sym same) run, (refl, refl, most me.0.units.share (cost_total me.0.units.costs) (cost_total me.0.units.held) few))
+      (me.0, keeps, tt, subst (Runs given) (sym same) run, (refl, refl, most me.0.units.share (cost_total me.0.units.costs) (cost_total me.0.units.held) few))
     where
       most : (share costs held : ℕ) → share + costs + held ≤ 4294967295 → share ≤ 4294967295
       most share costs held few = omega arith
 
-pub splits : (setting : Setting) (id : ℕ) (a : Actor) → MaySplit a → Splits (Runs setting) id a (parent a) (newcomer a)
-splits setting id a may = splits_all setting id a (parent a) (newcomer a) (λ opened. tables_split Announcement setting.shape opened id a may)
+pub splits : (given : Opening) (id : ℕ) (a : Actor) → MaySplit a → Splits (Runs given) id a (parent a) (newcomer a)
+splits given id a may = splits_all given id a (parent a) (newcomer a) (λ opened. tables_split Announcement given.setting.shape opened id a may)
 
-pub fills : (setting : Setting) (id : ℕ) (a : Actor) → MayFill a → Splits (Runs setting) id a (lender a) (purse (offered_of a.role))
-fills setting id a may =
-    splits_all setting id a (lender a) (purse (offered_of a.role)) (λ opened. tables_fill Announcement setting.shape opened id a may)
+pub fills : (given : Opening) (id : ℕ) (a : Actor) → MayFill a → Splits (Runs given) id a (lender a) (purse (offered_of a.role))
+fills given id a may =
+    splits_all given id a (lender a) (purse (offered_of a.role)) (λ opened. tables_fill Announcement given.setting.shape opened id a may)
 
-pub pours : (setting : Setting) (id other : ℕ) (b c : Actor) → MayPour b c → Joins (Runs setting) id b other c (getter b c.units.share) spent
-pours setting id other b c may =
-    joins_all setting id other b c (getter b c.units.share) spent (λ opened. tables_pour Announcement setting.shape opened id other b c may)
+pub pours : (given : Opening) (id other : ℕ) (b c : Actor) → MayPour b c → Joins (Runs given) id b other c (getter b c.units.share) spent
+pours given id other b c may =
+    joins_all given id other b c (getter b c.units.share) spent (λ opened. tables_pour Announcement given.setting.shape opened id other b c may)
 
 -- a recorder that stands at rest may get what is in a purse
 pub may_get : (a c : Actor) (units : ℕ) → IsAtRest a → c ≡ purse units → MayPour a c
@@ -197,14 +203,14 @@ stands_out actors roles id other a b there beside opener rest =
     let mine : sum_by counts actors ≡ outstanding_of a.role = roles.living ∙ ap (λ (c : Actor). outstanding_of c.role) (opens_first actors roles id a there opener).1 in
     subst (λ (n : ℕ). 1 ≤ n) mine (subst (λ (x : Bool). (if x then 1 else 0) ≤ sum_by counts actors) lives part)
 
-pub joins : (setting : Setting) (id other : ℕ) (a b : Actor) → Joinable a b → Joins (Runs setting) id a other b (joined a b) spent
-joins setting id other a b may s run mine apart theirs =
+pub joins : (given : Opening) (id other : ℕ) (a b : Actor) → Joinable a b → Joins (Runs given) id a other b (joined a b) spent
+joins given id other a b may s run mine apart theirs =
     let seg = run.running.segment in
     let there : get_elem? seg.actors id ≡ some a = ap (λ list. get_elem? list id) (sym run.running.views) ∙ mine in
     let beside : get_elem? seg.actors other ≡ some b =
     ap (λ list. get_elem? list other) (sym run.running.views) ∙ (sym (set_else s.views id other (joined a b) apart) ∙ theirs) in
     let (idle, opener, rest) = may in
     let one : 1 ≤ outstanding_of a.role = stands_out seg.actors run.running.kept.roles id other a b there beside opener rest in
-    joins_all setting id other a b (joined a b) spent
-    (λ opened. tables_join Announcement setting.shape opened id other a b
+    joins_all given id other a b (joined a b) spent
+    (λ opened. tables_join Announcement given.setting.shape opened id other a b
     (idle, opener, one, rest.free, rest.recorder, rest.holds, rest.runs, rest.takes, rest.owes)) s run mine apart theirs

@@ -1,52 +1,64 @@
--- A step whose recorder is then known to stand in a state that is kept.
-use Rattle.std.proofs.Common.{◌≡◌, ◌≢◌, ℕ, ◌+◌, false, List, sym, ap, subst, ◌∙◌, slice_index}
+-- A seat of a segment's table stands in a state of the segment; what its list then has, and what a shared cursor gave.
+use Rattle.std.proofs.Common.{◌≡◌, ℕ, suc, ◌+◌, ◌<◌, List, ◌∷◌, ◌++◌, length, set, refl, sym, ap, subst, ◌∙◌, slice_index, arith, Option, Some}
+use Rattle.std.proofs.lemmas.List.{get_or_append_left}
 use mathlib.Core.Option.{some}
 use lib.ListN.{get_elem?}
-use Rattle.atomic_table.specs.Table.{Allows, State}
-use Rattle.atomic_table.proofs.Lists.{set_here}
-use Rattle.segment_image.specs.Shape.{Dimensions}
+use lib.Seq.{set-get_or}
+use Rattle.atomic_table.specs.Table.{Allows, State, keeps, stepped}
+use Rattle.atomic_table.proofs.Lists.{set_again}
+use Rattle.segment_image.specs.Words.{word_at}
 use Rattle.segment_machine.specs.declared.actor.Actor.{Actor}
-use Rattle.segment_machine.specs.declared.place.Place.TheVariants.{Spent}
-use Rattle.segment_machine.specs.Actor.{is_opener}
-use Rattle.segment_machine.specs.Event.{Event, Learned, Ready, change, next, spot}
-use Rattle.segment_machine.specs.Note.{Note}
-use Rattle.segment_invariant.specs.Invariant.{Invariant}
-use Rattle.segment_invariant.specs.Keeps.{IsOpening}
-use Rattle.segment_invariant.proofs.Lists.Elements.{below_length}
-use Rattle.segment_promises.specs.Follows.{MayNoteAll, noted_by}
 use Rattle.live_segment.specs.declared.rule.Announcement.{Announcement}
-use Rattle.live_segment.specs.declared.rule.Setting.{Setting}
-use Rattle.live_segment.specs.GhostNotes.{TellsOf}
-use Rattle.live_segment.specs.Readings.Owed.{Standing}
+use Rattle.live_segment.specs.declared.rule.Opening.{Opening}
 use Rattle.live_segment.specs.Rule.{Runs}
-use Rattle.live_segment.specs.Steps.{Sat}
-use Rattle.live_segment.proofs.Seating.GhostNoted.{tells}
+use Rattle.live_segment.specs.Standing.{SeesNext, Standing, Stands}
+use Rattle.live_segment.specs.Steps.{Pass, Sat}
 
--- who lives stands in the state that a table of a segment has
-pub stands_kept : (setting : Setting) (s : State Announcement Actor) → Runs setting s → (id : ℕ) (a : Actor) → get_elem? s.views id ≡ some a
-    → a.hand.place ≢ Spent → Standing a
-stands_kept setting s run id a there lives =
-    let here : get_elem? run.running.segment.actors id ≡ some a = ap (λ list. get_elem? list id) (sym run.running.views) ∙ there in
-    let kept = run.running.kept in
-    let fits = kept.each id a here lives in record {
-      opened = run.opened;
-      opens = subst (λ (shape : Dimensions). IsOpening shape run.opened) (sym fits.shaped) run.as_said.opens;
-      version = sym (fits.versioned ∙ kept.same.0);
-      state = run.running.segment;
-      kept = subst (λ (shape : Dimensions). Invariant shape run.opened run.running.segment) (sym fits.shaped) kept;
-      who = id;
-      stands = here;
-    }
+-- a seat that is the same, with the same view
+pub same_seat : (old new : Pass) → new.table_id ≡ old.table_id → new.id ≡ old.id → new.me.0 ≡ old.me.0 → new.me.1 ≡ old.me.1 → new ≡ old
+same_seat old new table id view slots i = record { marker = old.marker; table_id = table i; id = id i; me = (view i, slots i) }
 
-module _ (setting : Setting) (slots id : ℕ) (me : Sat) (word : ℕ) (records : is_opener me.0.role ≡ false) where
-  -- a step with notes, behind which its recorder lives
-  pub tells_standing : (X : Type 0) (Fits : X → Type 0) (before : X → List Note) (event : X → Event) (behind : List Note) (x : X)
-      → ((y : X) → Fits y → x ≡ y) → Fits x → word ≡ spot setting.shape.size (event x) + 1 → MayNoteAll me.0 (before x) → Ready (noted_by me.0 (before x)) (event x)
-      → ((found : ℕ) → Learned (noted_by me.0 (before x)) (event x) found → MayNoteAll (next (noted_by me.0 (before x)) (event x) found) behind)
-      → ((found : ℕ) → (noted_by (next (noted_by me.0 (before x)) (event x) found) behind).hand.place ≢ Spent)
-      → Allows (Runs setting) slots id me word (change setting.version (event x)) (λ found me'. TellsOf X Fits before event behind me found me' × Standing me'.0)
-  tells_standing X Fits before event behind x one fits at may ready goes lives s run wide mine small =
-      let (view, act, valid, holds, told) = tells setting slots id me word records X Fits before event behind x one at may ready goes s run wide mine small in
-      let its = told x fits in
-      let living : view.hand.place ≢ Spent = λ spent. lives (slice_index s.words word) (ap (λ (a : Actor). a.hand.place) (sym its.0) ∙ spent) in
-      (view, act, valid, holds, (told, stands_kept setting _ holds id view (set_here s.views id view (below_length s.views id me.0 mine)) living))
+-- who has a seat stands in the state that the table has
+pub stands_kept : (given : Opening) (s : State Announcement Actor) → Runs given s → (id : ℕ) (a : Actor) → get_elem? s.views id ≡ some a → Standing given id a
+stands_kept given s run id a there = record {
+  opened = run.opened;
+  as_said = run.as_said;
+  state = run.running.segment;
+  kept = run.running.kept;
+  stands = ap (λ list. get_elem? list id) (sym run.running.views) ∙ there;
+}
+
+-- in which a block may have this next
+pub sees_next : (given : Opening) (s : State Announcement Actor) (run : Runs given s) (id : ℕ) (a : Actor) → get_elem? s.views id ≡ some a → (at next : ℕ)
+    → word_at run.running.segment.words (at + 3) ≡ next → SeesNext given id at next a
+unfolding stands_kept
+sees_next given s run id a there at next is = record { standing = stands_kept given s run id a there; next_is = is }
+
+-- what is so of a seat of a segment is so where it is known which seat that is
+pub as_known : (P : Opening → ℕ → Type 0) (given : Opening) (place : Option Opening) (number id : ℕ) → place ≡ Some given → number ≡ id → P given id
+    → (opening : Opening) → place ≡ Some opening → P opening number
+as_known P given place number id is same so opening also =
+    let both : Some given ≡ Some opening = sym is ∙ also in
+    let one : given ≡ opening = cc in
+    subst (λ (p : Opening × ℕ). P p.0 p.1) (λ i. (one i, sym same i)) so
+
+-- a word that a step found and left is that of the state behind it
+pub found_there : (words shared all : List ℕ) (anchor word at : ℕ) → set all word (slice_index all word) ≡ anchor ∷ words ++ shared → word ≡ at + 1
+    → at < length words → slice_index words at ≡ slice_index all word
+found_there words shared all anchor word at are is below =
+    let next : suc at ≡ word = omega (arith, is) in
+    sym (get_or_append_left words shared 0 at below)
+    ∙ (ap (λ (l : List ℕ). slice_index l (suc at)) (sym are ∙ set-get_or all word 0) ∙ ap (slice_index all) next)
+
+pub stands_still : (given : Opening) (slots id : ℕ) (me : Sat) (place : Option Opening) (number : ℕ) → place ≡ Some given → number ≡ id
+    → Allows (Runs given) slots id me 0 (λ n. n) (Stands place number me)
+stands_still given slots id me place number is same s run wide mine small =
+    let first = set-get_or s.words 0 0 in
+    let view = set_again s.views id me.0 mine in
+    let still : stepped s 0 (slice_index s.words 0) id me.1 me.0 keeps ≡ s = λ i. record { words = first i; homes = s.homes; views = view i } in (
+      me.0,
+      keeps,
+      tt,
+      subst (Runs given) (sym still) run,
+      (refl, refl, as_known (λ opening n. Standing opening n me.0) given place number id is same (stands_kept given s run id me.0 mine)),
+    )

@@ -13,7 +13,7 @@ use Rattle.segment_machine.specs.Note.{Note, answers, noted, MayNote}
 use Rattle.segment_invariant.proofs.Lists.Elements.{below_length}
 use Rattle.live_segment.specs.declared.rule.Announcement.{Announcement}
 use Rattle.live_segment.specs.declared.rule.Announcement.TheVariants.{Answer}
-use Rattle.live_segment.specs.declared.rule.Setting.{Setting}
+use Rattle.live_segment.specs.declared.rule.Opening.{Opening}
 use Rattle.live_segment.specs.Rule.{Runs}
 use Rattle.live_segment.specs.Steps.{Sat}
 use Rattle.live_segment.specs.Readings.Taking.{Answers, answered_as}
@@ -39,26 +39,21 @@ one_answer one other x y same =
     let said = some-injective (Answer one.reference x) (Answer other.reference y) same in
     (ap (reference_said one.reference x) said, ap (snapshot_said one.reference x) said)
 
-module _ (setting : Setting) (slots id : ℕ) (me : Sat) (records : is_opener me.0.role ≡ false) where
+module _ (given : Opening) (slots id : ℕ) (me : Sat) (records : is_opener me.0.role ≡ false) where
   pub answers_said : (said : Announcement) (known : Known) (snapshot : Snapshot) → said ≡ Answer known.reference snapshot → KnowsAlone me.0 known
       → MayNote me.0 (answers (answered_as me.0 known snapshot))
-      → Allows (Runs setting) slots id me 0 (λ n. either (n == 0) 0 n) (Answers (step slots 0 0 0 (some said)) me)
+      → Allows (Runs given) slots id me 0 (λ n. either (n == 0) 0 n) (Answers (step slots 0 0 0 (some said)) me)
   answers_said said known snapshot says alone may s run wide mine small =
       let note : Known → Snapshot → Note = λ k x. answers (answered_as me.0 k x) in
       let (view, act, valid, holds, told) =
-      announces setting (note known snapshot ∷ []) slots id me (λ n. either (n == 0) 0 n) nothing_exchanged
-      records (may, refl) s run wide mine small in
-      let (named, among, of, saw_all, when) = may in
-      let lives : view.hand.place ≢ Spent = λ spent. cc (sym saw_all.sum ∙ (ap (λ (a : Actor). a.hand.place) (sym told.0) ∙ spent)) in (
+      announces given (note known snapshot ∷ []) slots id me (λ n. either (n == 0) 0 n) nothing_exchanged
+      records (may, refl) s run wide mine small in (
         view,
         act,
         valid,
         holds,
-        (
-          λ other saw is knows.
-              let same = one_answer known other snapshot saw (ap some (sym says) ∙ is) in
-              let one : known ≡ other = one_known me.0 known other same.0 alone knows in
-              (told.0 ∙ (λ i. noted me.0 (note (one i) (same.1 i))), told.1),
-          stands_kept setting _ holds id view (set_here s.views id view (below_length s.views id me.0 mine)) lives,
-        ),
+        λ other saw is knows.
+            let same = one_answer known other snapshot saw (ap some (sym says) ∙ is) in
+            let one : known ≡ other = one_known me.0 known other same.0 alone knows in
+            (told.0 ∙ (λ i. noted me.0 (note (one i) (same.1 i))), told.1),
       )

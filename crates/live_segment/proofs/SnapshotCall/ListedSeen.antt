@@ -14,10 +14,9 @@ use Rattle.segment_machine.specs.Calls.{sight}
 use Rattle.segment_machine.specs.Event.{Event, next, walking_event}
 use Rattle.segment_machine.specs.Made.{IsFirstSample}
 use Rattle.segment_machine.specs.Note.{SawAll, looks}
-use Rattle.segment_machine.specs.Taking.{is_looking}
 use Rattle.segment_machine.specs.Walking.{load_published}
 use Rattle.segment_promises.specs.Calls.{SamplesStandBehind}
-use Rattle.segment_promises.specs.Onward.{Grows, SeesOn}
+use Rattle.segment_promises.specs.Onward.{Grows, SeesOn, is_holding}
 use Rattle.segment_promises.specs.Values.{AreSorted, listed_of}
 use Rattle.segment_promises.proofs.Calls.SampleLists.{did_with}
 use Rattle.segment_promises.proofs.Calls.Sights.{saw_count}
@@ -182,7 +181,7 @@ module _ {segment : Segment} (known : Known) {first : Pass} (seated : IsSeated s
       alone = subst (λ (a : Actor). KnowsAlone a known) (sym view) alone;
       sparse = sparse;
       free = ap (λ (a : Actor). is_bound a.hand.place) view ∙ rests.free;
-      apart = ap (λ (a : Actor). is_looking a.hand.place) view ∙ rests.apart;
+      apart = ap (λ (a : Actor). is_holding a.hand.place) view ∙ rests.apart;
       singles = subst (λ (a : Actor). a.since.singles ≤ length a.seen.singles) (sym view) (omega arith);
       counts = subst (λ (a : Actor). a.since.counts ≤ length a.seen.counts) (sym view) (omega arith);
     }

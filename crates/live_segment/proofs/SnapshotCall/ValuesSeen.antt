@@ -17,14 +17,13 @@ use Rattle.segment_machine.specs.Calls.{ended, sight}
 use Rattle.segment_machine.specs.Event.{Event, next, walking_event}
 use Rattle.segment_machine.specs.Made.{IsFirstSample, SawSample}
 use Rattle.segment_machine.specs.Note.{SawAll, looks}
-use Rattle.segment_machine.specs.Taking.{is_looking}
 use Rattle.segment_machine.specs.Walking.{extended, load_next}
 use Rattle.segment_machine.proofs.Values.{value_word}
 use Rattle.live_segment.specs.declared.segment.Segment.{Segment}
 use Rattle.live_segment.specs.Readings.Deltas.{AreUnits}
 use Rattle.live_segment.specs.Holders.{MayStep}
 use Rattle.live_segment.specs.Seated.{IsSeated}
-use Rattle.segment_promises.specs.Onward.{SeesOn}
+use Rattle.segment_promises.specs.Onward.{SeesOn, is_holding}
 use Rattle.segment_promises.specs.Values.{NoRepeats, AreSorted, ComesTo, ListsOf, ListsValues, listed_of}
 use Rattle.live_segment.specs.Rule.{IsOf}
 use Rattle.live_segment.specs.Readings.Samples.{CountsSample, SamplesStandBehind, SeesSample}
@@ -63,7 +62,7 @@ more_by a b seen is sees = record {
 }
 
 pub looks_on : (segment : Segment) (known : Known) (old new : Pass) → LooksAtValues segment known old → IsSame old new → SeesMore old.me.0 new.me.0
-    → is_bound new.me.0.hand.place ≡ false → is_looking new.me.0.hand.place ≡ false → LooksAtValues segment known new
+    → is_bound new.me.0.hand.place ≡ false → is_holding new.me.0.hand.place ≡ false → LooksAtValues segment known new
 looks_on segment known old new was same more free apart = record {
   table = same.0 ∙ was.table;
   recorder = ap (λ (a : Actor). is_opener a.role) more.view ∙ was.recorder;
@@ -200,7 +199,7 @@ module _ (segment : Segment) (known : Known) (passed : List ℕ) (at : ℕ) (lis
       looks_new : LooksAtValues segment known new
       looks_new = looks_on segment known mid new looks_mid step.same on_step
           (ap (λ (a : Actor). is_bound a.hand.place) step.view ∙ behind_free mid.me.0.hand.place at found looks_mid.free)
-          (ap (λ (a : Actor). is_looking a.hand.place) step.view ∙ behind_apart mid.me.0.hand.place at found looks_mid.apart)
+          (ap (λ (a : Actor). is_holding a.hand.place) step.view ∙ behind_apart mid.me.0.hand.place at found looks_mid.apart)
 
       saw_new : (where_it_is word : ℕ) → SawCount mid.me.0 where_it_is word → SawCount new.me.0 where_it_is word
       saw_new = saw_count mid.me.0 new.me.0 (more_sees mid.me.0 new.me.0 on_step) (had mid.me.0 looks_mid.singles looks_mid.counts)
@@ -264,7 +263,7 @@ module _ {segment : Segment} (known : Known) {first : Pass} (seated : IsSeated s
       alone = subst (λ (a : Actor). KnowsAlone a known) (sym view) alone;
       sparse = sparse;
       free = ap (λ (a : Actor). is_bound a.hand.place) view ∙ behind_free first.me.0.hand.place known.reference found rests.free;
-      apart = ap (λ (a : Actor). is_looking a.hand.place) view ∙ behind_apart first.me.0.hand.place known.reference found rests.apart;
+      apart = ap (λ (a : Actor). is_holding a.hand.place) view ∙ behind_apart first.me.0.hand.place known.reference found rests.apart;
       singles = subst (λ (a : Actor). a.since.singles ≤ length a.seen.singles) (sym view) (omega arith);
       counts = subst (λ (a : Actor). a.since.counts ≤ length a.seen.counts) (sym view) (omega arith);
     }

@@ -21,7 +21,7 @@ use Rattle.segment_invariant.proofs.Lists.Elements.{below_length}
 use Rattle.segment_invariant.proofs.Walking.Learned.{met_listed}
 use Rattle.segment_promises.proofs.Lists.{chain_is}
 use Rattle.segment_promises.proofs.Readings.Lists.{is_chain}
-use Rattle.live_segment.specs.declared.rule.Setting.{Setting}
+use Rattle.live_segment.specs.declared.rule.Opening.{Opening}
 use Rattle.live_segment.specs.Rule.{Runs}
 use Rattle.live_segment.specs.Steps.{Sat}
 use Rattle.live_segment.specs.Lists.Cursors.{LoadsCursor, MovesCursor, StandsBehind, GaveInOrder}
@@ -29,15 +29,15 @@ use Rattle.live_segment.proofs.Seating.Allowed.{does_at}
 
 -- ---- its steps
 
-module _ (setting : Setting) (slots id : ℕ) (me : Sat) (word : ℕ) (records : is_opener me.0.role ≡ false) where
+module _ (given : Opening) (slots id : ℕ) (me : Sat) (word : ℕ) (records : is_opener me.0.role ≡ false) where
   -- a cursor is loaded by a recorder that counts for each of them how often it came too late
-  pub loads_cursor : (cursor : ℕ) → word ≡ spot setting.shape.size (cursor_event (load_cursor cursor)) + 1
+  pub loads_cursor : (cursor : ℕ) → word ≡ spot given.setting.shape.size (cursor_event (load_cursor cursor)) + 1
       → ((y : ℕ) → word ≡ spot me.0.segment.shape.size (cursor_event (load_cursor y)) + 1 → cursor ≡ y)
       → Ready me.0 (cursor_event (load_cursor cursor))
-      → Allows (Runs setting) slots id me word (change setting.version (cursor_event (load_cursor cursor))) (LoadsCursor word me)
+      → Allows (Runs given) slots id me word (change given.setting.version (cursor_event (load_cursor cursor))) (LoadsCursor word me)
   loads_cursor cursor is one ready s run wide mine small =
       let (view, act, valid, holds, told) =
-      does_at setting slots id me word records (λ (x : ℕ). cursor_event (load_cursor x)) cursor is one ready s run wide mine small in
+      does_at given slots id me word records (λ (x : ℕ). cursor_event (load_cursor x)) cursor is one ready s run wide mine small in
       let live : me.0.hand.place ≢ Spent = λ e. true≢false (sym (ap is_bound e) ∙ ready.0) in
       let fits = run.running.kept.each id me.0 (ap (λ list. get_elem? list id) (sym run.running.views) ∙ mine) live in
       (view, act, valid, holds, (told, fits.ahead.many ∙ sym fits.numbered))
@@ -87,21 +87,21 @@ module _ (shape : Dimensions) (opened others : Anatomy) (before after : State) (
     subst (λ (chain : List ℕ). GaveInOrder chain b) one_order gave,
   )
 
-module _ (setting : Setting) (slots id : ℕ) (me : Sat) (word : ℕ) (records : is_opener me.0.role ≡ false) where
+module _ (given : Opening) (slots id : ℕ) (me : Sat) (word : ℕ) (records : is_opener me.0.role ≡ false) where
   -- a cursor is moved on, or comes too late
-  pub moves_cursor : (old new cursor : ℕ) → word ≡ spot setting.shape.size (cursor_event (move_cursor cursor old new)) + 1
+  pub moves_cursor : (old new cursor : ℕ) → word ≡ spot given.setting.shape.size (cursor_event (move_cursor cursor old new)) + 1
       → ((y : ℕ) → word ≡ spot me.0.segment.shape.size (cursor_event (move_cursor y old new)) + 1 → cursor ≡ y)
       → Ready me.0 (cursor_event (move_cursor cursor old new))
-      → Allows (Runs setting) slots id me word (change setting.version (cursor_event (move_cursor cursor old new))) (MovesCursor word old new me)
+      → Allows (Runs given) slots id me word (change given.setting.version (cursor_event (move_cursor cursor old new))) (MovesCursor word old new me)
   moves_cursor old new cursor is one ready s run wide mine small =
       let (view, act, valid, holds, step) =
-      does_at setting slots id me word records (λ (x : ℕ). cursor_event (move_cursor x old new)) cursor is one ready s run wide mine small in
+      does_at given slots id me word records (λ (x : ℕ). cursor_event (move_cursor x old new)) cursor is one ready s run wide mine small in
       let there : get_elem? run.running.segment.actors id ≡ some me.0 = ap (λ list. get_elem? list id) (sym run.running.views) ∙ mine in
       let lived : me.0.hand.place ≢ Spent = λ spent. cc (ready, spent) in
       let shaped = (run.running.kept.each id me.0 there lived).shaped in
       let told = step cursor (is ∙ ap (λ (shape : Dimensions). spot shape.size (cursor_event (move_cursor cursor old new)) + 1) (sym shaped)) in
-      let first = length_shown setting.shape run.running.segment.words (layout_of run.running.kept.anatomy) run.running.kept.shown in
-      let last = length_shown setting.shape holds.running.segment.words (layout_of holds.running.kept.anatomy) holds.running.kept.shown in
+      let first = length_shown given.setting.shape run.running.segment.words (layout_of run.running.kept.anatomy) run.running.kept.shown in
+      let last = length_shown given.setting.shape holds.running.segment.words (layout_of holds.running.kept.anatomy) holds.running.kept.shown in
       let took : Bool = slice_index s.words word == old in
       let stay = words_stay run.running.segment.words holds.running.segment.words run.running.segment.cursors holds.running.segment.cursors s.words run.running.anchor holds.running.anchor word _ run.running.words
       holds.running.words (first ∙ sym last) (omega (arith, is, first)) in
@@ -116,7 +116,7 @@ module _ (setting : Setting) (slots id : ℕ) (me : Sat) (word : ℕ) (records :
         holds,
         (
           step,
-          λ other placed. stands_behind setting.shape run.opened holds.opened run.running.segment holds.running.segment run.running.kept holds.running.kept stay id me.0 view there now role
+          λ other placed. stands_behind given.setting.shape run.opened holds.opened run.running.segment holds.running.segment run.running.kept holds.running.kept stay id me.0 view there now role
               (λ spent. cc (rests, spent)) other old new placed,
         ),
       )

@@ -1,5 +1,5 @@
 -- A recorder's index: what it has stays right, it grows by a record that was looked at, and what it answers.
-use Rattle.std.proofs.Common.{◌≡◌, ◌≢◌, ℕ, ◌+◌, ◌≤◌, true, false, List, [], ◌∷◌, ◌++◌, length, map, slice_index, Option, Some, None, refl, sym, ap, subst, ◌∙◌, arith, length-append}
+use Rattle.std.proofs.Common.{◌≡◌, ◌≢◌, ℕ, ◌+◌, ◌*◌, ◌≤◌, true, false, List, [], ◌∷◌, ◌++◌, length, map, slice_index, Option, Some, None, refl, sym, ap, subst, ◌∙◌, arith, length-append}
 use Rattle.std.specs.Prelude.{take, drop, get_or}
 use Rattle.std.specs.List.{All, Contains}
 use Rattle.std.proofs.lemmas.List.{append_assoc, get_or_push, length_push, length-take-le, map-append, take-append-drop, take-append-le}
@@ -210,6 +210,13 @@ module _ (of_kind : KeyKind) where
           let long = length-take-le index.place.given old.me.0.seen.chain indexed.come.few in
           let all = ap length (whole seated way found next load once end) in
           let same = ap length (chain_still seated way found next load once end) in omega (arith, long, all, same)
+
+      -- the records that were seen fit in the segment
+      pub few_seen : 5 * length next.me.0.seen.chain + 16 ≤ segment.setting.shape.size
+      few_seen =
+          let size = ap (λ (d : Dimensions). d.size) seated.of.shape in
+          let few = load.learned.few in
+          let chain = ap (λ (a : Actor). length a.seen.chain) load.view in omega (arith, size, few, chain)
 
       module _ (miss : found ≢ 12) (b : Actor) (sees : SeesWords next.me.0 b) (looked : HasLooked of_kind b.seen found) (key : Option ℕ)
           (key_is : seen_key of_kind b.seen found ≡ key) (new : RecordIndex) where

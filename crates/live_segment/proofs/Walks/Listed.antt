@@ -19,7 +19,7 @@ use Rattle.segment_invariant.specs.Body.{Anatomy, Piece, held, own_words}
 use Rattle.segment_invariant.specs.Invariant.{HoldsOwn, Invariant, StandsRight}
 use Rattle.segment_invariant.proofs.Lists.Elements.{all_at, at_from}
 use Rattle.segment_invariant.proofs.Blocks.Pieces.{one_index}
-use Rattle.live_segment.specs.declared.rule.Setting.{Setting}
+use Rattle.live_segment.specs.declared.rule.Opening.{Opening}
 use Rattle.live_segment.specs.Rule.{Runs}
 use Rattle.live_segment.specs.Steps.{Does, Sat}
 use Rattle.live_segment.specs.Lists.Listing.{LoadsPublished, StoresPayload}
@@ -67,36 +67,36 @@ module _ (shape : Dimensions) (opened : Anatomy) (state : State) (kept : Invaria
 
 -- ---- steps
 
-module _ (setting : Setting) (slots id : ℕ) (me : Sat) (word : ℕ) (records : is_opener me.0.role ≡ false) where
+module _ (given : Opening) (slots id : ℕ) (me : Sat) (word : ℕ) (records : is_opener me.0.role ≡ false) where
   -- a word of a published record is loaded, whichever record it is taken to be of
   pub loads_published : (at index : ℕ) → word ≡ at + index + 1 → Ready me.0 (walking_event (load_published at index))
-      → Allows (Runs setting) slots id me word (change setting.version (walking_event (load_published at index))) (LoadsPublished word me)
+      → Allows (Runs given) slots id me word (change given.setting.version (walking_event (load_published at index))) (LoadsPublished word me)
   loads_published at index is ready s run wide mine small =
       let (view, act, valid, holds, told) =
-      does setting slots id me word records (walking_event (load_published at index)) is ready s run wide mine small in (
+      does given slots id me word records (walking_event (load_published at index)) is ready s run wide mine small in (
         view,
         act,
         valid,
         holds,
         λ other place same may.
-            let (_, _, _, _, again) = does setting slots id me word records (walking_event (load_published other place)) same may s run wide mine small in
+            let (_, _, _, _, again) = does given slots id me word records (walking_event (load_published other place)) same may s run wide mine small in
             let one : at + index ≡ other + place = omega arith in
             (told.0 ∙ ap (λ (n : ℕ). record me.0 { seen = record me.0.seen { words = me.0.seen.words ++ sight n (slice_index s.words word) } }) one, told.1, again.2),
       )
 
   -- a word of a payload is stored, into whichever block of its own it lies in
   pub stores_payload : (at index value : ℕ) → word ≡ at + 4 + index + 1 → Ready me.0 (allocating_event (store_payload at index value))
-      → Allows (Runs setting) slots id me word (change setting.version (allocating_event (store_payload at index value))) (StoresPayload word value me)
+      → Allows (Runs given) slots id me word (change given.setting.version (allocating_event (store_payload at index value))) (StoresPayload word value me)
   stores_payload at index value is ready s run wide mine small =
       let there : get_elem? run.running.segment.actors id ≡ some me.0 = ap (λ list. get_elem? list id) (sym run.running.views) ∙ mine in
       let (view, act, valid, holds, told) =
-      does setting slots id me word records (allocating_event (store_payload at index value)) (omega arith) ready s run wide mine small in (
+      does given slots id me word records (allocating_event (store_payload at index value)) (omega arith) ready s run wide mine small in (
         view,
         act,
         valid,
         holds,
         λ other place same may.
-            let one : at ≡ other = one_block setting.shape run.opened run.running.segment run.running.kept id me.0 there at index other place value ready may (omega arith) in
+            let one : at ≡ other = one_block given.setting.shape run.opened run.running.segment run.running.kept id me.0 there at index other place value ready may (omega arith) in
             let spot : index ≡ place = omega arith in (
               subst (λ (p : ℕ × ℕ). Does (allocating_event (store_payload p.0 p.1 value)) me (slice_index s.words word) (view, carried_after me.1 act))
                   (λ i. (one i, spot i)) told,

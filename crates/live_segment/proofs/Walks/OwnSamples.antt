@@ -1,12 +1,12 @@
 -- What an index of samples has of one histogram: all of its samples that were met, each once.
-use Rattle.std.proofs.Common.{◌≡◌, ◌≢◌, ℕ, ◌+◌, ◌%◌, ◌^◌, ◌<◌, ◌≤◌, Bool, true, false, ℤ, pos, negsuc, List, [], ◌∷◌, length, map, get_or, slice_index, suc, true≢false, Some, inl, inr, refl, sym, ap, subst, ◌∙◌, arith}
+use Rattle.std.proofs.Common.{◌≡◌, ◌≢◌, ℕ, ◌+◌, ◌-◌, ◌*◌, ◌/◌, ◌%◌, ◌^◌, ◌<◌, ◌≤◌, ◌==◌, if◌then◌else◌, Bool, true, false, ℤ, pos, negsuc, List, [], ◌∷◌, length, map, get_or, slice_index, suc, true≢false, Some, None, inl, inr, refl, sym, ap, subst, ◌∙◌, arith}
 use Rattle.std.specs.Prelude.{take}
 use Rattle.std.specs.Int.{cast_signed, cast_unsigned, w64}
 use Rattle.std.specs.List.{All, AllByRecursion, AllPairs, Contains}
 use mathlib.Core.Logic.{dite}
 use native.Mathlib.Decide.{ℕ_discrete}
 use Rattle.std.proofs.Math.Seq.{take-length}
-use Rattle.std.proofs.lemmas.List.{get_or-take, get_or_default, length-take-le}
+use Rattle.std.proofs.lemmas.List.{get_or-take, get_or_default, length-map, length-take-le}
 use Rattle.segment_promises.specs.Values.{NoRepeats}
 use Rattle.std.proofs.lemmas.Bool.{ltb-true}
 use Rattle.std.proofs.lemmas.List.Elements.{All-cons, All-contains, All-contains_itself, All-head, All-nil, All-tail}
@@ -106,6 +106,16 @@ module _ (P : ℕ → Type 0) (seen : Seen) (group : ℕ) where
       All-cons IfSample x xs (All-head IfKeyed (keyed kind.Sample seen x) (map (keyed kind.Sample seen) xs) all)
       (each_keyed xs (All-tail IfKeyed (keyed kind.Sample seen x) (map (keyed kind.Sample seen) xs) all))
 
+-- of those that were met a group has no more
+few_in : (met : List Met) (group : ℕ) → length (met_in met group) ≤ length met
+few_in [] group = omega arith
+few_in ((at, None) ∷ rest) group = let few = few_in rest group in omega (arith, few)
+few_in ((at, Some own) ∷ rest) group = by (group_of own == group) (few_in rest group)
+  where
+    by : (b : Bool) → length (met_in rest group) ≤ length rest → length (if b then at ∷ met_in rest group else met_in rest group) ≤ suc (length rest)
+    by true few = omega (arith, few)
+    by false few = omega (arith, few)
+
 -- on a list on which nothing stands twice, two places have two records
 apart_chain : (chain : List ℕ) → NoRepeats chain → AllPairs (λ x y. x ≢ y) chain
 apart_chain chain once i j d lt inside same =
@@ -146,6 +156,13 @@ module _ (size : ℕ) (seen : Seen) (index : RecordIndex) (has : HasPassedAll si
     pub own_within : All (λ at. (16 ≤ at) × (at + 5 ≤ size)) (own_samples index histogram)
     own_within = said_of_own (λ at. (16 ≤ at) × (at + 5 ≤ size)) (subst (All (λ at. (16 ≤ at) × (at + 5 ≤ size))) whole has.indexed.come.within)
 
+    -- they are no more than the records of the list
+    own_few : length (own_samples index histogram) ≤ length seen.chain
+    own_few =
+        let own = ap length samples_are in
+        let few = few_in (map (keyed kind.Sample seen) seen.chain) histogram in
+        let all = length-map seen.chain (keyed kind.Sample seen) in omega (arith, own, few, all)
+
     -- none stands twice among them
     own_apart : AllPairs (λ x y. x ≢ y) seen.chain → AllPairs (λ x y. x ≢ y) (own_samples index histogram)
     own_apart apart = subst (AllPairs (λ x y. x ≢ y)) (sym samples_are)
@@ -170,6 +187,7 @@ pub passed_still : (size : ℕ) (a b : Seen) (index : RecordIndex) → b.chain �
 passed_still size a b index chain words has = record {
   indexed = indexed_still kind.Sample a b words size index (subst (Grows a.chain) (sym chain) (grows_not a.chain)) has.indexed;
   all = has.all ∙ ap length (sym chain);
+  few = subst (λ (l : List ℕ). 5 * length l + 16 ≤ size) (sym chain) has.few;
 }
 
 -- a record that it sees to be a sample it had seen to be one, where it had looked at it
@@ -194,6 +212,14 @@ module _ (size : ℕ) (seen : Seen) (histogram : ℕ) (samples : List ℕ) (own 
   within_own i low =
       let (index, has, are) = own in
       subst (All (λ at. (16 ≤ at) × (at + 5 ≤ size))) (sym are) (own_within size seen index has histogram) i 0 low
+
+  -- they fit in the segment, as all records of the list do
+  pub few_own : length samples ≤ (size - 16) / 5
+  few_own =
+      let (index, has, are) = own in
+      let all = ap length are in
+      let few = own_few size seen index has histogram in
+      let fit = has.few in omega (arith, all, few, fit)
 
   -- each is new behind those before it
   pub new_own : NoRepeats seen.chain → (i : ℕ) → i < length samples → ¬ (Contains (take i samples) (slice_index samples i))

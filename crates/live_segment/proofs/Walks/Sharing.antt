@@ -3,7 +3,7 @@
 use Rattle.std.proofs.Common.{◌≡◌, ◌≢◌, ℕ, ◌+◌, ◌-◌, ◌*◌, ◌<◌, ◌≤◌, ◌==◌, Bool, true, false, if◌then◌else◌, List, [], ◌∷◌, ◌++◌, length, drop, set, slice_index, inr, refl, sym, ap, subst, ◌∙◌, eq-eqb, ne_eqb, arith, All, Option, Some, None}
 use Rattle.std.specs.List.{Contains}
 use Rattle.std.proofs.lemmas.List.{append-nil, append_assoc, set-set, set-get_or, get_or-set_same}
-use Rattle.std.proofs.lemmas.List.Elements.{All-push}
+use Rattle.std.proofs.lemmas.List.Elements.{All-push, Contains-push}
 use Rattle.segment_image.specs.Shape.{Dimensions}
 use Rattle.list_core.specs.Chain.{is_reference}
 use Rattle.list_core.specs.Walk.{IsPrefix}
@@ -136,6 +136,12 @@ module _ {segment : Segment} {cursor : ℕ} {first old : Pass} (turn : IsSharing
     module _ (found : ℕ) (new : Pass) (follow : Stepped mid (walking_event (load_next at)) found new) where
       view : new.me.0 ≡ followed old.me.0 cursor at found
       view = follow.view ∙ ap (λ (a : Actor). next a (walking_event (load_next at)) found) load.view
+
+      -- it has seen the cursor there
+      pub sighted : Contains new.me.0.seen.cursors (record { at = cursor; word = at })
+      sighted =
+          subst (λ (l : List Sighting). Contains l (record { at = cursor; word = at })) (sym (ap (λ (a : Actor). a.seen.cursors) view))
+          (Contains-push old.me.0.seen.cursors (record { at = cursor; word = at }))
 
       learned : IsNextOf (at_cursor old.me.0 cursor at) at found
       learned = subst (λ (a : Actor). IsNextOf a at found) load.view follow.learned

@@ -14,14 +14,13 @@ use Rattle.segment_machine.specs.Actor.{is_bound}
 use Rattle.segment_machine.specs.Calls.{ended}
 use Rattle.segment_machine.specs.Event.{walking_event, Ready}
 use Rattle.segment_machine.specs.Stages.{Walks}
-use Rattle.segment_machine.specs.Taking.{is_looking}
 use Rattle.segment_machine.specs.Walking.{load_next, extended, records_met}
 use Rattle.segment_machine.proofs.Stages.Walks.{walks_agree}
 use Rattle.live_segment.specs.declared.segment.Segment.{Segment}
 use Rattle.live_segment.specs.Steps.{Pass, Stepped}
 use Rattle.live_segment.specs.Holders.{MayStep}
 use Rattle.live_segment.specs.Seated.{IsSeated}
-use Rattle.segment_promises.specs.Onward.{Grows}
+use Rattle.segment_promises.specs.Onward.{Grows, is_holding}
 use Rattle.segment_promises.specs.Values.{NoRepeats}
 use Rattle.live_segment.specs.Ends.{FoundNone, SawAllOfList}
 use Rattle.live_segment.specs.Names.Finding.{Meets, SeesWords}
@@ -63,7 +62,7 @@ module _ {segment : Segment} {old : Pass} {given : List ℕ} {at : ℕ} (seated 
         hand = record old.me.0.hand { place = sym (ap (λ (a : Actor). a.hand.place) load.view) i };
         seen = record old.me.0.seen { chain = sym chain_is i; ends = sym ends_are i; words = sym words_are i };
       });
-      apart = λ was. ap (λ (a : Actor). is_looking a.hand.place) load.view ∙ behind_apart old.me.0.hand.place at found was;
+      apart = λ was. ap (λ (a : Actor). is_holding a.hand.place) load.view ∙ behind_apart old.me.0.hand.place at found was;
       chain = subst (Grows chain) (sym chain_is) (extended_grows chain at found);
       ends = subst (Grows old.me.0.seen.ends) (sym ends_are) (ended_grows old.me.0.seen.ends (at + 3) (found == 12));
       words = ([], words_are ∙ sym (append-nil old.me.0.seen.words));

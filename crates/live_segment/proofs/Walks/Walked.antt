@@ -1,6 +1,6 @@
 -- A walk along the list: what a recorder knows between two of its steps, and at its end.
 use Rattle.std.proofs.Common.{◌≡◌, ◌≢◌, ℕ, suc, ◌+◌, ◌*◌, ◌<◌, ◌≤◌, Bool, true, false, true≢false, List, [], ◌∷◌, ◌++◌, length, slice_index, refl, sym, ap, subst, ◌∙◌, eq-eqb, ne_eqb, length-append, arith}
-use Rattle.std.specs.Prelude.{◌==◌, ◌||◌, if◌then◌else◌, take, drop}
+use Rattle.std.specs.Prelude.{◌==◌, ◌||◌, if◌then◌else◌, take, drop, Option, Some}
 use Rattle.std.specs.List.{All, Contains, list_any}
 use Rattle.std.proofs.lemmas.List.Folds.{list_any-append}
 use Rattle.std.proofs.lemmas.List.{append-nil, get_or_append_left, get_or_push, length_push, length-take-le, take-append-drop, take-append-le}
@@ -9,6 +9,10 @@ use Rattle.std.proofs.lemmas.List.Elements.{All-push}
 use mathlib.Core.Option.{some}
 use lib.ListN.{get_elem?}
 use Rattle.atomic_table.specs.Table.{Allows}
+use Rattle.atomic_table.proofs.Lists.{set_here}
+use Rattle.alloc_core.proofs.Layouts.{length_shown}
+use Rattle.segment_invariant.specs.Body.{layout_of}
+use Rattle.segment_invariant.proofs.Lists.Elements.{below_length}
 use Rattle.segment_image.specs.Shape.{Dimensions}
 use Rattle.list_core.specs.declared.walk.WalkStep.TheVariants.{Record, End, Stray}
 use Rattle.list_core.specs.Chain.{is_reference, stops}
@@ -22,23 +26,25 @@ use Rattle.segment_machine.specs.Actor.{is_bound, is_opener, known_at}
 use Rattle.segment_machine.specs.Calls.{ended as with_end}
 use Rattle.segment_machine.specs.Event.{walking_event, change, next, Ready}
 use Rattle.segment_machine.specs.Stages.{Walks}
-use Rattle.segment_machine.specs.Taking.{is_looking}
 use Rattle.segment_machine.specs.Walking.{load_next, extended, records_met}
 use Rattle.segment_machine.proofs.Stages.Walks.{walks_agree}
+use Rattle.live_segment.specs.declared.rule.Opening.{Opening}
 use Rattle.live_segment.specs.declared.rule.Setting.{Setting}
 use Rattle.live_segment.specs.declared.segment.Segment.{Segment}
 use Rattle.live_segment.specs.Rule.{Runs}
 use Rattle.live_segment.specs.Steps.{Pass, Sat, IsSame, Stepped}
 use Rattle.live_segment.specs.Holders.{MayStep}
 use Rattle.live_segment.specs.Seated.{IsSeated}
-use Rattle.segment_promises.specs.Onward.{Grows, StaysApart}
+use Rattle.segment_promises.specs.Onward.{Grows, StaysApart, is_holding}
 use Rattle.live_segment.specs.declared.recorder.KnownHistogram.{KnownHistogram}
 use Rattle.live_segment.specs.declared.records.WalkPlace.{WalkPlace}
 use Rattle.live_segment.specs.Known.{KnowsRight}
 use Rattle.segment_promises.specs.Values.{NoRepeats}
 use Rattle.live_segment.specs.Lists.Records.{LoadsNext, HasWalked}
+use Rattle.live_segment.specs.Standing.{SeesNext}
 use Rattle.live_segment.specs.Lists.Walks.{HasCome, WalksOn}
 use Rattle.live_segment.proofs.Seating.Allowed.{does_at}
+use Rattle.live_segment.proofs.Seating.Standing.{as_known, found_there, sees_next}
 use Rattle.segment_promises.proofs.Calls.Orders.{once_in}
 use Rattle.live_segment.proofs.HistCall.OwnNames.{knows_own_names}
 use Rattle.live_segment.proofs.AddCall.OwnSamples.{knows_own_samples}
@@ -47,16 +53,22 @@ use Rattle.segment_promises.proofs.Calls.Places.{behind_apart}
 
 -- ---- its step
 
-module _ (setting : Setting) (slots id : ℕ) (me : Sat) (word : ℕ) (records : is_opener me.0.role ≡ false) where
+module _ (given : Opening) (slots id : ℕ) (me : Sat) (word : ℕ) (records : is_opener me.0.role ≡ false) where
   -- a next is loaded by a recorder that has met no block twice
-  pub loads_next : (at : ℕ) → word ≡ at + 3 + 1 → Ready me.0 (walking_event (load_next at))
-      → Allows (Runs setting) slots id me word (change setting.version (walking_event (load_next at))) (LoadsNext word me)
-  loads_next at is ready s run wide mine small =
+  pub loads_next : (place : Option Opening) (number at : ℕ) → place ≡ Some given → number ≡ id → word ≡ at + 3 + 1 → at + 5 ≤ given.setting.shape.size
+      → Ready me.0 (walking_event (load_next at))
+      → Allows (Runs given) slots id me word (change given.setting.version (walking_event (load_next at))) (LoadsNext place number word me)
+  loads_next place number at seated same is room ready s run wide mine small =
       let (view, act, valid, holds, told) =
-      does_at setting slots id me word records (λ (x : ℕ). walking_event (load_next x)) at (omega (arith, is)) (λ y e. omega (arith, is, e)) ready s run wide mine small in
+      does_at given slots id me word records (λ (x : ℕ). walking_event (load_next x)) at (omega (arith, is)) (λ y e. omega (arith, is, e)) ready s run wide mine small in
       let live : me.0.hand.place ≢ Spent = λ e. true≢false (sym (ap is_bound e) ∙ ready.0) in
       let there : get_elem? run.running.segment.actors id ≡ some me.0 = ap (λ list. get_elem? list id) (sym run.running.views) ∙ mine in
-      let fits = run.running.kept.each id me.0 there live in (
+      let fits = run.running.kept.each id me.0 there live in
+      let later = holds.running.segment in
+      let long = length_shown given.setting.shape later.words (layout_of holds.running.kept.anatomy) holds.running.kept.shown in
+      let sees : SeesNext given id at (slice_index s.words word) view =
+      sees_next given _ holds id view (set_here s.views id view (below_length s.views id me.0 mine)) at _
+      (found_there later.words later.cursors s.words holds.running.anchor word (at + 3) holds.running.words is (omega (arith, long, room))) in (
         view,
         act,
         valid,
@@ -64,8 +76,12 @@ module _ (setting : Setting) (slots id : ℕ) (me : Sat) (word : ℕ) (records :
         (
           told,
           once_in run.running.segment.words me.0.seen.chain _ fits.sees.walked run.running.kept.list.linked,
-          knows_own_names setting.shape run.opened run.running.segment run.running.kept id me.0 there live,
-          knows_own_samples setting.shape run.opened run.running.segment run.running.kept id me.0 there live,
+          knows_own_names given.setting.shape run.opened run.running.segment run.running.kept id me.0 there live,
+          knows_own_samples given.setting.shape run.opened run.running.segment run.running.kept id me.0 there live,
+          λ opening other at_it also.
+              let one : at ≡ other = omega (arith, is, also) in
+              as_known (λ given n. SeesNext given n other (slice_index s.words word) view) given place number id seated same
+              (subst (λ (at : ℕ). SeesNext given id at (slice_index s.words word) view) one sees) opening at_it,
         ),
       )
 
@@ -143,7 +159,7 @@ module _ {segment : Segment} {first old : Pass} {given : List ℕ} {at : ℕ} (s
         (with_end first.me.0.seen.ends (at + 3) (found == 12))))
 
     apart_still : StaysApart first.me.0 new.me.0
-    apart_still was = ap (λ (a : Actor). is_looking a.hand.place) load.view ∙ behind_apart old.me.0.hand.place at found (is.apart was)
+    apart_still was = ap (λ (a : Actor). is_holding a.hand.place) load.view ∙ behind_apart old.me.0.hand.place at found (is.apart was)
 
     chain_is : new.me.0.seen.chain ≡ extended old.me.0.seen.chain at found
     chain_is = ap (λ (a : Actor). a.seen.chain) load.view

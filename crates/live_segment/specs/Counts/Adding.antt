@@ -17,6 +17,7 @@ use Rattle.segment_machine.specs.Form.{is_off, IsPacking}
 use Rattle.segment_machine.specs.Made.{SawOther}
 use Rattle.segment_promises.specs.Onward.{GoesOn}
 use Rattle.live_segment.specs.Ends.{FoundNoCounts, SawAllOfList}
+use Rattle.live_segment.specs.Rises.{WastesFor}
 
 -- ---- accepted
 
@@ -65,11 +66,15 @@ pub record NeedsBlock (known : Known) (value : ℤ) (count : ℕ) (old new : Act
       × SawAllOfList old.seen new.seen
 
 -- Why a block could not be claimed: so many words pass the end of the segment from the free pointer that the call loaded last, and for that
--- it has set the full flag; or the call has loaded flags with the corrupt one. It has done nothing else: it has claimed and published nothing.
+-- it has set the full flag; or the call has loaded flags with the corrupt one. It may have wasted rests of pages that are too short for these
+-- words, and has done nothing else: it has claimed and published nothing.
 abbrev pub HasNoRoom : Refusal → ℕ → Actor → Actor → Type 0
 HasNoRoom Full words old new =
-    (new.done ≡ record old.done { filled = true; lacked = old.done.lacked ++ new.seen.free ∷ [] }) × (new.segment.shape.size < new.seen.free + words)
-HasNoRoom Corrupt words old new = (new.done ≡ old.done) × (new.seen.corrupt ≡ true) × (old.seen.warned < new.seen.warned)
+    (new.done ≡ record old.done { raised = new.done.raised; filled = true; lacked = old.done.lacked ++ new.seen.free ∷ [] })
+    × WastesFor new.segment.shape words old.done.raised new.done.raised × (new.segment.shape.size < new.seen.free + words)
+HasNoRoom Corrupt words old new =
+    (new.done ≡ record old.done { raised = new.done.raised }) × WastesFor new.segment.shape words old.done.raised new.done.raised
+    × (new.seen.corrupt ≡ true) × (old.seen.warned < new.seen.warned)
 HasNoRoom _ words old new = ⊥
 
 -- a block was needed, and could not be claimed

@@ -1,5 +1,5 @@
 -- What a batch makes of the recorder that counts it, accepted and refused.
-use Rattle.std.specs.Prelude.{◌≡◌, Bool, true, false, ◌-◌, nat_lt, ◌==◌, ℕ, ℤ, List, [], ◌∷◌, ◌++◌, map, take}
+use Rattle.std.specs.Prelude.{◌≡◌, Bool, true, false, ◌-◌, nat_lt, ◌==◌, ℕ, ℤ, pos, List, [], ◌∷◌, ◌++◌, map, take}
 use mathlib.Core.Option.{some}
 use lib.ListN.{get_elem?}
 use Rattle.std.specs.List.{list_any}
@@ -26,12 +26,13 @@ use Rattle.live_segment.specs.GhostNotes.{entry_notes}
 use Rattle.live_segment.specs.Counts.Working.{FrameOfCall, counted_next}
 
 -- An accepted batch: an entry of amount 0 for each item, and behind them one of no units for the sum, where that is not 0, stand at the
--- end of the log, and its cost is taken from the share.
+-- end of the log, and its cost is taken from the share. One of no items and no sum has done nothing.
 pub record IsBatched (known : Known) (items : List (ℤ × ℕ)) (sum : ℤ) (old new : Actor) : Type 0 where
   pub logged : log_of new ≡ log_of old ++ batch_entries known.name (boundaries_of known.spec) items sum
   pub pays : Pays known.name (batch_cost items sum) old new
   pub filled : new.done.filled ≡ old.done.filled
   pub onward : GoesOn old new
+  pub nothing : items ≡ [] → sum ≡ pos 0 → new ≡ old
 
 -- why a batch is refused before anything happens, in order
 abbrev pub batch_checks : Actor → List (ℤ × ℕ) → ℤ → List (Bool × Refusal)

@@ -70,7 +70,9 @@ pub record MountsAt (known : Known) (at : ℕ) (old : Actor) (counts : ℕ) (new
 -- it has claimed no block for the counts that it found or mounted, or one; of the words of records, and of those that lead to no block, it has
 -- seen no fewer
 abbrev pub MountsAtMostOne : Known → Actor → Actor → Type 0
-MountsAtMostOne known old new = ((new.done ≡ old.done) ⊎ MountsOne known old new) × Grows old.seen.words new.seen.words × Grows old.seen.ends new.seen.ends
+MountsAtMostOne known old new =
+    ((new.done ≡ old.done) ⊎ MountsOne known old new) × Grows old.seen.words new.seen.words × Grows old.seen.ends new.seen.ends
+    × (new.segment ≡ old.segment)
 
 -- There were none, and no block could be claimed for them: the call has ended.
 pub record HasNotMounted (why : Refusal) (known : Known) (old new : Actor) : Type 0 where

@@ -65,7 +65,7 @@ pub record HasMadeSample (histogram : ℕ) (value : ℤ) (old new : Actor) : Typ
   pub filled : new.done.filled ≡ old.done.filled
   pub at : ℕ
   pub published : Contains new.done.published (record { reference = at; made = Sample histogram value })
-  pub makes : MakesOne (Sample histogram value) SAMPLE_LEAST old.done new.done
+  pub makes : MakesOne old.segment.shape (Sample histogram value) SAMPLE_LEAST old.done new.done
 
 -- no block could be claimed for one, and its call ends
 pub record HasNotMadeSample (why : Refusal) (old new : Actor) : Type 0 where

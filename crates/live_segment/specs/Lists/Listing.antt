@@ -14,7 +14,7 @@ use Rattle.segment_machine.specs.Publishing.{link, own_at}
 use Rattle.segment_machine.specs.Walking.{load_published}
 use Rattle.segment_machine.specs.Actor.{AreApart}
 use Rattle.live_segment.specs.declared.rule.Announcement.{Announcement}
-use Rattle.live_segment.specs.declared.rule.Announcement.TheVariants.{Answer, Histogram, Sample, Units}
+use Rattle.live_segment.specs.declared.rule.Announcement.TheVariants.{Answer, Histogram, Sample, Units, Wanted}
 use Rattle.live_segment.specs.Steps.{Does, Pass, Sat}
 use Rattle.live_segment.specs.GhostNotes.{TellsOf, MayDoOf, NotedOf}
 
@@ -39,6 +39,7 @@ abbrev pub asked_for : Announcement → Option Made
 asked_for (Histogram asked) = Some (made.Histogram asked.name.items asked.spec)
 asked_for (Sample histogram value) = Some (made.Sample histogram value)
 asked_for (Units units) = None
+asked_for (Wanted words) = None
 asked_for (Answer histogram snapshot) = None
 
 -- a block is asked to hold something once

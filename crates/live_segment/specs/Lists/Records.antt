@@ -1,5 +1,5 @@
 -- What a walk along the list makes of a recorder: it has seen all of the list, and has its records in their order.
-use Rattle.std.specs.Prelude.{◌≡◌, false, ℕ, ◌+◌, ◌≤◌, ℤ, List, [], ◌∷◌, ◌++◌}
+use Rattle.std.specs.Prelude.{◌≡◌, false, ℕ, ◌+◌, ◌≤◌, ℤ, List, [], ◌∷◌, ◌++◌, Option, Some}
 use Rattle.std.specs.List.{All, Contains}
 use Rattle.segment_image.specs.declared.layout.TheConstants.{BLOCK_LEAST, BLOCK_NEXT, BLOCK_TYPE, HEADER_WORDS}
 use Rattle.bucket_ranges.specs.declared.spec.Spec.{Spec}
@@ -13,6 +13,8 @@ use Rattle.segment_machine.specs.Walking.{load_next, load_published, records_met
 use Rattle.segment_promises.specs.Calls.{SamplesStandBehind}
 use Rattle.segment_promises.specs.Onward.{Grows, StaysApart}
 use Rattle.segment_promises.specs.Values.{NoRepeats}
+use Rattle.live_segment.specs.declared.rule.Opening.{Opening}
+use Rattle.live_segment.specs.Standing.{SeesNext}
 use Rattle.live_segment.specs.Steps.{DoesAt, Sat}
 
 -- no record that it published for a name did it see to have another one
@@ -26,11 +28,13 @@ KnowsOwnSamples a = (histogram : ℕ) (value : ℤ) (at : ℕ) → Contains a.do
     → (SawOther a.seen histogram value at → ⊥)
     × ((front behind : List ℕ) → a.seen.chain ≡ front ++ histogram ∷ behind → Contains a.seen.chain at → Contains behind at)
 
--- a next is loaded, by a recorder that has met no block twice, and no record of its own as another one
-abbrev pub LoadsNext : ℕ → Sat → ℕ → Sat → Type 0
-LoadsNext word me found me' =
+-- A next is loaded, by a recorder that has met no block twice, and no record of its own as another one. Where it is known which seat that is,
+-- it stands in a state in which that is the next.
+abbrev pub LoadsNext : Option Opening → ℕ → ℕ → Sat → ℕ → Sat → Type 0
+LoadsNext place number word me found me' =
     DoesAt (λ at. walking_event (load_next at)) word me found me' × NoRepeats me.0.seen.chain × KnowsOwnNames me.0
     × KnowsOwnSamples me.0
+    × ((opening : Opening) (at : ℕ) → place ≡ Some opening → word ≡ at + BLOCK_NEXT + 1 → SeesNext opening number at found me'.0)
 
 -- The type of a record that was met is loaded: of what its recorder met, each sample stands behind the record of its histogram, and no block
 -- twice.

@@ -10,7 +10,7 @@ use Rattle.segment_machine.specs.declared.actor.Actor.{Actor}
 use Rattle.segment_machine.specs.declared.actor.Known.{Known}
 use Rattle.segment_calls.specs.declared.asked.Asked.{Asked}
 use Rattle.segment_calls.specs.declared.refusal.Refusal.{Refusal}
-use Rattle.segment_calls.specs.declared.refusal.Refusal.TheVariants.{OtherSpec}
+use Rattle.segment_calls.specs.declared.refusal.Refusal.TheVariants.{NoMemory, OtherSpec}
 use Rattle.segment_calls.specs.Asked.{IsAskedFor, IsRefusedFor, IsTooLarge}
 use Rattle.live_segment.specs.declared.recorder.Hist.{Hist}
 use Rattle.live_segment.specs.declared.recorder.KnownHistogram.{KnownHistogram}
@@ -53,6 +53,10 @@ KnowsNamed name a index known = (get_elem? a.answers.names index ≡ some known)
 abbrev pub KnowsNone : List ℕ → Actor → Type 0
 KnowsNone name a = (index : ℕ) (known : Known) → KnowsNamed name a index known → ⊥
 
+-- none is that has the same spec
+abbrev pub KnowsNoSame : List ℕ → Spec → Actor → Type 0
+KnowsNoSame name spec a = (index : ℕ) (known : Known) → KnowsNamed name a index known → ¬ (SameSpec known.spec spec)
+
 -- a histogram may be asked for in a segment of a shape: name and spec are lawful, and its record and its counts fit in a page
 abbrev pub MayBeAsked : Dimensions → List ℕ → Spec → Type 0
 MayBeAsked shape name spec = (is_name name ≡ true) × (spec_fault spec ≡ None) × ¬ (IsTooLarge shape.page name spec)
@@ -65,12 +69,12 @@ IsAnsweredWith name spec histogram old new =
     ⊎ (KnowsNone name old × (histogram.index ≡ length old.answers.names)
     × ((asked : Asked) × (reference : ℕ) × IsAskedFor old.segment.shape name spec asked × ComesToKnow asked reference old new))
 
--- Nothing has happened: name or spec are not lawful, there was no memory, or the record is too large; or it may be asked for, and the
--- histogram of the name that it knew has another spec. Or it knew none of the name, and has looked around: the first record of the name has another spec, or none has the
--- name and no block could be claimed. It knows no more then, and owes no answer.
+-- Nothing has happened: name or spec are not lawful, there was no memory and it knew none of the name with the same spec, or the record is too
+-- large; or it may be asked for, and the histogram of the name that it knew has another spec. Or it knew none of the name, and has looked around:
+-- the first record of the name has another spec, or none has the name and no block could be claimed. It knows no more then, and owes no answer.
 abbrev pub IsRefusedWith : List ℕ → Spec → Refusal → Actor → Actor → Type 0
 IsRefusedWith name spec why old new =
-    (IsRefusedFor old.segment.shape name spec why × (new ≡ old))
+    (IsRefusedFor old.segment.shape name spec why × (new ≡ old) × (why ≡ NoMemory → KnowsNoSame name spec old))
     ⊎ ((why ≡ OtherSpec) × ((index : ℕ) × (known : Known) × KnowsNamed name old index known × (¬ (SameSpec known.spec spec))) × MayBeAsked old.segment.shape name spec × (new ≡ old))
     ⊎ (KnowsNone name old × ((asked : Asked) × IsAskedFor old.segment.shape name spec asked × IsRefusedBy asked why old new) × LooksAround old new
     × (new.answers.owed ≡ old.answers.owed))

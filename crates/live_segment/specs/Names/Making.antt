@@ -6,14 +6,13 @@ use Rattle.segment_machine.specs.declared.actor.Made.TheVariants.{Histogram}
 use Rattle.segment_machine.specs.declared.actor.Own.{Own}
 use Rattle.segment_machine.specs.Calls.{MayTurn, change_last}
 use Rattle.segment_machine.specs.Publishing.{own_at}
-use Rattle.segment_machine.specs.Taking.{is_looking}
 use Rattle.segment_calls.specs.declared.asked.Asked.{Asked}
 use Rattle.segment_calls.specs.declared.refusal.Refusal.{Refusal}
 use Rattle.live_segment.specs.declared.rule.Announcement.{Announcement}
 use Rattle.live_segment.specs.Lists.Allocation.{Allocates}
 use Rattle.live_segment.specs.Claims.{MakesOne}
 use Rattle.live_segment.specs.Lists.Listing.{asked_for}
-use Rattle.segment_promises.specs.Onward.{Grows}
+use Rattle.segment_promises.specs.Onward.{Grows, is_holding}
 use Rattle.live_segment.specs.Names.Searching.{asked_at}
 
 -- ---- its payload
@@ -59,6 +58,7 @@ pub record HasMade (asked : Asked) (old new : Actor) : Type 0 where
     hand = new.hand;
     done = record old.done {
       claimed = new.done.claimed;
+      raised = new.done.raised;
       published = old.done.published ++ record { reference = at; made = Histogram asked.name.items asked.spec } ∷ [];
       beaten = new.done.beaten;
     };
@@ -66,10 +66,10 @@ pub record HasMade (asked : Asked) (old new : Actor) : Type 0 where
     answers = record old.answers { owed = old.answers.owed ++ asked_at asked at ∷ [] };
   }
   pub free : MayTurn new
-  pub apart : is_looking new.hand.place ≡ false
+  pub apart : is_holding new.hand.place ≡ false
   pub unspoiled : old.done.spoiled ≡ false
   pub claimed : Grows old.done.claimed new.done.claimed
-  pub makes : MakesOne (Histogram asked.name.items asked.spec) (BLOCK_HEADER + length asked.payload.items) old.done new.done
+  pub makes : MakesOne old.segment.shape (Histogram asked.name.items asked.spec) (BLOCK_HEADER + length asked.payload.items) old.done new.done
   pub later : old.seen.free ≤ new.seen.free
   pub tails : Grows old.seen.tails new.seen.tails
 

@@ -14,13 +14,13 @@ use Rattle.segment_machine.specs.Calls.{change_last}
 use Rattle.segment_machine.specs.Form.{is_off, units_in}
 use Rattle.segment_machine.specs.Made.{SawSample}
 use Rattle.segment_machine.specs.Note.{TookAll, TookBucket, TookSample, moment_of}
-use Rattle.segment_machine.specs.Taking.{Takes, is_looking}
+use Rattle.segment_machine.specs.Taking.{Takes}
 pub use Rattle.segment_promises.specs.Calls.{AreUnits}
 use Rattle.live_segment.specs.declared.deltas.Mounted.{Mounted}
 use Rattle.live_segment.specs.declared.segment.Segment.{Segment}
 use Rattle.live_segment.specs.Holders.{table_of}
 use Rattle.live_segment.specs.Readings.Looking.{StandsAt}
-use Rattle.segment_promises.specs.Onward.{SeesOn}
+use Rattle.segment_promises.specs.Onward.{SeesOn, is_holding}
 use Rattle.live_segment.specs.Rule.{IsOf}
 use Rattle.live_segment.specs.Steps.{Pass}
 use Rattle.live_segment.specs.GhostNotes.{KnowsAlone}
@@ -94,7 +94,7 @@ pub record TakesValues (segment : Segment) (known : Known) (seat : Pass) : Type 
   pub sparse : known.spec ≡ spec.Sparse
   pub takes : Takes seat.me.0 known.reference known
   pub free : is_bound seat.me.0.hand.place ≡ false
-  pub apart : is_looking seat.me.0.hand.place ≡ false
+  pub apart : is_holding seat.me.0.hand.place ≡ false
   pub singles : seat.me.0.since.singles ≤ length seat.me.0.seen.singles
   pub counts : seat.me.0.since.counts ≤ length seat.me.0.seen.counts
 
@@ -115,12 +115,14 @@ pub record HasTakenSample (segment : Segment) (known : Known) (value : ℤ) (sam
 
 -- ---- what was taken
 
--- A delta has taken these units of the buckets of a histogram, which is all that its recorder saw of them since it began.
+-- A delta has taken these units of the buckets of a histogram, of no more than there are, which is all that its recorder saw of them since
+-- it began.
 pub record HasTakenBuckets (known : Known) (taken : List (ℤ × ℕ)) (old new : Actor) : Type 0 where
   pub on : TakesOn taken old new
   pub free : is_bound new.hand.place ≡ false
   pub took : (bucket : ℕ) → bucket < buckets_of known.spec → TookBucket new known bucket
   pub units : AreUnits taken
+  pub few : length taken ≤ buckets_of known.spec
 
 -- A delta has taken of the units of a histogram all that its recorder saw, and may take of the sum.
 pub record MayTakeSum (segment : Segment) (known : Known) (seat : Pass) : Type 0 where

@@ -1,6 +1,7 @@
 -- How a recorder goes through the samples of a sparse histogram that its index has, and which values it lists of them.
-use Rattle.std.specs.Prelude.{◌≡◌, ℕ, ◌≤◌, ℤ, List, length}
+use Rattle.std.specs.Prelude.{◌≡◌, ℕ, ◌+◌, ◌*◌, ◌≤◌, ℤ, List, length}
 use Rattle.std.specs.List.{All, AllByRecursion, Contains}
+use Rattle.segment_image.specs.declared.layout.TheConstants.{BLOCK_LEAST, HEADER_WORDS}
 use Rattle.segment_machine.specs.declared.actor.Known.{Known}
 use Rattle.segment_machine.specs.declared.seen.Seen.{Seen}
 use Rattle.segment_machine.specs.Made.{IsFirstSample}
@@ -17,10 +18,11 @@ use Rattle.live_segment.specs.Steps.{IsSame, Pass}
 
 -- ---- what the index has
 
--- An index of samples has passed all records of the list that were seen.
+-- An index of samples has passed all records of the list that were seen, and these fit in the segment.
 pub record HasPassedAll (size : ℕ) (seen : Seen) (index : RecordIndex) : Type 0 where
   pub indexed : IsIndexed Sample size seen index
   pub all : index.place.given ≡ length seen.chain
+  pub few : BLOCK_LEAST * length seen.chain + HEADER_WORDS ≤ size
 
 -- the samples of a histogram that it has
 abbrev pub own_samples : RecordIndex → ℕ → List ℕ

@@ -1,8 +1,6 @@
 -- What a recorder is owed by a delta and a snapshot of a histogram: of each key at least what it had accepted, or seen, before the call.
 use Rattle.std.specs.Prelude.{◌≡◌, ◌≢◌, ◌⊎◌, ℕ, ◌+◌, ◌<◌, ◌≤◌, ℤ, map, Some}
 use Rattle.std.specs.List.{Contains}
-use mathlib.Core.Option.{some}
-use lib.ListN.{get_elem?}
 use Rattle.segment_image.specs.declared.layout.TheConstants.{BLOCK_HEADER, HISTOGRAM_COUNTS, HISTOGRAM_REDUNDANT, HISTOGRAM_SINGLE, SAMPLE_COUNT}
 use Rattle.bucket_ranges.specs.declared.spec.Spec.TheVariants.{Sparse}
 use Rattle.bucket_ranges.specs.Single.{single_of, packed_bucket, units_packed}
@@ -13,12 +11,10 @@ use Rattle.segment_machine.specs.declared.actor.Known.{Known}
 use Rattle.segment_machine.specs.Actor.{SawSingle, accepted_by, bucket_key, units_listed, word_seen}
 use Rattle.segment_machine.specs.Entry.{tally_noted, tally_units}
 use Rattle.segment_machine.specs.Made.{IsFirstSample}
-use Rattle.segment_machine.specs.State.{State}
-use Rattle.segment_invariant.specs.Body.{Anatomy}
 use Rattle.segment_invariant.specs.Consistent.{units_taken}
-use Rattle.segment_invariant.specs.Invariant.{Invariant}
-use Rattle.segment_invariant.specs.Keeps.{IsOpening}
 use Rattle.segment_promises.specs.Deltas.{SawOpen}
+use Rattle.live_segment.specs.declared.rule.Opening.{Opening}
+use Rattle.live_segment.specs.Standing.{Standing}
 
 -- ---- what it had seen
 
@@ -68,20 +64,9 @@ pub record IsEnough (known : Known) (old new : Actor) (units : ℤ → ℕ) : Ty
 
 -- ---- of all deltas
 
--- A state of its segment that keeps what holds between any two events, whatever blocks it was opened with, and in which a holder has done
--- and seen this. So it is consistent.
-pub record Standing (a : Actor) : Type 0 where
-  pub opened : Anatomy
-  pub opens : IsOpening a.segment.shape opened
-  pub version : opened.version ≡ a.segment.version
-  pub state : State
-  pub kept : Invariant a.segment.shape opened state
-  pub who : ℕ
-  pub stands : get_elem? state.actors who ≡ some a
-
--- as a delta ended, all deltas of all recorders together had taken enough
-pub record TookEnough (known : Known) (old new : Actor) : Type 0 where
-  pub standing : Standing new
+-- as a delta ended, all deltas of all recorders of its segment together had taken enough
+pub record TookEnough (opening : Opening) (number : ℕ) (known : Known) (old new : Actor) : Type 0 where
+  pub standing : Standing opening number new
   pub enough : IsEnough known old new (units_taken standing.state.actors known.name)
 
 -- ---- of a snapshot

@@ -8,9 +8,9 @@ use Rattle.segment_machine.specs.declared.place.Place.TheVariants.{SampleLoaded}
 use Rattle.segment_machine.specs.Event.{taking_event}
 use Rattle.segment_machine.specs.Made.{SawSample, SawOther}
 use Rattle.segment_machine.specs.Actor.{SawCount, is_bound}
-use Rattle.segment_machine.specs.Taking.{IsLaterSample, is_looking, load_count, load_sum}
+use Rattle.segment_machine.specs.Taking.{IsLaterSample, load_count, load_sum}
 pub use Rattle.segment_promises.specs.Calls.{SamplesStandBehind}
-use Rattle.segment_promises.specs.Onward.{Grows}
+use Rattle.segment_promises.specs.Onward.{Grows, is_holding}
 use Rattle.segment_promises.specs.Values.{NoRepeats}
 use Rattle.live_segment.specs.Steps.{DoesAt, Sat}
 
@@ -47,7 +47,7 @@ pub record SeesSample (old new : Actor) : Type 0 where
   pub words : Grows old.seen.words new.seen.words
   pub counts : Grows old.seen.counts new.seen.counts
   pub free : is_bound new.hand.place ≡ false
-  pub apart : is_looking new.hand.place ≡ false
+  pub apart : is_holding new.hand.place ≡ false
 
 -- It saw that a record is a sample of a value of a histogram and has units, which it loaded last. So it is not a later sample of its value.
 pub record HasUnits (histogram at : ℕ) (value : ℤ) (units : ℕ) (a : Actor) : Type 0 where

@@ -16,7 +16,6 @@ use Rattle.live_segment.specs.declared.rule.Announcement.{Announcement}
 use Rattle.live_segment.specs.declared.rule.Announcement.TheVariants.{Answer}
 use Rattle.live_segment.specs.Steps.{IsSame, Pass, Sat}
 use Rattle.live_segment.specs.GhostNotes.{KnowsAlone, TellsOf, MayDoOf, NotedOf}
-use Rattle.live_segment.specs.Readings.Owed.{Standing}
 
 -- ---- a delta begins
 
@@ -46,11 +45,11 @@ BeginsSnapshot offset event word me =
 
 -- ---- a delta ends
 
--- the sum is swapped into the sum mark, and the delta ends; its recorder stands in a state that is kept
+-- the sum is swapped into the sum mark, and the delta ends
 abbrev pub EndsDelta : ℕ → ℕ → Sat → ℕ → Sat → Type 0
 EndsDelta word number me found me' =
     TellsOf ℕ (λ histogram. word ≡ histogram + HISTOGRAM_SUM_MARK + 1) (λ histogram. [])
-    (λ histogram. taking_event (swap_sum_mark histogram (cast_signed w64 number))) (has_taken ∷ []) me found me' × Standing me'.0
+    (λ histogram. taking_event (swap_sum_mark histogram (cast_signed w64 number))) (has_taken ∷ []) me found me'
 
 -- ---- a snapshot ends
 
@@ -59,12 +58,11 @@ abbrev pub answered_as : Actor → Known → Snapshot → Answered
 answered_as a known snapshot =
     record { name = known.name; counts = snapshot.counts.items; sum = snapshot.sum; redundant = snapshot.redundant; moment = moment_of a }
 
--- it is said to be the answer; the recorder stands in a state that is kept
+-- it is said to be the answer
 abbrev pub Answers : Step Announcement → Sat → ℕ → Sat → Type 0
 Answers st me found me' =
-    ((known : Known) (snapshot : Snapshot) → st.said ≡ some (Answer known.reference snapshot) → KnowsAlone me.0 known
-    → (me'.0 ≡ noted me.0 (answers (answered_as me.0 known snapshot))) × (me'.1 ≡ me.1))
-    × Standing me'.0
+    (known : Known) (snapshot : Snapshot) → st.said ≡ some (Answer known.reference snapshot) → KnowsAlone me.0 known
+    → (me'.0 ≡ noted me.0 (answers (answered_as me.0 known snapshot))) × (me'.1 ≡ me.1)
 
 -- a recorder's seat may say that
 pub record MayAnswer (seat : Pass) (said : Announcement) : Type 0 where

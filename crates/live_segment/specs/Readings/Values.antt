@@ -9,12 +9,11 @@ use Rattle.segment_machine.specs.declared.actor.Actor.{Actor}
 use Rattle.segment_machine.specs.declared.actor.Known.{Known}
 use Rattle.segment_machine.specs.Actor.{SawCount, has_buckets, is_bound, is_opener}
 use Rattle.segment_machine.specs.Note.{TookSample}
-use Rattle.segment_machine.specs.Taking.{is_looking}
 use Rattle.live_segment.specs.declared.recorder.KnownHistogram.{KnownHistogram}
 use Rattle.live_segment.specs.declared.segment.Segment.{Segment}
 use Rattle.live_segment.specs.Readings.Deltas.{TakesOn, TakesValues}
 use Rattle.live_segment.specs.Holders.{table_of}
-use Rattle.segment_promises.specs.Onward.{SeesOn}
+use Rattle.segment_promises.specs.Onward.{SeesOn, is_holding}
 use Rattle.segment_promises.specs.Values.{ComesTo, Passes, ListsValues, ListsOf, listed_of}
 use Rattle.live_segment.specs.Rule.{IsOf}
 use Rattle.segment_promises.specs.Totals.{blank_totals}
@@ -34,6 +33,10 @@ abbrev pub HoldsKeys : Segment → Known → ℕ → Type 0
 HoldsKeys segment known many =
     (has_buckets known.spec ≡ true → buckets_of known.spec ≤ many)
     × (known.spec ≡ Sparse → (segment.setting.shape.size - HEADER_WORDS) / BLOCK_LEAST ≤ many)
+
+-- so many keys are counted of a histogram as it may have, or fewer
+abbrev pub AreFewKeys : Segment → Known → List (ℤ × ℕ) → Type 0
+AreFewKeys segment known counts = (many : ℕ) → AreMostKeys segment known many → length counts ≤ many
 
 -- ---- a delta
 
@@ -74,7 +77,7 @@ pub record LooksAtValues (segment : Segment) (known : Known) (seat : Pass) : Typ
   pub alone : KnowsAlone seat.me.0 known
   pub sparse : known.spec ≡ Sparse
   pub free : is_bound seat.me.0.hand.place ≡ false
-  pub apart : is_looking seat.me.0.hand.place ≡ false
+  pub apart : is_holding seat.me.0.hand.place ≡ false
   pub singles : seat.me.0.since.singles ≤ length seat.me.0.seen.singles
   pub counts : seat.me.0.since.counts ≤ length seat.me.0.seen.counts
 

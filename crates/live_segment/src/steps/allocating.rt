@@ -3,7 +3,7 @@
 ghost use Rattle.std.specs.Prelude.{ℕ, ◌+◌, ◌≤◌};
 ghost use Rattle.segment_machine.specs.Event.{allocating_event};
 ghost use Rattle.segment_machine.specs.Allocating.{load_flags, load_free, exchange_free, store_size, store_cookie, store_type, set_corrupt, set_full};
-ghost use Rattle.live_segment.specs.Steps.{Does, DoesAt};
+ghost use Rattle.live_segment.specs.Steps.{Does, DoesAt, Raises};
 ghost use Rattle.live_segment.specs.Counts.Refusing.{LoadsFlags, SetsFull};
 
 use crate::rule::{Announcement, Pass};
@@ -30,7 +30,7 @@ impl Play<Announcement, Actor> for LoadFree {
 pub(crate) struct ExchangeFree;
 
 impl Play<Announcement, Actor> for ExchangeFree {
-    ghost then = { λ st. Does (allocating_event (exchange_free st.first st.second)) };
+    ghost then = { Raises };
 }
 
 pub(crate) struct StoreSize;
@@ -88,13 +88,15 @@ impl Segment {
         self.table.shared.load::<LoadFree>(seat, FIRST + FREE_WORD)
     }
 
-    pub(crate) fn exchange_free(&self, seat: &mut Pass, old: u64, new: u64) -> u64
-        requires { MayStep self.now seat.old (allocating_event (exchange_free old new)) }
-        ensures { Stepped seat.old (allocating_event (exchange_free old new)) result seat.new }
+    // The block that is wanted has so many words.
+    pub(crate) fn exchange_free(&self, seat: &mut Pass, old: u64, new: u64, words: u64) -> u64
+        requires { MayStep self.now seat.old (allocating_event (exchange_free old new words)) }
+        ensures { Stepped seat.old (allocating_event (exchange_free old new words)) result seat.new }
     {
+        let said = Announcement::Wanted(words);
         self.table
             .shared
-            .compare_exchange::<ExchangeFree>(seat, FIRST + FREE_WORD, old, new)
+            .compare_exchange_with::<ExchangeFree>(seat, FIRST + FREE_WORD, old, new, &said)
     }
 
     pub(crate) fn store_size(&self, seat: &mut Pass, at: u64, size: u64)

@@ -98,7 +98,6 @@ impl Segment {
     ghost use Rattle.live_segment.specs.Steps.{Stepped};
     ghost use Rattle.live_segment.specs.Readings.Taking.{MayAnswer, HasAnswered, MayBeginDelta, HasBegunDelta};
     ghost use Rattle.live_segment.specs.GhostNotes.{MayDo, Noted};
-    ghost use Rattle.live_segment.specs.Readings.Owed.{Standing};
 
     // A delta of a histogram with buckets begins: its single word is loaded.
     pub(crate) fn take_single(&self, seat: &mut Pass, histogram: u64) -> u64
@@ -212,8 +211,7 @@ impl Segment {
         requires table { seat.old.table_id ≡ table_of self.now }
         requires room { histogram + 15 ≤ self.now.setting.shape.size }
         requires may { MayDo seat.old [] (taking_event (swap_sum_mark histogram sum)) (has_taken ∷ []) }
-        ensures step { Noted seat.old [] (taking_event (swap_sum_mark histogram sum)) (has_taken ∷ []) result seat.new }
-        ensures stands { Standing seat.new.me.0 }
+        ensures { Noted seat.old [] (taking_event (swap_sum_mark histogram sum)) (has_taken ∷ []) result seat.new }
     {
         self.table.shared.swap::<SwapSumMark>(
             seat,
@@ -235,8 +233,7 @@ impl Segment {
     pub(crate) fn answer(&self, seat: &mut Pass, said: &Announcement)
         requires table { seat.old.table_id ≡ table_of self.now }
         requires may { MayAnswer seat.old said.now }
-        ensures said { HasAnswered seat.old said.now seat.new }
-        ensures stands { Standing seat.new.me.0 }
+        ensures { HasAnswered seat.old said.now seat.new }
     {
         self.table
             .shared

@@ -1,6 +1,6 @@
 //! The steps that walk along the list: the next of a block, and a word of a published record that never changes.
 
-ghost use Rattle.std.specs.Prelude.{◌+◌, ◌<◌, ◌≤◌};
+ghost use Rattle.std.specs.Prelude.{◌≡◌, ◌+◌, ◌<◌, ◌≤◌};
 ghost use Rattle.segment_machine.specs.Event.{walking_event};
 ghost use Rattle.segment_machine.specs.Walking.{load_next, load_published};
 ghost use Rattle.live_segment.specs.Lists.Listing.{LoadsPublished};
@@ -10,14 +10,18 @@ ghost use Rattle.segment_image.specs.declared.layout.TheConstants.{BLOCK_TYPE};
 use crate::rule::{Announcement, Pass};
 use crate::segment::Segment;
 use crate::steps::FIRST;
+use crate::steps::standing::Stance;
 use atomic_table::Play;
 use segment_image::layout::{BLOCK_NEXT, BLOCK_TYPE};
 use segment_machine::Actor;
+use std::marker::{Brand, PhantomData};
 
-pub(crate) struct LoadNext;
+pub(crate) struct LoadNext<S> {
+    of: PhantomData<S>,
+}
 
-impl Play<Announcement, Actor> for LoadNext {
-    ghost then = { λ st. LoadsNext st.word };
+impl<S: Stance> Play<Announcement, Actor> for LoadNext<S> {
+    ghost then = { λ st. LoadsNext S.opening S.number st.word };
 }
 
 pub(crate) struct LoadType;
@@ -33,12 +37,30 @@ impl Play<Announcement, Actor> for LoadPublished {
 }
 
 impl Segment {
-    ghost use Rattle.live_segment.specs.Holders.{MayStep};
+    ghost use Rattle.std.specs.Prelude.{Some};
+    ghost use Rattle.live_segment.specs.Holders.{MayStep, opened_with};
+    ghost use Rattle.live_segment.specs.Standing.{SeesNext};
     ghost use Rattle.segment_promises.specs.Calls.{SamplesStandBehind};
     ghost use Rattle.segment_promises.specs.Values.{NoRepeats};
     ghost use Rattle.live_segment.specs.Lists.Records.{KnowsOwnNames, KnowsOwnSamples};
     ghost use Rattle.live_segment.specs.Steps.{Stepped};
 
+    fn load_next_as<S: Stance>(&self, seat: &mut Pass, at: u64) -> u64
+        requires may { MayStep self.now seat.old (walking_event (load_next at)) }
+        requires room { at + 5 ≤ self.now.setting.shape.size }
+        requires stance { (S.opening ≡ Some (opened_with self.now)) × (S.number ≡ seat.old.id) }
+        ensures step { Stepped seat.old (walking_event (load_next at)) result seat.new }
+        ensures once { NoRepeats seat.old.me.0.seen.chain }
+        ensures own { KnowsOwnNames seat.old.me.0 }
+        ensures samples { KnowsOwnSamples seat.old.me.0 }
+        ensures sees { SeesNext (opened_with self.now) seat.new.id at result seat.new.me.0 }
+    {
+        self.table
+            .shared
+            .load::<LoadNext<S>>(seat, FIRST + at as usize + BLOCK_NEXT)
+    }
+
+    // The next of a block, in a state of the segment.
     pub(crate) fn load_next(&self, seat: &mut Pass, at: u64) -> u64
         requires may { MayStep self.now seat.old (walking_event (load_next at)) }
         requires room { at + 5 ≤ self.now.setting.shape.size }
@@ -46,10 +68,9 @@ impl Segment {
         ensures once { NoRepeats seat.old.me.0.seen.chain }
         ensures own { KnowsOwnNames seat.old.me.0 }
         ensures samples { KnowsOwnSamples seat.old.me.0 }
+        ensures sees { SeesNext (opened_with self.now) seat.new.id at result seat.new.me.0 }
     {
-        self.table
-            .shared
-            .load::<LoadNext>(seat, FIRST + at as usize + BLOCK_NEXT)
+        self.load_next_as::<Brand>(seat, at)
     }
 
     // The type of a record that was met. No sample stands before the record of its histogram, and no block twice, among those that were met.

@@ -1,17 +1,18 @@
 //! What a recorder reads.
 
-ghost use Rattle.std.specs.Prelude.{◌≡◌};
-ghost use Rattle.povundiri_c.specs.Asking.{AnswersDeltaCall, AnswersNextCall, AnswersRecordsCall, AnswersSnapshotCall, with_counts};
+ghost use Rattle.std.specs.Prelude.{◌≡◌, ◌≤◌, length};
+ghost use Rattle.povundiri_c.specs.Asking.{AnswersDeltaCall, AnswersNextCall, AnswersRecordsCall, AnswersSnapshotCall, AreGiven};
 
 use crate::handle::Handle;
 use crate::status::{DONE, EMPTY, Refused, SHORT};
 use crate::types::{Count, Totals};
 
-// Writes counts as far as there is room for them.
+// Writes counts to the front of an array that has room for them.
 fn write_counts(counts: &[(i32, u64)], out: &mut [Count])
-    ensures { out.new ≡ with_counts counts.now out.old }
+    requires { length counts.now ≤ length out.old }
+    ensures { AreGiven counts.now out.old out.new }
 {
-    for i in 0..counts.len().min(out.len()) {
+    for i in 0..counts.len() {
         let (key, count) = counts[i];
         out[i] = Count { key, count };
     }

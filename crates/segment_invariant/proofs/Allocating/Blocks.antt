@@ -14,6 +14,7 @@ use Rattle.alloc_core.proofs.Layouts.{shown_grown}
 use Rattle.list_core.specs.Chain.{IsLinked}
 use Rattle.segment_machine.specs.declared.actor.Actor.{Actor}
 use Rattle.segment_machine.specs.declared.actor.Claim.{Claim}
+use Rattle.segment_machine.specs.declared.actor.Rise.{Rise}
 use Rattle.segment_machine.specs.declared.actor.Own.{Own}
 use Rattle.segment_machine.specs.declared.place.Place.{Place}
 use Rattle.segment_machine.specs.State.{State}
@@ -177,11 +178,12 @@ module _ (shape : Dimensions) (opened : Anatomy) (state : State) (kept : Invaria
   abbrev Taken : ℕ → Anatomy
   Taken new = grown_by anatomy id (new - free_of anatomy)
 
-  pub takes : (new : ℕ) (place : Place) → TurnsTo a place → KeepsUp a.hand.place place → IsRise shape (free_of anatomy) new
-      → StandsRight shape (Taken new) id (record a { hand = record a.hand { place = place }; seen = record a.seen { free = new } }) place
-      → GoesTo (set state.words 7 new) (record (doing_of a) { place = place; seen_free = new })
-  takes new place turns up rise stands =
-      let d : Doing = record (doing_of a) { place = place; seen_free = new } in
+  pub takes : (new : ℕ) (place : Place) (raised : List Rise) → TurnsTo a place → KeepsUp a.hand.place place → IsRise shape (free_of anatomy) new
+      → StandsRight shape (Taken new) id
+      (record a { hand = record a.hand { place = place }; done = record a.done { raised = raised }; seen = record a.seen { free = new } }) place
+      → GoesTo (set state.words 7 new) (record (doing_of a) { place = place; raised = raised; seen_free = new })
+  takes new place raised turns up rise stands =
+      let d : Doing = record (doing_of a) { place = place; raised = raised; seen_free = new } in
       let fits = kept.each id a mine turns.lived in
       let size : ℕ = new - free_of anatomy in
       let q : Piece = raw_piece (free_of anatomy) id size in

@@ -22,7 +22,7 @@ use Rattle.segment_machine.specs.declared.place.Place.TheVariants.{Spent, Idle, 
 use Rattle.segment_machine.specs.Actor.{is_bound, is_opener}
 use Rattle.segment_machine.specs.State.{State}
 use Rattle.segment_machine.specs.Event.{Event, allocating_event, spot, Ready, Learned}
-use Rattle.segment_machine.specs.Allocating.{load_flags, load_free, exchange_free, set_corrupt, set_full, after_free, free_at}
+use Rattle.segment_machine.specs.Allocating.{load_flags, load_free, exchange_free, set_corrupt, set_full, MayRise, after_free, free_at}
 use Rattle.alloc_core.proofs.Flags.{corrupt_bit, corrupt_read}
 use Rattle.segment_invariant.proofs.Frames.Ahead.{ahead_at, unbound_unbeaten}
 use Rattle.segment_invariant.proofs.Frames.Anew.{looks_anew_at}
@@ -33,6 +33,7 @@ use Rattle.segment_invariant.proofs.Lists.Elements.{any_there, column}
 use Rattle.segment_invariant.proofs.Blocks.Pieces.{raw_piece, stands_last, free_least, free_within}
 use Rattle.segment_invariant.proofs.Frames.OneActor.{is_plain, turns_plain, turns_unbound}
 use Rattle.segment_invariant.proofs.Frames.GoesOn.{after_word}
+use Rattle.segment_invariant.proofs.Allocating.Rises.{rise_of}
 use Rattle.segment_invariant.proofs.Allocating.Blocks.{waits, takes, flags_set}
 
 -- a flag that an actor has set is set
@@ -142,29 +143,30 @@ module _ (shape : Dimensions) (opened : Anatomy) (state : State) (kept : Invaria
       )
 
   -- an exchange of the free pointer
-  abbrev Exchanged : ℕ → ℕ → Bool → Type 0
-  Exchanged old new through =
+  abbrev Exchanged : (old new wanted : ℕ) → Bool → Type 0
+  Exchanged old new wanted through =
       let found = word_at state.words 7 in
       Invariant shape opened (record {
         words = set state.words 7 (if through then new else found);
         cursors = state.cursors;
-        actors = set state.actors id (after_free through a old new found);
+        actors = set state.actors id (after_free through a old new wanted found);
       })
 
-  exchanged : (new : ℕ) → a.hand.place ≡ FreeLoaded (free_of anatomy) → IsRise shape (free_of anatomy) new → Exchanged (free_of anatomy) new true
-  exchanged new ready rise =
+  exchanged : (new wanted : ℕ) → a.hand.place ≡ FreeLoaded (free_of anatomy) → IsRise shape (free_of anatomy) new → Exchanged (free_of anatomy) new wanted true
+  exchanged new wanted ready rise =
       let old : ℕ = free_of anatomy in
       let size : ℕ = new - old in
       let from = free_least shape state.words anatomy kept.shown in
       let five = rise.five in
       let within = rise.within in
-      takes shape opened state kept id a mine records new (Raised old size) (turns_plain a (Raised old size) (ap is_plain ready) refl) (λ no. ap is_beaten ready) rise (
+      takes shape opened state kept id a mine records new (Raised old size wanted) (a.done.raised ++ record { from = old; to = new; wanted = wanted } ∷ [])
+      (turns_plain a (Raised old size wanted) (ap is_plain ready) refl) (λ no. ap is_beaten ready) rise (
         record { from = from; five = omega (arith, five); within = omega (arith, five, within); one_page = rise.one_page },
         stands_last anatomy.pieces (raw_piece old id size),
       )
 
-  pub free_exchanged : (old new : ℕ) → Ready a (allocating_event (exchange_free old new)) → Keeps (allocating_event (exchange_free old new))
-  free_exchanged old new (ready, lawful, rise) =
+  pub free_exchanged : (old new wanted : ℕ) → Ready a (allocating_event (exchange_free old new wanted)) → Keeps (allocating_event (exchange_free old new wanted))
+  free_exchanged old new wanted (ready, lawful, may) =
       let found : ℕ = word_at state.words 7 in
       let turns = turns_plain a Idle (ap is_plain ready) refl in
       let fits = kept.each id a mine turns.lived in
@@ -173,10 +175,12 @@ module _ (shape : Dimensions) (opened : Anatomy) (state : State) (kept : Invaria
         dite (ℕ_discrete found old)
             (λ same.
             let is : free_of anatomy ≡ old = sym free_is ∙ same in
-            subst (Exchanged old new) (sym (eq-eqb found old same))
-            (subst (λ n. Exchanged n new true) is
-            (exchanged new (ready ∙ ap FreeLoaded (sym is)) (subst (λ (p : Dimensions × ℕ). IsRise p.0 p.1 new) (λ i. (fits.shaped i, sym is i)) rise))))
-            (λ other. subst (Exchanged old new) (sym (ne_eqb found old other))
+            let rise : IsRise shape old new = rise_of shape old new wanted kept.shown.sound.lawful
+            (subst (λ (s : Dimensions). is_pointer s old ≡ true) fits.shaped lawful) (subst (λ (s : Dimensions). MayRise s old new wanted) fits.shaped may) in
+            subst (Exchanged old new wanted) (sym (eq-eqb found old same))
+            (subst (λ n. Exchanged n new wanted true) is
+            (exchanged new wanted (ready ∙ ap FreeLoaded (sym is)) (subst (λ n. IsRise shape n new) (sym is) rise))))
+            (λ other. subst (Exchanged old new wanted) (sym (ne_eqb found old other))
             (leaves 7 found _ refl (waits shape opened state kept id a mine records Idle found turns (λ no. ap is_beaten ready) (inl free_is) tt))),
         (subst (λ n. Behind n found) seen learned.0, learned.1),
       )

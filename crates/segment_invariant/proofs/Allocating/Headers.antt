@@ -1,6 +1,6 @@
 -- Each store into the header of a block in its making keeps what holds: its size, its cookie, and its type, which claims it.
-use Rattle.std.proofs.Common.{◌≡◌, ◌≢◌, ℕ, suc, ◌+◌, ◌-◌, ◌<◌, ◌≤◌, ◌==◌, true, true≢false, List, [], ◌∷◌, ◌++◌, length, replicate, set, All, inl, inr, refl, sym, ap, ◌∙◌, subst, arith, false}
-use Rattle.std.specs.Prelude.{if◌then◌else◌, IsPermutation}
+use Rattle.std.proofs.Common.{◌≡◌, ◌≢◌, ℕ, suc, ◌+◌, ◌-◌, ◌<◌, ◌≤◌, ◌==◌, Bool, true, true≢false, List, [], ◌∷◌, ◌++◌, length, replicate, set, All, inl, inr, refl, sym, ap, ◌∙◌, subst, arith, false}
+use Rattle.std.specs.Prelude.{nat_lt, if◌then◌else◌, IsPermutation}
 use Rattle.std.proofs.lemmas.List.{length-replicate}
 use Rattle.std.proofs.lemmas.List.Elements.{All-push}
 use mathlib.Core.Option.{some}
@@ -17,7 +17,7 @@ use Rattle.segment_machine.specs.declared.actor.Own.{Own}
 use Rattle.segment_machine.specs.declared.place.Place.{Place}
 use Rattle.segment_machine.specs.declared.place.Place.TheVariants.{Idle, Sized, Marked}
 use Rattle.segment_machine.specs.State.{State}
-use Rattle.segment_machine.specs.Allocating.{store_size, store_cookie, store_type, size_at, new_own}
+use Rattle.segment_machine.specs.Allocating.{store_size, store_cookie, store_type, size_at, wanted_at, new_own}
 use Rattle.segment_machine.specs.Event.{allocating_event, Ready}
 use Rattle.segment_invariant.specs.Body.{plain, held, own_words, is_claimed, Piece, block_of, Anatomy, layout_of, claims_of}
 use Rattle.segment_invariant.specs.Seen.{Stands, HasPlain}
@@ -85,25 +85,26 @@ module _ (shape : Dimensions) (opened : Anatomy) (state : State) (kept : Invaria
 
   -- its size
   pub size_kept : (at size : ℕ) → Ready a (allocating_event (store_size at size)) → Keeps shape opened state kept id a mine records (allocating_event (store_size at size))
-  size_kept at size ready =
+  size_kept at size (wanted, ready) =
       let (placed, (k, there)) = subst (StandsRight shape anatomy id a) ready (kept.standing id a mine) in
       let five = placed.five in
       let long : length (replicate {A = ℕ} size 0) ≡ size = length-replicate {A = ℕ} size 0 in
       let none_on : at + 0 ≡ at = omega arith in
       let shown = size_stored shape state.words (layout_of anatomy) id at size k kept.shown (at_map block_of anatomy.pieces k (raw at (replicate size 0)) there) five in (
-        subst (λ n. Goes n size (record a { hand = record a.hand { place = Sized at size } })) none_on
+        subst (λ place. Goes at size (record a { hand = record a.hand { place = place } })) (ap (λ (p : Place). Sized at size (wanted_at p)) (sym ready))
+            (subst (λ n. Goes n size (record a { hand = record a.hand { place = Sized at size wanted } })) none_on
             (made at 0 size (replicate size 0) (sized size) (k, there) (omega (arith, long, five)) (omega (arith, long, length-sized size five))
             (subst (λ n. IsShown shape (set state.words n size) (put (layout_of anatomy) k (own id at (sized size)))) (sym none_on) shown)
-            (Sized at size) (ap is_plain ready) (ap is_beaten ready) refl (λ has. (placed, has))),
+            (Sized at size wanted) (ap is_plain ready) (ap is_beaten ready) refl (λ has. (placed, has)))),
         tt,
       )
 
   -- its cookie
-  cookie_put : (at size cookie : ℕ) (place : Place) → a.hand.place ≡ Sized at size → is_plain place ≡ true
+  cookie_put : (at size wanted cookie : ℕ) (place : Place) → a.hand.place ≡ Sized at size wanted → is_plain place ≡ true
       → ((pieces : List Piece) → IsPlace shape at size → HasPlain pieces id at (marked size cookie)
       → StandsRight shape (record anatomy { pieces = pieces }) id (record a { hand = record a.hand { place = place } }) place)
       → Goes (at + 1) cookie (record a { hand = record a.hand { place = place } })
-  cookie_put at size cookie place ready plain_place stands =
+  cookie_put at size wanted cookie place ready plain_place stands =
       let (placed, (k, there)) = subst (StandsRight shape anatomy id a) ready (kept.standing id a mine) in
       let five = placed.five in
       let long = length-sized size five in
@@ -111,21 +112,26 @@ module _ (shape : Dimensions) (opened : Anatomy) (state : State) (kept : Invaria
       (cookie_stored shape state.words (layout_of anatomy) id at size cookie k kept.shown (at_map block_of anatomy.pieces k (raw at (sized size)) there) five)
       place (ap is_plain ready) (ap is_beaten ready) plain_place (λ has. stands _ placed has)
 
-  -- that of a block, or that of a wasted rest of a page
-  pub cookie_kept : (at cookie : ℕ) → Ready a (allocating_event (store_cookie at cookie)) → Keeps shape opened state kept id a mine records (allocating_event (store_cookie at cookie))
-  cookie_kept at cookie ((size, ready), inl block) =
+  -- that of a wasted rest of a page, or that of a block
+  cookie_as : (at cookie size wanted : ℕ) → a.hand.place ≡ Sized at size wanted → (few : Bool) → cookie ≡ (if few then 0xFFFFFFFFFFFFFFFF else 0xC8799269)
+      → Keeps shape opened state kept id a mine records (allocating_event (store_cookie at cookie))
+  cookie_as at cookie size wanted ready true waste = (
+    subst (λ n. Goes (at + 1) n (record a { hand = record a.hand { place = if n == 0xC8799269 then Marked at (size_at a.hand.place) else Idle } })) (sym waste)
+        (cookie_put at size wanted 0xFFFFFFFFFFFFFFFF Idle ready refl (λ pieces placed has. tt)),
+    tt,
+  )
+  cookie_as at cookie size wanted ready false block =
       let here : Goes (at + 1) 0xC8799269 (record a { hand = record a.hand { place = Marked at size } }) =
-      cookie_put at size 0xC8799269 (Marked at size) ready refl (λ pieces placed has. (placed, has)) in
+      cookie_put at size wanted 0xC8799269 (Marked at size) ready refl (λ pieces placed has. (placed, has)) in
       let same : size ≡ size_at a.hand.place = sym (ap size_at ready) in (
         subst (λ n. Goes (at + 1) n (record a { hand = record a.hand { place = if n == 0xC8799269 then Marked at (size_at a.hand.place) else Idle } })) (sym block)
             (subst (λ n. Goes (at + 1) 0xC8799269 (record a { hand = record a.hand { place = Marked at n } })) same here),
         tt,
       )
-  cookie_kept at cookie ((size, ready), inr waste) = (
-    subst (λ n. Goes (at + 1) n (record a { hand = record a.hand { place = if n == 0xC8799269 then Marked at (size_at a.hand.place) else Idle } })) (sym waste)
-        (cookie_put at size 0xFFFFFFFFFFFFFFFF Idle ready refl (λ pieces placed has. tt)),
-    tt,
-  )
+
+  -- its cookie is what its size asks for
+  pub cookie_kept : (at cookie : ℕ) → Ready a (allocating_event (store_cookie at cookie)) → Keeps shape opened state kept id a mine records (allocating_event (store_cookie at cookie))
+  cookie_kept at cookie (size, wanted, ready, is) = cookie_as at cookie size wanted ready (nat_lt size wanted) is
 
   -- ---- its type claims it
 

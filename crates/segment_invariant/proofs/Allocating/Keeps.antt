@@ -52,20 +52,20 @@ allocating_keeps load_flags shape opened state id a kept mine records ready =
 allocating_keeps load_free shape opened state id a kept mine records ready =
     at_word shape opened state id a kept mine records (allocating_event load_free) (header_within shape opened state id a kept mine records 7 (omega arith))
     (free_loaded shape opened state kept id a mine records ready)
-allocating_keeps (exchange_free old new) shape opened state id a kept mine records ready =
-    at_word shape opened state id a kept mine records (allocating_event (exchange_free old new)) (header_within shape opened state id a kept mine records 7 (omega arith))
-    (free_exchanged shape opened state kept id a mine records old new ready)
+allocating_keeps (exchange_free old new wanted) shape opened state id a kept mine records ready =
+    at_word shape opened state id a kept mine records (allocating_event (exchange_free old new wanted)) (header_within shape opened state id a kept mine records 7 (omega arith))
+    (free_exchanged shape opened state kept id a mine records old new wanted ready)
 allocating_keeps (store_size at size) shape opened state id a kept mine records ready =
-    let placed = (subst (StandsRight shape kept.anatomy id a) ready (kept.standing id a mine)).0 in
+    let placed = (subst (StandsRight shape kept.anatomy id a) ready.1 (kept.standing id a mine)).0 in
     let five = placed.five in
     let within = block_within shape opened state id a kept mine records at 0 size placed.within (omega (arith, five)) in
     at_word shape opened state id a kept mine records (allocating_event (store_size at size)) (omega (arith, within))
     (size_kept shape opened state kept id a mine records at size ready)
 allocating_keeps (store_cookie at cookie) shape opened state id a kept mine records ready =
-    let placed = (subst (StandsRight shape kept.anatomy id a) ready.0.1 (kept.standing id a mine)).0 in
+    let placed = (subst (StandsRight shape kept.anatomy id a) ready.2 (kept.standing id a mine)).0 in
     let five = placed.five in
     at_word shape opened state id a kept mine records (allocating_event (store_cookie at cookie))
-    (block_within shape opened state id a kept mine records at 1 ready.0.0 placed.within (omega (arith, five)))
+    (block_within shape opened state id a kept mine records at 1 ready.0 placed.within (omega (arith, five)))
     (cookie_kept shape opened state kept id a mine records at cookie ready)
 allocating_keeps (store_type at tag) shape opened state id a kept mine records ready =
     let placed = (subst (StandsRight shape kept.anatomy id a) ready.0.1 (kept.standing id a mine)).0 in

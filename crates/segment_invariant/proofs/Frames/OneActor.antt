@@ -11,6 +11,7 @@ use Rattle.segment_machine.specs.declared.actor.Actor.{Actor}
 use Rattle.segment_machine.specs.declared.actor.Claim.{Claim}
 use Rattle.segment_machine.specs.declared.actor.Own.{Own}
 use Rattle.segment_machine.specs.declared.actor.Published.{Published}
+use Rattle.segment_machine.specs.declared.actor.Rise.{Rise}
 use Rattle.segment_machine.specs.declared.seen.Sighting.{Sighting}
 use Rattle.segment_machine.specs.declared.place.Look.{Look}
 use Rattle.segment_machine.specs.declared.place.Place.{Place}
@@ -27,12 +28,13 @@ use Rattle.segment_invariant.proofs.Frames.Roles.{AllStood, SameRole, stood_set,
 
 -- ---- one actor
 
--- what changes of an actor that goes on so: where it stands, its blocks, the flags that it set and the words that it lacked, how often its link came too late, and what it saw of the free pointer,
+-- what changes of an actor that goes on so: where it stands, its blocks, the rises that it made, the flags that it set and the words that it lacked, how often its link came too late, and what it saw of the free pointer,
 -- the list and words that stay
 pub record Doing : Type 0 where
   pub place : Place
   pub own : List Own
   pub claimed : List Claim
+  pub raised : List Rise
   pub published : List Published
   pub owed : List Known
   pub spoiled : Bool
@@ -51,6 +53,7 @@ doing a d = record a {
   hand = record { place = d.place; own = d.own };
   done = record a.done {
     claimed = d.claimed;
+    raised = d.raised;
     published = d.published;
     spoiled = d.spoiled;
     filled = d.filled;
@@ -67,6 +70,7 @@ doing_of a = record {
   place = a.hand.place;
   own = a.hand.own;
   claimed = a.done.claimed;
+  raised = a.done.raised;
   published = a.done.published;
   owed = a.answers.owed;
   spoiled = a.done.spoiled;
@@ -107,8 +111,8 @@ moves_or_not Spent = inr (λ a name key. refl, λ at i. refl)
 moves_or_not Idle = inr (λ a name key. refl, λ at i. refl)
 moves_or_not FlagsLoaded = inr (λ a name key. refl, λ at i. refl)
 moves_or_not (FreeLoaded free) = inr (λ a name key. refl, λ at i. refl)
-moves_or_not (Raised place size) = inr (λ a name key. refl, λ at i. refl)
-moves_or_not (Sized place size) = inr (λ a name key. refl, λ at i. refl)
+moves_or_not (Raised place size wanted) = inr (λ a name key. refl, λ at i. refl)
+moves_or_not (Sized place size wanted) = inr (λ a name key. refl, λ at i. refl)
 moves_or_not (Marked place size) = inr (λ a name key. refl, λ at i. refl)
 moves_or_not (TailLoaded tail) = inr (λ a name key. refl, λ at i. refl)
 moves_or_not (Beaten tail behind) = inr (λ a name key. refl, λ at i. refl)
@@ -180,8 +184,8 @@ living_at a Spent lives = absurd (lives refl)
 living_at a Idle lives = refl
 living_at a FlagsLoaded lives = refl
 living_at a (FreeLoaded free) lives = refl
-living_at a (Raised at size) lives = refl
-living_at a (Sized at size) lives = refl
+living_at a (Raised at size wanted) lives = refl
+living_at a (Sized at size wanted) lives = refl
 living_at a (Marked at size) lives = refl
 living_at a (TailLoaded tail) lives = refl
 living_at a (Beaten tail behind) lives = refl

@@ -94,8 +94,8 @@ module _ (shape : Dimensions) (old new : Anatomy) (id : ℕ) (x y : Actor) (grou
   stands_on Idle stands = tt
   stands_on FlagsLoaded stands = tt
   stands_on (FreeLoaded free) stands = follows.saw.0 ∙ stands
-  stands_on (Raised at size) stands = (stands.0, grounds.making at _ stands.1)
-  stands_on (Sized at size) stands = (stands.0, grounds.making at _ stands.1)
+  stands_on (Raised at size wanted) stands = (stands.0, grounds.making at _ stands.1)
+  stands_on (Sized at size wanted) stands = (stands.0, grounds.making at _ stands.1)
   stands_on (Marked at size) stands = (stands.0, grounds.making at _ stands.1)
   stands_on (TailLoaded tail) stands = (tails_on tail stands.0, beaten_on tail stands.1)
   stands_on (Beaten tail behind) stands = (grounds.near tail behind stands.0, tails_on tail stands.1, beaten_on behind stands.2)

@@ -1,14 +1,16 @@
 -- Whether an actor may do an event of allocating, publishing or walking, or one of a shared cursor: Some where it may.
 use Rattle.std.proofs.Common.{◌≡◌, ℕ, ◌+◌, ◌*◌, ◌-◌, List, [], ◌∷◌, ◌++◌, length, replicate, inl, inr, refl, ap, Contains, Option, Some, None}
-use Rattle.std.specs.Prelude.{take, drop, ◌%◌, ◌⊎◌}
+use Rattle.std.specs.Prelude.{take, drop, ◌⊎◌}
 use Rattle.std.specs.Int.{w64, cast_unsigned}
 use Rattle.segment_image.specs.Words.{bytes_of_words}
 use Rattle.bucket_ranges.specs.Reading.{is_name, is_i32, name_words}
 use Rattle.bucket_ranges.specs.Spec.{spec_fields, spec_ranges, spec_fault, buckets_of}
 use Rattle.bucket_ranges.specs.declared.spec.Spec.{Spec}
 use Rattle.bucket_ranges.specs.declared.spec.Spec.TheVariants as spec
-use Rattle.alloc_core.specs.Alloc.{IsRise}
-use Rattle.alloc_core.specs.Planned.{is_pointer}
+use Rattle.alloc_core.specs.declared.planned.Planned.{Planned}
+use Rattle.alloc_core.specs.declared.planned.Planned.TheVariants as plan
+use Rattle.alloc_core.specs.Planned.{planned, is_pointer}
+use Rattle.segment_image.specs.Shape.{Dimensions}
 use Rattle.segment_machine.specs.declared.actor.Actor.{Actor}
 use Rattle.segment_machine.specs.declared.actor.Known.{Known}
 use Rattle.segment_machine.specs.declared.actor.Made.{Made}
@@ -18,7 +20,7 @@ use Rattle.segment_machine.specs.declared.place.Place.{Place}
 use Rattle.segment_machine.specs.declared.place.Place.TheVariants.{FlagsLoaded, FreeLoaded, Raised, Sized, Marked, TailLoaded, Beaten, Linked, CursorLoaded, BehindCursor}
 use Rattle.segment_machine.specs.Actor.{is_bound, Sparse, word_seen}
 use Rattle.segment_machine.specs.Made.{AreNameWords, IsPayload}
-use Rattle.segment_machine.specs.Allocating.{AllocatingEvent, load_flags, load_free, exchange_free, store_size, store_cookie, store_type, store_payload, set_corrupt, set_full}
+use Rattle.segment_machine.specs.Allocating.{AllocatingEvent, load_flags, load_free, exchange_free, store_size, store_cookie, store_type, store_payload, set_corrupt, set_full, MayRise, cookie_for}
 use Rattle.segment_machine.specs.Allocating as allocating
 use Rattle.segment_machine.specs.Publishing.{PublishingEvent, store_own_next, load_tail, link, move_tail, MayPublish}
 use Rattle.segment_machine.specs.Publishing as publishing
@@ -42,12 +44,12 @@ abbrev any_free_loaded : (place : Place) → Option ((free : ℕ) × (place ≡ 
 any_free_loaded (FreeLoaded free) = Some (free, refl)
 any_free_loaded _ = None
 
-abbrev raised : (place : Place) (at size : ℕ) → Option (place ≡ Raised at size)
-raised (Raised i n) at size = then (same i at) (λ e. then (same n size) (λ f. Some (λ k. Raised (e k) (f k))))
+abbrev raised : (place : Place) (at size : ℕ) → Option ((wanted : ℕ) × (place ≡ Raised at size wanted))
+raised (Raised i n wanted) at size = then (same i at) (λ e. then (same n size) (λ f. Some (wanted, λ k. Raised (e k) (f k) wanted)))
 raised _ at size = None
 
-abbrev sized : (place : Place) (at : ℕ) → Option ((size : ℕ) × (place ≡ Sized at size))
-sized (Sized i n) at = then (same i at) (λ e. Some (n, ap (λ k. Sized k n) e))
+abbrev sized : (place : Place) (at : ℕ) → Option ((size wanted : ℕ) × (place ≡ Sized at size wanted))
+sized (Sized i n wanted) at = then (same i at) (λ e. Some (n, wanted, ap (λ k. Sized k n wanted) e))
 sized _ at = None
 
 abbrev marked : (place : Place) (at : ℕ) → Option ((size : ℕ) × (place ≡ Marked at size))
@@ -74,12 +76,14 @@ behind_cursor _ cursor old new = None
 
 -- ---- allocating
 
-abbrev rises : (a : Actor) (old new : ℕ) → Option (IsRise a.segment.shape old new)
-rises a old new =
-    then (at_most (old + 5) new) (λ five. then (at_most new a.segment.shape.size) (λ within.
-    then (at_most (old % a.segment.shape.page + (new - old)) a.segment.shape.page) (λ one_page.
-    then (at_most (new % a.segment.shape.page + 5) a.segment.shape.page) (λ leaves.
-    Some (record { five = five; within = within; one_page = one_page; leaves = leaves })))))
+abbrev goes_to : (old new : ℕ) (p : Planned) → Option (((size : ℕ) × (p ≡ plan.Claim size new)) ⊎ ((room : ℕ) × (p ≡ plan.Waste room) × (new ≡ old + room)))
+goes_to old new (plan.Claim size end) = then (same end new) (λ e. Some (inl (size, ap (plan.Claim size) e)))
+goes_to old new (plan.Waste room) = then (same new (old + room)) (λ e. Some (inr (room, refl, e)))
+goes_to old new plan.Full = None
+
+abbrev rises : (shape : Dimensions) (old new wanted : ℕ) → Option (MayRise shape old new wanted)
+rises shape old new wanted =
+    then (at_most 5 wanted) (λ least. then (at_most wanted shape.page) (λ most. then (goes_to old new (planned old wanted shape)) (λ way. Some (least, most, way))))
 
 abbrev pub own_at : (a : Actor) (at : ℕ) → Option ((own : Own) × Contains a.hand.own own × (own.at ≡ at))
 own_at a at = some_of (λ own. same own.at at) a.hand.own
@@ -87,11 +91,11 @@ own_at a at = some_of (λ own. same own.at at) a.hand.own
 abbrev pub may_allocate : (a : Actor) (event : AllocatingEvent) → Option (allocating.Ready a event)
 may_allocate a load_flags = is_false (is_bound a.hand.place)
 may_allocate a load_free = flags_loaded a.hand.place
-may_allocate a (exchange_free old new) =
-    then (free_loaded a.hand.place old) (λ stands. then (is_true (is_pointer a.segment.shape old)) (λ lawful. then (rises a old new) (λ rise. Some (stands, lawful, rise))))
+may_allocate a (exchange_free old new wanted) =
+    then (free_loaded a.hand.place old) (λ stands. then (is_true (is_pointer a.segment.shape old)) (λ lawful. then (rises a.segment.shape old new wanted) (λ rise. Some (stands, lawful, rise))))
 may_allocate a (store_size at size) = raised a.hand.place at size
 may_allocate a (store_cookie at cookie) =
-    then (sized a.hand.place at) (λ stands. or_else (then (same cookie 0xC8799269) (λ e. Some (stands, inl e))) (then (same cookie 0xFFFFFFFFFFFFFFFF) (λ e. Some (stands, inr e))))
+    then (sized a.hand.place at) (λ t. then (same cookie (cookie_for t.0 t.1)) (λ e. Some (t.0, t.1, t.2, e)))
 may_allocate a (store_type at tag) =
     then (marked a.hand.place at) (λ stands. then (at_most 1 tag) (λ least. then (at_most tag 3) (λ most. Some (stands, least, most))))
 may_allocate a (store_payload at index value) =

@@ -9,19 +9,26 @@ use Rattle.segment_machine.specs.Actor.{is_bound}
 use Rattle.segment_machine.specs.Calls.{look_of, nothing_of}
 use Rattle.segment_machine.specs.Taking.{is_looking}
 use Rattle.segment_machine.specs.Walking.{behind}
+use Rattle.segment_promises.specs.Onward.{is_holding}
 
--- ---- who has loaded a next stands at no single word and no counts where it stood at none, and is as free as before
+-- ---- who has loaded a next holds nothing else where it held nothing, and is as free as before
 
-pub behind_apart : (p : Place) (at found : ℕ) → is_looking p ≡ false → is_looking (behind p at found) ≡ false
+pub behind_apart : (p : Place) (at found : ℕ) → is_holding p ≡ false → is_holding (behind p at found) ≡ false
+behind_apart (place.FreeLoaded free) at found was = absurd (cc was)
 behind_apart (place.Looking look) at found was = absurd (cc was)
 behind_apart (place.CountLoaded look bucket count) at found was = absurd (cc was)
 behind_apart (place.CursorLoaded cursor from) at found was = by (at == from) (found == 12)
   where
-    by : (here ends : Bool) → is_looking (if here then (if ends then place.Idle else place.BehindCursor cursor from found) else place.CursorLoaded cursor from) ≡ false
+    by : (here ends : Bool) → is_holding (if here then (if ends then place.Idle else place.BehindCursor cursor from found) else place.CursorLoaded cursor from) ≡ false
     by true true = refl
     by true false = refl
     by false ends = refl
 behind_apart p at found was = was
+
+-- and stands at no single word and no counts
+pub not_looking : (p : Place) → is_holding p ≡ false → is_looking p ≡ false
+not_looking (place.FreeLoaded free) holds = absurd (cc holds)
+not_looking p holds = holds
 
 pub behind_free : (p : Place) (at found : ℕ) → is_bound p ≡ false → is_bound (behind p at found) ≡ false
 behind_free (place.CursorLoaded cursor from) at found was = by (at == from) (found == 12)

@@ -27,7 +27,7 @@ returns-in_err-merged-clause-fault c =
     let theirs : view_of_recorder c.in-Ok-recorder.recorder ≡ newcomer (offering opener 4294967295) = (all_given setting opener new.view _ _ c.in-Ok-recorder.ensures.theirs).1 in
     let mine : view_of_opener c.recorder.new.self ≡ parent (offering opener 4294967295) = search rules in
     let closed : IsClosed setting last c.close-image.result =
-    closed_so setting c.in-Ok.segment.setting opener (view_of_opener c.recorder.new.self) (view_of_opener c.join.new.self) last c.close-image.result new.setting_is new.view mine
+    closed_so setting c.in-Ok.segment opener (view_of_opener c.recorder.new.self) (view_of_opener c.join.new.self) last c.close-image.result new.setting_is new.view mine
     c.join.ensures.takes.1 c.close-image.ensures.image c.close-image.ensures.joined c.close-image.ensures.stopped in
     let P : Actor → Type 0 = λ a. HasStopped (base ++ dead) a last c.in_err-merged.field-0.0 in
     rw (p.1, p.2)
@@ -46,7 +46,7 @@ returns-clause-image c =
     let mine : view_of_opener c.recorder.new.self ≡ parent (offering opener 4294967295) = search rules in
     let last : Actor = view_of_recorder c.merge_both-merged.new.recorder in
     let closed : IsClosed setting last c.close-image.result =
-    closed_so setting c.in-Ok.segment.setting opener (view_of_opener c.recorder.new.self) (view_of_opener c.join.new.self) last c.close-image.result new.setting_is new.view mine
+    closed_so setting c.in-Ok.segment opener (view_of_opener c.recorder.new.self) (view_of_opener c.join.new.self) last c.close-image.result new.setting_is new.view mine
     c.join.ensures.takes.1 c.close-image.ensures.image c.close-image.ensures.joined c.close-image.ensures.stopped in
     let P : Actor → Type 0 = λ a. IsMerged (base ++ dead) a last in
     let merged : IsMerged (base ++ dead) (newcomer (offering (first_view setting) 4294967295)) last =

@@ -14,7 +14,7 @@ step-said-requires c = record {
     a,
     long,
     sym c.deref.ensures.value,
-    (stood_making shape 1 c.args.self.now a c.args.words.now is c.in-Making.making c.in-Making.is).1,
+    (stood_making shape 1 c.args.self.now a c.args.words.now is c.in-Making.making c.in-Making.is).3,
   ) ∣₁);
 }
 
@@ -22,7 +22,7 @@ pub returns-in-Making-clause-steps : goal.returns-in-Making-clause-steps
 returns-in-Making-clause-steps c = λ shape version a long is.
     makes_so shape version c.args.self.now a c.args.words.now is c.in-Making.making c.in-Making.is c.step-said.new.self c.step-said.new.words c.step-said.result
     c.made.new.self c.made.result
-    (c.step-said.ensures shape version (wanted_of c.args.self.now) a long (sym c.deref.ensures.value) (stood_making shape version c.args.self.now a c.args.words.now is c.in-Making.making c.in-Making.is).1)
+    (c.step-said.ensures shape version (wanted_of c.args.self.now) a long (sym c.deref.ensures.value) (stood_making shape version c.args.self.now a c.args.words.now is c.in-Making.making c.in-Making.is).3)
     c.made.ensures
 
 pub returns-in-Making-clause-asks : goal.returns-in-Making-clause-asks

@@ -1,9 +1,15 @@
-use Rattle.std.proofs.Common.{ℤ, FitsSigned, w64, rules, sym, ap, subst, ◌∙◌}
+use Rattle.std.proofs.Common.{◌≡◌, true, ℤ, FitsSigned, w64, rules, refl, sym, ap, subst, ◌∙◌}
 use Rattle.std.proofs.lemmas.Int.{to_z-of_z}
+use Rattle.std.proofs.lemmas.Result.{err_from_is_err_and}
 use Rattle.segment_machine.specs.declared.actor.Actor.{Actor}
 use Rattle.segment_machine.specs.declared.actor.Known.{Known}
+use Rattle.segment_machine.specs.Actor.{has_buckets}
+use Rattle.live_segment.specs.Desk.{desk_of}
+use Rattle.live_segment.specs.Holders.{opened_with}
 use Rattle.live_segment.specs.Readings.Deltas.{HasTaken}
+use Rattle.live_segment.specs.Readings.Values.{AreFewKeys}
 use Rattle.live_segment.proofs.AddCall.Adds.{meant}
+use Rattle.live_segment.proofs.AddCall.Desks.{same_recorder}
 use Rattle.segment_invariant.proofs.Lists.Elements.{contains_at}
 use Rattle.live_segment.proofs.DeltaCall.Behind.{rests_behind, sees_behind, taken_behind}
 use Rattle.live_segment.proofs.DeltaCall.Owed.{took_enough}
@@ -12,6 +18,20 @@ use Rattle.live_segment.proofs.HistCall.Searching.{seat_on}
 use Rattle.live_segment.proofs.Walks.IndexKept.{seen_on}
 use Rattle.live_segment.proofs.Walks.Walked.{all_right, come_still}
 use Rattle.live_segment.proofs.recorder.Recorder.delta.Goals as goal
+
+pub returns-in_err-counts-clause-taken : goal.returns-in_err-counts-clause-taken
+returns-in_err-counts-clause-taken c =
+    let old = c.args.self.now in
+    let looked = c.look_for_own-has_all.ensures in
+    let p = err_from_is_err_and c.from_residual.result c.from_residual.ensures.1 in
+    rw (p.1, p.2) (
+      refl,
+      looked.view,
+      λ known means bucketed.
+          let one = meant old.known.items old.seat.me.0.answers.names c.args.histogram.index c.index-known.result.now known old.listed c.index-known.ensures c.requires means in
+          let still = looked.still (subst (λ (k : Known). has_buckets k.spec ≡ true) (sym one) bucketed) in
+          same_recorder old _ refl (λ i. record (desk_of old) { seat = still.0 i; samples = still.1 i }),
+    )
 
 pub invariant_of-self : goal.invariant_of-self
 invariant_of-self c =
@@ -63,13 +83,20 @@ returns-clause-taken c = λ known means.
     (subst (λ (k : Known). HasTaken k c.take_delta-sum.new.taken.items c.take_delta-sum.result b c.take_delta-sum.new.seat.me.0)
     (meant old.known.items a.answers.names c.args.histogram.index c.index-known.result.now known old.listed c.index-known.ensures c.requires means) c.take_delta-sum.ensures.taken))
 
+pub returns-clause-few : goal.returns-clause-few
+returns-clause-few c = λ known means.
+    let old = c.args.self.now in
+    subst (λ (k : Known). AreFewKeys old.segment.now k c.take_delta-sum.new.taken.items)
+    (meant old.known.items old.seat.me.0.answers.names c.args.histogram.index c.index-known.result.now known old.listed c.index-known.ensures c.requires means)
+    c.take_delta-sum.ensures.few
+
 pub returns-clause-owed : goal.returns-clause-owed
 returns-clause-owed c = λ known means.
     let old = c.args.self.now in
     let a = old.seat.me.0 in
     let b = c.look_for_own-has_all.new.seat.me.0 in
     let same = meant old.known.items a.answers.names c.args.histogram.index c.index-known.result.now known old.listed c.index-known.ensures c.requires means in
-    took_enough known c.take_delta-sum.new.taken.items c.take_delta-sum.result a c.take_delta-sum.new.seat.me.0
+    took_enough (opened_with old.segment.now) c.take_delta-sum.new.seat.id known c.take_delta-sum.new.taken.items c.take_delta-sum.result a c.take_delta-sum.new.seat.me.0
     (taken_behind a b c.look_for_own-has_all.ensures.view known c.take_delta-sum.new.taken.items c.take_delta-sum.result c.take_delta-sum.new.seat.me.0
     (subst (λ (k : Known). HasTaken k c.take_delta-sum.new.taken.items c.take_delta-sum.result b c.take_delta-sum.new.seat.me.0) same
     c.take_delta-sum.ensures.taken))

@@ -1,7 +1,14 @@
-use Rattle.std.proofs.Common.{List, [], ◌∷◌, ◌++◌, length, map, ap, subst, sym, ◌∙◌, inr}
+use Rattle.std.proofs.Common.{MatchResult, List, [], ◌∷◌, ◌++◌, length, map, ap, subst, sym, ◌∙◌, refl, inl, inr}
 use Rattle.std.specs.List.{All}
 use Rattle.std.proofs.lemmas.Result.{err_from_is_err_and}
+use Rattle.segment_image.specs.Shape.{Dimensions}
+use Rattle.segment_calls.specs.Asked.{IsRefusedFor}
+use Rattle.segment_machine.specs.declared.actor.Actor.{Actor}
 use Rattle.segment_machine.specs.declared.actor.Known.{Known}
+use Rattle.segment_invariant.proofs.Lists.Elements.{contains_at}
+use Rattle.live_segment.specs.Names.Hist.{IsAnsweredWith, IsRefusedWith, NoneHasName}
+use Rattle.live_segment.specs.Steps.{Pass}
+use Rattle.live_segment.proofs.Walks.Fronts.{answer_first, first_there}
 use Rattle.live_segment.specs.declared.recorder.KnownHistogram.{KnownHistogram}
 use Rattle.live_segment.specs.Known.{known_view, KnowsRight}
 use Rattle.live_segment.specs.Names.Naming.{HasNames}
@@ -82,6 +89,18 @@ returns-in_err-known-clause-answer c =
     rw (p.1, p.2)
     (inr (inr (none_known me.known.items me.seat.me.0 c.args.name.now me.listed c.in_default.ensures, (c.in_ok-asked.asked, asked_here me.segment.now.setting me.seat.me.0 me.seated.of c.in_ok-asked.ensures, why_is), looks, owes ∙ sym me.rests.owes)))
 
+pub returns-in-Some-clause-answer : goal.returns-in-Some-clause-answer
+returns-in-Some-clause-answer c =
+    subst (λ (a : Actor). MatchResult c.known_at.result (λ histogram. IsAnsweredWith c.args.name.now c.args.spec.now histogram a c.stand.new.seat.me.0)
+    (λ why. IsRefusedWith c.args.name.now c.args.spec.now why a c.stand.new.seat.me.0))
+    (ap (λ (seat : Pass). seat.me.0) c.stand.ensures.same) c.known_at.ensures.answer
+
+pub returns-in-Some-clause-first : goal.returns-in-Some-clause-first
+returns-in-Some-clause-first c = answer_first _ _ _ c.known_at.result c.stand.ensures.stands
+
+pub returns-clause-first : goal.returns-clause-first
+returns-clause-first c = λ known means. first_there _ _ _ known (contains_at _ _ known means) c.in_ok-known.ensures.stands
+
 pub returns-clause-claims : goal.returns-clause-claims
 returns-clause-claims c =
     let me = c.args.self.now in
@@ -94,6 +113,28 @@ returns-in_err-known-clause-claims c =
     rw (p.1, p.2) (λ is.
     makes_named me.segment.now.setting.shape c.args.name.now c.args.spec.now c.in_ok-asked.asked me.seat.me.0 c.ask.new.seat.me.0 c.in_ok-asked.ensures (c.in_err-known.ensures.claims is))
 
-pub enter-requires : goal.enter-requires
-enter-requires c =
+pub enter-requires-clause-has : goal.enter-requires-clause-has
+enter-requires-clause-has c =
     subst (λ (l : List KnownHistogram). HasNames l c.args.self.now.names) (sym (c.as_slice-before.ensures.value ∙ c.in_ok-reserve.ensures.items)) c.args.self.now.named
+
+pub enter-requires-clause-none : goal.enter-requires-clause-none
+enter-requires-clause-none c =
+    subst (λ (l : List KnownHistogram). NoneHasName l c.args.name.now) (sym (c.as_slice-before.ensures.value ∙ c.in_ok-reserve.ensures.items)) c.in_default.ensures
+
+pub returns-in_err-asked-clause-answer : goal.returns-in_err-asked-clause-answer
+returns-in_err-asked-clause-answer c =
+    let me = c.args.self.now in
+    let none = none_known me.known.items me.seat.me.0 c.args.name.now me.listed c.in_default.ensures in
+    let p = err_from_is_err_and c.from_residual.result c.from_residual.ensures.1 in
+    rw (p.1, p.2) (inl (
+      subst (λ (d : Dimensions). IsRefusedFor d c.args.name.now c.args.spec.now c.in_err-asked.field-0.0) (sym me.seated.of.shape) c.in_err-asked.ensures,
+      refl,
+      λ is index known its same. none index known its,
+    ))
+
+pub returns-in_err-reserve-clause-answer : goal.returns-in_err-reserve-clause-answer
+returns-in_err-reserve-clause-answer c =
+    let me = c.args.self.now in
+    let none = none_known me.known.items me.seat.me.0 c.args.name.now me.listed c.in_default.ensures in
+    let p = err_from_is_err_and c.from_residual-in_err-reserve.result c.from_residual-in_err-reserve.ensures.1 in
+    rw (p.1, p.2) (inl ((c.in_ok-asked.ensures.lawful_name, c.in_ok-asked.ensures.lawful_spec), refl, λ is index known its same. none index known its))

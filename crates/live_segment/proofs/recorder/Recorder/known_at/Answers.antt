@@ -1,13 +1,36 @@
 use Rattle.std.proofs.Common.{◌≡◌, true, inl, inr, refl, sym, subst, ◌∙◌, arith, true≢false, List, ℕ}
+use Rattle.std.proofs.lemmas.Result.{err_from_is_err_and}
 use Rattle.bucket_ranges.specs.Reading.{is_name}
+use Rattle.segment_calls.specs.Asked.{IsRefusedFor}
+use Rattle.segment_image.specs.Shape.{Dimensions}
 use Rattle.segment_invariant.proofs.Lists.Elements.{below_length}
 use Rattle.live_segment.specs.Known.{known_view}
 use Rattle.live_segment.proofs.HistCall.HistAnswered.{asked_here, may_be_asked, may_be_known, read_known, right_read}
+use Rattle.live_segment.proofs.HistCall.KnownNames.{is_there}
+use Rattle.live_segment.proofs.HistCall.OneName.{none_same}
 use Rattle.live_segment.proofs.recorder.Recorder.known_at.Goals as goal
 
 pub index-requires : goal.index-requires
 index-requires c =
     let known = c.args.self.now.known in let below = below_length known.items c.args.index _ c.requires.1 in let count = known.ok.0 in omega (arith, below, count)
+
+pub returns-in_err-of-clause-answer : goal.returns-in_err-of-clause-answer
+returns-in_err-of-clause-answer c =
+    let me = c.args.self.now in
+    let a = me.seat.me.0 in
+    let p = err_from_is_err_and c.from_residual.result c.from_residual.ensures.1 in
+    let known = c.index.result.now in
+    let count = me.known.ok.0 in
+    let below = below_length me.known.items c.args.index _ c.requires.1 in
+    let there = is_there me.known.items me.known.len c.args.index known count (omega (arith, below, count)) c.index.ensures in
+    let (at, named) = read_known me.known.items a.answers.names c.args.name.now me.known.len c.args.index known me.listed count c.requires c.index.ensures in
+    rw (p.1, p.2) (inl (
+      subst (λ (d : Dimensions). IsRefusedFor d c.args.name.now c.args.spec.now c.in_err-of.field-0.0) (sym me.seated.of.shape) c.in_err-of.ensures,
+      refl,
+      λ is.
+          none_same me.known.items a me.named.once me.listed c.args.name.now c.args.spec.now c.args.index known there named
+          (λ same. true≢false (sym (c.is_same.ensures.1 same) ∙ c.if-not-is_same.true)),
+    ))
 
 pub returns-then-not-is_same-clause-answer : goal.returns-then-not-is_same-clause-answer
 returns-then-not-is_same-clause-answer c =
@@ -25,7 +48,7 @@ returns-then-has_too_many_values-clause-answer c =
     let known = c.index.result.now in
     let (at, named) = read_known me.known.items a.answers.names c.args.name.now me.known.len c.args.index known me.listed me.known.ok.0 c.requires c.index.ensures in
     let right = right_read me.segment.now.setting a me.known.items c.args.name.now c.args.index known me.right c.requires c.index.ensures in
-    inl ((subst (λ (n : List ℕ). is_name n ≡ true) named right.named, c.has_too_many_values.ensures.fault c.if-has_too_many_values.true), refl)
+    inl ((subst (λ (n : List ℕ). is_name n ≡ true) named right.named, c.has_too_many_values.ensures.fault c.if-has_too_many_values.true), refl, λ is. absurd (cc is))
 
 pub returns-clause-named : goal.returns-clause-named
 returns-clause-named c =

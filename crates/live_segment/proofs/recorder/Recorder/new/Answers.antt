@@ -1,8 +1,5 @@
 use Rattle.live_segment.proofs.recorder.Recorder.new.Goals as goal
 
-pub invariant_of-result-clause-named : goal.invariant_of-result-clause-named
-invariant_of-result-clause-named c = c.new-names.ensures _
-
 pub invariant_of-result-clause-sampled : goal.invariant_of-result-clause-sampled
 invariant_of-result-clause-sampled c = c.new-samples.ensures _ _
 

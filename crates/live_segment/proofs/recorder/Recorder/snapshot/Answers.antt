@@ -1,9 +1,14 @@
-use Rattle.std.proofs.Common.{refl, sym, ap, subst, ◌∙◌}
+use Rattle.std.proofs.Common.{◌≡◌, true, refl, sym, ap, subst, ◌∙◌}
 use Rattle.std.proofs.lemmas.Result.{err_from_is_err_and}
 use Rattle.segment_machine.specs.declared.actor.Actor.{Actor}
 use Rattle.segment_machine.specs.declared.actor.Known.{Known}
+use Rattle.segment_machine.specs.Actor.{has_buckets}
+use Rattle.live_segment.specs.Desk.{desk_of}
+use Rattle.live_segment.specs.Holders.{opened_with}
 use Rattle.live_segment.specs.Readings.Snapshots.{HasSnapshot}
+use Rattle.live_segment.specs.Readings.Values.{AreFewKeys}
 use Rattle.live_segment.proofs.AddCall.Adds.{meant}
+use Rattle.live_segment.proofs.AddCall.Desks.{same_recorder}
 use Rattle.segment_invariant.proofs.Lists.Elements.{contains_at}
 use Rattle.live_segment.proofs.DeltaCall.Behind.{answered_behind, rests_behind, sees_behind}
 use Rattle.live_segment.proofs.DeltaCall.Owed.{has_enough}
@@ -16,7 +21,16 @@ use Rattle.live_segment.proofs.recorder.Recorder.snapshot.Goals as goal
 pub returns-in_err-totals-clause-answer : goal.returns-in_err-totals-clause-answer
 returns-in_err-totals-clause-answer c =
     let p = err_from_is_err_and c.from_residual.result c.from_residual.ensures.1 in
-    rw (p.1, p.2) (refl, c.look_for_own-has_all.ensures.view)
+    let old = c.args.self.now in
+    let looked = c.look_for_own-has_all.ensures in
+    rw (p.1, p.2) (
+      refl,
+      looked.view,
+      λ known means bucketed.
+          let one = meant old.known.items old.seat.me.0.answers.names c.args.histogram.index c.index-known.result.now known old.listed c.index-known.ensures c.requires means in
+          let still = looked.still (subst (λ (k : Known). has_buckets k.spec ≡ true) (sym one) bucketed) in
+          same_recorder old _ refl (λ i. record (desk_of old) { seat = still.0 i; samples = still.1 i }),
+    )
 
 pub invariant_of-self : goal.invariant_of-self
 invariant_of-self c =
@@ -67,6 +81,13 @@ returns-clause-answer c = λ known means.
     (meant old.known.items a.answers.names c.args.histogram.index c.index-known.result.now known old.listed c.index-known.ensures c.requires means)
     c.take_snapshot-snapshot.ensures.answer)
 
+pub returns-clause-few : goal.returns-clause-few
+returns-clause-few c = λ known means.
+    let old = c.args.self.now in
+    subst (λ (k : Known). AreFewKeys old.segment.now k c.take_snapshot-snapshot.result.counts.items)
+    (meant old.known.items old.seat.me.0.answers.names c.args.histogram.index c.index-known.result.now known old.listed c.index-known.ensures c.requires means)
+    c.take_snapshot-snapshot.ensures.few
+
 pub returns-clause-values : goal.returns-clause-values
 returns-clause-values c = λ known means sparse.
     let old = c.args.self.now in
@@ -79,7 +100,7 @@ returns-clause-owed c = λ known means.
     let a = old.seat.me.0 in
     let b = c.look_for_own-has_all.new.seat.me.0 in
     let same = meant old.known.items a.answers.names c.args.histogram.index c.index-known.result.now known old.listed c.index-known.ensures c.requires means in
-    has_enough known c.take_snapshot-snapshot.result a c.take_snapshot-snapshot.new.seat.me.0
+    has_enough (opened_with old.segment.now) c.take_snapshot-snapshot.new.seat.id known c.take_snapshot-snapshot.result a c.take_snapshot-snapshot.new.seat.me.0
     (answered_behind a b c.look_for_own-has_all.ensures.view known c.take_snapshot-snapshot.result c.take_snapshot-snapshot.new.seat.me.0
     (subst (λ (k : Known). HasSnapshot k b c.take_snapshot-snapshot.result c.take_snapshot-snapshot.new.seat.me.0) same
     c.take_snapshot-snapshot.ensures.answer))

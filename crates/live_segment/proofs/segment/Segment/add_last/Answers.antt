@@ -11,7 +11,7 @@ fetch_add-requires c =
     let word : ℕ = 1 + c.args.histogram + 13 in (
       search rules,
       search rules,
-      tells c.args.self.now.table.shared.key.setting _ _ c.args.seat.now.me word may.recorder ℕ (λ (y : ℕ). word ≡ y + 13 + 1) (λ (y : ℕ). [])
+      tells c.args.self.now.table.shared.key _ _ c.args.seat.now.me word may.recorder ℕ (λ (y : ℕ). word ≡ y + 13 + 1) (λ (y : ℕ). [])
           (λ (y : ℕ). counting_event (add_redundant y c.args.units)) (ends ∷ []) c.args.histogram (λ y e. omega arith) (omega arith) may.may may.ready may.goes,
     )
 

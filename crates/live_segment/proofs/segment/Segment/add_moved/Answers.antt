@@ -9,7 +9,7 @@ pub fetch_add-requires : goal.fetch_add-requires
 fetch_add-requires c = (
   search rules,
   search rules,
-  moves c.args.self.now.table.shared.key.setting _ _ _ _ c.requires.may.recorder c.args.counts c.args.bucket c.args.units (omega arith) c.requires.may.ready,
+  moves c.args.self.now.table.shared.key _ _ _ _ c.requires.may.recorder c.args.counts c.args.bucket c.args.units (omega arith) c.requires.may.ready,
 )
 
 pub returns : goal.returns

@@ -8,7 +8,7 @@ pub fetch_add-requires : goal.fetch_add-requires
 fetch_add-requires c = (
   search rules,
   search rules,
-  does_at c.args.self.now.table.shared.key.setting _ _ _ _ c.requires.may.recorder (λ (x : ℕ). counting_event (add_redundant x c.args.units)) c.args.histogram
+  does_at c.args.self.now.table.shared.key _ _ _ _ c.requires.may.recorder (λ (x : ℕ). counting_event (add_redundant x c.args.units)) c.args.histogram
       (omega arith) (λ y e. omega arith) c.requires.may.ready,
 )
 

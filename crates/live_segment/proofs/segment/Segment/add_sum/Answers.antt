@@ -14,7 +14,7 @@ use Rattle.live_segment.proofs.segment.Segment.add_sum.Goals as goal
 pub fetch_add-requires : goal.fetch_add-requires
 fetch_add-requires c =
     let (x, fits, may) = c.requires.may in
-    let setting = c.args.self.now.table.shared.key.setting in
+    let given = c.args.self.now.table.shared.key in
     let word : ℕ = 1 + c.args.histogram + 11 in
     let number : ℕ = c.cast_unsigned.result in
     let at : word ≡ x.known.reference + 11 + 1 = let e = fits.0 in omega arith in
@@ -25,9 +25,9 @@ fetch_add-requires c =
     let event = λ (y : InSum). counting_event (add_sum y.known.reference y.amount) in (
       search rules,
       search rules,
-      subst (λ (k : ℕ). Allows (Runs setting) c.args.self.now.table.shared.table_id.slots c.args.seat.now.id c.args.seat.now.me word (λ n. (n + k) % 2 ^ 64)
+      subst (λ (k : ℕ). Allows (Runs given) c.args.self.now.table.shared.table_id.slots c.args.seat.now.id c.args.seat.now.me word (λ n. (n + k) % 2 ^ 64)
           (TellsOf InSum Fits before event (ends ∷ []) c.args.seat.now.me)) is
-          (tells setting _ _ c.args.seat.now.me word may.recorder InSum Fits before event (ends ∷ []) x
+          (tells given _ _ c.args.seat.now.me word may.recorder InSum Fits before event (ends ∷ []) x
           (λ y (there, summed). one_summed c.args.seat.now.me.0 word number x y at there (refl, fits.1, is, small) summed) at may.may may.ready may.goes),
     )
 

@@ -12,7 +12,7 @@ fetch_add-requires c =
     let at : word ≡ x.counts + 4 + x.bucket + 1 = let e = fits.2 in omega arith in (
       search rules,
       search rules,
-      tells c.args.self.now.table.shared.key.setting _ _ c.args.seat.now.me word may.recorder InCounts
+      tells c.args.self.now.table.shared.key _ _ c.args.seat.now.me word may.recorder InCounts
           (λ (y : InCounts). (word ≡ y.counts + 4 + y.bucket + 1) × IsAddedTo c.args.seat.now.me.0 (y.counts + 4 + y.bucket) c.args.units y)
           (λ (y : InCounts). bucket_notes c.args.seat.now.me.0 y.known y.bucket y.units) (λ (y : InCounts). counting_event (add_count (y.counts + 4 + y.bucket) c.args.units)) [] x
           (λ y (there, added). one_added c.args.seat.now.me.0 word c.args.units x y at there (fits.0, fits.1, refl, fits.3) added)

@@ -12,7 +12,7 @@ fetch_add-requires c =
     let at : word ≡ x.sample + 6 + 1 = let e = fits.0 in omega arith in (
       search rules,
       search rules,
-      tells c.args.self.now.table.shared.key.setting _ _ c.args.seat.now.me word may.recorder InSample
+      tells c.args.self.now.table.shared.key _ _ c.args.seat.now.me word may.recorder InSample
           (λ (y : InSample). (word ≡ y.sample + 6 + 1) × IsSampled c.args.seat.now.me.0 y.sample c.args.units y)
           (λ (y : InSample). value_notes c.args.seat.now.me.0 y.known y.value y.units) (λ (y : InSample). counting_event (add_count (y.sample + 6) c.args.units)) [] x
           (λ y (there, sampled). one_sampled c.args.seat.now.me.0 word c.args.units x y at there (refl, fits.1, fits.2, fits.3) sampled)

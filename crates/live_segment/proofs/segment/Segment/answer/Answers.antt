@@ -8,13 +8,10 @@ compare_exchange_with-requires c =
     let may = c.requires.may in (
       search rules,
       search rules,
-      answers_said c.args.self.now.table.shared.key.setting _ _ _ may.recorder c.args.said.now may.known may.snapshot may.says may.alone may.may,
+      answers_said c.args.self.now.table.shared.key _ _ _ may.recorder c.args.said.now may.known may.snapshot may.says may.alone may.may,
     )
 
-pub returns-clause-said : goal.returns-clause-said
-returns-clause-said c = λ known snapshot said alone.
-    let told = c.compare_exchange_with.ensures.2.0 known snapshot (ap some said) alone in
+pub returns : goal.returns
+returns c = λ known snapshot said alone.
+    let told = c.compare_exchange_with.ensures.2 known snapshot (ap some said) alone in
     ((c.compare_exchange_with.ensures.0, c.compare_exchange_with.ensures.1, told.1), told.0)
-
-pub returns-clause-stands : goal.returns-clause-stands
-returns-clause-stands c = c.compare_exchange_with.ensures.2.1

@@ -1,7 +1,9 @@
 use Rattle.std.proofs.Common.{sym, ap, subst, is_ok, arith}
 use Rattle.std.specs.Slots.{slots_items}
+use Rattle.live_segment.specs.declared.rule.Setting.{Setting}
 use Rattle.live_segment.specs.Rule.{Closes}
-use Rattle.live_segment.specs.Holders.{view_of_opener}
+use Rattle.live_segment.specs.Closing.{IsImageOf, ReadsJoined}
+use Rattle.live_segment.specs.Holders.{opened_with, view_of_opener}
 use Rattle.live_segment.proofs.Closing.Copies.{copied}
 use Rattle.live_segment.proofs.Seating.Seated.{closes}
 use Rattle.live_segment.proofs.Closing.Joined.{image_of, joined, deltas, snapshots}
@@ -19,18 +21,20 @@ pub of-requires : goal.of-requires
 of-requires c =
     let is = closes c.args.self c.args.opener _ _ _ _ _ _ _ c.into_seat.ensures c.close_with-closed.ensures.values.2 c.loop-i-test.false c.loop-i.auto.i-end
     c.size-size.ensures.value c.loop-i.invariant.same c.truncate.ensures.items in
-    ap is_ok (image_of c.args.self.setting (view_of_opener c.args.opener) _ is).header
+    ap is_ok (image_of (opened_with c.args.self) (view_of_opener c.args.opener) _ is).header
 
 pub returns : goal.returns
 returns c =
-    let is = subst (Closes c.args.self.setting (view_of_opener c.args.opener)) (sym c.of.ensures)
+    let given = opened_with c.args.self in
+    let opener = view_of_opener c.args.opener in
+    let is = subst (Closes given opener) (sym c.of.ensures)
     (closes c.args.self c.args.opener _ _ _ _ _ _ _ c.into_seat.ensures c.close_with-closed.ensures.values.2 c.loop-i-test.false c.loop-i.auto.i-end
     c.size-size.ensures.value c.loop-i.invariant.same c.truncate.ensures.items) in
     record {
-      image = image_of c.args.self.setting (view_of_opener c.args.opener) _ is;
-      joined = joined c.args.self.setting (view_of_opener c.args.opener) _ is;
-      deltas = deltas c.args.self.setting (view_of_opener c.args.opener) _ is;
-      snapshots = snapshots c.args.self.setting (view_of_opener c.args.opener) _ is;
-      stopped = stopped c.args.self.setting (view_of_opener c.args.opener) _ is;
-      goes_on = goes_on c.args.self.setting (view_of_opener c.args.opener) _ is;
+      image = subst (λ (setting : Setting). IsImageOf setting c.of.result) c.args.self.keyed (image_of given opener _ is);
+      joined = λ none. subst (λ (setting : Setting). ReadsJoined setting opener c.of.result) c.args.self.keyed (joined given opener _ is none);
+      deltas = deltas given opener _ is;
+      snapshots = snapshots given opener _ is;
+      stopped = stopped given opener _ is;
+      goes_on = goes_on given opener _ is;
     }

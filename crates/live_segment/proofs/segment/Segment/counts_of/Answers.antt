@@ -91,4 +91,4 @@ returns-clause-claims c =
     let words = words_of_block (known_view h) c.requires.may.knows.2 in
     claims_block c.args.self.now (known_view h) c.args.seat.now c.requires.seat.table c.requires.may _ c.load_counts-counts.new.seat c.load_counts-counts.ensures.step
     c.if-counts-ne0.false c.load_counts-counts.ensures.seen c.in_ok-at.at _ c.allocate.new.seat c.mount.new.seat _ (omega (arith, len, all, count.0, words)) c.in_ok-at.ensures.outcome c.mount.ensures.claims
-    c.mount.ensures.mounted.looks.proceeds.seen.ends
+    c.mount.ensures.mounted.looks

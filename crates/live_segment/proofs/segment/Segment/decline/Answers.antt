@@ -3,7 +3,7 @@ use Rattle.live_segment.proofs.HistCall.HistAnnounced.{declines_owed}
 use Rattle.live_segment.proofs.segment.Segment.decline.Goals as goal
 
 pub load-requires : goal.load-requires
-load-requires c = (search rules, search rules, declines_owed c.args.self.now.table.shared.key.setting _ _ _ c.requires.seat.1 c.requires.may)
+load-requires c = (search rules, search rules, declines_owed c.args.self.now.table.shared.key _ _ _ c.requires.seat.1 c.requires.may)
 
 pub returns-clause-same : goal.returns-clause-same
 returns-clause-same c = (c.load.ensures.0, c.load.ensures.1, c.load.ensures.2.1)

@@ -7,6 +7,7 @@ use Rattle.segment_promises.specs.Onward.{Grows}
 use Rattle.live_segment.proofs.HistCall.Knowing.{right_on}
 use Rattle.live_segment.proofs.DeltaCall.OneDelta.{may_take, view, same, takes_word}
 use Rattle.live_segment.proofs.DeltaCall.DeltaEnds.{may_take_sum, has_taken_all}
+use Rattle.live_segment.proofs.DeltaCall.FewKeys.{few_of_buckets}
 use Rattle.segment_promises.proofs.Growing.{grows_not}
 use Rattle.live_segment.proofs.segment.Segment.delta_of_buckets.Goals as goal
 
@@ -43,3 +44,7 @@ returns-clause-taken c =
     (sym (to_z-of_z w64 c.take_sum.result fits))
     (has_taken_all c.args.self.now (known_view c.args.histogram.now) c.args.seat.now c.take_single-word.new.seat c.take_units.new.seat c.take_single-word.result (takes_word (known_view c.args.histogram.now) c.requires.seat c.requires.rests c.requires.right.alone c.requires.bucketed c.take_single-word.result c.take_single-word.new.seat c.take_single-word.ensures) (view (known_view c.args.histogram.now) c.requires.seat c.requires.rests c.requires.right.alone c.requires.bucketed c.take_single-word.result c.take_single-word.new.seat c.take_single-word.ensures) _ c.take_units.ensures.same c.take_units.ensures.taken
     _ c.take_sum.new.seat.me.0 c.take_sum.ensures.taken)
+
+pub returns-clause-few : goal.returns-clause-few
+returns-clause-few c =
+    few_of_buckets c.args.self.now (known_view c.args.histogram.now) c.take_units.new.taken.items c.requires.bucketed c.take_units.ensures.taken.few

@@ -2,6 +2,7 @@ use Rattle.std.proofs.Common.{rules, ℤ, FitsSigned, w64, inl, sym, subst, arit
 use Rattle.std.proofs.lemmas.Int.{to_z-of_z}
 use Rattle.live_segment.specs.Readings.Deltas.{HasTaken}
 use Rattle.live_segment.specs.Known.{known_view}
+use Rattle.live_segment.proofs.DeltaCall.FewKeys.{few_listed}
 use Rattle.live_segment.proofs.DeltaCall.ListedDelta.{may_take, takes_values, passed_one, right_one, has_taken_listed, may_take_own}
 use Rattle.segment_promises.proofs.ValueWalks.{stands_there}
 use Rattle.live_segment.proofs.segment.Segment.delta_of_listed.Goals as goal
@@ -61,3 +62,8 @@ returns-clause-taken c =
     (has_taken_listed known c.requires.seat c.requires.rests c.requires.right.alone c.requires.sparse
     front behind split found c.take_type.new.seat begun c.take_listed.new.seat c.args.samples.now c.take_listed.new.taken.items
     c.sort_by_key.new.counts.items c.take_listed.ensures c.sort_by_key.ensures c.take_sum.result c.take_sum.new.seat.me.0 c.take_sum.ensures.taken)
+
+pub returns-clause-few : goal.returns-clause-few
+returns-clause-few c =
+    few_listed c.args.self.now (known_view c.args.histogram.now) c.requires.sparse c.take_listed.new.taken.items c.sort_by_key.new.counts.items
+    c.sort_by_key.ensures c.args.seat.now.me.0.seen c.args.samples.now c.requires.own c.take_listed.ensures.lists.few

@@ -2,6 +2,7 @@ use Rattle.std.proofs.Common.{rules, ℤ, FitsSigned, w64, sym, subst}
 use Rattle.std.proofs.lemmas.Int.{to_z-of_z}
 use Rattle.live_segment.specs.Readings.Deltas.{HasTaken}
 use Rattle.live_segment.specs.Known.{known_view}
+use Rattle.live_segment.proofs.DeltaCall.FewKeys.{few_along}
 use Rattle.live_segment.proofs.DeltaCall.ValuesDelta.{may_take, takes_values, comes, has_taken_values}
 use Rattle.segment_promises.proofs.ValueWalks.{stands_there}
 use Rattle.live_segment.proofs.segment.Segment.delta_of_values.Goals as goal
@@ -35,3 +36,9 @@ returns-clause-taken c =
     (has_taken_values known c.requires.seat c.requires.rests c.requires.right.alone c.requires.sparse
     front behind split c.take_next-first.result c.take_next-first.new.seat c.take_next-first.ensures c.take_values.new.seat passed c.take_values.new.taken.items
     c.sort_by_key.new.counts.items along c.sort_by_key.ensures c.take_sum.result c.take_sum.new.seat.me.0 c.take_sum.ensures.taken)
+
+pub returns-clause-few : goal.returns-clause-few
+returns-clause-few c =
+    let (passed, along) = c.take_values.ensures in
+    few_along c.args.self.now (known_view c.args.histogram.now) c.requires.sparse c.take_values.new.taken.items c.sort_by_key.new.counts.items
+    c.sort_by_key.ensures passed _ c.take_values.new.seat.me.0 along.takes.of along.comes along.lists.few

@@ -1,12 +1,17 @@
 use Rattle.std.proofs.Common.{rules, refl}
-use Rattle.segment_machine.specs.Event.{allocating_event}
-use Rattle.segment_machine.specs.Allocating.{exchange_free}
-use Rattle.live_segment.proofs.Seating.Allowed.{does}
+use Rattle.live_segment.proofs.Seating.Allowed.{raises}
 use Rattle.live_segment.proofs.segment.Segment.exchange_free.Goals as goal
 
-pub compare_exchange-requires : goal.compare_exchange-requires
-compare_exchange-requires c = (
+pub compare_exchange_with-requires : goal.compare_exchange_with-requires
+compare_exchange_with-requires c = (
   search rules,
   search rules,
-  does c.args.self.now.table.shared.key.setting _ _ _ _ c.requires.recorder (allocating_event (exchange_free c.args.old c.args.new)) refl c.requires.ready,
+  raises c.args.self.now.table.shared.key _ _ _ _ c.requires.recorder c.args.old c.args.new c.args.words refl c.requires.ready,
 )
+
+pub returns : goal.returns
+returns c = let told = c.compare_exchange_with.ensures.2 c.args.words refl in record {
+  same = (c.compare_exchange_with.ensures.0, c.compare_exchange_with.ensures.1, told.1);
+  view = told.0;
+  learned = told.2;
+}

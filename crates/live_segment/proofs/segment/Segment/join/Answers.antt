@@ -8,5 +8,5 @@ join_seat-requires c = (
   search rules,
   search rules,
   search rules,
-  joins c.args.self.now.table.shared.key.setting _ _ _ _ c.requires.may,
+  joins c.args.self.now.table.shared.key _ _ _ _ c.requires.may,
 )

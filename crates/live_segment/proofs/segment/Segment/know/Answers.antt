@@ -7,7 +7,7 @@ compare_exchange_with-requires c =
     let may = c.requires.may in (
       search rules,
       search rules,
-      knows_said c.args.self.now.table.shared.key.setting _ _ _ may.recorder c.args.reference c.args.said.now may.known may.says may.free may.may,
+      knows_said c.args.self.now.table.shared.key _ _ _ may.recorder c.args.reference c.args.said.now may.known may.says may.free may.may,
     )
 
 pub returns : goal.returns

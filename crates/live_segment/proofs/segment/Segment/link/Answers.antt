@@ -14,7 +14,7 @@ compare_exchange_with-requires c =
     let x : InLink = record { tail = c.args.tail; made = made } in (
       search rules,
       search rules,
-      tells c.args.self.now.table.shared.key.setting _ _ c.args.seat.now.me word may.recorder InLink
+      tells c.args.self.now.table.shared.key _ _ c.args.seat.now.me word may.recorder InLink
           (λ (y : InLink). (word ≡ y.tail + 3 + 1) × ((saying : Announcement) × (some c.args.said.now ≡ some saying) × (asked_for saying ≡ Some y.made)))
           (λ (y : InLink). link_notes c.args.seat.now.me.0 c.args.at y.made) (λ (y : InLink). publishing_event (link y.tail c.args.at)) [] x
           (λ y (there, (saying, said, is)).

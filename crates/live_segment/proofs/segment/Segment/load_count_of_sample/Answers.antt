@@ -6,7 +6,7 @@ pub load-requires : goal.load-requires
 load-requires c = (
   search rules,
   search rules,
-  counts_sample c.args.self.now.table.shared.key.setting _ _ _ _ c.requires.may.recorder c.args.at (omega arith) c.requires.may.ready,
+  counts_sample c.args.self.now.table.shared.key _ _ _ _ c.requires.may.recorder c.args.at (omega arith) c.requires.may.ready,
 )
 
 pub returns-clause-step : goal.returns-clause-step

@@ -8,7 +8,7 @@ pub load-requires : goal.load-requires
 load-requires c = (
   search rules,
   search rules,
-  loads_cursor c.args.self.now.table.shared.key.setting _ _ _ _ c.requires.may.recorder c.args.cursor
+  loads_cursor c.args.self.now.table.shared.key _ _ _ _ c.requires.may.recorder c.args.cursor
       (let e = ap (λ (k : Setting). k.shape.size) c.args.self.now.keyed in omega (arith, c.size-size.ensures.value))
       (λ y same. let e = ap (λ (s : Dimensions). s.size) c.requires.shape in omega (arith, c.size-size.ensures.value)) c.requires.may.ready,
 )

@@ -8,5 +8,5 @@ pub load-requires : goal.load-requires
 load-requires c = (
   search rules,
   search rules,
-  does c.args.self.now.table.shared.key.setting _ _ _ _ c.requires.recorder (allocating_event load_free) refl c.requires.ready,
+  does c.args.self.now.table.shared.key _ _ _ _ c.requires.recorder (allocating_event load_free) refl c.requires.ready,
 )

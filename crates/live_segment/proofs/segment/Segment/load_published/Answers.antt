@@ -6,7 +6,7 @@ pub load-requires : goal.load-requires
 load-requires c = (
   search rules,
   search rules,
-  loads_published c.args.self.now.table.shared.key.setting _ _ _ _ c.requires.may.recorder c.args.at c.args.index (omega arith) c.requires.may.ready,
+  loads_published c.args.self.now.table.shared.key _ _ _ _ c.requires.may.recorder c.args.at c.args.index (omega arith) c.requires.may.ready,
 )
 
 pub returns : goal.returns

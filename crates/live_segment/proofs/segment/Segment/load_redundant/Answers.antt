@@ -8,7 +8,7 @@ pub load-requires : goal.load-requires
 load-requires c = (
   search rules,
   search rules,
-  does_at c.args.self.now.table.shared.key.setting _ _ _ _ c.requires.may.recorder (λ (x : ℕ). taking_event (load_redundant x)) c.args.histogram
+  does_at c.args.self.now.table.shared.key _ _ _ _ c.requires.may.recorder (λ (x : ℕ). taking_event (load_redundant x)) c.args.histogram
       (omega arith) (λ y e. omega arith) c.requires.may.ready,
 )
 

@@ -11,7 +11,7 @@ load-requires c =
     let word : ℕ = 1 + c.args.histogram + 3 in (
       search rules,
       search rules,
-      tells c.args.self.now.table.shared.key.setting _ _ c.args.seat.now.me word may.recorder ℕ (λ (y : ℕ). word ≡ y + 3 + 1) (λ (y : ℕ). looks ∷ [])
+      tells c.args.self.now.table.shared.key _ _ c.args.seat.now.me word may.recorder ℕ (λ (y : ℕ). word ≡ y + 3 + 1) (λ (y : ℕ). looks ∷ [])
           (λ (y : ℕ). walking_event (load_next y)) [] c.args.histogram (λ y e. omega arith) (omega arith) may.may may.ready may.goes,
     )
 

@@ -4,12 +4,17 @@ use Rattle.live_segment.specs.declared.records.WalkPlace.{WalkPlace}
 use Rattle.live_segment.proofs.Walks.Showing.{same_on}
 use Rattle.live_segment.proofs.Walks.WalkProgress.{searched, room, meets, way_on, comes_further}
 use Rattle.live_segment.proofs.HistCall.Searching.{searched_not, searched_on, sees_searched, seat_on}
-use Rattle.live_segment.proofs.Walks.Indexed.{way, indexed_on, not_entered, entered, passed_all}
+use Rattle.live_segment.proofs.Walks.Indexed.{way, indexed_on, not_entered, entered, few_seen, passed_all}
 use Rattle.live_segment.proofs.segment.Segment.look_on.Goals as goal
 
 pub load_next-next-requires-clause-room : goal.load_next-next-requires-clause-room
 load_next-next-requires-clause-room c =
     let was = c.loop-kind.invariant in room was.seated (way _ was.seated was.free was.indexed)
+
+pub returns-then-next-eq-QUEUE-clause-view : goal.returns-then-next-eq-QUEUE-clause-view
+returns-then-next-eq-QUEUE-clause-view c =
+    let was = c.loop-kind.invariant in
+    searched_on _ _ _ was.searched (searched was.seated (way _ was.seated was.free was.indexed) _ _ c.load_next-next.ensures.step)
 
 pub returns-then-next-eq-QUEUE-clause-indexed : goal.returns-then-next-eq-QUEUE-clause-indexed
 returns-then-next-eq-QUEUE-clause-indexed c =
@@ -20,6 +25,11 @@ pub returns-then-next-eq-QUEUE-clause-ended : goal.returns-then-next-eq-QUEUE-cl
 returns-then-next-eq-QUEUE-clause-ended c =
     let was = c.loop-kind.invariant in
     λ yes. passed_all _ was.seated was.free was.indexed _ _ c.load_next-next.ensures.step c.load_next-next.ensures.once c.if-next-eq-QUEUE.true
+
+pub returns-then-next-eq-QUEUE-clause-few : goal.returns-then-next-eq-QUEUE-clause-few
+returns-then-next-eq-QUEUE-clause-few c =
+    let was = c.loop-kind.invariant in
+    λ yes. few_seen _ was.seated was.free was.indexed _ _ c.load_next-next.ensures.step
 
 pub key_at-key-requires-clause-met : goal.key_at-key-requires-clause-met
 key_at-key-requires-clause-met c =

@@ -11,7 +11,7 @@ load-requires c =
     let word : ℕ = 1 + c.args.histogram + 9 in (
       search rules,
       search rules,
-      tells c.args.self.now.table.shared.key.setting _ _ c.args.seat.now.me word may.recorder ℕ (λ (y : ℕ). word ≡ y + 9 + 1) (λ (y : ℕ). looks ∷ [])
+      tells c.args.self.now.table.shared.key _ _ c.args.seat.now.me word may.recorder ℕ (λ (y : ℕ). word ≡ y + 9 + 1) (λ (y : ℕ). looks ∷ [])
           (λ (y : ℕ). packing_event (load_single y)) [] c.args.histogram (λ y e. omega arith) (omega arith) may.may may.ready may.goes,
     )
 

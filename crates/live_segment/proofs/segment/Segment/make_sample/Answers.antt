@@ -17,13 +17,13 @@ returns-in_err-at-clause-outcome c =
 
 pub store_payload-requires-clause-may : goal.store_payload-requires-clause-may
 store_payload-requires-clause-may c =
-    may_store c.args.seat.now.me.0 c.in_ok-at.at c.in_ok-at.ensures.outcome.0 c.in_ok-at.ensures.outcome.3 c.args.self.now c.allocate.new.seat []
+    may_store c.args.seat.now.me.0 c.in_ok-at.at c.in_ok-at.ensures.outcome.0 c.allocate.new.seat.me.0.done.raised c.in_ok-at.ensures.outcome.3 c.args.self.now c.allocate.new.seat []
     c.in_ok-at.ensures.outcome.1 (c.in_ok-at.ensures.same.0 ∙ c.requires.seat.table) c.requires.seat.recorder 0 c.args.histogram (omega arith) (omega arith)
 
 pub store_payload-requires-then-word-ne0-clause-may :
     goal.store_payload-requires-then-word-ne0-clause-may
 store_payload-requires-then-word-ne0-clause-may c =
-    may_store_value c.args.self.now c.args.seat.now c.allocate.new.seat c.store_payload.new.seat c.in_ok-at.at c.in_ok-at.ensures.outcome.0 c.args.histogram
+    may_store_value c.args.self.now c.args.seat.now c.allocate.new.seat c.store_payload.new.seat c.in_ok-at.at c.in_ok-at.ensures.outcome.0 c.allocate.new.seat.me.0.done.raised c.args.histogram
     c.args.value c.in_ok-at.ensures.outcome.3 c.in_ok-at.ensures.outcome.1 c.store_payload.ensures.apart (c.in_ok-at.ensures.same.0 ∙ c.requires.seat.table)
     c.requires.seat.recorder c.store_payload.ensures.stepped c.cast_unsigned-word.result
 
@@ -36,21 +36,21 @@ publish-requires-clause-filled c =
     ∙ ap (of_z w64) (to_z-of_z w64 c.args.value wide)) in
     let table = c.in_ok-at.ensures.same.0 ∙ c.requires.seat.table in
     let claims = c.in_ok-at.ensures.outcome in
-    let put : IsPut c.args.seat.now.me.0 c.in_ok-at.at claims.0 c.args.histogram c.args.value c.if-word-ne0.seat.me.0 =
+    let put : IsPut c.args.seat.now.me.0 c.in_ok-at.at claims.0 c.allocate.new.seat.me.0.done.raised c.args.histogram c.args.value c.if-word-ne0.seat.me.0 =
     elim c.if-word-ne0.branch [
       | then-word-ne0 w ↦
-          subst (λ (s : Pass). IsPut c.args.seat.now.me.0 c.in_ok-at.at claims.0 c.args.histogram c.args.value s.me.0) (sym w.seat-is)
-          (put_two c.args.self.now c.args.seat.now c.allocate.new.seat c.store_payload.new.seat c.in_ok-at.at claims.0 c.args.histogram c.args.value claims.3
+          subst (λ (s : Pass). IsPut c.args.seat.now.me.0 c.in_ok-at.at claims.0 c.allocate.new.seat.me.0.done.raised c.args.histogram c.args.value s.me.0) (sym w.seat-is)
+          (put_two c.args.self.now c.args.seat.now c.allocate.new.seat c.store_payload.new.seat c.in_ok-at.at claims.0 c.allocate.new.seat.me.0.done.raised c.args.histogram c.args.value claims.3
           claims.1 c.store_payload.ensures.apart table c.requires.seat.recorder c.store_payload.ensures.stepped c.cast_unsigned-word.result word_is
           w.store_payload-then-word-ne0.ensures.apart w.store_payload-then-word-ne0.new.seat w.store_payload-then-word-ne0.ensures.stepped)
       | else-word-ne0 w ↦
-          subst (λ (s : Pass). IsPut c.args.seat.now.me.0 c.in_ok-at.at claims.0 c.args.histogram c.args.value s.me.0) (sym w.seat-is)
-          (put_one c.args.self.now c.args.seat.now c.allocate.new.seat c.store_payload.new.seat c.in_ok-at.at claims.0 c.args.histogram c.args.value claims.3
+          subst (λ (s : Pass). IsPut c.args.seat.now.me.0 c.in_ok-at.at claims.0 c.allocate.new.seat.me.0.done.raised c.args.histogram c.args.value s.me.0) (sym w.seat-is)
+          (put_one c.args.self.now c.args.seat.now c.allocate.new.seat c.store_payload.new.seat c.in_ok-at.at claims.0 c.allocate.new.seat.me.0.done.raised c.args.histogram c.args.value claims.3
           claims.1 c.store_payload.ensures.apart table c.requires.seat.recorder c.store_payload.ensures.stepped (sym word_is ∙ w.if-word-ne0.false))
     ] in (
       Sample c.args.histogram c.args.value,
       ap (λ (v : ℤ). Some (Sample c.args.histogram v)) (to_z-of_z w32 c.args.value c.ranges.value),
-      fills c.args.seat.now.me.0 c.in_ok-at.at claims.0 c.args.histogram c.args.value c.if-word-ne0.seat.me.0 claims.3 put
+      fills c.args.seat.now.me.0 c.in_ok-at.at claims.0 c.allocate.new.seat.me.0.done.raised c.args.histogram c.args.value c.if-word-ne0.seat.me.0 claims.3 put
           (fits_is_value c.args.value c.ranges.value) c.requires.sparse,
     )
 
@@ -63,16 +63,16 @@ returns-clause-outcome c =
     ∙ ap (of_z w64) (to_z-of_z w64 c.args.value wide)) in
     let table = c.in_ok-at.ensures.same.0 ∙ c.requires.seat.table in
     let claims = c.in_ok-at.ensures.outcome in
-    let put : IsPut c.args.seat.now.me.0 c.in_ok-at.at claims.0 c.args.histogram c.args.value c.if-word-ne0.seat.me.0 =
+    let put : IsPut c.args.seat.now.me.0 c.in_ok-at.at claims.0 c.allocate.new.seat.me.0.done.raised c.args.histogram c.args.value c.if-word-ne0.seat.me.0 =
     elim c.if-word-ne0.branch [
       | then-word-ne0 w ↦
-          subst (λ (s : Pass). IsPut c.args.seat.now.me.0 c.in_ok-at.at claims.0 c.args.histogram c.args.value s.me.0) (sym w.seat-is)
-          (put_two c.args.self.now c.args.seat.now c.allocate.new.seat c.store_payload.new.seat c.in_ok-at.at claims.0 c.args.histogram c.args.value claims.3
+          subst (λ (s : Pass). IsPut c.args.seat.now.me.0 c.in_ok-at.at claims.0 c.allocate.new.seat.me.0.done.raised c.args.histogram c.args.value s.me.0) (sym w.seat-is)
+          (put_two c.args.self.now c.args.seat.now c.allocate.new.seat c.store_payload.new.seat c.in_ok-at.at claims.0 c.allocate.new.seat.me.0.done.raised c.args.histogram c.args.value claims.3
           claims.1 c.store_payload.ensures.apart table c.requires.seat.recorder c.store_payload.ensures.stepped c.cast_unsigned-word.result word_is
           w.store_payload-then-word-ne0.ensures.apart w.store_payload-then-word-ne0.new.seat w.store_payload-then-word-ne0.ensures.stepped)
       | else-word-ne0 w ↦
-          subst (λ (s : Pass). IsPut c.args.seat.now.me.0 c.in_ok-at.at claims.0 c.args.histogram c.args.value s.me.0) (sym w.seat-is)
-          (put_one c.args.self.now c.args.seat.now c.allocate.new.seat c.store_payload.new.seat c.in_ok-at.at claims.0 c.args.histogram c.args.value claims.3
+          subst (λ (s : Pass). IsPut c.args.seat.now.me.0 c.in_ok-at.at claims.0 c.allocate.new.seat.me.0.done.raised c.args.histogram c.args.value s.me.0) (sym w.seat-is)
+          (put_one c.args.self.now c.args.seat.now c.allocate.new.seat c.store_payload.new.seat c.in_ok-at.at claims.0 c.allocate.new.seat.me.0.done.raised c.args.histogram c.args.value claims.3
           claims.1 c.store_payload.ensures.apart table c.requires.seat.recorder c.store_payload.ensures.stepped (sym word_is ∙ w.if-word-ne0.false))
     ] in
     made c.in_ok-at.at c.args.histogram c.args.value c.args.seat.now.me.0 c.allocate.new.seat.me.0 c.if-word-ne0.seat.me.0 c.publish.new.seat.me.0

@@ -8,7 +8,7 @@ pub compare_exchange-requires : goal.compare_exchange-requires
 compare_exchange-requires c = (
   search rules,
   search rules,
-  does_at c.args.self.now.table.shared.key.setting _ _ _ _ c.requires.may.recorder (λ (x : ℕ). packing_event (mount_counts x c.args.at)) c.args.histogram
+  does_at c.args.self.now.table.shared.key _ _ _ _ c.requires.may.recorder (λ (x : ℕ). packing_event (mount_counts x c.args.at)) c.args.histogram
       (omega arith) (λ y e. omega arith) c.requires.may.ready,
 )
 

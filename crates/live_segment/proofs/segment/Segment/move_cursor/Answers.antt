@@ -8,7 +8,7 @@ pub compare_exchange-requires : goal.compare_exchange-requires
 compare_exchange-requires c = (
   search rules,
   search rules,
-  moves_cursor c.args.self.now.table.shared.key.setting _ _ _ _ c.requires.may.recorder c.args.old c.args.new c.args.cursor
+  moves_cursor c.args.self.now.table.shared.key _ _ _ _ c.requires.may.recorder c.args.old c.args.new c.args.cursor
       (let e = ap (λ (k : Setting). k.shape.size) c.args.self.now.keyed in omega (arith, c.size-size.ensures.value))
       (λ y same. let e = ap (λ (s : Dimensions). s.size) c.requires.shape in omega (arith, c.size-size.ensures.value)) c.requires.may.ready,
 )

@@ -8,5 +8,5 @@ pub compare_exchange-requires : goal.compare_exchange-requires
 compare_exchange-requires c = (
   search rules,
   search rules,
-  does c.args.self.now.table.shared.key.setting _ _ _ _ c.requires.recorder (publishing_event (move_tail c.args.old c.args.new)) refl c.requires.ready,
+  does c.args.self.now.table.shared.key _ _ _ _ c.requires.recorder (publishing_event (move_tail c.args.old c.args.new)) refl c.requires.ready,
 )

@@ -4,7 +4,7 @@ use Rattle.live_segment.proofs.segment.Segment.offer.Goals as goal
 
 pub compare_exchange_with-requires : goal.compare_exchange_with-requires
 compare_exchange_with-requires c =
-    (search rules, search rules, offers c.args.self.now.table.shared.key.setting _ _ _ c.args.units c.requires.may)
+    (search rules, search rules, offers c.args.self.now.table.shared.key _ _ _ c.args.units c.requires.may)
 
 pub returns : goal.returns
 returns c =

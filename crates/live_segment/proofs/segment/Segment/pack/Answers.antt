@@ -12,7 +12,7 @@ compare_exchange-requires c =
     let at : word ≡ x.known.reference + 9 + 1 = let e = fits.0 in omega arith in (
       search rules,
       search rules,
-      tells c.args.self.now.table.shared.key.setting _ _ c.args.seat.now.me word may.recorder InWord
+      tells c.args.self.now.table.shared.key _ _ c.args.seat.now.me word may.recorder InWord
           (λ (y : InWord). (word ≡ y.known.reference + 9 + 1) × IsPacked c.args.seat.now.me.0 y.known.reference c.args.old c.args.new y)
           (λ (y : InWord). bucket_notes c.args.seat.now.me.0 y.known y.bucket y.units) (λ (y : InWord). packing_event (pack y.known.reference c.args.old c.args.new)) [] x
           (λ y (there, packed). one_packed c.args.seat.now.me.0 word c.args.old c.args.new x y at there (refl, fits.1, fits.2) packed)

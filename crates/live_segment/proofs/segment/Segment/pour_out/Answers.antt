@@ -1,5 +1,4 @@
 use Rattle.std.proofs.Common.{ap}
-use Rattle.segment_machine.specs.declared.actor.Actor.{Actor}
 use Rattle.live_segment.proofs.Seating.Seated.{may_get}
 use Rattle.live_segment.proofs.segment.Segment.pour_out.Goals as goal
 

@@ -8,7 +8,7 @@ pub fetch_max-requires : goal.fetch_max-requires
 fetch_max-requires c = (
   search rules,
   search rules,
-  does_at c.args.self.now.table.shared.key.setting _ _ _ _ c.requires.may.recorder (λ (x : ℕ). taking_event (raise_mark x c.args.least)) c.args.at
+  does_at c.args.self.now.table.shared.key _ _ _ _ c.requires.may.recorder (λ (x : ℕ). taking_event (raise_mark x c.args.least)) c.args.at
       (omega arith) (λ y e. omega arith) c.requires.may.ready,
 )
 

@@ -8,5 +8,5 @@ pub fetch_or-requires : goal.fetch_or-requires
 fetch_or-requires c = (
   search rules,
   search rules,
-  does c.args.self.now.table.shared.key.setting _ _ _ _ c.requires.recorder (allocating_event set_corrupt) refl c.requires.ready,
+  does c.args.self.now.table.shared.key _ _ _ _ c.requires.recorder (allocating_event set_corrupt) refl c.requires.ready,
 )

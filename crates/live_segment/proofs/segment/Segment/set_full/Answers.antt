@@ -6,7 +6,7 @@ pub fetch_or-requires : goal.fetch_or-requires
 fetch_or-requires c = (
   search rules,
   search rules,
-  sets_full c.args.self.now.table.shared.key.setting _ _ _ _ c.requires.may.1.recorder c.requires.closes c.requires.may.0 refl c.requires.may.1.ready,
+  sets_full c.args.self.now.table.shared.key _ _ _ _ c.requires.may.1.recorder c.requires.closes c.requires.may.0 refl c.requires.may.1.ready,
 )
 
 pub returns : goal.returns

@@ -12,6 +12,8 @@ use Rattle.live_segment.specs.Known.{known_view}
 use Rattle.live_segment.specs.Readings.Snapshots.{HasSeenBuckets, HasSnapshot, saw_sum}
 use Rattle.live_segment.specs.Readings.Taking.{answered_as}
 use Rattle.segment_promises.proofs.Calls.BlankTotals.{keys_of_buckets, no_units}
+use Rattle.live_segment.specs.Readings.Values.{AreFewKeys}
+use Rattle.live_segment.proofs.DeltaCall.FewKeys.{few_of_snapshot}
 use Rattle.live_segment.proofs.SnapshotCall.Answering.{may_sum, may_answer, saw_buckets, has_snapshot}
 use Rattle.live_segment.proofs.segment.Segment.snapshot_of_buckets.Goals as goal
 
@@ -70,3 +72,23 @@ returns-clause-answer c =
     (saw_buckets known a b snapshot c.requires.bucketed seen keys)
     (c.answer_with.ensures.view ∙ ap (λ (x : Actor). noted x (answers (answered_as x known snapshot)))
     (c.look_at_sum-sum.ensures.view ∙ ap (λ (s : ℤ). saw_sum b known.reference s sum.1) (sym (to_z-of_z w64 sum.0 fits)))))
+
+pub returns-clause-few : goal.returns-clause-few
+returns-clause-few c =
+    let known = known_view c.args.histogram.now in
+    let a = c.args.seat.now.me.0 in
+    let b = c.look_at_buckets.new.seat.me.0 in
+    let sum = c.look_at_sum-sum.result in
+    let fits : FitsSigned w64 sum.0 = search rules in
+    let snapshot : Snapshot = record { counts = with_items c.args.totals c.look_at_buckets.new.totals; sum = to_z w64 (of_z w64 sum.0); redundant = sum.1 } in
+    let written : snapshot.counts.items ≡ c.look_at_buckets.new.totals =
+    with_items_is c.args.totals c.look_at_buckets.new.totals (c.look_at_buckets.auto.totals ∙ c.as_mut_slice.ensures.len) in
+    let keys = ap (λ (l : List (ℤ × ℕ)). map (λ total. total.0) l) written ∙ (c.look_at_buckets.ensures.keys
+    ∙ (ap (λ (l : List (ℤ × ℕ)). map (λ total. total.0) l) (c.as_mut_slice.ensures.value ∙ c.requires.blank)
+    ∙ (keys_of_buckets known c.args.histogram.now.ranges c.requires.right.lawful c.requires.bucketed c.requires.right.ranges).0)) in
+    let seen = subst (λ (l : List (ℤ × ℕ)). HasSeenBuckets known a l b) (sym written) c.look_at_buckets.ensures.saw in
+    subst (λ (s : Snapshot). AreFewKeys c.args.self.now known s.counts.items) (sym c.answer_with.ensures.answer)
+    (few_of_snapshot c.args.self.now known a snapshot c.answer_with.new.seat.me.0 c.requires.bucketed (has_snapshot known a b seen.looked snapshot c.answer_with.new.seat.me.0
+    (saw_buckets known a b snapshot c.requires.bucketed seen keys)
+    (c.answer_with.ensures.view ∙ ap (λ (x : Actor). noted x (answers (answered_as x known snapshot)))
+    (c.look_at_sum-sum.ensures.view ∙ ap (λ (s : ℤ). saw_sum b known.reference s sum.1) (sym (to_z-of_z w64 sum.0 fits))))))

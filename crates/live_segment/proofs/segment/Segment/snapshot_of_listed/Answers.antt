@@ -7,6 +7,8 @@ use Rattle.live_segment.specs.Readings.Deltas.{AreUnits}
 use Rattle.live_segment.specs.Known.{known_view}
 use Rattle.live_segment.specs.Readings.Snapshots.{HasSnapshot, saw_sum}
 use Rattle.live_segment.specs.Readings.Taking.{answered_as}
+use Rattle.live_segment.specs.Readings.Values.{AreFewKeys}
+use Rattle.live_segment.proofs.DeltaCall.FewKeys.{few_listed}
 use Rattle.live_segment.proofs.SnapshotCall.Answering.{may_sum, may_answer, has_snapshot}
 use Rattle.live_segment.proofs.Walks.Sharing.{same_on}
 use Rattle.live_segment.proofs.SnapshotCall.ListedSeen.{may_look, looks_first, own_one, own_two, right_one, has_looked, saw_values, are_units}
@@ -124,3 +126,10 @@ returns-clause-units c =
     subst (λ (s : Snapshot). AreUnits s.counts.items) (sym c.answer_with.ensures.answer)
     (are_units known a b looked snapshot c.requires.sparse c.args.self.now.setting.shape.size c.args.samples.now c.look_at_listed.new.totals.items (omega (arith, room, few)) own
     all.lists c.sort_by_key.ensures)
+
+pub returns-clause-few : goal.returns-clause-few
+returns-clause-few c =
+    let known = known_view c.args.histogram.now in
+    subst (λ (s : Snapshot). AreFewKeys c.args.self.now known s.counts.items) (sym c.answer_with.ensures.answer)
+    (few_listed c.args.self.now known c.requires.sparse c.look_at_listed.new.totals.items c.sort_by_key.new.counts.items
+    c.sort_by_key.ensures c.args.seat.now.me.0.seen c.args.samples.now c.requires.own c.look_at_listed.ensures.lists.few)

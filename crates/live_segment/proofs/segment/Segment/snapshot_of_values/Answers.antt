@@ -7,6 +7,8 @@ use Rattle.live_segment.specs.Readings.Deltas.{AreUnits}
 use Rattle.live_segment.specs.Known.{known_view}
 use Rattle.live_segment.specs.Readings.Snapshots.{HasSnapshot, saw_sum}
 use Rattle.live_segment.specs.Readings.Taking.{answered_as}
+use Rattle.live_segment.specs.Readings.Values.{AreFewKeys}
+use Rattle.live_segment.proofs.DeltaCall.FewKeys.{few_along}
 use Rattle.live_segment.proofs.SnapshotCall.Answering.{may_sum, may_answer, has_snapshot}
 use Rattle.live_segment.proofs.Walks.Sharing.{same_on}
 use Rattle.live_segment.proofs.SnapshotCall.ValuesSeen.{may_look, looks_first, comes, has_looked, saw_values, are_units}
@@ -92,3 +94,11 @@ returns-clause-units c =
     subst (λ (s : Snapshot). AreUnits s.counts.items) (sym c.answer_with.ensures.answer)
     (are_units known a b looked snapshot c.requires.sparse passed c.look_at_values.new.totals.items along.comes along.lists c.sort_by_key.ensures
     c.look_at_sum-sum.ensures.behind c.look_at_sum-sum.ensures.once)
+
+pub returns-clause-few : goal.returns-clause-few
+returns-clause-few c =
+    let known = known_view c.args.histogram.now in
+    let (passed, along) = c.look_at_values.ensures in
+    subst (λ (s : Snapshot). AreFewKeys c.args.self.now known s.counts.items) (sym c.answer_with.ensures.answer)
+    (few_along c.args.self.now known c.requires.sparse c.look_at_values.new.totals.items c.sort_by_key.new.counts.items
+    c.sort_by_key.ensures passed _ c.look_at_values.new.seat.me.0 along.looks.of along.comes along.lists.few)

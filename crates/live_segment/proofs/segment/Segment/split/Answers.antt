@@ -3,4 +3,4 @@ use Rattle.live_segment.proofs.Seating.Seated.{splits}
 use Rattle.live_segment.proofs.segment.Segment.split.Goals as goal
 
 pub split_seat-requires : goal.split_seat-requires
-split_seat-requires c = (search rules, search rules, splits c.args.self.now.table.shared.key.setting _ _ c.requires.may)
+split_seat-requires c = (search rules, search rules, splits c.args.self.now.table.shared.key _ _ c.requires.may)

@@ -6,7 +6,7 @@ pub store-requires : goal.store-requires
 store-requires c = (
   search rules,
   search rules,
-  stores_payload c.args.self.now.table.shared.key.setting _ _ _ _ c.requires.may.recorder c.args.at c.args.index c.args.value (omega arith) c.requires.may.ready,
+  stores_payload c.args.self.now.table.shared.key _ _ _ _ c.requires.may.recorder c.args.at c.args.index c.args.value (omega arith) c.requires.may.ready,
 )
 
 pub returns-clause-stepped : goal.returns-clause-stepped

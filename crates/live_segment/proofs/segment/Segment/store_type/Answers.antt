@@ -8,7 +8,7 @@ pub store-requires : goal.store-requires
 store-requires c = (
   search rules,
   search rules,
-  does_at c.args.self.now.table.shared.key.setting _ _ _ _ c.requires.may.recorder (λ (x : ℕ). allocating_event (store_type x c.args.tag)) c.args.at
+  does_at c.args.self.now.table.shared.key _ _ _ _ c.requires.may.recorder (λ (x : ℕ). allocating_event (store_type x c.args.tag)) c.args.at
       (omega arith) (λ y e. omega arith) c.requires.may.ready,
 )
 

@@ -8,12 +8,12 @@ use Rattle.segment_machine.specs.Note.{has_taken}
 use Rattle.live_segment.specs.Rule.{Runs}
 use Rattle.live_segment.specs.Readings.Taking.{EndsDelta}
 use Rattle.live_segment.specs.GhostNotes.{MayDo, Noted}
-use Rattle.live_segment.proofs.Seating.Standing.{tells_standing}
+use Rattle.live_segment.proofs.Seating.GhostNoted.{tells}
 use Rattle.live_segment.proofs.segment.Segment.swap_sum_mark.Goals as goal
 
 pub swap-requires : goal.swap-requires
 swap-requires c =
-    let setting = c.args.self.now.table.shared.key.setting in
+    let given = c.args.self.now.table.shared.key in
     let word : ℕ = 1 + c.args.histogram + 12 in
     let number : ℕ = c.cast_unsigned.result in
     let whole : cast_signed w64 (cast_unsigned w64 c.args.sum) ≡ c.args.sum = to_z-of_z w64 c.args.sum c.ranges.sum in
@@ -24,24 +24,21 @@ swap-requires c =
     subst (λ (s : ℤ). MayDo c.args.seat.now [] (taking_event (swap_sum_mark c.args.histogram s)) (has_taken ∷ [])) (sym is) c.requires.may in (
       search rules,
       search rules,
-      subst (λ (k : ℕ). Allows (Runs setting) c.args.self.now.table.shared.table_id.slots c.args.seat.now.id c.args.seat.now.me word (λ n. k)
+      subst (λ (k : ℕ). Allows (Runs given) c.args.self.now.table.shared.table_id.slots c.args.seat.now.id c.args.seat.now.me word (λ n. k)
           (EndsDelta word number c.args.seat.now.me)) again
-          (tells_standing setting _ _ c.args.seat.now.me word may.recorder ℕ (λ (y : ℕ). word ≡ y + 12 + 1) (λ (y : ℕ). [])
-          (λ (y : ℕ). taking_event (swap_sum_mark y (cast_signed w64 number))) (has_taken ∷ []) c.args.histogram (λ y e. omega arith) (omega arith) (omega arith)
-          may.may may.ready may.goes (λ found spent. cc spent)),
+          (tells given _ _ c.args.seat.now.me word may.recorder ℕ (λ (y : ℕ). word ≡ y + 12 + 1) (λ (y : ℕ). [])
+          (λ (y : ℕ). taking_event (swap_sum_mark y (cast_signed w64 number))) (has_taken ∷ []) c.args.histogram (λ y e. omega arith) (omega arith)
+          may.may may.ready may.goes),
     )
 
-pub returns-clause-step : goal.returns-clause-step
-returns-clause-step c =
+pub returns : goal.returns
+returns c =
     let whole : cast_signed w64 (cast_unsigned w64 c.args.sum) ≡ c.args.sum = to_z-of_z w64 c.args.sum c.ranges.sum in
     let is : cast_signed w64 c.cast_unsigned.result ≡ c.args.sum =
     ap (cast_signed w64) c.cast_unsigned.ensures ∙ (ap (λ (s : ℤ). cast_signed w64 (cast_unsigned w64 s)) whole ∙ whole) in
-    let told = c.swap.ensures.2.0 c.args.histogram (omega arith) in
+    let told = c.swap.ensures.2 c.args.histogram (omega arith) in
     subst (λ (s : ℤ). Noted c.args.seat.now [] (taking_event (swap_sum_mark c.args.histogram s)) (has_taken ∷ []) c.swap.result c.swap.new.seat) is (record {
       same = (c.swap.ensures.0, c.swap.ensures.1, told.1);
       view = told.0;
       learned = told.2;
     })
-
-pub returns-clause-stands : goal.returns-clause-stands
-returns-clause-stands c = c.swap.ensures.2.1

@@ -89,3 +89,12 @@ returns-clause-on c = c.loop-bucket.invariant.drawn.on
 
 pub returns-clause-units : goal.returns-clause-units
 returns-clause-units c = c.loop-bucket.invariant.drawn.units
+
+pub returns-clause-few : goal.returns-clause-few
+returns-clause-few c =
+    let count = (split c.args.histogram.now.spec c.requires.right.lawful c.requires.bucketed).count in
+    let long = ap length c.requires.right.ranges in
+    let end = c.len-bucket-end.ensures in
+    let few = c.loop-bucket.invariant.drawn.few in
+    let most = c.loop-bucket.auto.bucket-end in
+    omega (arith, count, long, end, few, most)

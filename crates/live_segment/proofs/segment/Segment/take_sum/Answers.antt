@@ -5,9 +5,10 @@ use Rattle.std.proofs.lemmas.Int.{to_z-of_z, fits_signed_from_abs}
 use Rattle.segment_machine.specs.Event.{taking_event}
 use Rattle.segment_machine.specs.Note.{has_taken}
 use Rattle.segment_machine.specs.Taking.{swap_sum_mark}
+use Rattle.segment_machine.specs.declared.actor.Actor.{Actor}
 use Rattle.segment_machine.specs.declared.actor.Known.{Known}
 use Rattle.live_segment.specs.declared.segment.Segment.{Segment}
-use Rattle.live_segment.specs.Readings.Deltas.{MayTakeSum}
+use Rattle.live_segment.specs.Readings.Deltas.{HasTakenSum, MayTakeSum}
 use Rattle.live_segment.specs.Known.{known_view}
 use Rattle.segment_promises.specs.Values.{NoRepeats}
 use Rattle.live_segment.specs.Readings.Samples.{SamplesStandBehind}
@@ -23,6 +24,10 @@ may_take : (segment : Segment) (known : Known) (seat : Pass) → MayTakeSum segm
     → SamplesStandBehind seat.me.0 → NoRepeats seat.me.0.seen.chain → MayTakeSum segment known seat
 may_take segment known seat (inl may) behind once = may
 may_take segment known seat (inr has) behind once = may_take_sum segment known seat has behind once
+
+-- a seat that is the same has taken the same
+taken_still : {known : Known} {sum : ℤ} {a : Actor} (old new : Pass) → new ≡ old → HasTakenSum known sum a old.me.0 → HasTakenSum known sum a new.me.0
+taken_still {known} {sum} {a} old new same = subst (λ (seat : Pass). HasTakenSum known sum a seat.me.0) (sym same)
 
 pub swap_sum_mark-requires-clause-may : goal.swap_sum_mark-requires-clause-may
 swap_sum_mark-requires-clause-may c =
@@ -40,9 +45,10 @@ returns-clause-taken c =
     let swap : Noted c.load_sum.new.seat [] (taking_event (swap_sum_mark c.args.histogram.now.reference (cast_signed w64 c.load_sum.result))) (has_taken ∷ [])
     c.swap_sum_mark.result c.swap_sum_mark.new.seat =
     subst (λ (s : ℤ). Noted c.load_sum.new.seat [] (taking_event (swap_sum_mark c.args.histogram.now.reference s)) (has_taken ∷ []) c.swap_sum_mark.result c.swap_sum_mark.new.seat)
-    sum c.swap_sum_mark.ensures.step in
+    sum c.swap_sum_mark.ensures in
     let amount : ℤ = cast_signed w64 c.load_sum.result -ℤ cast_signed w64 c.swap_sum_mark.result in
     let small : FitsSigned w64 amount = fits_signed_from_abs w64 amount (let most = swap.learned.2 in omega (arith, most)) in
-    ended c.args.self.now (known_view c.args.histogram.now) c.args.seat.now
+    taken_still c.swap_sum_mark.new.seat c.stand.new.seat c.stand.ensures.same
+    (ended c.args.self.now (known_view c.args.histogram.now) c.args.seat.now
     (may_take c.args.self.now (known_view c.args.histogram.now) c.args.seat.now c.requires.may c.load_sum.ensures.behind c.load_sum.ensures.once) c.load_sum.result c.load_sum.new.seat c.load_sum.ensures.step c.swap_sum_mark.result c.swap_sum_mark.new.seat swap _
-    (ap (λ (d : ℤ). to_z w64 (of_z w64 d)) (λ i. sum i -ℤ mark i) ∙ to_z-of_z w64 amount small)
+    (ap (λ (d : ℤ). to_z w64 (of_z w64 d)) (λ i. sum i -ℤ mark i) ∙ to_z-of_z w64 amount small))

@@ -14,7 +14,7 @@ load-requires c =
     let at : word ≡ x.reference + 2 + 1 = let e = fits.0 in omega arith in (
       search rules,
       search rules,
-      tells c.args.self.now.table.shared.key.setting _ _ c.args.seat.now.me word may.recorder Known
+      tells c.args.self.now.table.shared.key _ _ c.args.seat.now.me word may.recorder Known
           (λ (y : Known). (word ≡ y.reference + 2 + 1) × KnowsAlone c.args.seat.now.me.0 y) (λ (y : Known). takes y.name ∷ [])
           (λ (y : Known). walking_event (load_published y.reference 2)) [] x
           (λ y (there, knows). one_known c.args.seat.now.me.0 x y (omega arith) fits.1 knows) at may.may may.ready may.goes,

@@ -33,6 +33,7 @@ returns-then-word-ge-DISABLED_BIT-clause-taken c =
       free = free_at new (record { histogram = known.reference; single = Some stood.word; counts = c.load_counts-counts.result }) known stood.stands;
       took = c.take_buckets.ensures.took;
       units = c.take_buckets.ensures.units;
+      few = c.take_buckets.ensures.few;
     }
 
 pub returns-in_default-clause-taken : goal.returns-in_default-clause-taken

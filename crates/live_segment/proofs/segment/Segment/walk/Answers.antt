@@ -2,6 +2,10 @@ use Rattle.std.proofs.Common.{◌≡◌, ℕ, List, arith, sym, ap, subst, ◌�
 use Rattle.std.specs.Prelude.{take}
 use Rattle.std.proofs.lemmas.List.{append-nil, append_assoc, length_push, length-take-le}
 use Rattle.segment_image.specs.Shape.{Dimensions}
+use Rattle.segment_machine.specs.declared.actor.Actor.{Actor}
+use Rattle.live_segment.specs.Holders.{opened_with}
+use Rattle.live_segment.specs.Standing.{HasList, SeesNext}
+use Rattle.live_segment.proofs.Walks.Fronts.{walk_ends}
 use Rattle.live_segment.proofs.Walks.Walked.{IsWalking, begins, may_load, room, same_still, ended, walking, walked_on, few}
 use Rattle.live_segment.proofs.segment.Segment.walk.Goals as goal
 
@@ -33,6 +37,16 @@ returns-then-next-eq-QUEUE-clause-walked c =
     (ap (λ (d : Dimensions). d.size) c.requires.seat.of.shape) c.requires.come c.loop-next.invariant.walking c.loop-next.invariant.given
     (ended c.requires.seat c.loop-next.invariant.walking _ _ c.load_next-next.ensures.step
     c.load_next-next.ensures.once c.if-next-eq-QUEUE.true)
+
+pub returns-then-next-eq-QUEUE-clause-all : goal.returns-then-next-eq-QUEUE-clause-all
+returns-then-next-eq-QUEUE-clause-all c =
+    let list = take c.args.place.now.given c.args.seat.now.me.0.seen.chain ++ c.loop-next.records.items in
+    let new = c.load_next-next.new.seat in
+    let given = opened_with c.args.self.now in
+    let walked = ended c.requires.seat c.loop-next.invariant.walking _ _ c.load_next-next.ensures.step c.load_next-next.ensures.once c.if-next-eq-QUEUE.true in
+    let sees = subst (λ (n : ℕ). SeesNext given new.id c.loop-next.place.at n new.me.0) c.if-next-eq-QUEUE.true c.load_next-next.ensures.sees in
+    subst (HasList given new.id new.me.0) (sym (ap (λ (a : Actor). a.seen.chain) walked.view))
+    (walk_ends given new.id new.me.0 c.loop-next.place.at c.args.seat.now.me.0 list sees walked c.loop-next.invariant.walking.stands)
 
 pub push_reserved-requires : goal.push_reserved-requires
 push_reserved-requires c =

@@ -1,0 +1,209 @@
+"""The lock of OUT: no command replaces a file that another process has locked, and each has the lock of OUT from before it reads anything
+until the new file has OUT's name. What came to OUT meanwhile is not replaced either. Inputs are not locked.
+
+Another process holds a lock where the test does: the lock belongs to what was opened, and the program opens files itself.
+"""
+
+import contextlib
+import fcntl
+import os
+import pathlib
+import stat
+import subprocess
+import tempfile
+import threading
+import time
+
+from support.program import EXAMPLE, MOST_SECONDS, SCRIPT, Answer, answer, difference, explained, fault
+
+PROGRAM = "persist_report"
+BUSY, WRITE_FAULT = fault("Busy", 4), fault("Write", 4)
+STOOD = b"what a service counts"
+HOLDS = (fcntl.LOCK_EX, fcntl.LOCK_SH)
+# What a command makes before it reads anything.
+NEW = ".persist_report-"
+# How often a race is tried that a busy machine may lose.
+TRIES = 10
+
+
+@contextlib.contextmanager
+def locked(path, how=fcntl.LOCK_EX):
+    """While a file is locked."""
+    with open(path, "rb") as file:
+        fcntl.flock(file, how)
+        yield file
+
+
+def is_locked(path):
+    """Whether somebody else has the lock of a file."""
+    with open(path, "rb") as file:
+        try:
+            fcntl.flock(file, fcntl.LOCK_EX | fcntl.LOCK_NB)
+        except BlockingIOError:
+            return True
+    return False
+
+
+def commands(out):
+    """The command lines that write a file."""
+    yield ["run", SCRIPT, out]
+    yield ["resume", EXAMPLE, SCRIPT, out]
+    yield ["merge", EXAMPLE, EXAMPLE, out]
+    yield ["extract", EXAMPLE, out]
+
+
+def renewed(folder):
+    """OUT with what stood there, in a folder with nothing else."""
+    out = folder / "out"
+    for path in folder.iterdir():
+        path.unlink()
+    out.write_bytes(STOOD)
+    return out
+
+
+def touched(folder, wanted):
+    """What is wrong where other files stand in a folder than were wanted, or None."""
+    left = {path.name: path.read_bytes() for path in folder.iterdir() if not path.is_fifo()}
+    return None if left == wanted else f"these files stand there: {sorted(left)}, of {sorted(map(len, left.values()))} bytes"
+
+
+def wrong_while_locked(program, folder, words, wanted):
+    """What is wrong where OUT is locked, and then where it is not, or None."""
+    out = renewed(folder)
+    before = out.stat().st_ino
+    for how in HOLDS:
+        with locked(out, how):
+            began = time.monotonic()
+            wrong = difference(BUSY, answer(program, words))
+            took = time.monotonic() - began
+            lines = explained("Busy", 4, [f'"{out}"'])
+            wrong = wrong or difference(lines, answer(program, [*words, "--explain"])) or touched(folder, {"out": STOOD})
+        if wrong is None and (took < 0.1 or out.stat().st_ino != before):
+            wrong = f"it ended behind {took} seconds" if took < 0.1 else "OUT is another file"
+        if wrong is not None:
+            return wrong
+    return difference(wanted, answer(program, words)) or (None if out.read_bytes() not in (b"", STOOD) else "OUT is not new")
+
+
+def wrong_behind_link(program, folder):
+    """A link to a locked file, and an open file of one, are locked too."""
+    out, link = renewed(folder), folder / "link"
+    link.symlink_to("out")
+    with locked(out), open(out, "ab") as stream:
+        came = answer(program, ["run", SCRIPT, link])
+        other = answer(program, ["merge", EXAMPLE, EXAMPLE, "/dev/stdout"], stdout=stream)
+    wrong = difference(BUSY, came) or difference(BUSY, other)
+    return wrong or (None if link.is_symlink() else "the link is gone") or touched(folder, {"out": STOOD, "link": STOOD})
+
+
+def wrong_for_a_moment(program, folder):
+    """Who looks at a file for 50 ms keeps no command from it; tried again where a busy machine makes that longer."""
+    for _ in range(TRIES):
+        out = renewed(folder)
+        looks = open(out, "rb")
+        fcntl.flock(looks, fcntl.LOCK_EX)
+        timer = threading.Timer(0.05, looks.close)
+        timer.start()
+        came = answer(program, ["run", SCRIPT, out])
+        timer.join()
+        if came != BUSY:
+            return difference(Answer(output=came.output), came) or (None if out.read_bytes() != STOOD else "OUT is not new")
+    return f"{TRIES} times it was Busy"
+
+
+def wrong_of_inputs(program, out):
+    """A command reads what is locked."""
+    image = out.with_name("image")
+    image.write_bytes(EXAMPLE.read_bytes())
+    with locked(image):
+        for words in (["report", image], ["show", image], ["export", image], ["extract", image, out], ["merge", image, image, out]):
+            came = answer(program, words)
+            if came.status != 0:
+                return f"{words[0]}: status {came.status} with {came.error!r}"
+    return None
+
+
+class Waiting:
+    """A command whose script comes by a pipe, as far as it gets before that: it has opened OUT, and made its new file."""
+
+    def __init__(self, program, folder):
+        self.folder = folder
+        pipe = folder / "script"
+        os.mkfifo(pipe)
+        self.command = subprocess.Popen([program, "run", pipe, folder / "out"], stdout=subprocess.PIPE, stderr=subprocess.PIPE)
+        self.script = open(pipe, "wb")
+        end = time.monotonic() + MOST_SECONDS
+        while not any(path.name.startswith(NEW) for path in folder.iterdir()) and time.monotonic() < end:
+            time.sleep(0.001)
+
+    def answer(self):
+        """What it answers once the script has come."""
+        self.script.write(SCRIPT.read_bytes())
+        self.script.close()
+        output, error = self.command.communicate(timeout=MOST_SECONDS)
+        return Answer(output, error, self.command.returncode)
+
+
+def wrong_meanwhile(program, folder):
+    """The lock of OUT is had until the new file has its name."""
+    out = renewed(folder)
+    waiting = Waiting(program, folder)
+    held, before = is_locked(out), out.read_bytes()
+    came = waiting.answer()
+    if not held or before != STOOD:
+        return "OUT was not locked while the script was waited for" if not held else "OUT was written before the script came"
+    wrong = difference(Answer(output=came.output), came)
+    return wrong or ("OUT is not new" if out.read_bytes() == STOOD else "OUT is locked still" if is_locked(out) else None)
+
+
+def wrong_newcomer(program, folder):
+    """What comes to OUT where nothing stood is not replaced."""
+    out = renewed(folder)
+    out.unlink()
+    waiting = Waiting(program, folder)
+    out.write_bytes(STOOD)
+    came = waiting.answer()
+    return difference(Answer(came.output, WRITE_FAULT.error, 4), came) or touched(folder, {"out": STOOD})
+
+
+def has_open(process, path):
+    """Whether a process has a file open."""
+    try:
+        return any(os.path.samefile(link.path, path) for link in os.scandir(f"/proc/{process}/fd") if stat.S_ISREG(os.stat(link.path).st_mode))
+    except OSError:
+        return False
+
+
+def wrong_other_file(program, folder):
+    """While the lock is tried, another file takes OUT's name, which is locked too, and the old one is free: the new one stays."""
+    for _ in range(TRIES):
+        out = renewed(folder)
+        other = folder / "other"
+        other.write_bytes(STOOD * 2)
+        with locked(other):
+            with locked(out):
+                command = subprocess.Popen([program, "run", SCRIPT, out], stdout=subprocess.PIPE, stderr=subprocess.PIPE)
+                while command.poll() is None and not has_open(command.pid, out):
+                    pass
+                os.rename(other, out)
+            output, error = command.communicate(timeout=MOST_SECONDS)
+        wrong = difference(BUSY, Answer(output, error, command.returncode)) or touched(folder, {"out": STOOD * 2})
+        if wrong is not None:
+            return wrong
+    return None
+
+
+def cases(program, _options):
+    with tempfile.TemporaryDirectory() as scratch:
+        for place, words in enumerate(commands(pathlib.Path(scratch).resolve() / "0/out")):
+            folder = pathlib.Path(scratch).resolve() / str(place)
+            folder.mkdir()
+            words = [*words[:-1], folder / "out"]
+            wanted = answer(program, words)
+            yield f"{words[0]}, OUT is locked", wrong_while_locked(program, folder, words, wanted)
+        tries = (wrong_behind_link, wrong_for_a_moment, wrong_meanwhile, wrong_newcomer, wrong_other_file)
+        for check in tries:
+            folder = pathlib.Path(scratch).resolve() / check.__name__
+            folder.mkdir()
+            yield check.__name__, check(program, folder)
+        yield "inputs are locked", wrong_of_inputs(program, pathlib.Path(scratch).resolve() / "out")

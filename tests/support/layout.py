@@ -1,0 +1,100 @@
+"""The layout of a segment, as docs/FORMAT.md has it, and words of a segment that are filled from the front."""
+
+import array
+import sys
+
+SEGMENT_COOKIE = 0x408305DC
+MOST_WORDS = 1_048_576
+PAGE = 65_536
+# The words of the header that recorders change, and where the first block may stand.
+FLAGS, FREE, TAIL, QUEUE, FIRST = 6, 7, 8, 12, 16
+CORRUPT, FULL = 1, 2
+
+# A block: its size, its cookie, its type and the next on the list; behind these its payload.
+SIZE, COOKIE, TYPE, NEXT, BLOCK_HEADER = 0, 1, 2, 3, 4
+BLOCK_LEAST = 5
+BLOCK_COOKIE, WASTED = 0xC8799269, 2**64 - 1
+PURGED, HISTOGRAM, COUNTS, SAMPLE = 0, 1, 2, 3
+
+# A histogram's kinds, and the ends of what its words may hold.
+LINEAR, BOOLEAN, CUSTOM, SPARSE = 1, 2, 3, 4
+TOP = 2**63
+NOTHING_PACKED, FROZEN = TOP + 65_535, TOP
+LEAST, GREATEST = -(2**31), 2**31 - 1
+MOST_UNITS = 2**32 - 1
+MOST_SUM = 2**31 * MOST_UNITS
+MOST_BUCKETS = 1000
+WORD = 2**64
+
+
+class Words:
+    """The words of a segment, claimed from the front, and its list."""
+
+    def __init__(self, size, page, version=1, flags=0):
+        self.page = page
+        self.words = array.array("Q", bytes(8 * size))
+        self.free = FIRST
+        self.tail = QUEUE
+        self.store(0, SEGMENT_COOKIE, version, size, page, 7, 1, flags)
+        self.store(QUEUE, BLOCK_HEADER, 1, 0, QUEUE)
+
+    def store(self, at, *words):
+        """Stores what of the words lies in the segment."""
+        kept = words[: max(0, len(self.words) - at)]
+        self.words[at : at + len(kept)] = array.array("Q", [word % WORD for word in kept])
+
+    def room(self):
+        """The words from the free pointer to the end of its page."""
+        return self.page - self.free % self.page
+
+    def block(self, size, tag):
+        """A new block of so many words or up to four more, or None where it does not fit."""
+        if self.free + size > len(self.words) or size > self.page:
+            return None
+        if size > self.room():
+            self.store(self.free, self.room(), WASTED)
+            self.free += self.room()
+            return self.block(size, tag)
+        claimed = self.room() if self.room() - size < BLOCK_LEAST else size
+        at = self.free
+        self.store(at, claimed, BLOCK_COOKIE, tag)
+        self.free += claimed
+        return at
+
+    def publish(self, at):
+        """Links a block behind the last one of the list."""
+        self.store(self.tail + NEXT, at)
+        self.store(at + NEXT, QUEUE)
+        self.tail = at
+
+    def bytes(self):
+        """The bytes of the image."""
+        self.store(FREE, self.free, self.tail)
+        return data_of(self.words)
+
+
+def image_of(size, version, listed, others=()):
+    """The bytes of a full image whose list has these blocks, each its reference, size, type and payload, and which has others."""
+    image = Words(size, PAGE, version)
+    for at, words, tag, payload in [*listed, *others]:
+        image.store(at, words, BLOCK_COOKIE, tag, 0, *payload)
+    for at, *_ in listed:
+        image.publish(at)
+    image.free = size
+    return image.bytes()
+
+
+def data_of(words):
+    """The bytes of words, the least of each first."""
+    words = array.array("Q", words)
+    if sys.byteorder == "big":
+        words.byteswap()
+    return words.tobytes()
+
+
+def words_of(data):
+    """The words whose bytes these are."""
+    words = array.array("Q", data)
+    if sys.byteorder == "big":
+        words.byteswap()
+    return words

@@ -312,8 +312,8 @@ inline uint32_t povundiri_recorder(struct povundiri_handle *segment, uint32_t un
  * the recorder is in its handle as it was. Where two threads each lend or join a recorder of the other's segment at the same moment: a
  * lend that is done leaves a recorder of the segment in the handle, and that may be the one of the other thread; or it is answered
  * ELSEWHERE, and the handle is empty: the recorder was joined to its own segment, or is in the other thread's handle. Either may be
- * answered BUSY, and so may one that lends rightly beside such a thread: nothing has happened. A program that passes each recorder with
- * its own segment is not meant to see these; no proof says so. NO_MEMORY is for 2^63 recorders of a segment, which no program has.
+ * answered BUSY, and so may one that lends rightly beside such a thread: nothing has happened. A recorder that is passed with its own
+ * segment is never answered OTHER_SEGMENT nor ELSEWHERE. NO_MEMORY is for 2^63 recorders of a segment, which no program has.
  * Keep: pointers; handles; turns: those of both; process. */
 POVUNDIRI_CHECKED
 inline uint32_t povundiri_lend(struct povundiri_handle *segment, struct povundiri_handle *recorder, uint32_t units) {
@@ -325,7 +325,7 @@ inline uint32_t povundiri_lend(struct povundiri_handle *segment, struct povundir
 /* Takes a recorder back: its handle is empty then, and the units that it has left are the segment's.
  * Statuses: NULL, EMPTY, OTHER_KIND, OTHER_SEGMENT. Where one thread joins a recorder to a segment that is not its own while another
  * joins any to the recorder's own: the first may be answered ELSEWHERE or DONE, and the recorder is joined to its own segment; either may
- * be answered BUSY. A program that joins each recorder to its own segment is not meant to see these; no proof says so.
+ * be answered BUSY, and nothing has happened. A recorder that is joined to its own segment is never answered OTHER_SEGMENT nor ELSEWHERE.
  * Keep: pointers; handles; turns: those of both; process. */
 POVUNDIRI_CHECKED
 inline uint32_t povundiri_join(struct povundiri_handle *segment, struct povundiri_handle *recorder) {

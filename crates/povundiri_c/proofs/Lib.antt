@@ -3,7 +3,9 @@ pub mod Calling
 pub mod Ending
 pub mod Fitting
 pub mod Holding
+pub mod Joining
 pub mod Making
+pub mod Passing
 pub mod Present
 pub mod Reporting
 pub mod Trays

@@ -1,6 +1,7 @@
 -- How a segment that C holds makes recorders, lends them units and takes them back.
-use Rattle.std.specs.Prelude.{◌≡◌, ◌⊎◌, ◌<◌, ◌≤◌, ℕ, Option, Some, None, Result, Ok, Err, MatchOption, MatchResult, option_map}
+use Rattle.std.specs.Prelude.{◌≡◌, ◌≢◌, ◌⊎◌, ◌<◌, ◌≤◌, ℕ, Option, Some, None, Result, Ok, Err, MatchOption, MatchResult, option_map}
 use Rattle.std.specs.Arc.{arc_value}
+use Rattle.atomic_table.specs.Seated.{TableId}
 use Rattle.segment_calls.specs.declared.refusal.Refusal.{Refusal}
 use Rattle.segment_calls.specs.declared.refusal.Refusal.TheVariants.{NoUnits}
 use Rattle.segment_image.specs.Checks.{first_fault}
@@ -18,6 +19,7 @@ use Rattle.povundiri_c.specs.declared.owner.Request.TheVariants.{Join, Lend}
 use Rattle.povundiri_c.specs.declared.worker.Worker.{Worker}
 use Rattle.povundiri_c.specs.Calls.{ByHandle}
 use Rattle.povundiri_c.specs.Status.{status_of_refusal}
+use Rattle.povundiri_c.specs.Tray.{HasMet}
 
 -- ---- a call of a segment
 
@@ -67,25 +69,65 @@ AnswersRecorderCall units segment status segment' out =
     ((answer : Result Worker ℕ) × GivesOfSegment (GivesRecorder units) segment answer segment' × IsHanded answer status out)
     ⊎ ((status ≡ 13) × (segment' ≡ segment) × (out ≡ None))
 
+-- ---- which segment a recorder is of
+
+-- A recorder is one of a segment where they have one tray: no other segment has the same.
+abbrev pub tray_of_worker : Worker → TableId
+tray_of_worker worker = (arc_value worker.tray).table.shared.table_id
+
+abbrev pub tray_of_owner : Owner → TableId
+tray_of_owner owner = (arc_value owner.tray).table.shared.table_id
+
+-- ---- a recorder comes back, or does not
+
+-- a segment has all that it had
+abbrev pub IsSameOwner : Owner → Owner → Type 0
+IsSameOwner old new =
+    (new.segment ≡ old.segment) × (new.opener ≡ old.opener) × (new.tray ≡ old.tray) × (new.keeper ≡ old.keeper) × (new.gone ≡ old.gone)
+    × (new.cursors ≡ old.cursors)
+
+-- it comes back as it was, and the segment is the same
+abbrev pub IsKept : Worker → Owner → Option Worker → Owner → Type 0
+IsKept worker old back new = (back ≡ Some worker) × IsSameOwner old new
+
+-- the segment has taken back a recorder of its own
+abbrev pub HasJoined : OwnedRecorder → Owner → Owner → Type 0
+HasJoined owned old new =
+    KeepsSegment old new × IsRecorderOf owned old.opener × (view_of_opener new.opener ≡ joined (view_of_opener old.opener) (view_of_owned owned))
+
+-- It comes back, since it is of another segment. One of this segment, which another thread passed to another, may have been met.
+abbrev pub IsOfOther : Worker → Owner → ℕ → Option Worker → Owner → Type 0
+IsOfOther worker old status back new =
+    (status ≡ 6) × (back ≡ Some worker) × (IsSameOwner old new ⊎ ((owned : OwnedRecorder) × HasJoined owned old new))
+
+-- It was laid on its own tray, and that one's keeper has taken it from there: the segment has the seat then that had laid it.
+abbrev pub HasGone : Worker → Owner → Type 0
+HasGone worker new = HasMet (tray_of_worker worker) worker.recorder new.gone
+
+-- it does not come back, and nothing was met here
+abbrev pub IsElsewhere : Owner → ℕ → Option Worker → Owner → Type 0
+IsElsewhere old status back new =
+    (status ≡ 14) × (back ≡ None) × (new.segment ≡ old.segment) × (new.tray ≡ old.tray) × (new.cursors ≡ old.cursors) × (new.opener ≡ old.opener)
+
 -- ---- a recorder is taken back
 
--- it has taken back a recorder of its own
-abbrev pub HasJoined : Owner → Owner → Type 0
-HasJoined old new =
-    KeepsSegment old new
-    × ((owned : OwnedRecorder) × IsRecorderOf owned old.opener × (view_of_opener new.opener ≡ joined (view_of_opener old.opener) (view_of_owned owned)))
+-- One of this segment: it is joined; or it comes back, since another thread joins one of this segment at the same moment.
+abbrev pub JoinsOwn : Worker → Owner → ℕ → Option Worker → Owner → Type 0
+JoinsOwn worker old status back new =
+    ((status ≡ 0) × (back ≡ None) × HasJoined worker.recorder old new) ⊎ ((status ≡ 15) × IsKept worker old back new)
 
--- What is answered where a segment is given a recorder back:
--- 0: it is joined;
--- 6: it comes back, since it is of another segment; one of this segment, which another thread was to join there, may have been met;
--- 14: its own segment has met it, so that it is joined there;
--- 15: it comes back, since another thread joins one of the same segment at the same moment.
+-- One of another segment comes back, unless its own has met it, by a call of another thread. What this segment has met then is joined.
+abbrev pub JoinsOther : Worker → Owner → ℕ → Option Worker → Owner → Type 0
+JoinsOther worker old status back new =
+    IsOfOther worker old status back new ⊎ ((status ≡ 15) × IsKept worker old back new)
+    ⊎ (HasGone worker new
+    × (IsElsewhere old status back new ⊎ ((status ≡ 0) × (back ≡ None) × ((owned : OwnedRecorder) × HasJoined owned old new))))
+
+-- what is answered where a segment is given a recorder back
 abbrev pub Joins : Worker → Owner → ℕ → Option Worker → Owner → Type 0
 Joins worker old status back new =
-    ((status ≡ 0) × (back ≡ None) × HasJoined old new)
-    ⊎ ((status ≡ 6) × (back ≡ Some worker) × ((new ≡ old) ⊎ HasJoined old new))
-    ⊎ ((status ≡ 14) × (back ≡ None) × (new ≡ old))
-    ⊎ ((status ≡ 15) × (back ≡ Some worker) × (new ≡ old))
+    (tray_of_worker worker ≡ tray_of_owner old → JoinsOwn worker old status back new)
+    × (tray_of_worker worker ≢ tray_of_owner old → JoinsOther worker old status back new)
 
 -- ---- a recorder is lent units
 
@@ -96,32 +138,39 @@ HasLent units owned old worker new =
     × (view_of_opener new.opener ≡ giver (view_of_opener old.opener) units)
     × (view_of_owned worker.recorder ≡ getter (view_of_owned owned) units) × IsSameDesk owned.desk worker.recorder.desk
 
+-- it is lent them, and comes back
+abbrev pub IsLent : ℕ → OwnedRecorder → Owner → ℕ → Option Worker → Owner → Type 0
+IsLent units owned old status back new = (status ≡ 0) × ((after : Worker) × (back ≡ Some after) × HasLent units owned old after new)
+
 -- the units that a segment has left to give
 abbrev pub units_left : Owner → ℕ
 units_left owner = (view_of_opener owner.opener).units.share
 
--- Where nobody took the recorder back from its tray, what lay on that of the segment is taken to be it:
--- 0: it is lent the units, and comes back;
--- 14: nothing lay there, so that a call of its own segment, by another thread, has met it.
-abbrev pub LendsMet : ℕ → Owner → ℕ → Option Worker → Owner → Type 0
-LendsMet units old status back new =
-    ((status ≡ 0) × ((owned : OwnedRecorder) × (after : Worker) × (back ≡ Some after) × HasLent units owned old after new))
-    ⊎ ((status ≡ 14) × (back ≡ None) × (new ≡ old))
+-- It comes back as it was: no more may share its tray, or another thread passes one of the same segment at the same moment.
+abbrev pub IsNotPassed : Worker → Owner → ℕ → Option Worker → Owner → Type 0
+IsNotPassed worker old status back new = ((status ≡ 13) ⊎ (status ≡ 15)) × IsKept worker old back new
 
--- What else is answered where the segment has the units:
--- 6: it comes back, since it is of another segment; one of this segment, which another thread passed to another, may have been met;
--- 13: it comes back, since no more may share the tray;
--- 15: it comes back, since another thread passes one of the same segment at the same moment.
+-- one of this segment is lent the units, or comes back
+abbrev pub LendsOwn : ℕ → Worker → Owner → ℕ → Option Worker → Owner → Type 0
+LendsOwn units worker old status back new = IsLent units worker.recorder old status back new ⊎ IsNotPassed worker old status back new
+
+-- One of another segment comes back, unless its own has met it, by a call of another thread. What this segment has met then is lent the
+-- units, and comes back in its place.
+abbrev pub LendsOther : ℕ → Worker → Owner → ℕ → Option Worker → Owner → Type 0
+LendsOther units worker old status back new =
+    IsOfOther worker old status back new ⊎ IsNotPassed worker old status back new
+    ⊎ (HasGone worker new × (IsElsewhere old status back new ⊎ ((owned : OwnedRecorder) × IsLent units owned old status back new)))
+
+-- what is answered where the segment has the units
 abbrev pub LendsOrNot : ℕ → Worker → Owner → ℕ → Option Worker → Owner → Type 0
 LendsOrNot units worker old status back new =
-    LendsMet units old status back new
-    ⊎ ((status ≡ 6) × (back ≡ Some worker) × ((new ≡ old) ⊎ HasJoined old new))
-    ⊎ (((status ≡ 13) ⊎ (status ≡ 15)) × (back ≡ Some worker) × (new ≡ old))
+    (tray_of_worker worker ≡ tray_of_owner old → LendsOwn units worker old status back new)
+    × (tray_of_worker worker ≢ tray_of_owner old → LendsOther units worker old status back new)
 
 -- where the segment has fewer, that is answered, whichever segment the recorder is of, and all is as before
 abbrev pub Lends : ℕ → Worker → Owner → ℕ → Option Worker → Owner → Type 0
 Lends units worker old status back new =
-    ((units_left old < units) × (status ≡ status_of_refusal NoUnits) × (back ≡ Some worker) × (new ≡ old))
+    ((units_left old < units) × (status ≡ status_of_refusal NoUnits) × IsKept worker old back new)
     ⊎ ((units ≤ units_left old) × LendsOrNot units worker old status back new)
 
 -- ---- a recorder is passed to a segment

@@ -4,6 +4,7 @@ pub mod Joins
 pub mod Recorders
 pub mod Reports
 pub mod Sealed
+pub mod Seats
 pub mod Segments
 pub mod Status
 pub mod Tray

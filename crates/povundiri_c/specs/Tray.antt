@@ -1,6 +1,6 @@
 -- The rule of a place for one recorder.
 use Rattle.std.specs.Arc.{arc_value}
-use Rattle.std.specs.Prelude.{◌≡◌, ◌≤◌, ◌+◌, ◌%◌, ◌∷◌, [], ℕ, List, slice_index, length, Option, Some, None, IfSome}
+use Rattle.std.specs.Prelude.{◌≡◌, ◌≢◌, ◌⊎◌, ◌≤◌, ◌<◌, ◌+◌, ◌%◌, ◌^◌, ◌∷◌, [], ℕ, Bool, true, false, List, slice_index, length, Option, Some, None, IfSome, MatchOption, Result, MatchResult}
 use mathlib.Core.Option.{some}
 use mathlib.Core.Option as maybe
 use lib.ListN.{get_elem?}
@@ -9,6 +9,8 @@ use Rattle.atomic_table.specs.declared.shared.Seat.{Seat}
 use Rattle.atomic_table.specs.Table.{State, Me, rest}
 use Rattle.live_segment.specs.declared.opener.Opener.{Opener}
 use Rattle.owned_recorder.specs.declared.owned.OwnedRecorder.{OwnedRecorder}
+use Rattle.povundiri_c.specs.declared.hand.Hand.{Hand}
+use Rattle.povundiri_c.specs.declared.hand.Hand.TheVariants.{Nothing, Reaches, Laid, Met}
 use Rattle.live_segment.specs.Holders.{view_of_opener}
 use Rattle.owned_recorder.specs.Holders.{IsRecorderOf}
 
@@ -24,76 +26,180 @@ IsGuestOf owned opener = IsRecorderOf owned opener × ((arc_value owned.segment)
 abbrev pub IsOfOpener : Opener → Option OwnedRecorder → Type 0
 IsOfOpener opener value = IfSome value (λ owned. IsGuestOf owned opener)
 
--- ---- what a thread knows of a tray
+-- ---- what a seat knows of a tray
 
--- the number at which it reached into the tray, or at which it laid a recorder there, and that recorder; or nothing
-abbrev pub Note : Type 0
-Note = Option (ℕ × Option OwnedRecorder)
+-- an opener of the segment, whether the seat is the keeper's, a number that the tray has had, and what the thread has done at that
+abbrev pub View : Type 0
+View = Opener × Bool × ℕ × Hand
+
+-- the seat of a tray
+abbrev pub TraySeat : Type 0
+TraySeat = Seat (Option OwnedRecorder) View
 
 -- a place, whose recorder or none is in it or was taken out of it
 abbrev pub Home : Type 0
 Home = maybe.Option (maybe.Option (Option OwnedRecorder))
 
--- it knows the opener, and nothing of the tray
-abbrev pub begins : Opener → Opener × Note
-begins opener = (opener, None)
+-- the keeper's seat at first
+abbrev pub begins : Opener → View
+begins opener = (opener, true, 0, Nothing)
 
--- what it knows is so: it reaches into the tray, and no other thread does; or its recorder lies there while the tray has that number still
-abbrev pub IsSo : ℕ → Home → ℕ → ℕ → Note → Type 0
-IsSo number home reaching id None = Unit {0}
-IsSo number home reaching id (Some (at, None)) = (number ≡ at) × (number % 2 ≡ 1) × (id ≡ reaching)
-IsSo number home reaching id (Some (at, Some recorder)) = (at ≤ number) × (number ≡ at → home ≡ some (some (Some recorder)))
+-- a thread that comes by
+abbrev pub stranger : Opener → View
+stranger opener = (opener, false, 0, Nothing)
+
+-- What a seat knows is so: the tray's number is that or a later one. Or the thread reaches into the tray at that number, and no other does.
+-- Or its recorder lies there while the tray has that number still; and where it is the keeper's seat, the tray has it still. Or the tray
+-- has a later number.
+abbrev pub IsSo : ℕ → Home → ℕ → ℕ → Bool → ℕ → Hand → Type 0
+IsSo number home last id keeper at Nothing = at ≤ number
+IsSo number home last id keeper at Reaches = (number ≡ at) × (number % 2 ≡ 1) × (id ≡ last)
+IsSo number home last id keeper at (Laid recorder) =
+    (at ≤ number) × (at % 4 ≡ 2) × (number ≡ at → (home ≡ some (some (Some recorder))) × (id ≡ last)) × (keeper ≡ true → number ≡ at)
+IsSo number home last id keeper at (Met recorder) = at < number
 
 -- ---- the rule
 
--- where 4 divides the number, there is no recorder
-abbrev pub IsVacant : ℕ → Option OwnedRecorder → Type 0
-IsVacant number value = number % 4 ≡ 0 → value ≡ None
+-- at an even number, there is no recorder exactly where 4 divides it
+abbrev pub IsRight : ℕ → Option OwnedRecorder → Type 0
+IsRight number value = MatchOption value (number % 4 ≡ 0) (λ _. number % 4 ≡ 2)
 
--- while the number is even, a recorder of the segment or none is in its place; while 4 divides it, none
+-- while the number is even, a recorder of the segment or none is in its place
 abbrev pub IsInPlace : Opener → ℕ → Home → Type 0
 IsInPlace opener number home =
-    number % 2 ≡ 0 → (value : Option OwnedRecorder) × (home ≡ some (some value)) × IsOfOpener opener value × IsVacant number value
+    number % 2 ≡ 0 → (value : Option OwnedRecorder) × (home ≡ some (some value)) × IsOfOpener opener value × IsRight number value
 
--- what each thread knows is so
-abbrev pub AreSo : Opener → ℕ → Home → List (Opener × Note) → Type 0
+-- There is one keeper's seat at most, and what each seat knows is so. One of them was the last that reached into the tray.
+abbrev pub AreSo : Opener → ℕ → Home → List View → Type 0
 AreSo opener number home views =
-    (reaching : ℕ) × ((id : ℕ) (view : Opener × Note) → get_elem? views id ≡ some view → (view.0 ≡ opener) × IsSo number home reaching id view.1)
+    (last owner : ℕ) × ((id : ℕ) (view : View) → get_elem? views id ≡ some view
+    → (view.0 ≡ opener) × (view.1 ≡ true → id ≡ owner) × IsSo number home last id view.1 view.2 view.3)
 
 -- the tray has one number and one place
-abbrev pub IsTray : Opener → State (Option OwnedRecorder) (Opener × Note) → Type 0
+abbrev pub IsTray : Opener → State (Option OwnedRecorder) View → Type 0
 IsTray opener s =
     (length s.words ≡ 1) × (length s.homes ≡ 1) × IsInPlace opener (slice_index s.words 0) (get_elem? s.homes 0)
     × AreSo opener (slice_index s.words 0) (get_elem? s.homes 0) s.views
 
 -- ---- steps
 
+-- a number that the tray has fits what a seat knows of it
+abbrev pub FitsHand : ℕ → Bool → ℕ → Hand → Type 0
+FitsHand number keeper at Nothing = at ≤ number
+FitsHand number keeper at Reaches = Unit {0}
+FitsHand number keeper at (Laid recorder) = keeper ≡ true → number ≡ at
+FitsHand number keeper at (Met recorder) = at < number
+
+abbrev pub Fits : ℕ → View → Type 0
+Fits number view = FitsHand number view.1 view.2 view.3
+
+-- a seat has laid this recorder on the tray, at a number
+abbrev pub HasLaid : ℕ → OwnedRecorder → View → Type 0
+HasLaid number recorder view = (view.2 ≡ number) × (view.3 ≡ Laid recorder)
+
+-- Into an empty tray any thread may reach, and the keeper where a recorder lies. Who has laid a recorder there may reach for that.
+abbrev pub MayReachHand : ℕ → Bool → ℕ → Hand → Type 0
+MayReachHand number keeper at Nothing = (number % 4 ≡ 0) ⊎ (keeper ≡ true)
+MayReachHand number keeper at Reaches = ⊥
+MayReachHand number keeper at (Laid recorder) = number ≡ at
+MayReachHand number keeper at (Met recorder) = ⊥
+
+abbrev pub MayReach : ℕ → View → Type 0
+MayReach number view = MayReachHand number view.1 view.2 view.3
+
 -- what was there at a number is the recorder that was laid there at that
-abbrev pub IsOfNote : ℕ → Note → Option OwnedRecorder → Type 0
-IsOfNote number note value = (recorder : OwnedRecorder) → note ≡ Some (number, Some recorder) → value ≡ Some recorder
+abbrev pub IsOfNote : ℕ → View → Option OwnedRecorder → Type 0
+IsOfNote number view value = (recorder : OwnedRecorder) → HasLaid number recorder view → value ≡ Some recorder
 
 -- it was taken from there, at a number
-abbrev pub IsTaken : ℕ → Opener × Note → Me (Option OwnedRecorder) (Opener × Note) → Type 0
+abbrev pub IsTaken : ℕ → View → Me (Option OwnedRecorder) View → Type 0
 IsTaken number before after =
-    (value : Option OwnedRecorder) × (after.0 ≡ (before.0, Some (number + 1, None))) × (after.1 ≡ (0, value) ∷ []) × IsOfOpener before.0 value
-    × IsOfNote number before.1 value × IsVacant number value
+    (value : Option OwnedRecorder) × (after.0 ≡ (before.0, before.1, number + 1, Reaches)) × (after.1 ≡ (0, value) ∷ [])
+    × IsOfOpener before.0 value × IsOfNote number before value × IsRight number value
 
--- what a thread knows that puts this there at a number
-abbrev pub noted : ℕ → Option OwnedRecorder → Note
-noted number None = None
-noted number (Some recorder) = Some (number, Some recorder)
+-- what it knows where the tray had another number
+abbrev pub missed_hand : Hand → Hand
+missed_hand Nothing = Nothing
+missed_hand Reaches = Reaches
+missed_hand (Laid recorder) = Met recorder
+missed_hand (Met recorder) = Met recorder
+
+abbrev pub missed : Me (Option OwnedRecorder) View → Me (Option OwnedRecorder) View
+missed me = ((me.0.0, me.0.1, me.0.2, missed_hand me.0.3), me.1)
+
+-- It was taken from there where the tray had that number. Else nothing was done, and a recorder that was laid there was met.
+abbrev pub HasReached : ℕ → Me (Option OwnedRecorder) View → ℕ → Me (Option OwnedRecorder) View → Type 0
+HasReached number before found after =
+    Fits found before.0 × (found ≡ number → IsTaken number before.0 after) × (found ≢ number → after ≡ missed before)
+
+-- what a seat knows that puts this there at a number
+abbrev pub noted : ℕ → Opener → Bool → Option OwnedRecorder → View
+noted number opener keeper None = (opener, keeper, number, Nothing)
+noted number opener keeper (Some recorder) = (opener, keeper, number, Laid recorder)
 
 -- the same, of the places that it has taken
-abbrev pub noted_of : ℕ → List (ℕ × Option OwnedRecorder) → Note
-noted_of number [] = None
-noted_of number (one ∷ _) = noted number one.1
+abbrev pub noted_of : ℕ → View → List (ℕ × Option OwnedRecorder) → View
+noted_of number view [] = view
+noted_of number view (one ∷ _) = noted number view.0 view.1 one.1
 
 -- it was put there, at a number
-abbrev pub IsPut : ℕ → Me (Option OwnedRecorder) (Opener × Note) → Me (Option OwnedRecorder) (Opener × Note) → Type 0
-IsPut number before after = (after.0 ≡ (before.0.0, noted_of number before.1)) × (after.1 ≡ rest before.1)
+abbrev pub IsPut : ℕ → Me (Option OwnedRecorder) View → Me (Option OwnedRecorder) View → Type 0
+IsPut number before after = (after.0 ≡ noted_of number before.0 before.1) × (after.1 ≡ rest before.1)
 
--- ---- tickets
+-- ---- calls
 
--- a recorder was laid on the tray of a table and an opener, at a number
-abbrev pub IsTicketFor : TableId → Opener → OwnedRecorder → ℕ → Seat (Option OwnedRecorder) (Opener × Note) → Type 0
-IsTicketFor table opener recorder number seat = (seat.table_id ≡ table) × (seat.me.0 ≡ (opener, Some (number, Some recorder)))
+-- At a number, this was put there by a seat, and what was there was taken. Or the tray had another number: it comes back, and the seat is
+-- the same.
+abbrev pub Replaces : ℕ → Option OwnedRecorder → TraySeat → Result (Option OwnedRecorder) (Option OwnedRecorder) → TraySeat → Type 0
+Replaces number recorder before result after =
+    MatchResult result
+    (λ found. (after.table_id ≡ before.table_id) × (after.me ≡ (noted (number + 2) before.me.0.0 before.me.0.1 recorder, []))
+    × IsOfOpener before.me.0.0 found × IsOfNote number before.me.0 found × IsRight number found × Fits number before.me.0)
+    (λ back. (back ≡ recorder) × (after.table_id ≡ before.table_id) × (after.id ≡ before.id) × (after.me ≡ missed before.me)
+    × ((other : ℕ) × (other ≢ number) × Fits other before.me.0))
+
+-- of two seats, the first does so where both are of one tray, and else the second; the other one is the same
+abbrev pub ReplacesBy : ℕ → Option OwnedRecorder → TraySeat × TraySeat → Result (Option OwnedRecorder) (Option OwnedRecorder) → TraySeat × TraySeat → Type 0
+ReplacesBy number recorder old result new =
+    (old.0.table_id ≡ old.1.table_id → Replaces number recorder old.0 result new.0 × (new.1 ≡ old.1))
+    × (old.0.table_id ≢ old.1.table_id → Replaces number recorder old.1 result new.1 × (new.0 ≡ old.0))
+
+-- whichever of them it is may reach into the tray
+abbrev pub MayReachBy : ℕ → TraySeat × TraySeat → Type 0
+MayReachBy number seats =
+    (seats.0.table_id ≡ seats.1.table_id → MayReach number seats.0.me.0) × (seats.0.table_id ≢ seats.1.table_id → MayReach number seats.1.me.0)
+
+-- the keeper's seat of a tray, which has nothing there
+abbrev pub IsKeeper : TableId → Opener → TraySeat → Type 0
+IsKeeper table opener seat =
+    (seat.table_id ≡ table) × (seat.me.1 ≡ []) × (seat.me.0.0 ≡ opener) × (seat.me.0.1 ≡ true) × (seat.me.0.3 ≡ Nothing)
+
+-- a keeper may take what lies there, whose own recorder lies at a number that is not too high
+abbrev pub MayTake : ℕ → Hand → Type 0
+MayTake at Nothing = Unit {0}
+MayTake at Reaches = ⊥
+MayTake at (Laid recorder) = (at % 4 ≡ 2) × (at < 2 ^ 60 + 4)
+MayTake at (Met recorder) = ⊥
+
+-- The keeper takes what lies there, or nothing does and its seat is the same. A recorder that it has laid there itself lies there.
+abbrev pub Takes : TraySeat → Option OwnedRecorder → TraySeat → Type 0
+Takes before met after =
+    MatchOption met (after ≡ before)
+    (λ found. (number : ℕ) × (after.table_id ≡ before.table_id) × (after.me ≡ ((before.me.0.0, true, number + 2, Nothing), []))
+    × IsOfOpener before.me.0.0 (Some found) × Fits number before.me.0)
+    × ((number : ℕ) (recorder : OwnedRecorder) → HasLaid number recorder before.me.0 → met ≡ Some recorder)
+
+-- a recorder was laid on a tray, and has been taken from it by that one's keeper
+abbrev pub HasMet : TableId → OwnedRecorder → TraySeat → Type 0
+HasMet table recorder seat = (seat.table_id ≡ table) × (seat.me.0.3 ≡ Met recorder)
+
+-- A recorder is passed from its own tray to another, which has a keeper: what has come from that one's tray, and the recorder where it is
+-- back. Where both are one tray, it has come; where they are not, and it is not back, its own tray's keeper has taken it. Or the tray was
+-- in use, and the recorder is back, and nothing was done.
+abbrev pub Passes : TableId → TableId → Opener → OwnedRecorder → TraySeat × TraySeat
+    → Result (Option OwnedRecorder × Option OwnedRecorder) OwnedRecorder → TraySeat × TraySeat → Type 0
+Passes from to opener recorder before result after =
+    MatchResult result
+    (λ passed. IsOfOpener opener passed.0 × MatchOption passed.1 (from ≢ to → HasMet from recorder after.1) (λ back. (back ≡ recorder) × (after.1 ≡ before.1))
+    × (passed.0 ≡ None → after.0 ≡ before.0) × (from ≡ to → passed ≡ (Some recorder, None)))
+    (λ back. (back ≡ recorder) × (after ≡ before))

@@ -5,10 +5,12 @@
 #![tactic(auto)]
 
 mod exports;
+mod hand;
 mod handle;
 mod held;
 mod owner;
 mod seal;
+mod seats;
 mod status;
 mod tray;
 mod types;

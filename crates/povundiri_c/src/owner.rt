@@ -4,12 +4,12 @@ ghost use Rattle.std.specs.Arc.{arc_value};
 ghost use Rattle.std.specs.Prelude.{◌≡◌};
 ghost use Rattle.live_segment.specs.Holders.{IsMadeWith, view_of_opener};
 ghost use Rattle.segment_machine.specs.Actor.{outstanding_of};
-ghost use Rattle.povundiri_c.specs.Tray.{cursors_of};
+ghost use Rattle.povundiri_c.specs.Tray.{IsKeeper, cursors_of};
 
 mod joins;
 mod lends;
 
-use crate::tray::Tray;
+use crate::tray::{Tray, TraySeat};
 use crate::worker::Worker;
 use live_segment::{Image, Opener, Segment};
 use std::alloc::{AllocError, Global};
@@ -28,10 +28,15 @@ pub struct Owner {
     segment: Arc<Segment, Global>,
     opener: Opener,
     tray: Arc<Tray, Global>,
+    // The keeper's seat of the tray, which nobody else has.
+    keeper: TraySeat,
+    // The seat that had laid the last recorder which another segment's owner met on its own tray.
+    gone: TraySeat,
     // How many the recorders share.
     cursors: usize,
     ghost made: { IsMadeWith (arc_value segment) opener },
     ghost first: { IsMadeWith (arc_value segment) (arc_value tray).table.shared.key },
+    ghost keeps: { IsKeeper (arc_value tray).table.shared.table_id (arc_value tray).table.shared.key keeper },
     ghost counted: { cursors ≡ cursors_of (arc_value tray).table.shared.key },
 }
 
@@ -52,12 +57,16 @@ impl Owner {
         requires counted { cursors ≡ segment.setting.cursors }
         ensures { IfOk result (λ owner. (arc_value owner.segment ≡ segment) × (owner.opener ≡ opener)) }
     {
-        let tray = Arc::new(alloc, Tray::new(alloc, &opener)?)?;
+        let (tray, keeper) = Tray::new(alloc, &opener)?;
+        let (_number, gone) = tray.look();
+        let tray = Arc::new(alloc, tray)?;
         let segment = Arc::new(alloc, segment)?;
         Ok(Owner {
             segment,
             opener,
             tray,
+            keeper,
+            gone,
             cursors,
         })
     }
@@ -99,6 +108,8 @@ impl Owner {
             segment,
             opener,
             tray,
+            keeper,
+            gone,
             cursors,
         } = self;
         match Arc::try_unwrap(segment) {
@@ -107,6 +118,8 @@ impl Owner {
                 segment,
                 opener,
                 tray,
+                keeper,
+                gone,
                 cursors,
             }),
         }

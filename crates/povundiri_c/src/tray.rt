@@ -1,18 +1,23 @@
 //! A place for one recorder of a segment. What is put on a tray and taken from it again is a recorder of that segment: so a recorder
-//! that was laid on its own tray, and lies on that of a segment's owner, is one of this segment.
+//! that was laid on its own tray, and lies on that of a segment's owner, is one of this segment. Only the owner has the keeper's seat, and
+//! takes what others have laid there: so a recorder of its own that the owner lays there is what it finds.
 
-ghost use Rattle.std.specs.Prelude.{◌≡◌, ◌+◌, ◌%◌, ◌^◌, ◌<◌, [], IfErr, IfOk, IfSome, MatchResult};
-ghost use Rattle.owned_recorder.specs.declared.owned.OwnedRecorder.{OwnedRecorder as SomeRecorder};
-ghost use Rattle.povundiri_c.specs.Tray.{IsGuestOf, IsOfNote, IsOfOpener, IsPut, IsTaken, IsTicketFor, IsTray, IsVacant, begins, noted};
+ghost use Rattle.std.specs.Prelude.{◌≡◌, ◌+◌, ◌%◌, ◌^◌, ◌<◌, [], true, IfOk};
+ghost use Rattle.povundiri_c.specs.Tray.{Fits, IsGuestOf, IsKeeper, IsOfOpener, IsPut, IsRight, IsTray, MayReach, MayReachBy, MayTake, HasReached, Passes, Replaces, ReplacesBy, Takes, begins, stranger};
 
+use crate::hand::Hand;
+use crate::seats::arrange;
 use atomic_table::{Play, Refused, Seat, Table, TableRule};
 use live_segment::Opener;
 use owned_recorder::OwnedRecorder;
 use std::alloc::{AllocError, Global};
 
-// What a seat knows: an opener of the segment; and the number of a step at which the tray was reached into, or at which a recorder was
-// laid on it, with that recorder.
-pub(crate) type Note = (Opener, Option<(u64, Option<OwnedRecorder>)>);
+// What a seat knows: an opener of the segment; whether it is the keeper's; a number that the tray has had; and what the thread has done at
+// that.
+pub(crate) type Note = (Opener, bool, u64, Hand);
+
+/// A seat of a tray.
+pub(crate) type TraySeat = Seat<Option<OwnedRecorder>, Note>;
 
 // A tray's number goes up by each step. It is odd while a thread reaches into the tray. Of even numbers, a recorder lies there at
 // those that 4 does not divide.
@@ -34,14 +39,21 @@ impl TableRule<Option<OwnedRecorder>, Note, Opener> for TrayRule {
 struct Look;
 
 impl Play<Option<OwnedRecorder>, Note> for Look {
-    ghost then = { λ _ before _ after. after.0 ≡ before.0 };
+    ghost then = { λ _ before _ after. after.0 ≡ stranger before.0.0 };
+}
+
+// A thread that knows something looks at the number.
+struct See;
+
+impl Play<Option<OwnedRecorder>, Note> for See {
+    ghost then = { λ _ before found after. (after ≡ before) × Fits found before.0 };
 }
 
 // What is on the tray is taken, where its number is the one that was looked for.
 struct Reach;
 
 impl Play<Option<OwnedRecorder>, Note> for Reach {
-    ghost then = { λ step before found after. found ≡ step.first → IsTaken found before.0 after };
+    ghost then = { λ step before found after. HasReached step.first before found after };
 }
 
 // Something is put there.
@@ -58,31 +70,22 @@ pub struct Tray {
     ghost sized: { (table.shared.table_id.words ≡ 1) × (table.shared.table_id.slots ≡ 1) },
 }
 
-/// By what a recorder that was laid on a tray is taken back, where it lies there still.
-#[derive(Drop)]
-pub(crate) struct Ticket {
-    seat: Seat<Option<OwnedRecorder>, Note>,
-    number: u64,
-    ghost even: { (number % 2 ≡ 0) × (number < 2 ^ 61) },
-    ghost empty: { seat.me.1 ≡ [] },
-}
-
 impl Tray {
-    // It has none.
-    pub(crate) fn new(alloc: Global, opener: &Opener) -> Result<Tray, AllocError>
-        ensures { IfOk result (λ tray. tray.table.shared.key ≡ opener.now) }
+    /// It has none. With its keeper's seat.
+    pub(crate) fn new(alloc: Global, opener: &Opener) -> Result<(Tray, TraySeat), AllocError>
+        ensures { IfOk result (λ made. (made.0.table.shared.key ≡ opener.now) × IsKeeper made.0.table.shared.table_id made.0.table.shared.key made.1) }
     {
         let mut slots = Vec::with_capacity(alloc, 1)?;
         slots.push_reserved(None);
         match Table::new(alloc, &[FIRST], slots, opener) {
-            Ok((table, _seat)) => Ok(Tray { table }),
+            Ok((table, keeper)) => Ok((Tray { table }, keeper)),
             Err(Refused { slots: _ }) => Err(AllocError),
         }
     }
 
-    // Its number, and a seat that knows nothing of it.
-    fn look(&self) -> (u64, Seat<Option<OwnedRecorder>, Note>)
-        ensures { (result.1.table_id ≡ self.now.table.shared.table_id) × (result.1.me.0 ≡ begins self.now.table.shared.key) × (result.1.me.1 ≡ []) }
+    /// Its number, and a seat that knows nothing of it.
+    pub(crate) fn look(&self) -> (u64, TraySeat)
+        ensures { (result.1.table_id ≡ self.now.table.shared.table_id) × (result.1.me.0 ≡ stranger self.now.table.shared.key) × (result.1.me.1 ≡ []) }
     {
         self.table.shared.load_new_seat::<Look>(0)
     }
@@ -91,17 +94,16 @@ impl Tray {
     // it was to put there comes back.
     fn replace(
         &self,
-        seat: &mut Seat<Option<OwnedRecorder>, Note>,
+        seat: &mut TraySeat,
         number: u64,
         recorder: Option<OwnedRecorder>,
     ) -> Result<Option<OwnedRecorder>, Option<OwnedRecorder>>
         requires number { (number % 2 ≡ 0) × (number < 2 ^ 61) }
-        requires seat { (seat.old.table_id ≡ self.now.table.shared.table_id) × (seat.old.me.1 ≡ []) × (seat.old.me.0.0 ≡ self.now.table.shared.key) }
+        requires seat { (seat.old.table_id ≡ self.now.table.shared.table_id) × (seat.old.me.1 ≡ []) }
+        requires may { MayReach number seat.old.me.0 }
         requires guest { IsOfOpener self.now.table.shared.key recorder }
-        requires vacant { IsVacant (number + 2) recorder }
-        ensures guest { IfOk result (λ found. IsOfOpener self.now.table.shared.key found × IsOfNote number seat.old.me.0.1 found × IsVacant number found) }
-        ensures seat { IfOk result (λ _. (seat.new.table_id ≡ self.now.table.shared.table_id) × (seat.new.me.1 ≡ []) × (seat.new.me.0 ≡ (self.now.table.shared.key, noted (number + 2) recorder))) }
-        ensures back { IfErr result (λ back. back ≡ recorder) }
+        requires right { IsRight (number + 2) recorder }
+        ensures { Replaces number recorder seat.old result seat.new }
     {
         let shared = &self.table.shared;
         let seen = shared.compare_exchange::<Reach>(seat, 0, number, number + 1);
@@ -113,48 +115,73 @@ impl Tray {
         Ok(found)
     }
 
-    /// Lays a recorder on it. It comes back where one lies there, or another thread reaches into the tray.
-    pub(crate) fn lay(&self, recorder: OwnedRecorder) -> Result<Ticket, OwnedRecorder>
-        requires { IsGuestOf recorder self.now.table.shared.key }
-        ensures { MatchResult result (λ ticket. IsTicketFor self.now.table.shared.table_id self.now.table.shared.key recorder ticket.number ticket.seat) (λ back. back ≡ recorder) }
+    // The same, by a seat of a keeper where it is of this tray, and else by one that is.
+    fn replace_by(
+        &self,
+        keeper: &mut TraySeat,
+        seat: &mut TraySeat,
+        number: u64,
+        recorder: Option<OwnedRecorder>,
+    ) -> Result<Option<OwnedRecorder>, Option<OwnedRecorder>>
+        requires number { (number % 2 ≡ 0) × (number < 2 ^ 61) }
+        requires seats { (keeper.old.me.1 ≡ []) × (seat.old.table_id ≡ self.now.table.shared.table_id) × (seat.old.me.1 ≡ []) }
+        requires may { MayReachBy number (keeper.old, seat.old) }
+        requires guest { IsOfOpener self.now.table.shared.key recorder }
+        requires right { IsRight (number + 2) recorder }
+        ensures { ReplacesBy number recorder (keeper.old, seat.old) result (keeper.new, seat.new) }
     {
-        let (number, mut seat) = self.look();
-        if number % 4 != 0 || number >= LAST {
-            return Err(recorder);
-        }
-        match self.replace(&mut seat, number, Some(recorder)) {
-            Ok(None) => Ok(Ticket {
-                seat,
-                number: number + 2,
-            }),
-            Err(Some(recorder)) => Err(recorder),
-            Ok(Some(_)) | Err(None) => unreachable!(),
-        }
+        arrange(keeper, seat);
+        let answer = self.replace(keeper, number, recorder);
+        arrange(keeper, seat);
+        answer
     }
 
-    /// Takes back the recorder that was laid there for a ticket, where it lies there still.
-    pub(crate) fn withdraw(&self, ticket: Ticket) -> Option<OwnedRecorder>
-        requires { (recorder : SomeRecorder) × IsTicketFor self.now.table.shared.table_id self.now.table.shared.key recorder ticket.number ticket.seat }
-        ensures { (recorder : SomeRecorder) → IsTicketFor self.now.table.shared.table_id self.now.table.shared.key recorder ticket.number ticket.seat → IfSome result (λ back. back ≡ recorder) }
+    // Takes the recorder that lies there, by its keeper's seat.
+    fn take(&self, keeper: &mut TraySeat) -> Option<OwnedRecorder>
+        requires keeper { (keeper.old.table_id ≡ self.now.table.shared.table_id) × (keeper.old.me.1 ≡ []) × (keeper.old.me.0.1 ≡ true) }
+        requires may { MayTake keeper.old.me.0.2 keeper.old.me.0.3 }
+        ensures { Takes keeper.old result keeper.new }
     {
-        let Ticket { mut seat, number } = ticket;
-        match self.replace(&mut seat, number, None) {
-            Ok(found) => found,
-            Err(_) => None,
-        }
-    }
-
-    /// Takes the recorder that lies there.
-    pub(crate) fn take(&self) -> Option<OwnedRecorder>
-        ensures { IsOfOpener self.now.table.shared.key result }
-    {
-        let (number, mut seat) = self.look();
+        let number = self.table.shared.load::<See>(keeper, 0);
         if number % 4 != 2 || number >= LAST + 4 {
             return None;
         }
-        match self.replace(&mut seat, number, None) {
+        match self.replace(keeper, number, None) {
             Ok(found) => found,
             Err(_) => None,
+        }
+    }
+
+    /// Lays a recorder on its own tray, takes what lies on this one, and takes the recorder back where it lies there still. What was taken
+    /// here, and the recorder where it is back; where it is not, the seat that had laid it. Or its tray was in use, and the recorder comes back.
+    pub(crate) fn pass(
+        &self,
+        keeper: &mut TraySeat,
+        gone: &mut TraySeat,
+        from: &Tray,
+        recorder: OwnedRecorder,
+    ) -> Result<(Option<OwnedRecorder>, Option<OwnedRecorder>), OwnedRecorder>
+        requires keeper { IsKeeper self.now.table.shared.table_id self.now.table.shared.key keeper.old }
+        requires guest { IsGuestOf recorder from.now.table.shared.key }
+        ensures keeper { IsKeeper self.now.table.shared.table_id self.now.table.shared.key keeper.new }
+        ensures passes { Passes from.now.table.shared.table_id self.now.table.shared.table_id self.now.table.shared.key recorder (keeper.old, gone.old) result (keeper.new, gone.new) }
+    {
+        let (number, mut seat) = from.look();
+        if number % 4 != 0 || number >= LAST {
+            return Err(recorder);
+        }
+        match from.replace_by(keeper, &mut seat, number, Some(recorder)) {
+            Ok(None) => {}
+            Err(Some(recorder)) => return Err(recorder),
+            Ok(Some(_)) | Err(None) => unreachable!(),
+        }
+        let met = self.take(keeper);
+        match from.replace_by(keeper, &mut seat, number + 2, None) {
+            Ok(back) => Ok((met, back)),
+            Err(_) => {
+                *gone = seat;
+                Ok((met, None))
+            }
         }
     }
 }

@@ -1,12 +1,14 @@
 //! How a segment that C holds makes recorders and takes them back.
 
-ghost use Rattle.std.specs.Prelude.{◌≡◌, cond};
+ghost use Rattle.std.specs.Arc.{arc_value};
+ghost use Rattle.std.specs.Prelude.{◌≡◌, MatchOption};
 ghost use Rattle.povundiri_c.specs.Joins.{GivesRecorder, HasJoined, Joins};
+ghost use Rattle.povundiri_c.specs.Tray.{IsOfOpener};
 
 use crate::owner::Owner;
 use crate::status::{BUSY, DONE, ELSEWHERE, NO_MEMORY, OTHER_SEGMENT, of_refusal};
 use crate::worker::Worker;
-use owned_recorder::{join, owned_recorder};
+use owned_recorder::{OwnedRecorder, join, owned_recorder};
 use std::sync::Arc;
 
 impl Owner {
@@ -30,18 +32,16 @@ impl Owner {
         }
     }
 
-    // Takes back the recorder that lies on its tray, and says whether one did.
-    #[tactic(auto, using(crate::proofs::Holding::of_opener))]
-    fn join_laid(&mut self) -> bool
-        ensures { cond result (HasJoined self.old self.new) (self.new ≡ self.old) }
+    // Takes back a recorder that was found on its tray, if one was.
+    pub(super) fn join_met(&mut self, met: Option<OwnedRecorder>)
+        requires { IsOfOpener (arc_value self.old.tray).table.shared.key met }
+        ensures gone { self.new.gone ≡ self.old.gone }
+        ensures met { MatchOption met (self.new ≡ self.old) (λ owned. HasJoined owned self.old self.new) }
     {
-        match self.tray.take() {
-            Some(recorder) => {
-                join(&mut self.opener, recorder);
-                true
-            }
-            None => false,
-        }
+        let Some(recorder) = met else {
+            return;
+        };
+        join(&mut self.opener, recorder);
     }
 
     /// Takes a recorder back. The status, and the recorder where it comes back.
@@ -53,29 +53,34 @@ impl Owner {
             tray,
             cursors,
         } = worker;
-        let ticket = match tray.lay(recorder) {
-            Ok(ticket) => ticket,
+        match self
+            .tray
+            .pass(&mut self.keeper, &mut self.gone, &tray, recorder)
+        {
+            Ok((met, back)) => match back {
+                Some(recorder) => {
+                    self.join_met(met);
+                    let worker = Worker {
+                        recorder,
+                        tray,
+                        cursors,
+                    };
+                    (OTHER_SEGMENT, Some(worker))
+                }
+                None if met.is_none() => (ELSEWHERE, None),
+                None => {
+                    self.join_met(met);
+                    (DONE, None)
+                }
+            },
             Err(recorder) => {
                 let worker = Worker {
                     recorder,
                     tray,
                     cursors,
                 };
-                return (BUSY, Some(worker));
+                (BUSY, Some(worker))
             }
-        };
-        let joined = self.join_laid();
-        match tray.withdraw(ticket) {
-            Some(recorder) => {
-                let worker = Worker {
-                    recorder,
-                    tray,
-                    cursors,
-                };
-                (OTHER_SEGMENT, Some(worker))
-            }
-            None if joined => (DONE, None),
-            None => (ELSEWHERE, None),
         }
     }
 }

@@ -1,8 +1,8 @@
 //! How a segment that C holds lends a recorder units.
 
-ghost use Rattle.std.specs.Prelude.{◌≡◌, ◌⊎◌, ◌≤◌};
+ghost use Rattle.std.specs.Prelude.{◌≡◌, ◌≤◌, MatchOption};
 ghost use Rattle.std.specs.Arc.{arc_value};
-ghost use Rattle.povundiri_c.specs.Joins.{HasJoined, Lends, LendsMet, LendsOrNot, units_left};
+ghost use Rattle.povundiri_c.specs.Joins.{IsElsewhere, IsLent, Lends, LendsOrNot, units_left};
 ghost use Rattle.povundiri_c.specs.Tray.{IsOfOpener};
 
 use crate::owner::Owner;
@@ -10,22 +10,11 @@ use crate::status::{BUSY, DONE, ELSEWHERE, NO_MEMORY, OTHER_SEGMENT, of_refusal}
 use crate::tray::Tray;
 use crate::worker::Worker;
 use live_segment::Refusal;
-use owned_recorder::{OwnedRecorder, join, lend};
+use owned_recorder::{OwnedRecorder, lend};
 use std::alloc::Global;
 use std::sync::Arc;
 
 impl Owner {
-    // Takes back a recorder that was found on its tray, if one was.
-    fn join_met(&mut self, met: Option<OwnedRecorder>)
-        requires { IsOfOpener (arc_value self.old.tray).table.shared.key met }
-        ensures { (self.new ≡ self.old) ⊎ HasJoined self.old self.new }
-    {
-        let Some(recorder) = met else {
-            return;
-        };
-        join(&mut self.opener, recorder);
-    }
-
     // Lends units to a recorder that was found on its tray, if one was. It comes back with the tray.
     fn lend_met(
         &mut self,
@@ -36,7 +25,8 @@ impl Owner {
         requires met { IsOfOpener (arc_value self.old.tray).table.shared.key met }
         requires tray { arc_value tray ≡ arc_value self.old.tray }
         requires enough { units ≤ units_left self.old }
-        ensures { LendsMet units self.old result.0 result.1 self.new }
+        ensures gone { self.new.gone ≡ self.old.gone }
+        ensures lends { MatchOption met (IsElsewhere self.old result.0 result.1 self.new) (λ owned. IsLent units owned self.old result.0 result.1 self.new) }
     {
         let Some(mut recorder) = met else {
             return (ELSEWHERE, None);
@@ -68,29 +58,30 @@ impl Owner {
             tray,
             cursors,
         } = worker;
-        let ticket = match tray.lay(recorder) {
-            Ok(ticket) => ticket,
+        match self
+            .tray
+            .pass(&mut self.keeper, &mut self.gone, &tray, recorder)
+        {
+            Ok((met, back)) => match back {
+                Some(recorder) => {
+                    self.join_met(met);
+                    let worker = Worker {
+                        recorder,
+                        tray,
+                        cursors,
+                    };
+                    (OTHER_SEGMENT, Some(worker))
+                }
+                None => self.lend_met(met, own, units),
+            },
             Err(recorder) => {
                 let worker = Worker {
                     recorder,
                     tray,
                     cursors,
                 };
-                return (BUSY, Some(worker));
+                (BUSY, Some(worker))
             }
-        };
-        let met = self.tray.take();
-        match tray.withdraw(ticket) {
-            Some(recorder) => {
-                self.join_met(met);
-                let worker = Worker {
-                    recorder,
-                    tray,
-                    cursors,
-                };
-                (OTHER_SEGMENT, Some(worker))
-            }
-            None => self.lend_met(met, own, units),
         }
     }
 

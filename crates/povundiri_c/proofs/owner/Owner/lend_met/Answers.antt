@@ -1,9 +1,10 @@
-use Rattle.std.proofs.Common.{◌≡◌, inl, refl, sym, subst, ap, ◌∙◌, Option, Some}
+use Rattle.std.proofs.Common.{◌≡◌, refl, sym, subst, ap, ◌∙◌, Option, Some}
 use Rattle.std.specs.Arc.{arc_value}
 use Rattle.owned_recorder.specs.declared.owned.OwnedRecorder.{OwnedRecorder}
 use Rattle.povundiri_c.specs.declared.tray.Tray.{Tray}
 use Rattle.povundiri_c.specs.Tray.{IsGuestOf, IsOfOpener, cursors_of}
 use Rattle.povundiri_c.proofs.Holding.{guest_still, lent, of_opener}
+use Rattle.povundiri_c.proofs.Joining.{matched}
 use Rattle.povundiri_c.proofs.owner.Owner.lend_met.Goals as goal
 
 pub lend-requires : goal.lend-requires
@@ -27,15 +28,14 @@ invariant_of-worker c =
       counted = subst (λ (tray : Tray). c.args.self.now.cursors ≡ cursors_of tray.table.shared.key) (sym c.requires.tray) c.args.self.now.counted;
     }
 
-pub returns : goal.returns
-returns c =
+pub returns-clause-lends : goal.returns-clause-lends
+returns-clause-lends c =
     let key = (arc_value c.args.self.now.tray).table.shared.key in
     let (mine, theirs) = lent c.args.units c.lend.result c.args.self.now.opener c.lend.new.opener c.in-Some.recorder c.lend.new.owned c.lend.ensures.why c.requires.enough
     c.lend.ensures.mine c.lend.ensures.theirs in
-    inl (
+    matched _ _ c.args.met c.in-Some.recorder c.in-Some.is (
       refl,
       (
-        c.in-Some.recorder,
         _,
         refl,
         (

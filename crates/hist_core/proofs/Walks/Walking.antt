@@ -10,16 +10,19 @@ use Rattle.segment_image.specs.Shape.{Dimensions}
 use Rattle.segment_image.specs.Words.{word_at}
 use Rattle.segment_machine.specs.declared.actor.Actor.{Actor}
 use Rattle.segment_machine.specs.declared.actor.Known.{Known}
+use Rattle.segment_machine.specs.declared.place.Place.{Place}
+use Rattle.segment_machine.specs.declared.place.Place.TheVariants as place
 use Rattle.segment_machine.specs.Actor.{word_seen}
 use Rattle.segment_machine.specs.Calls.{MayTurn, sight}
 use Rattle.segment_machine.specs.Event.{Learned, next, walking_event}
 use Rattle.segment_machine.specs.Made.{SawOther}
-use Rattle.segment_machine.specs.Walking.{IsFixed, WalkingEvent, load_next, load_published}
+use Rattle.segment_machine.specs.Taking.{is_looking}
+use Rattle.segment_machine.specs.Walking.{IsFixed, WalkingEvent, behind, load_next, load_published}
 use Rattle.segment_promises.proofs.Growing.{extended_grows, grows_not}
 use Rattle.segment_promises.proofs.ValueWalks.{behind_it, comes_first, comes_on, met, passed_few, split_at_it}
 use Rattle.segment_promises.specs.Calls.{BeganBefore, SeesMore}
 use Rattle.segment_promises.proofs.Calls.Sights.{began_still, saw_word}
-use Rattle.segment_promises.proofs.Calls.Places.{behind_apart, behind_free}
+use Rattle.segment_promises.proofs.Calls.Places.{behind_free}
 use Rattle.segment_promises.proofs.Calls.SeenWords.{seen_now}
 use Rattle.hist_core.proofs.Parts.Alone.{seen_words}
 use Rattle.hist_core.specs.declared.walk.Met.{Met}
@@ -29,6 +32,18 @@ use Rattle.hist_core.specs.declared.walk.Walk.TheVariants.{LoadingFirst, Loading
 use Rattle.hist_core.specs.StepsBy.{FrameOfStep, StepsBy}
 use Rattle.hist_core.specs.Walk.{HasComeTo, HasSetOut, IsBehindValue, IsWalkProgress, MayWalk, Meets, MetRecord, OfPassed, PassedRecord, WalksAt, behind_next, behind_type, spot_of}
 use Rattle.hist_core.proofs.Walks.Passing.{way_still}
+
+-- who has loaded a next stands at no single word and no counts where it stood at none
+behind_apart : (p : Place) (at found : ℕ) → is_looking p ≡ false → is_looking (behind p at found) ≡ false
+behind_apart (place.Looking look) at found was = absurd (cc was)
+behind_apart (place.CountLoaded look bucket count) at found was = absurd (cc was)
+behind_apart (place.CursorLoaded cursor from) at found was = by (at == from) (found == 12)
+  where
+    by : (here ends : Bool) → is_looking (if here then (if ends then place.Idle else place.BehindCursor cursor from found) else place.CursorLoaded cursor from) ≡ false
+    by true true = refl
+    by true false = refl
+    by false ends = refl
+behind_apart p at found was = was
 
 pub walk_beside : (a : Actor) (e : WalkingEvent) (found : ℕ) → FrameOfStep a (next a (walking_event e) found)
 walk_beside a (load_next at) found = record {

@@ -1,11 +1,11 @@
 -- What a segment makes of a recorder that is passed to it.
-use Rattle.std.proofs.Common.{◌≡◌, ◌≢◌, ◌⊎◌, inl, inr, true, is_some, Option, Some, None, MatchOption, Result, Ok, Err, refl, sym, subst, ap, ◌∙◌}
+use Rattle.std.proofs.Common.{◌≡◌, ◌≢◌, ◌⊎◌, inl, inr, true, is_some, Option, Some, None, MatchOption, Result, Ok, Err, refl, sym, subst, ap}
 use Rattle.atomic_table.specs.Seated.{TableId}
 use Rattle.live_segment.specs.declared.opener.Opener.{Opener}
 use Rattle.owned_recorder.specs.declared.owned.OwnedRecorder.{OwnedRecorder}
 use Rattle.povundiri_c.specs.declared.owner.Owner.{Owner}
 use Rattle.povundiri_c.specs.Joins.{HasJoined, IsSameOwner}
-use Rattle.povundiri_c.specs.Tray.{HasMet, IsOfOpener, Passes, TraySeat}
+use Rattle.povundiri_c.specs.Tray.{HasMet, Passes, TraySeat}
 
 -- what a recorder was found to be
 pub matched : {A : Type 0} (P : Type 0) (Q : A → Type 0) (found : Option A) (one : A) → found ≡ Some one → Q one → MatchOption found P Q

@@ -1,5 +1,5 @@
 -- The steps on a tray keep its rule.
-use Rattle.std.proofs.Common.{◌≡◌, ◌≢◌, ◌⊎◌, inl, inr, ◌<◌, ◌+◌, ◌%◌, ◌==◌, ℕ, Bool, true, false, List, ◌∷◌, [], Option, Some, None, Ok, length, get_or, set, refl, sym, subst, ap, ◌∙◌, arith, ⊎_elim, length-set, get_or-set_same}
+use Rattle.std.proofs.Common.{◌≡◌, ◌≢◌, inl, inr, ◌<◌, ◌+◌, ◌%◌, ◌==◌, ℕ, Bool, true, List, ◌∷◌, [], Option, Some, None, Ok, length, get_or, set, refl, sym, subst, ap, ◌∙◌, arith, ⊎_elim, length-set, get_or-set_same}
 use mathlib.Core.Option.{some, none}
 use mathlib.Core.Option as maybe
 use lib.ListN.{get_elem?}
@@ -11,7 +11,7 @@ use Rattle.live_segment.specs.declared.opener.Opener.{Opener}
 use Rattle.owned_recorder.specs.declared.owned.OwnedRecorder.{OwnedRecorder}
 use Rattle.povundiri_c.specs.declared.hand.Hand.{Hand}
 use Rattle.povundiri_c.specs.declared.hand.Hand.TheVariants.{Nothing, Reaches, Laid, Met}
-use Rattle.povundiri_c.specs.Tray.{AreSo, Fits, FitsHand, HasLaid, HasReached, Home, IsInPlace, IsOfNote, IsOfOpener, IsPut, IsRight, IsSo, IsTaken, IsTray, MayReach, MayReachHand, Replaces, TraySeat, View, missed, missed_hand, noted, noted_of, stranger}
+use Rattle.povundiri_c.specs.Tray.{AreSo, Fits, FitsHand, HasLaid, HasReached, Home, IsInPlace, IsOfNote, IsOfOpener, IsPut, IsRight, IsSo, IsTray, MayReach, MayReachHand, Replaces, TraySeat, View, missed, missed_hand, noted, noted_of, stranger}
 
 -- ---- what threads know
 

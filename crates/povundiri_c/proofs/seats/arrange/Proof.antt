@@ -6,8 +6,7 @@ use types.Logic.{Logic}
 use types.Kit.{use2}
 use Rattle.atomic_table.proofs.Names.{◌≡◌, ℕ, List, [], ◌∷◌, refl, a_type, named, Val, vunit, vptr, inst_fn, SProp, ent, sep, emp, Fml, ftrue, fsep, flft, sem, ‵, raw, ◌⊛◌, ◌$◌, ◌∵◌, !, qed, by, move, keep, split, split3, join, fsplit, fsplit3, fjoin, fjoin3, use0, feq_i, unit_lit, of_opd, returns, enter, alloc_all, pass_all, free_all, look_at, sets, tables, RattleType, owns, types_at, plain, nothing, param, layouts, Stays, walk_of, fact, fact_i, Coded, mut_vals, mut_Tells, opens, closes, stay_ref, Goes-ref}
 use Rattle.atomic_table.proofs.Walks.{proved, leaves}
-use Rattle.atomic_table.specs.Table.{Me}
-use Rattle.atomic_table.specs.Seated.{TableId, mine}
+use Rattle.atomic_table.specs.Seated.{mine}
 use Rattle.atomic_table.specs.contracts.shared.Seat as seat
 use Rattle.povundiri_c.specs.Seats.{is_same_table}
 use Rattle.povundiri_c.specs.contracts.seats.arrange.{ended, clauses}

@@ -1,8 +1,8 @@
-use Rattle.std.proofs.Common.{◌≡◌, ap, subst, sym, refl, ◌∙◌, inl, inr, Some, None, Ok, Option}
+use Rattle.std.proofs.Common.{ap, subst, sym, refl, ◌∙◌, inl, inr, Some, Ok, Option}
 use Rattle.std.specs.Arc.{arc_value}
 use Rattle.owned_recorder.specs.declared.owned.OwnedRecorder.{OwnedRecorder}
 use Rattle.povundiri_c.specs.declared.tray.Tray.{Tray}
-use Rattle.povundiri_c.specs.Joins.{HasJoined, tray_of_owner, tray_of_worker}
+use Rattle.povundiri_c.specs.Joins.{tray_of_owner, tray_of_worker}
 use Rattle.povundiri_c.specs.Tray.{HasMet, Passes}
 use Rattle.povundiri_c.proofs.Holding.{same_worker}
 use Rattle.povundiri_c.proofs.Joining.{back_is, busy_is, gone_is, met_or, one_met, was_met}

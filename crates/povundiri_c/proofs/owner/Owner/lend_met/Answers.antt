@@ -1,4 +1,4 @@
-use Rattle.std.proofs.Common.{◌≡◌, refl, sym, subst, ap, ◌∙◌, Option, Some}
+use Rattle.std.proofs.Common.{◌≡◌, refl, sym, subst, Option}
 use Rattle.std.specs.Arc.{arc_value}
 use Rattle.owned_recorder.specs.declared.owned.OwnedRecorder.{OwnedRecorder}
 use Rattle.povundiri_c.specs.declared.tray.Tray.{Tray}

@@ -1,4 +1,4 @@
-use Rattle.std.proofs.Common.{ap, ◌∙◌, Some, None, Ok, subst, sym}
+use Rattle.std.proofs.Common.{ap, ◌∙◌, Some, Ok, subst, sym}
 use Rattle.povundiri_c.specs.Tray.{IsKeeper}
 use Rattle.povundiri_c.proofs.Passing.{keeper_2, keeps_1, laid, may_2, may_take_1, passes_in_err, passes_in_ok, refused, same_3, seats_2, IsLaid}
 use Rattle.povundiri_c.proofs.tray.Tray.pass.Goals as goal

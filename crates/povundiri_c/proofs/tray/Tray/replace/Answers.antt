@@ -1,4 +1,4 @@
-use Rattle.std.proofs.Common.{rules, ℕ, List, ◌∷◌, ◌+◌, Option, Some, None, ap, ◌∙◌, refl}
+use Rattle.std.proofs.Common.{rules, ℕ, List, ◌∷◌, Option, ap, ◌∙◌, refl}
 use Rattle.atomic_table.specs.Table.{Me, rest}
 use Rattle.owned_recorder.specs.declared.owned.OwnedRecorder.{OwnedRecorder}
 use Rattle.povundiri_c.specs.Tray.{View}

@@ -2,7 +2,7 @@ use Rattle.std.proofs.Common.{rules, ◌%◌, ℕ, Option, subst, ap, sym, ◌�
 use Rattle.atomic_table.specs.Table.{Me}
 use Rattle.owned_recorder.specs.declared.owned.OwnedRecorder.{OwnedRecorder}
 use Rattle.povundiri_c.specs.declared.hand.Hand.{Hand}
-use Rattle.povundiri_c.specs.Tray.{Fits, MayReach, MayTake, View}
+use Rattle.povundiri_c.specs.Tray.{MayReach, MayTake, View}
 use Rattle.povundiri_c.proofs.Passing.{laid_at, may_reach, missed_keeper, took_it}
 use Rattle.povundiri_c.proofs.Trays.{same_seat, sees}
 use Rattle.povundiri_c.proofs.tray.Tray.take.Goals.{then-number-ne2-via-then-number-ne2, then-number-ne2-via-else-number-ne2+then-number}

@@ -82,7 +82,7 @@ module _ (first : SegmentHead) (units : ℕ) (front : List Histogram) (h : Histo
   -- its `hist` is refused
   unfound : (why : Refusal) → old.segment.shape.page ≡ first.shape.page → why ≢ refusal.NoMemory → IsRefusedWith h.name h.spec why old new
       → MayStop first units front h why
-  unfound why same other (inl (is, unmoved)) = not_asked old.segment.shape why same other is
+  unfound why same other (inl (is, unmoved, fresh)) = not_asked old.segment.shape why same other is
   unfound why same other (inr (inl (is, (index, known, named, unlike), may, unmoved))) =
       let P : Refusal → Type 0 = MayStop first units front h in subst P (sym is) (knew_other index known named unlike)
   unfound why same other (inr (inr (none, (asked, is, by), looks, owed))) =

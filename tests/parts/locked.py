@@ -44,10 +44,10 @@ def is_locked(path):
     return False
 
 
-def commands(out):
-    """The command lines that write a file."""
+def commands(base, out):
+    """The command lines that write a file; `base` is an image that may be gone on with."""
     yield ["run", SCRIPT, out]
-    yield ["resume", EXAMPLE, SCRIPT, out]
+    yield ["resume", base, SCRIPT, out]
     yield ["merge", EXAMPLE, EXAMPLE, out]
     yield ["extract", EXAMPLE, out]
 
@@ -82,6 +82,8 @@ def wrong_while_locked(program, folder, words, wanted):
             wrong = f"it ended behind {took} seconds" if took < 0.1 else "OUT is another file"
         if wrong is not None:
             return wrong
+    if wanted.status != 0:
+        return f"status {wanted.status} with {wanted.error!r} where nothing is locked"
     return difference(wanted, answer(program, words)) or (None if out.read_bytes() not in (b"", STOOD) else "OUT is not new")
 
 
@@ -195,7 +197,9 @@ def wrong_other_file(program, folder):
 
 def cases(program, _options):
     with tempfile.TemporaryDirectory() as scratch:
-        for place, words in enumerate(commands(pathlib.Path(scratch).resolve() / "0/out")):
+        base = pathlib.Path(scratch).resolve() / "base"
+        answer(program, ["run", SCRIPT, base])
+        for place, words in enumerate(commands(base, "out")):
             folder = pathlib.Path(scratch).resolve() / str(place)
             folder.mkdir()
             words = [*words[:-1], folder / "out"]

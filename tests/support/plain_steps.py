@@ -1,6 +1,6 @@
 """A plain picture of a schedule, made of its records and of the lines that its replay has to write, to compare `stepped --show` with.
 
-It is written after docs/FORMAT.md, "The picture of a replayed schedule", and shares nothing with the program.
+It is written after docs/STEPPED.md, "The picture of a replayed schedule", and shares nothing with the program.
 """
 
 import csv

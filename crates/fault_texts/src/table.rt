@@ -21,7 +21,7 @@ impl fmt::Display for FaultText<'_> {
     }
 }
 
-/// The texts of all faults, one behind the other.
+/// The texts of all faults, one after the other.
 #[derive(Clone, Copy, Debug)]
 pub struct AllTexts;
 
@@ -67,93 +67,93 @@ pub const TEXTS: [(&str, &str, &str); 49] = [
     ),
     (
         "Write",
-        "An output cannot be opened or written, or the new file cannot take OUT's name.",
-        "Look at the system's reason: has the device room, and may you write in OUT's folder? A file OUT is as it was.",
+        "An output cannot be opened, locked or written, no new file can be made in OUT's folder, or that file cannot take OUT's name.",
+        "Look at the system's reason: is the device full, and may you write in OUT's folder? A file OUT is unchanged.",
     ),
     (
         "Busy",
-        "A process has the lock of OUT: it counts in that file, or writes it. It was tried for 100 ms, and nothing was written.",
+        "Another process holds the lock of OUT: it counts in that file, or writes it. The lock was tried for 100 ms, and nothing was read or written.",
         "Let that process end, or give OUT another name. To read a file that a program counts in, take its image by `extract FILE OUT`.",
     ),
     (
         "TooLong",
         "An image has more than 8,388,608 bytes, or a script more than 16,777,216; or 2^64 bytes were searched.",
-        "See whether it is the right file. Of a long script make two, and add up the reports.",
+        "Is it the right file? Split a long script in two, and add up the reports.",
     ),
     (
         "NotWords",
-        "The number of an image's bytes is no multiple of eight.",
-        "The file was cut short, or it is no image: take it anew from where it was written.",
+        "The number of bytes of an image is not a multiple of eight.",
+        "The file was cut short, or it is no image: copy it again from where it was written.",
     ),
     (
         "Image",
-        "The header of an image has the fault that is named behind it.",
+        "The header of an image has the fault that is named after it.",
         "Look that name up: `explain NAME`.",
     ),
     (
         "BadLine",
-        "A record of the script has no lawful form or place, or it names no histogram; or, of `resume`, another segment than BASE. Its number counts records, not lines.",
-        "Correct the record: --explain tells its line in the file, and what is wrong.",
+        "A record of the script is malformed, out of order, or names an unknown histogram; with `resume`, also: its segment differs from BASE. The number counts records; empty lines are none.",
+        "Correct the record: --explain says its line in the file, and what is wrong.",
     ),
     (
         "Refused",
-        "What a record of the script asks for is refused. The reason stands behind the number of the record.",
-        "Look the reason up: `explain NAME`. --explain tells the line in the file.",
+        "What a record of the script asks for is refused. The reason follows the number of the record.",
+        "Look the reason up: `explain NAME`. --explain says the line in the file.",
     ),
     (
         "Gate",
-        "A gate let no call come. It comes of programs that give the libraries a gate of their own.",
-        "Look why the gate was shut.",
+        "A gate refused a call. Only programs that pass their own gate to the library can see this.",
+        "See why your gate refused it.",
     ),
     (
         "Merge",
-        "A merge stopped at a histogram. Its name and the reason stand behind it.",
-        "Look the reason up: `explain NAME`. --explain tells the two specs of a name that has two.",
+        "A merge stopped at a histogram. Its name and the reason follow.",
+        "Look the reason up: `explain NAME`. --explain shows both specs of a name that has two.",
     ),
     (
         "NoThread",
         "A worker could not be started.",
-        "Take fewer workers, or allow yourself more threads.",
+        "Use fewer workers, or allow yourself more threads.",
     ),
     (
         "NoMemory",
-        "There was no memory for what was read, for what was to be written, or for the work between.",
+        "Out of memory: for what was read, for what was to be written, or for the work between.",
         "Close other programs, or allow this one more memory.",
     ),
     (
         "Adopt",
-        "An image that is to be recorded into again may not be: the reason stands behind it.",
+        "Recording cannot continue in this image: the reason follows.",
         "Look that name up: `explain NAME`.",
     ),
     (
         "NoSegment",
-        "In the file that was searched stand fewer segments than N: a lawful header, with all its words before the end.",
-        "Leave --nth out, to see whether there is any. Was the file written whole, and while the segment was in use?",
+        "The file that was searched has fewer than N segments. A segment is a valid header with all its words before the end.",
+        "Leave --nth out, to see whether there is any. Was the file written completely, and while the segment was in use?",
     ),
     (
         "TooShort",
         "An image has fewer than 16 words, those of its header.",
-        "The file was cut short, or it is no image: take it anew from where it was written.",
+        "The file was cut short, or it is no image: copy it again from where it was written.",
     ),
     (
         "BadCookie",
-        "Word 0 of an image is not 0x408305DC, with which each begins.",
+        "Word 0 of an image is not 0x408305DC, with which every image begins.",
         "Is this a Povundiri image? Files that Chromium wrote are not read.",
     ),
     (
         "BadVersion",
         "Word 1 of an image is neither 1 nor 2, the versions of the format.",
-        "Take a program that reads this version, if there is one.",
+        "Use a program that reads this version, if there is one.",
     ),
     (
         "BadPage",
-        "Word 3 of an image is no number of words of a page: a multiple of 16, from 64 to 65,536.",
-        "The image is damaged: take it anew from where it was written.",
+        "Word 3 of an image is no valid number of words of a page: a multiple of 16, from 64 to 65,536.",
+        "The image is damaged: copy it again from where it was written.",
     ),
     (
         "BadSize",
         "Word 2 of an image is not the number of its words; or these are no whole pages, or more than 1,048,576.",
-        "The file was cut short, or something stands behind its end: take it anew from where it was written.",
+        "The file was cut short, or something follows its end: copy it again from where it was written.",
     ),
     (
         "NotReady",
@@ -163,42 +163,42 @@ pub const TEXTS: [(&str, &str, &str); 49] = [
     (
         "Deleted",
         "Word 5 of an image is 2: the segment was deleted.",
-        "Take another image: this one is not meant to be read any more.",
+        "Use another image: this one is not meant to be read any more.",
     ),
     (
         "BadFree",
-        "Word 7 of an image, behind which nothing was claimed, is not from 16 to the number of words.",
-        "The image is damaged: take it anew from where it was written.",
+        "Word 7 of the header, the index of the first free word, is below 16 or beyond the end.",
+        "The image is damaged: copy it again from where it was written.",
     ),
     (
         "BadQueue",
-        "Words 12 to 14 of an image are not 4, 1 and 0: there the list of records begins.",
-        "The image is damaged: take it anew from where it was written.",
+        "Words 12 to 14 of an image, where the list of records begins, are not 4, 1 and 0.",
+        "The image is damaged: copy it again from where it was written.",
     ),
     (
         "OldVersion",
-        "An image that is to be recorded into again is of version 1, in which units may be on their way for good.",
-        "Merge it with the image of a script that has a `segment` record alone: what comes is of version 2, with what no delta took.",
+        "Recording cannot continue in an image of version 1: some of its units may be lost between two words.",
+        "Merge it with the image of a script that has only a `segment` record: the result is of version 2, and has what no delta took.",
     ),
     (
         "Damaged",
-        "An image that is to be recorded into again has words that no segment can have: a bad record, a list that stops, blocks that overlap, or something where nothing may stand.",
-        "Take it anew from where it was written. A report shows what can be read of it, and a merge takes that into a new image.",
+        "Recording cannot continue in this image, because no segment can have its words: a bad record, a list that stops early, blocks that overlap, or a word that should be 0.",
+        "Copy it again from where it was written. A report shows what can be read of it, and a merge takes that into a new image.",
     ),
     (
         "BadCursors",
-        "More than eight shared cursors are asked for. It comes of programs that open a segment by the libraries.",
+        "More than eight shared cursors are asked for. Only programs that open a segment by the libraries can see this.",
         "Ask for eight or fewer.",
     ),
     (
         "BadName",
         "A name is not 1 to 128 bytes from 0x21 to 0x7E without comma and quotation mark, or it begins with an exclamation mark.",
-        "Take another name. In a report the record is damaged, and the others are as they were.",
+        "Use another name. In a report, this record is damaged, and the others are not affected.",
     ),
     (
         "BadSpec",
-        "A spec is unlawful: what is wrong with it stands behind. In a report it is the spec of a record.",
-        "Look that name up: `explain NAME`. In a report the record is damaged, and the others are as they were.",
+        "A spec is invalid: the reason follows. In a report it is the spec of a record.",
+        "Look that name up: `explain NAME`. In a report, this record is damaged, and the others are not affected.",
     ),
     (
         "ZeroCount",
@@ -207,28 +207,28 @@ pub const TEXTS: [(&str, &str, &str); 49] = [
     ),
     (
         "NoUnits",
-        "More units are needed than there are. A segment has 4,294,967,295 in its whole life, also where its image is recorded into again.",
+        "More units are needed than there are. A segment has 4,294,967,295 in its whole life, also when recording continues in its image.",
         "Record into two segments, and add up the reports.",
     ),
     (
         "TooMany",
-        "A linear spec has more than 1,000 buckets or more than MAX - MIN + 2; or a custom one has more than 999 values.",
-        "Take fewer buckets or values. Of a call for a recorder: join one first.",
+        "A linear spec has more than 1,000 buckets or more than MAX - MIN + 2; or a custom one has more than 999 values; or 256 recorders are not joined.",
+        "Use fewer buckets or values. If a recorder was asked for, join one first.",
     ),
     (
         "TooLarge",
         "The record of a histogram or its counts are longer than a page.",
-        "Take larger pages, fewer buckets or a shorter name. For a merge, let BASE be the image with the larger pages.",
+        "Use larger pages, fewer buckets or a shorter name. For a merge, let BASE be the image with the larger pages.",
     ),
     (
         "Corrupt",
-        "The segment was found corrupt when a block was to be claimed; or it is the image of such a segment that is to be recorded into again.",
+        "The segment was marked as corrupt when a block was to be claimed; or recording cannot continue in the image of such a segment.",
         "Make a new segment, and look at what the old one has by a report.",
     ),
     (
         "Full",
         "The segment has no room for another block.",
-        "Take a larger SIZE. For a merge, let BASE be the larger image. An image that is recorded into again keeps its size: merge it into a larger one first.",
+        "Use a larger SIZE. For a merge, let BASE be the larger image. An image in which recording continues keeps its size: merge it into a larger one first.",
     ),
     (
         "OtherSpec",
@@ -238,17 +238,17 @@ pub const TEXTS: [(&str, &str, &str); 49] = [
     (
         "BadMin",
         "The minimum of a linear spec is 0.",
-        "Take 1 or more: lower values have a bucket of their own.",
+        "Use 1 or more: lower values have a bucket of their own.",
     ),
     (
         "BadMax",
         "The maximum of a linear spec is not above its minimum, or it is above 2,147,483,646.",
-        "Take a maximum between these.",
+        "Use a maximum between these.",
     ),
     (
         "TooFew",
         "A linear spec has fewer than 3 buckets.",
-        "Take 3 or more: one below the minimum, one from the maximum on, and one between.",
+        "Use 3 or more: one below the minimum, one from the maximum on, and one between.",
     ),
     (
         "BadRange",
@@ -262,47 +262,47 @@ pub const TEXTS: [(&str, &str, &str); 49] = [
     ),
     (
         "BadKind",
-        "In a report: a record of a histogram is too short, or of a kind that there is not.",
-        "The record is damaged, and the others are as they were.",
+        "In a report: a histogram's record is too short, or of an unknown kind.",
+        "This record is damaged, and the others are not affected.",
     ),
     (
         "BadCounts",
-        "In a report: a record has no lawful block of counts, or a bucket with 4,294,967,296 units or more.",
-        "The record is damaged, and the others are as they were.",
+        "In a report: a record has no valid block of counts, or a bucket with 4,294,967,296 units or more.",
+        "This record is damaged, and the others are not affected.",
     ),
     (
         "BadSingle",
-        "In a report: the word of a record for units of one bucket alone has no lawful form.",
-        "The record is damaged, and the others are as they were.",
+        "In a report: the single word of a record, which holds the units of one bucket, has no valid form.",
+        "This record is damaged, and the others are not affected.",
     ),
     (
         "BadMark",
         "In a report: a record says that deltas took more of a bucket than it has.",
-        "The record is damaged, and the others are as they were.",
+        "This record is damaged, and the others are not affected.",
     ),
     (
         "BadSum",
         "In a report: a sum of a record is larger than samples can make it.",
-        "The record is damaged, and the others are as they were.",
+        "This record is damaged, and the others are not affected.",
     ),
     (
         "BadSample",
-        "In a report: a record of a sparse value is unlawful, or names no sparse histogram before it.",
-        "The record is damaged, and the others are as they were.",
+        "In a report: a record of a sparse value is invalid, or names no sparse histogram before it.",
+        "This record is damaged, and the others are not affected.",
     ),
     (
         "BadRef",
-        "In a report: the list of records stopped at a reference at which no block can stand.",
+        "In a report: the list of records stopped at a reference where no block can be.",
         "The image is damaged: the records before it were read.",
     ),
     (
         "BadBlock",
-        "In a report: the list of records stopped at a reference at which no lawful block stands.",
+        "In a report: the list of records stopped at a reference where no valid block is.",
         "The image is damaged: the records before it were read.",
     ),
     (
         "Loop",
-        "In a report: the list of records stopped at a record that it had met before.",
+        "In a report: the list of records stopped at a record that it had visited before.",
         "The image is damaged: the records before it were read.",
     ),
 ];

@@ -1,4 +1,4 @@
-/* The functions of povundiri.h that are inline there, for whoever calls them by name; and the names of the statuses. */
+/* The functions of povundiri.h that are inline there, for callers by name; and the names of the statuses. */
 
 #include "povundiri.h"
 

@@ -1,6 +1,6 @@
-/* Povundiri for C99: threads record samples into histograms of one segment, without locks. A segment lies in the heap, or in memory that
- * the caller gives, as a mapped file (povundiri_file.h): what was recorded there stands there also after the process was killed.
- * The number of a histogram is for the recorder that returned it: given to another one, it is refused as UNKNOWN, or it is the number of
+/* Povundiri for C99: threads record samples into histograms of one segment, without locks. A segment is in the heap, or in memory that
+ * the caller gives, such as a mapped file (povundiri_file.h): what was recorded is still there after the process was killed.
+ * The number of a histogram is for the recorder that returned it: passed to another one, it is refused as UNKNOWN, or it is the number of
  * another histogram there, which then counts the sample.
  *
  *     struct povundiri_handle segment = {0}, recorder = {0};
@@ -13,23 +13,23 @@
  *     povundiri_join(&segment, &recorder);                                    when the thread is done
  *     povundiri_close(&segment, words, length, &needed);                      the image
  *
- * Each call answers a status: POVUNDIRI_DONE, or why nothing was done. A null, an array that is too short, a handle that is closed or of
- * another kind are statuses. No call takes a lock or waits for another thread, except where malloc, realloc and free do. Those that have
- * a NO_MEMORY among their statuses ask for memory, and povundiri_add of a sparse histogram; close, join and drop free what there is.
+ * Each call returns a status: POVUNDIRI_DONE, or why nothing was done. A null, an array that is too short, a handle that is closed or of
+ * another kind are statuses. No call takes a lock or waits for another thread, unless malloc, realloc or free do. Those that have a
+ * NO_MEMORY among their statuses ask for memory, and povundiri_add of a sparse histogram; close, join and drop free it.
  *
- * WHAT THE CALLER KEEPS. No call can test this; where it is not kept, anything may happen. Behind each call stands which of these it asks.
+ * WHAT THE CALLER KEEPS. No call can test this; if it is broken, anything may happen. The comment of each call says which of these it needs.
  *
  *   pointers    Each is null or leads to memory for what its type says (an array: for as many elements as its length says), aligned
- *               for that type. During the call no other thread touches it, or writes what is const. No two lead to the same memory.
+ *               for that type. During the call no other thread touches it, or writes what is const. No two point to the same memory.
  *   handles     A handle begins as zeros. Only these calls change it. It is not copied: to move it, copy it and zero the old one.
- *   turns       A handle is given to one call at a time. It goes to another thread in order: by a lock, the start or the join of a
- *               thread, or an atomic of sequential consistency. So each thread has a recorder of its own, and the handle of the
+ *   turns       A handle is passed to one call at a time. It goes to another thread in order: by a lock, the start or the join of a
+ *               thread, or a sequentially consistent atomic. So each thread has a recorder of its own, and the handle of the
  *               segment is with one thread at a time, which makes recorders, lends to its own and joins those that are done.
  *   room        It is aligned to 16, and a multiple of 16 bytes that is not 0. From the call on it is the segment's: nobody writes
- *               there or unmaps it until the segment is closed or dropped and each of its recorders is joined or dropped. Another
+ *               to it or unmaps it until the segment is closed or dropped and each of its recorders is joined or dropped. Another
  *               process may read it, word by word.
  *   process     No call comes from a signal handler, or from a forked child of a process with threads. malloc, realloc and free are
- *               of one allocator, and blocks are aligned to 16 where their size is a multiple of 16.
+ *               of one allocator, and blocks are aligned to 16 if their size is a multiple of 16.
  */
 #ifndef POVUNDIRI_H
 #define POVUNDIRI_H
@@ -39,7 +39,7 @@
 #include <stdint.h>
 #include <string.h>
 
-/* Of calls that return a status: a compiler that can warns where nobody looks at it. */
+/* For calls that return a status: compilers that can do so warn if it is ignored. */
 #if defined(__GNUC__)
 #define POVUNDIRI_CHECKED __attribute__((warn_unused_result))
 #else
@@ -62,7 +62,7 @@ struct povundiri_handle {
     void *at;
 };
 
-/* Memory of the caller. A segment of SIZE words with CURSORS shared cursors wants (SIZE + 1 + CURSORS) * 8 bytes, rounded up to a
+/* Memory of the caller. A segment of SIZE words with CURSORS shared cursors needs (SIZE + 1 + CURSORS) * 8 bytes, rounded up to a
  * multiple of 16. Its image begins at byte 8. All zeros: no room. */
 struct povundiri_room {
     void *at;
@@ -91,8 +91,8 @@ enum povundiri_kind {
     POVUNDIRI_SPARSE = 4
 };
 
-/* How a histogram splits the values. The last three are of a linear one: so many buckets, one of them below the minimum and one
- * from the maximum on. Of the other kinds they are not looked at. */
+/* How a histogram splits the values. The last three are for a linear one: the number of buckets counts the one below the minimum and the
+ * one from the maximum on. The other kinds ignore them. */
 struct povundiri_spec {
     uint32_t kind;
     uint32_t minimum;
@@ -112,7 +112,7 @@ struct povundiri_count {
     uint64_t count;
 };
 
-/* What a delta or a snapshot answers beside its counts. */
+/* What a delta or a snapshot returns beside its counts. */
 struct povundiri_totals {
     size_t length;      /* how many counts it wrote; on POVUNDIRI_SHORT, how many the array has to have room for */
     int64_t sum;
@@ -122,27 +122,27 @@ struct povundiri_totals {
 /* The statuses. From 100 on they are numbers of the library's faults; povundiri_status_text has their names. */
 enum povundiri_status {
     POVUNDIRI_DONE = 0,
-    POVUNDIRI_NULL = 1,          /* a pointer is null that may not be */
+    POVUNDIRI_NULL = 1,          /* a pointer is null that must not be */
     POVUNDIRI_BAD_ROOM = 2,      /* the room is not aligned to 16, or no multiple of 16 bytes, or has none */
     POVUNDIRI_EMPTY = 3,         /* the handle holds nothing: it was never filled, or is closed, joined or dropped */
     POVUNDIRI_NOT_EMPTY = 4,     /* the handle that is to be filled holds something */
-    POVUNDIRI_OTHER_KIND = 5,    /* the handle is a recorder's where a segment's is asked for, or the other way round */
+    POVUNDIRI_OTHER_KIND = 5,    /* the handle is a recorder's where a segment's is needed, or the other way round */
     POVUNDIRI_OTHER_SEGMENT = 6, /* the recorder is of another segment */
-    POVUNDIRI_SHORT = 7,         /* the array is too short: what it needs is answered, and nothing was taken */
-    POVUNDIRI_UNKNOWN = 8,       /* the recorder was answered with no such histogram */
+    POVUNDIRI_SHORT = 7,         /* the array is too short: the length that it needs is returned, and nothing was taken */
+    POVUNDIRI_UNKNOWN = 8,       /* no call returned such a histogram to this recorder */
     POVUNDIRI_NO_CURSOR = 9,     /* the segment has no such shared cursor */
     POVUNDIRI_BAD_KIND = 10,     /* there is no such kind of histogram */
     POVUNDIRI_IN_USE = 11,       /* the segment has recorders */
-    POVUNDIRI_LIST_ENDS = 12,    /* behind the cursor there is no record as yet */
-    POVUNDIRI_NO_MEMORY = 13,    /* there was no memory for a handle, a name, or a text */
+    POVUNDIRI_LIST_ENDS = 12,    /* there is no record after the cursor yet */
+    POVUNDIRI_NO_MEMORY = 13,    /* out of memory for a handle, a name, or a text */
     POVUNDIRI_ELSEWHERE = 14,    /* the recorder's own segment has met it, by a call of another thread there: its handle is empty */
     POVUNDIRI_BUSY = 15,         /* another thread passes a recorder of the same segment at this moment: nothing has happened, try again */
-    POVUNDIRI_SYSTEM = 16,       /* of povundiri_file.h: the system's fault, whose number (errno.h) stands beside it */
-    POVUNDIRI_TOO_MANY_KEYS = 17, /* of an image that is not reported: it has more keys than the caller wants */
+    POVUNDIRI_SYSTEM = 16,       /* of povundiri_file.h: the system's fault, whose number (errno.h) is returned beside it */
+    POVUNDIRI_TOO_MANY_KEYS = 17, /* the image has more keys than the caller allows, and is not reported */
 
     /* Why a call is refused. */
     POVUNDIRI_REFUSED_BAD_NAME = 101,
-    POVUNDIRI_REFUSED_BAD_SPEC = 102, /* never answered: 401 to 406 say what is wrong with it */
+    POVUNDIRI_REFUSED_BAD_SPEC = 102, /* never returned: 401 to 406 say what is wrong with it */
     POVUNDIRI_REFUSED_ZERO_COUNT = 103,
     POVUNDIRI_REFUSED_NO_UNITS = 104,
     POVUNDIRI_REFUSED_TOO_MANY = 105,
@@ -158,7 +158,7 @@ enum povundiri_status {
     POVUNDIRI_OPEN_NO_MEMORY = 203, /* also: the room is too small */
 
     /* Why an image was not adopted. */
-    POVUNDIRI_ADOPT_BAD_IMAGE = 301, /* never answered: 501 to 509 say what is wrong with its header */
+    POVUNDIRI_ADOPT_BAD_IMAGE = 301, /* never returned: 501 to 509 say what is wrong with its header */
     POVUNDIRI_ADOPT_OLD_VERSION = 302,
     POVUNDIRI_ADOPT_CORRUPT = 303,
     POVUNDIRI_ADOPT_DAMAGED = 304,
@@ -184,11 +184,11 @@ enum povundiri_status {
     POVUNDIRI_IMAGE_DELETED = 507,
     POVUNDIRI_IMAGE_BAD_FREE = 508,
     POVUNDIRI_IMAGE_BAD_QUEUE = 509,
-    POVUNDIRI_IMAGE_NO_MEMORY = 513 /* of a report: there was none to read the image */
+    POVUNDIRI_IMAGE_NO_MEMORY = 513 /* of a report: out of memory while the image was read */
 };
 
-/* The proved functions. They test no pointer: not even an empty array may be null. `none` is a handle of zeros, which takes the place of
- * what is let go. Call the functions below instead. */
+/* The proved functions. They test no pointer: not even an empty array may be null. `none` is a handle of zeros, which replaces a handle
+ * that is given up. Call the functions below instead. */
 uint32_t povundiri_proved_create(struct povundiri_shape shape, struct povundiri_handle *out);
 uint32_t povundiri_proved_create_in(struct povundiri_room room, struct povundiri_shape shape, struct povundiri_handle *out);
 uint32_t povundiri_proved_adopt(const uint64_t *words, size_t length, size_t cursors, struct povundiri_handle *out);
@@ -219,17 +219,17 @@ uint32_t povundiri_proved_report(const uint64_t *words, size_t words_length, uin
 uint32_t povundiri_proved_report_bounded(const uint64_t *words, size_t words_length, uint8_t *text, size_t text_length, size_t *needed,
                                          uint64_t most_keys);
 
-/* Whether an array is one: only an empty one may be null. */
+/* Whether an array is valid: only an empty one may be null. */
 inline bool povundiri_is_array(const void *at, size_t length) {
     return at != NULL || length == 0;
 }
 
-/* An address for an array: where it has none, any that is aligned. */
+/* The address of an array, or any aligned one if it is null. */
 inline void *povundiri_address(const void *at) {
     return at != NULL ? (void *)(uintptr_t)at : (void *)(uintptr_t)16;
 }
 
-/* Whether a room is one, as far as it can be told. */
+/* Whether a room is valid, as far as it can be tested. */
 inline bool povundiri_is_room(struct povundiri_room room) {
     return room.at != NULL && (uintptr_t)room.at % 16 == 0 && room.bytes % 16 == 0 && room.bytes != 0;
 }
@@ -244,19 +244,19 @@ inline uint32_t povundiri_create(struct povundiri_shape shape, struct povundiri_
     return out == NULL ? (uint32_t)POVUNDIRI_NULL : povundiri_proved_create(shape, out);
 }
 
-/* The same in a room. What stands there is overwritten; where the process is killed during this call, and the room was not zeros, some
- * of both may stand there.
- * Statuses: NULL, BAD_ROOM, then as above; OPEN_NO_MEMORY also where the room is too small. On any but DONE the room is the caller's still.
- * Keep: room; pointers, `out` does not lie in the room; handles: `out` begins as zeros; process. */
+/* The same in a room. The room is overwritten; if the process is killed during this call, and the room was not zeros, it may hold some
+ * of both.
+ * Statuses: NULL, BAD_ROOM, then as above; OPEN_NO_MEMORY also if the room is too small. On any but DONE the room is still the caller's.
+ * Keep: room; pointers, `out` is not in the room; handles: `out` begins as zeros; process. */
 POVUNDIRI_CHECKED
 inline uint32_t povundiri_create_in(struct povundiri_room room, struct povundiri_shape shape, struct povundiri_handle *out) {
     if (out == NULL) return POVUNDIRI_NULL;
     return povundiri_is_room(room) ? povundiri_proved_create_in(room, shape, out) : (uint32_t)POVUNDIRI_BAD_ROOM;
 }
 
-/* A segment in the heap that goes on with the words of an image of version 2: with its names, counts, sums and free space, and all units
- * that it has not used. Any words may be given: they are checked first.
- * Statuses: NULL, NOT_EMPTY; IMAGE_.. and ADOPT_.., the first that holds; NO_MEMORY.
+/* A segment in the heap that continues from the words of an image of version 2: with its names, counts, sums and free space, and all units
+ * that it has not used. Any words may be passed: they are checked first.
+ * Statuses: NULL, NOT_EMPTY; IMAGE_.. and ADOPT_.., the first that applies; NO_MEMORY.
  * Keep: pointers; handles: `out` begins as zeros; process. */
 POVUNDIRI_CHECKED
 inline uint32_t povundiri_adopt(const uint64_t *words, size_t length, size_t cursors, struct povundiri_handle *out) {
@@ -264,10 +264,10 @@ inline uint32_t povundiri_adopt(const uint64_t *words, size_t length, size_t cur
     return povundiri_proved_adopt((const uint64_t *)povundiri_address(words), length, cursors, out);
 }
 
-/* The same in a room. Where the image was read out of the same room, each word is written as it stands: a process that is killed
- * during this call leaves the image as it was.
- * Statuses: NULL, BAD_ROOM, then as above; ADOPT_NO_MEMORY also where the room is too small. On any but DONE the room is the caller's still.
- * Keep: room; pointers, neither `words` nor `out` lies in the room; handles: `out` begins as zeros; process. */
+/* The same in a room. If the image was read from the same room, each word is written as it is: a process that is killed during this call
+ * leaves the image unchanged.
+ * Statuses: NULL, BAD_ROOM, then as above; ADOPT_NO_MEMORY also if the room is too small. On any but DONE the room is still the caller's.
+ * Keep: room; pointers, neither `words` nor `out` is in the room; handles: `out` begins as zeros; process. */
 POVUNDIRI_CHECKED
 inline uint32_t povundiri_adopt_in(struct povundiri_room room, const uint64_t *words, size_t length, size_t cursors,
                                    struct povundiri_handle *out) {
@@ -276,10 +276,10 @@ inline uint32_t povundiri_adopt_in(struct povundiri_room room, const uint64_t *w
     return povundiri_proved_adopt_in(room, (const uint64_t *)povundiri_address(words), length, cursors, out);
 }
 
-/* Ends a segment and writes its image into the array; the handle is empty then, and a room is the caller's again, with the image in it.
- * `needed`, which may be null, is how many words the image has, also on SHORT: then the segment goes on.
+/* Ends a segment and writes its image into the array; then the handle is empty, and a room is the caller's again, with the image in it.
+ * `needed`, which may be null, is how many words the image has, also on SHORT: then the segment stays open.
  * Statuses: NULL, EMPTY, OTHER_KIND, SHORT, IN_USE.
- * Keep: pointers, `words` does not lie in the segment's room; handles; turns; process. */
+ * Keep: pointers, `words` is not in the segment's room; handles; turns; process. */
 POVUNDIRI_CHECKED
 inline uint32_t povundiri_close(struct povundiri_handle *segment, uint64_t *words, size_t length, size_t *needed) {
     const struct povundiri_handle none = {false, NULL};
@@ -288,7 +288,7 @@ inline uint32_t povundiri_close(struct povundiri_handle *segment, uint64_t *word
     return povundiri_proved_close(segment, none, (uint64_t *)povundiri_address(words), length, needed != NULL ? needed : &own);
 }
 
-/* Lets a segment or a recorder go, whose handle is empty then. What a recorder counted stays in the segment, which does not get its
+/* Gives up a segment or a recorder; then its handle is empty. What a recorder counted stays in the segment, which does not get its
  * other units back. A segment ends, without an image, when it and all its recorders are gone; then a room is the caller's again.
  * Statuses: NULL, EMPTY.
  * Keep: pointers; handles; turns; process. */
@@ -297,7 +297,7 @@ inline uint32_t povundiri_drop(struct povundiri_handle *handle) {
     return handle == NULL ? (uint32_t)POVUNDIRI_NULL : povundiri_proved_drop(handle, none);
 }
 
-/* A recorder for one thread, with so many of the segment's units.
+/* A recorder for one thread, with this number of the segment's units.
  * Statuses: NULL, NOT_EMPTY, NO_MEMORY, EMPTY, OTHER_KIND; REFUSED_NO_UNITS: the segment has fewer; REFUSED_TOO_MANY: it has 256 recorders.
  * Keep: pointers; handles: `out` begins as zeros; turns: that of the segment; process. */
 POVUNDIRI_CHECKED
@@ -334,7 +334,7 @@ inline uint32_t povundiri_join(struct povundiri_handle *segment, struct povundir
     return segment == recorder ? (uint32_t)POVUNDIRI_OTHER_KIND : povundiri_proved_join(segment, recorder, none);
 }
 
-/* Of a segment the units that no recorder was given, of a recorder those that it may still spend.
+/* For a segment the units that no recorder was given, for a recorder those that it may still spend.
  * Statuses: NULL, EMPTY.
  * Keep: pointers; handles; turns; process. */
 POVUNDIRI_CHECKED
@@ -352,9 +352,9 @@ inline uint32_t povundiri_outstanding(struct povundiri_handle *segment, uint32_t
 
 /* ---- Recorders ---- */
 
-/* The number of the histogram of a name, for the calls of this recorder alone: of the first record of the name in the segment, which is
- * made where there is none. A name has 1 to 128 bytes from 0x21 to 0x7E without comma and quotation mark, and no '!' in front. `values`
- * are those of a custom spec, from which its buckets begin, in any order; for the other kinds they are not looked at.
+/* The number of the histogram of a name, for the calls of this recorder only: of the first record of the name in the segment, which is
+ * made if there is none. A name has 1 to 128 bytes from 0x21 to 0x7E without comma and quotation mark, and does not begin with '!'. `values`
+ * are those of a custom spec, at which its buckets begin, in any order; the other kinds ignore them.
  * Statuses: NULL, EMPTY, BAD_KIND, NO_MEMORY, OTHER_KIND; REFUSED_BAD_NAME; SPEC_..; REFUSED_TOO_LARGE, REFUSED_NO_MEMORY,
  * REFUSED_OTHER_SPEC, REFUSED_CORRUPT, REFUSED_FULL.
  * Keep: pointers; handles; turns; process. */
@@ -367,7 +367,7 @@ inline uint32_t povundiri_hist(struct povundiri_handle *recorder, const char *na
                                  (const uint32_t *)povundiri_address(values), values_length, hist);
 }
 
-/* The same of a name that ends at its first zero byte, for each kind.
+/* The same for a name that ends at its first zero byte, for each kind.
  * Statuses and what to keep: as above. */
 POVUNDIRI_CHECKED
 inline uint32_t povundiri_hist_linear(struct povundiri_handle *recorder, const char *name, uint32_t minimum, uint32_t maximum,
@@ -395,8 +395,8 @@ inline uint32_t povundiri_hist_sparse(struct povundiri_handle *recorder, const c
     return name == NULL ? (uint32_t)POVUNDIRI_NULL : povundiri_hist(recorder, name, strlen(name), spec, NULL, 0, hist);
 }
 
-/* Adds a sample: so many units of a value. On any but DONE nothing was counted. A recorder keeps an index of the samples of sparse
- * histograms that it has met on the list, which an add to a sparse histogram may let grow: it asks for memory then, and where there is
+/* Adds a sample: `count` units of a value. On any but DONE nothing was counted. A recorder keeps an index of the samples of sparse
+ * histograms that it has visited on the list, which an add to a sparse histogram may let grow: then it asks for memory, and if there is
  * none, the call returns the same, and later ones take longer. An add to the other kinds asks for none.
  * Statuses: NULL, EMPTY, OTHER_KIND, UNKNOWN; REFUSED_ZERO_COUNT, REFUSED_NO_UNITS, REFUSED_CORRUPT, REFUSED_FULL.
  * Keep: pointers; handles; turns; process. */
@@ -405,10 +405,10 @@ inline uint32_t povundiri_add(struct povundiri_handle *recorder, size_t hist, in
     return recorder == NULL ? (uint32_t)POVUNDIRI_NULL : povundiri_proved_add(recorder, hist, value, count);
 }
 
-/* Adds units of values, in order, and then an amount to the sum. It takes as many units as the items have, and no fewer than the size of
- * the sum divided by 2^31. `added`, which may be null, is how many items were counted: all on DONE, and on REFUSED_FULL and
- * REFUSED_CORRUPT those before the one for which no block was found. The sum is added on DONE alone.
- * Statuses: NULL, EMPTY, NO_MEMORY; then as of povundiri_add. It asks for 8 bytes for each item, and for what povundiri_add asks for.
+/* Adds units of values, in order, and then an amount to the sum. It costs the units of all items together, or the size of the sum divided
+ * by 2^31 and rounded up, if that is more. `added`, which may be null, is how many items were counted: all on DONE, and on REFUSED_FULL
+ * and REFUSED_CORRUPT those before the one for which no block was found. The sum is added on DONE only.
+ * Statuses: NULL, EMPTY, NO_MEMORY; then as povundiri_add. It asks for 8 bytes for each item, and for what povundiri_add asks for.
  * Keep: pointers; handles; turns; process. */
 POVUNDIRI_CHECKED
 inline uint32_t povundiri_batch(struct povundiri_handle *recorder, size_t hist, const struct povundiri_item *items, size_t length,
@@ -420,8 +420,8 @@ inline uint32_t povundiri_batch(struct povundiri_handle *recorder, size_t hist, 
 }
 
 /* Takes what no delta took before: the keys that have such units, ascending, and what is new of the sum.
- * Statuses: NULL, EMPTY, OTHER_KIND, UNKNOWN; SHORT: the array wants room for as many keys as the histogram may have, and nothing is
- * taken (its buckets; of a sparse one as many samples as fit in the segment); REFUSED_NO_MEMORY.
+ * Statuses: NULL, EMPTY, OTHER_KIND, UNKNOWN; SHORT: the array needs room for as many keys as the histogram may have, and nothing is
+ * taken (its buckets; for a sparse one as many samples as fit in the segment); REFUSED_NO_MEMORY.
  * Keep: pointers; handles; turns; process. */
 POVUNDIRI_CHECKED
 inline uint32_t povundiri_delta(struct povundiri_handle *recorder, size_t hist, struct povundiri_count *counts, size_t length,
@@ -431,7 +431,7 @@ inline uint32_t povundiri_delta(struct povundiri_handle *recorder, size_t hist, 
 }
 
 /* What a histogram has: the units of each of its buckets, or of each value that has some; its sum; and its units, counted once more.
- * Statuses and what to keep: as of povundiri_delta. */
+ * Statuses and what to keep: as for povundiri_delta. */
 POVUNDIRI_CHECKED
 inline uint32_t povundiri_snapshot(struct povundiri_handle *recorder, size_t hist, struct povundiri_count *counts, size_t length,
                                    struct povundiri_totals *totals) {
@@ -458,8 +458,8 @@ inline uint32_t povundiri_records(struct povundiri_handle *recorder, uint64_t *r
     return povundiri_proved_records(recorder, (uint64_t *)povundiri_address(records), length, needed != NULL ? needed : &own);
 }
 
-/* The next record of a cursor that all recorders share: each record goes to one recorder alone.
- * Statuses: NULL, EMPTY, OTHER_KIND, NO_CURSOR; LIST_ENDS: there is none as yet.
+/* The next record of a cursor that all recorders share: each record goes to one recorder only.
+ * Statuses: NULL, EMPTY, OTHER_KIND, NO_CURSOR; LIST_ENDS: there is none yet.
  * Keep: pointers; handles; turns; process. */
 POVUNDIRI_CHECKED
 inline uint32_t povundiri_next_shared(struct povundiri_handle *recorder, size_t cursor, uint64_t *record) {
@@ -468,10 +468,10 @@ inline uint32_t povundiri_next_shared(struct povundiri_handle *recorder, size_t 
 
 /* ---- Readers ---- */
 
-/* The report of an image as CSV, without a zero byte behind. Any words may be given. `needed`, which may be null, is how many bytes it
- * has, also on SHORT. It costs as much as it says: a reading of the image is held in memory, of 24 bytes and more for each key, and the
- * report beside it. A lawful image of 8 MiB may have 65 million keys, 1.5 GiB, and a forged one may have a report of more than 5 GiB.
- * Of words that you do not trust, call povundiri_report_bounded.
+/* The report of an image as CSV, without a zero byte at the end. Any words may be passed. `needed`, which may be null, is how many bytes it
+ * has, also on SHORT. It needs as much memory as its output: a reading of the image, of at least 24 bytes for each key, and the report
+ * beside it. A valid image of 8 MiB may have 65 million keys, 1.5 GiB, and a forged one may have a report of more than 5 GiB. For words
+ * that you do not trust, call povundiri_report_bounded.
  * Statuses: NULL; IMAGE_..: its header has this fault; IMAGE_NO_MEMORY, NO_MEMORY; SHORT.
  * Keep: pointers; process. */
 POVUNDIRI_CHECKED
@@ -482,10 +482,10 @@ inline uint32_t povundiri_report(const uint64_t *words, size_t length, char *tex
                                    needed != NULL ? needed : &own);
 }
 
-/* The same, of an image that has no more keys than `most_keys`: the buckets of all its histograms, and the values of the sparse ones.
+/* The same, for an image that has no more keys than `most_keys`: the buckets of all its histograms, and the values of the sparse ones.
  * One that has more is refused before memory is taken for its counts. To count the keys takes at most ten times the bytes of the image.
- * Then povundiri_report takes 24 bytes and more for each key, and of the report a line at most for each, with a name of up to 128 bytes.
- * Statuses: those of povundiri_report; TOO_MANY_KEYS: exactly where it has more, if the header has no fault and memory suffices.
+ * Then the report takes at least 24 bytes for each key, and at most a line for each, with a name of up to 128 bytes.
+ * Statuses: those of povundiri_report; TOO_MANY_KEYS: exactly if it has more, the header has no fault and memory suffices.
  * Keep: pointers; process. */
 POVUNDIRI_CHECKED
 inline uint32_t povundiri_report_bounded(const uint64_t *words, size_t length, char *text, size_t text_length, size_t *needed,
@@ -496,7 +496,7 @@ inline uint32_t povundiri_report_bounded(const uint64_t *words, size_t length, c
                                            text_length, needed != NULL ? needed : &own, most_keys);
 }
 
-/* The name of a status, of any number. For what most names from 101 on mean, ask persist_report explain NAME. */
+/* The name of a status; any number may be passed. `persist_report explain NAME` says what most names from 101 on mean. */
 const char *povundiri_status_text(uint32_t status);
 
 #ifdef __cplusplus

@@ -87,7 +87,7 @@ public:
     const char* name() const noexcept override { return "povundiri"; }
     std::string message(int status) const override { return text(static_cast<Status>(status)); }
 
-    // Want of memory, whoever had none, is std::errc::not_enough_memory.
+    // Each status that says 'out of memory' is std::errc::not_enough_memory.
     std::error_condition default_error_condition(int status) const noexcept override {
         switch (static_cast<Status>(status)) {
             case Status::NoMemory:
@@ -103,7 +103,7 @@ public:
 };
 
 inline const std::error_category& category() noexcept {
-    // Never destroyed: threads may ask for it behind the end of main.
+    // Never destroyed: threads may ask for it after the end of main.
     alignas(Category) static unsigned char place[sizeof(Category)];
     static const Category* const made = ::new (place) Category;
     return *made;

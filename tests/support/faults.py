@@ -39,7 +39,7 @@ see. 'In C' has the statuses of `povundiri.h`, without `POVUNDIRI_`.
 ENTRY = re.compile(r'^    \(\n        "(.*)",\n        "(.*)",\n        "(.*)",\n    \),$', re.MULTILINE)
 BRANCH = re.compile(r"^ +((?:CliFault|Failure)::.*) => (\d),$", re.MULTILINE)
 IN_C = re.compile(r"^    POVUNDIRI_((?:REFUSED|OPEN|ADOPT|SPEC|IMAGE)_(\w+)|NO_MEMORY) = \d+,?(.*)$", re.MULTILINE)
-NEVER = "never answered"
+NEVER = "never returned"
 # What a fault means begins so where it is a line of a report, and the other one where only a program of one's own can see it.
 OF_REPORTS = "In a report: "
 OF_PROGRAMS = "Only programs that "

@@ -44,7 +44,7 @@ struct named {
     const char *name;
 };
 
-/* Each is unique. Where several statuses have one word that `persist_report explain` knows, the call or the part that it is of stands in
+/* Each is unique. If several statuses have one word that `persist_report explain` knows, the call or the part that it is of comes in
  * front, as in the lines of that program. */
 static const struct named NAMES[] = {
     {POVUNDIRI_DONE, "Done"},

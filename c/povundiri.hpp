@@ -2,28 +2,28 @@
 //
 //     using namespace povundiri;
 //     Opened opened = Segment::open("latency.seg", shape(65'536, 4096), Policy::AdoptOrSetAside);
-//     Recorder recorder = opened.segment.recorder();       // one for each thread; it joins itself where it ends
+//     Recorder recorder = opened.segment.recorder();       // one for each thread; it joins itself when it ends
 //     const Hist latency = recorder.linear("latency", 1, 1000, 50);
 //     if (!recorder.add(latency, 17)) ++missed;
 //
-// CALLS. 'add' and 'batch' say whether they counted; they throw nothing and end no process. 'try_' calls return a Status. All others throw
-// a Fault where the status is not Done, by povundiri::raise: the library has one that throws. Where a program is built without exceptions,
-// povundiri_raise.cpp is compiled into it in the same way, and ends the process in place of throwing. Files with and without exceptions may
-// be in one program: nothing here depends on it. Beside that, what fills a vector or a string may throw std::bad_alloc.
+// CALLS. 'add' and 'batch' return whether they counted; they throw nothing and end no process. 'try_' calls return a Status. All others
+// throw a Fault if the status is not Done, by povundiri::raise: the library has one that throws. A program that is built without exceptions
+// compiles povundiri_raise.cpp into itself, with the same flag; that one ends the process instead. Files with and without exceptions may be
+// in one program: nothing here depends on it. Besides, calls that fill a vector or a string may throw std::bad_alloc.
 //
 // THREADS. A recorder is used by one thread at a time, and goes to another in order. A segment is shared: its calls come from any threads,
 // as long as none moves, assigns or ends that object meanwhile. 'recorder', 'join', 'lend', 'units', 'outstanding' and 'close' take its
 // mutex; so does an 'add' that has to borrow units, once for a lease of them, and a recorder's end. Nothing else waits.
 //
-// ENDS. The words of a segment, and the file where they lie in one, live until the Segment and all its recorders have ended, in any order:
-// also of statics and of thread_locals. A recorder that ends gives back its place and its units. std::quick_exit, _exit and a kill end no
-// recorder: what was counted stands in the file, and the next process has the other units again.
+// ENDS. The words of a segment, and its file if there is one, live until the Segment and all its recorders have ended, in any order: also of
+// statics and of thread_locals. A recorder that ends gives back its place and its units. std::quick_exit, _exit and a kill end no recorder:
+// what was counted is in the file, and the next process has the other units again.
 //
-// FORKS. A child of fork has no part in the segments and recorders of its parent: their calls return Forked there, 'add' false, and where
-// they end, nothing is touched, locked or freed. So open behind daemon(3), and in each process of a server that forks its workers. _Fork
+// FORKS. A child of fork has no part in the segments and recorders of its parent: their calls return Forked there, 'add' false, and when
+// they end, nothing is touched, locked or freed. So open after daemon(3), and in each process of a server that forks its workers. _Fork
 // and a raw clone(2) are not seen: such a child makes no call.
 //
-// What povundiri.h asks of its caller, these classes ask too: pointers, room and process. Handles and turns of the segment they keep.
+// Of what povundiri.h needs from its caller, these classes need pointers, room and process. They keep handles, and turns of the segment.
 #ifndef POVUNDIRI_HPP
 #define POVUNDIRI_HPP
 
@@ -63,9 +63,9 @@ constexpr Shape shape(std::uint64_t size, std::uint64_t page, std::uint64_t id =
     return {size, page, id, cursors, version};
 }
 
-// ---- What calls are given, and fill ----
+// ---- Arguments and results ----
 
-// Elements that lie behind one another, which are lent for a call: of a vector, an array, a list in braces.
+// Contiguous elements, borrowed for a call: of a vector, an array, a list in braces.
 template <typename T>
 class Span {
 public:
@@ -122,7 +122,7 @@ private:
     std::int32_t value_;
 };
 
-// A histogram, for the recorder that returned it: to all others it is Unknown. One that no recorder returned is Unknown to all.
+// A histogram, for the recorder that returned it: for all others it is Unknown. One that no recorder returned is Unknown for all.
 class Hist {
 public:
     constexpr Hist() noexcept = default;
@@ -135,7 +135,7 @@ private:
 };
 
 // What a delta or a snapshot fills: keys with their units, ascending; the sum; and of a snapshot the units, counted once more. It keeps its
-// room, so whoever fills one again and again asks for memory once.
+// room, so a caller that fills one again and again asks for memory once.
 class Counts {
 public:
     Counts() noexcept = default;
@@ -155,7 +155,7 @@ public:
 private:
     friend class Recorder;
 
-    // Where the call was not done, this is as it was, though maybe with more room.
+    // If the call was not done, this is unchanged, but may have more room.
     template <typename Call>
     Status filled(const Call& call) noexcept {
         while (true) {
@@ -176,7 +176,7 @@ private:
     povundiri_totals totals_{};
 };
 
-// ---- What lies behind: no part of the interface ----
+// ---- Details: no part of the interface ----
 
 namespace detail {
 
@@ -188,7 +188,7 @@ inline void need(Status status, const char* call, std::string_view name) {
     if (status != Status::Done) raise(status, std::string(call).append(" \"").append(name).append("\""));
 }
 
-// What was asked is a number: 'recorder, lease 1000'.
+// The argument is a number: 'recorder, lease 1000'.
 inline void need(Status status, const char* call, std::uint64_t number) {
     if (status != Status::Done) raise(status, std::string(call).append(" ").append(std::to_string(number)));
 }
@@ -227,7 +227,7 @@ struct State {
     const std::uint64_t generation = povundiri_fork_generation();
     std::atomic<std::size_t> owners{1};
     Shape shape{};
-    std::mutex turn;  // of whoever calls with the handle that follows; behind a fork nobody takes it
+    std::mutex turn;  // for calls with the handle that follows; after a fork the child never takes it
     povundiri_handle segment{};
     povundiri_file file{};
 };
@@ -248,7 +248,7 @@ public:
         if (state_ != nullptr && state_->owners.fetch_sub(1, std::memory_order_acq_rel) == 1) delete state_;
     }
 
-    // Of a new state; none where there is no memory for it, or to watch for forks.
+    // Of a new state; none if there is no memory for it, or to watch for forks.
     static Shared made() noexcept {
         Shared shared;
         shared.state_ = new (std::nothrow) State;
@@ -260,7 +260,7 @@ public:
     State* operator->() const noexcept { return state_; }
     explicit operator bool() const noexcept { return state_ != nullptr; }
 
-    // Whether calls may be made; else why not.
+    // Whether calls may be made; else the reason.
     Status usable() const noexcept {
         if (state_ == nullptr) return Status::Empty;
         return state_->is_forked() ? Status::Forked : Status::Done;
@@ -272,16 +272,14 @@ private:
 
 }  // namespace detail
 
-// So many units a recorder borrows at once, where nothing else is asked: enough for a million samples, and 256 recorders have a sixteenth
-// of all.
+// How many units a recorder borrows at once by default: enough for a million samples, and 256 recorders have a sixteenth of all.
 inline constexpr std::uint32_t kUsualLease = 1U << 20U;
 
 // ---- Recorders ----
 
-// What one thread records with. It borrows units from its segment as it needs them, so an 'add' goes on until the segment itself has no
-// units: at RefusedNoUnits it takes the greater of what the call needs and its lease (or half of what is left, where that is less), and all
-// that is left where that is less still. Where it ends, or is assigned to, it joins its segment: its place and its units are there for
-// others.
+// What one thread records with. It borrows units from its segment as it needs them, so 'add' succeeds until the segment itself has no units:
+// at RefusedNoUnits it takes the greater of what the call needs and its lease (or half of what is left, if that is less), and everything that
+// is left if even that is less. When it ends, or is assigned to, it joins its segment: its place and its units are free for others.
 class Recorder {
 public:
     Recorder() noexcept = default;
@@ -295,13 +293,13 @@ public:
     }
     ~Recorder() { reset(); }
 
-    // Whether it records: it was made, has not ended, and is of this process.
+    // Whether it can record: it was made, has not ended, and is of this process.
     explicit operator bool() const noexcept { return state_.usable() == Status::Done; }
 
     // Ends it: it is joined, and empty. In a forked child it is empty, and nothing else happens.
     void reset() noexcept;
 
-    // Adds a sample: so many units of a value. False where it was not counted; 'try_add' returns why, and 'add_or_throw' throws that.
+    // Adds a sample: 'count' units of a value. False if it was not counted; 'try_add' returns why, and 'add_or_throw' throws that.
     bool add(Hist hist, Value value, std::uint32_t count = 1) noexcept { return try_add(hist, value, count) == Status::Done; }
     [[nodiscard]] Status try_add(Hist hist, Value value, std::uint32_t count = 1) noexcept {
         if (!is_own(hist)) return why_not();
@@ -315,8 +313,8 @@ public:
         raise(status, std::string("add, value ").append(std::to_string(value.get())).append(", count ").append(std::to_string(count)));
     }
 
-    // Adds units of values, in order, and then an amount to the sum (povundiri_batch). False where not all was counted: of the items then
-    // those before the first that found no room, as many as 'try_batch' puts into 'added', and nothing of the sum.
+    // Adds units of values, in order, and then an amount to the sum (povundiri_batch). False if not all was counted: then only the items
+    // before the first that found no room, as many as 'try_batch' puts into 'added', and nothing of the sum.
     bool batch(Hist hist, Span<const Item> items, std::int64_t sum) noexcept {
         std::size_t added = 0;
         return try_batch(hist, items, sum, added) == Status::Done;
@@ -334,7 +332,7 @@ public:
         detail::need(try_batch(hist, items, sum, added), "batch, items", items.size());
     }
 
-    // The histogram of a name, which is made where there is none.
+    // The histogram of a name, which is made if there is none.
     [[nodiscard]] Status try_hist(std::string_view name, povundiri_spec spec, Span<const std::uint32_t> values, Hist& hist) noexcept {
         const Status usable = state_.usable();
         if (usable != Status::Done) return usable;
@@ -380,7 +378,7 @@ public:
         return hist;
     }
 
-    // What no delta took before, and what a histogram has. Whoever asks again and again keeps the counts, and so their room.
+    // What no delta took before, and what a histogram has. A caller that asks again and again keeps the counts, and so their room.
     [[nodiscard]] Status try_delta(Hist hist, Counts& taken) noexcept { return counted(povundiri_delta, hist, taken); }
     [[nodiscard]] Status try_snapshot(Hist hist, Counts& seen) noexcept { return counted(povundiri_snapshot, hist, seen); }
     Counts delta(Hist hist) {
@@ -413,7 +411,7 @@ public:
         return records;
     }
 
-    // ListEnds, or no record, where the cursor has none behind it as yet.
+    // ListEnds, or no record, if there is none after the cursor yet.
     [[nodiscard]] Status try_next_shared(std::size_t cursor, std::uint64_t& record) noexcept {
         const Status usable = state_.usable();
         return usable != Status::Done ? usable : static_cast<Status>(povundiri_next_shared(&handle_, cursor, &record));
@@ -440,15 +438,15 @@ public:
 private:
     friend class Segment;
 
-    // What an empty recorder has for a tag. No histogram has it.
+    // The tag of an empty recorder. No histogram has it.
     static constexpr std::uint64_t kNone = std::numeric_limits<std::uint64_t>::max();
 
     using Counting = std::uint32_t (*)(povundiri_handle*, std::size_t, povundiri_count*, std::size_t, povundiri_totals*);
 
-    // By what this object has itself: what it shares lies beside the mutex, which others write.
+    // By what is in this object itself: what it shares is beside the mutex, which others write.
     bool is_own(Hist hist) const noexcept { return hist.tag_ == tag_ && generation_ == povundiri_fork_number; }
 
-    // Why a call is refused with a histogram that is not its own.
+    // Why a call with a histogram of another recorder is refused.
     [[gnu::cold]] Status why_not() const noexcept {
         const Status usable = state_.usable();
         return usable != Status::Done ? usable : Status::Unknown;
@@ -460,7 +458,7 @@ private:
             [&](Count* data, std::size_t size, povundiri_totals* totals) { return call(&handle_, hist.number_, data, size, totals); });
     }
 
-    // The units that a batch takes: those of its items, and no fewer than the size of the sum divided by 2^31, rounded up.
+    // The units that a batch costs: those of its items, or the size of the sum divided by 2^31 and rounded up, if that is more.
     static std::uint64_t units_of(Span<const Item> items, std::int64_t sum) noexcept {
         const std::uint64_t bits = static_cast<std::uint64_t>(sum), size = sum < 0 ? 0 - bits : bits;
         std::uint64_t units = 0;
@@ -494,7 +492,7 @@ inline void Recorder::reset() noexcept {
     state_ = detail::Shared();
 }
 
-// Whether the segment has lent as many units as are wanted, or more. Where it has too few, it keeps them.
+// Whether the segment has lent at least the units that are needed. If it has too few, it keeps them.
 [[gnu::cold]] inline bool Recorder::borrow(std::uint64_t wanted) noexcept {
     const std::lock_guard<std::mutex> turn(state_->turn);
     std::uint32_t own = 0, left = 0;
@@ -506,7 +504,7 @@ inline void Recorder::reset() noexcept {
 
 // ---- Segments ----
 
-// What becomes of a file with an image that cannot be adopted, or with one that has no more room (povundiri_file.h).
+// What to do with a file whose image cannot be adopted, or has no more room (povundiri_file.h).
 enum class Policy {
     AdoptOrFail = POVUNDIRI_ADOPT_OR_FAIL,
     AdoptOrSetAside = POVUNDIRI_ADOPT_OR_SET_ASIDE,
@@ -535,7 +533,7 @@ public:
         return fill(segment, shape, [&](povundiri_handle* out) { return povundiri_create_in(room, shape, out); });
     }
 
-    // One that goes on with the words of an image.
+    // One that continues from the words of an image.
     static Segment adopt(Span<const std::uint64_t> words, std::size_t cursors = 0) {
         Segment segment;
         detail::need(try_adopt(words, segment, cursors), "adopt, words", words.size());
@@ -555,29 +553,29 @@ public:
                     [&](povundiri_handle* out) { return povundiri_adopt_in(room, words.data(), words.size(), cursors, out); });
     }
 
-    // One in a file (povundiri_open), which is closed when the segment and all its recorders have ended, or behind 'close'.
-    // 'try_open' returns a Status, or the system's fault in the generic category. The flag KEEP_ON_FORK is invalid: open behind daemon(3).
+    // One in a file (povundiri_open), which is closed when the segment and all its recorders have ended, or by 'close'.
+    // 'try_open' returns a Status, or the system's fault in the generic category. The flag KEEP_ON_FORK is invalid: open after daemon(3).
     static Opened open(const char* path, const Shape& shape, Policy policy, const povundiri_file_options& options = {});
     [[nodiscard]] static std::error_code try_open(const char* path, const Shape& shape, Policy policy, Opened& opened,
                                                   const povundiri_file_options& options = {}) noexcept;
 
-    // Whether it goes on: it was made, is not closed, and is of this process.
+    // Whether it is open: it was made, is not closed, and is of this process.
     explicit operator bool() const noexcept {
         if (state_.usable() != Status::Done) return false;
         const std::lock_guard<std::mutex> turn(state_->turn);
         return state_->segment.full;
     }
 
-    // Lets it go, without an image. Its recorders go on; behind the last of them the words are gone, or stand in the file or the room.
+    // Gives it up, without an image. Its recorders can still record; after the last of them the words are gone, or are in the file or room.
     void reset() noexcept { state_ = detail::Shared(); }
 
-    // What it was made as; of an adopted one what its image says. Zeros where it is empty.
+    // Its shape; for an adopted one that of its image. Zeros if it is empty.
     Shape shape() const noexcept { return state_ ? state_->shape : Shape{}; }
     std::uint64_t id() const noexcept { return shape().id; }
     std::uint64_t version() const noexcept { return shape().version; }
 
-    // A recorder, which borrows so many units at a time. It begins with as many, or half of what is left where that is less. RefusedTooMany
-    // where there are 256. 'recorder' is empty: NotEmpty else.
+    // A recorder, which borrows 'lease' units at a time. It begins with as many, or half of what is left if that is less. RefusedTooMany
+    // if there are 256. 'recorder' is empty: NotEmpty else.
     Recorder recorder(std::uint32_t lease = kUsualLease) {
         Recorder recorder;
         detail::need(try_recorder(recorder, lease), "recorder, lease", lease);
@@ -585,12 +583,12 @@ public:
     }
     [[nodiscard]] Status try_recorder(Recorder& recorder, std::uint32_t lease = kUsualLease) noexcept;
 
-    // Takes a recorder back before it ends, and says where that fails.
+    // Takes a recorder back before it ends, and reports if that fails.
     void join(Recorder& recorder) { detail::need(try_join(recorder), "join"); }
     void join(Recorder&& recorder) { detail::need(try_join(recorder), "join"); }
     [[nodiscard]] Status try_join(Recorder& recorder) noexcept;
 
-    // Moves units to a recorder that runs. A recorder asks by itself for what it needs.
+    // Moves units to a running recorder. A recorder asks by itself for what it needs.
     void lend(Recorder& recorder, std::uint32_t units) { detail::need(try_lend(recorder, units), "lend, units", units); }
     [[nodiscard]] Status try_lend(Recorder& recorder, std::uint32_t units) noexcept {
         return with(recorder, [&](povundiri_handle* segment) { return povundiri_lend(segment, &recorder.handle_, units); });
@@ -614,7 +612,7 @@ public:
         return in_turn([&](povundiri_handle* segment) { return povundiri_outstanding(segment, &outstanding); });
     }
 
-    // Ends it, and its file is closed: the image. InUse where it has recorders.
+    // Ends it, closes its file, and returns the image. InUse if it has recorders.
     std::vector<std::uint64_t> close() {
         std::vector<std::uint64_t> image;
         detail::need(try_close(image), "close");
@@ -636,7 +634,7 @@ private:
         return status;
     }
 
-    // What the header of an image says; zeros where it is too short.
+    // What the header of an image says; zeros if it is too short.
     static Shape shape_of(Span<const std::uint64_t> words, std::size_t cursors) noexcept {
         return words.size() < 5 ? Shape{} : Shape{words[2], words[3], words[4], cursors, words[1]};
     }
@@ -665,11 +663,11 @@ struct Opened {
     povundiri_opened what{};
 
     Outcome outcome() const noexcept { return static_cast<Outcome>(what.outcome); }
-    // Why the image that stood in the file was not adopted; else Done.
+    // Why the image in the file was not adopted; else Done.
     Status refused() const noexcept { return static_cast<Status>(what.refused); }
-    // The name that the file has now which was set aside; else empty.
+    // The new name of the file that was set aside; else empty.
     const char* set_aside() const noexcept { return what.set_aside; }
-    // Whether the segment that goes on is not of the shape that was asked for: 'segment.shape()' is its own.
+    // Whether the adopted segment has another shape than was asked for: 'segment.shape()' is its own.
     bool other_shape() const noexcept { return what.other_shape; }
     // Whether no units are left, or the segment has the flag 'full'.
     bool spent() const noexcept { return what.spent; }
@@ -734,7 +732,7 @@ inline Status Segment::try_close(std::vector<std::uint64_t>& image) {
 
 // ---- Readers ----
 
-// The report of an image as CSV. It is made once where it is no longer than this, and else twice.
+// The report of an image as CSV. It is made once if it is no longer than this, else twice.
 inline constexpr std::size_t kUsualReport = 16'384;
 
 [[nodiscard]] inline Status try_report(Span<const std::uint64_t> words, std::string& text) {
@@ -750,8 +748,8 @@ inline std::string report(Span<const std::uint64_t> words) {
     return text;
 }
 
-// The same of an image that has no more keys than so many; of one that has more TooManyKeys. For words that are not trusted: a report
-// without a bound may take gigabytes (povundiri_report_bounded).
+// The same for an image with at most 'most_keys' keys; for one with more, TooManyKeys. For words that are not trusted: a report without a
+// bound may take gigabytes (povundiri_report_bounded).
 [[nodiscard]] inline Status try_report(Span<const std::uint64_t> words, std::string& text, std::uint64_t most_keys) {
     text.resize(kUsualReport);
     return detail::filled(text, [&](char* data, std::size_t size, std::size_t* needed) {

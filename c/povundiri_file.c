@@ -15,13 +15,13 @@
 #include <time.h>
 #include <unistd.h>
 
-/* Words are of 64 bits. A file begins with a word of zeros, behind which the image stands. */
+/* Words have 64 bits. A file begins with a word of zeros, and then the image. */
 enum { WORD = 8, UNIT = 16, HEADER_WORDS = 16, MOST_WORDS = 1048576, MOST_CURSORS = 8 };
 
 /* The words of an image's header that are looked at here. */
 enum { COOKIE_AT = 0, VERSION_AT = 1, SIZE_AT = 2, PAGE_AT = 3, ID_AT = 4, FLAGS_AT = 6, FULL = 2 };
 
-/* For how long a lock is tried, and how often; how many bytes are reserved or looked at by one call; how many names are tried. */
+/* For how long a lock is tried, and how often; how many bytes are reserved or read by one call; how many names are tried. */
 enum { MOST_MILLISECONDS = 100, NAP_NANOSECONDS = 2000000, PIECE = 1 << 18, BLOCK = 4096, MOST_NAMES = 100000 };
 
 enum { ALL_FLAGS = POVUNDIRI_FILE_GROUP_WRITES | POVUNDIRI_FILE_ANY_OWNER | POVUNDIRI_FILE_FOLLOW | POVUNDIRI_FILE_KEEP_ON_FORK };
@@ -52,25 +52,25 @@ static size_t most_bytes(void) {
 
 struct povundiri_mapping {
     struct povundiri_mapping *next;
-    int descriptor; /* -1 where there is none */
+    int descriptor; /* -1 if there is none */
     dev_t device;   /* with the inode the file that the descriptor was opened for */
     ino_t inode;
-    void *at;      /* null where nothing is mapped */
+    void *at;      /* null if nothing is mapped */
     size_t bytes;  /* that are mapped */
     off_t was;     /* how long the file was before it was opened */
     bool is_kept;  /* in children of fork */
     pid_t process; /* that opened it, or was forked and keeps it */
 };
 
-/* Held while a descriptor or a mapping comes or goes, and while the process forks: so a child knows each that it has. */
+/* Held while a descriptor or a mapping is made or ends, and while the process forks: so a child knows each that it has. */
 static pthread_mutex_t mutex = PTHREAD_MUTEX_INITIALIZER;
 static struct povundiri_mapping *all;
 static pthread_once_t once = PTHREAD_ONCE_INIT;
 
-/* Changes in a child alone, while it has one thread. */
+/* Changes only in a child, while it has one thread. */
 uint64_t povundiri_fork_number = 0;
 
-/* Whether the descriptor is that of the file still: a daemon may have closed all that it had, and the number be another file's by now. */
+/* Whether the descriptor is still that of the file: a daemon may have closed all of its own, and the number be another file's by now. */
 static bool has_descriptor(const struct povundiri_mapping *mapping) {
     struct stat about;
     if (mapping->descriptor < 0) return false;
@@ -78,7 +78,7 @@ static bool has_descriptor(const struct povundiri_mapping *mapping) {
     return mapping->inode == 0 || (about.st_dev == mapping->device && about.st_ino == mapping->inode);
 }
 
-/* Closes the descriptor, and so the lock where no other process has it as well. The mutex is held. */
+/* Closes the descriptor, and so ends the lock unless another process has it as well. The mutex is held. */
 static void give_up_descriptor(struct povundiri_mapping *mapping) {
     if (has_descriptor(mapping)) close(mapping->descriptor);
     mapping->descriptor = -1;
@@ -117,7 +117,7 @@ uint64_t povundiri_fork_generation(void) {
     return povundiri_fork_number;
 }
 
-/* One of which nothing is open as yet. Null where there is no memory. */
+/* One of which nothing is open yet. Null if there is no memory. */
 static struct povundiri_mapping *new_mapping(bool is_kept) {
     struct povundiri_mapping *mapping = povundiri_fork_generation() == 0 ? NULL : calloc(1, sizeof *mapping);
     if (mapping == NULL) return NULL;
@@ -160,7 +160,7 @@ static void forget(struct povundiri_mapping *mapping) {
 
 /* ---- What a file has ---- */
 
-/* Reads so many bytes, or those up to the file's end. */
+/* Reads `bytes` bytes, or those up to the end of the file. */
 static int read_at(int descriptor, void *to, size_t bytes, off_t at, size_t *got) {
     *got = 0;
     while (*got < bytes) {
@@ -191,7 +191,7 @@ static int look_for_zeros(int descriptor, off_t at, bool *only_zeros) {
     return 0;
 }
 
-/* Whether the header was made to its end: its words that are never 0 are not. */
+/* Whether the header is complete: its words that are never 0 are not 0. */
 static bool is_made(const uint64_t *image) {
     size_t i;
     for (i = 0; i < sizeof NEVER_ZERO / sizeof NEVER_ZERO[0]; i += 1) {
@@ -200,7 +200,7 @@ static bool is_made(const uint64_t *image) {
     return true;
 }
 
-/* Whether a file of this length has all words of a segment that has so many, and there may be such a segment. */
+/* Whether a segment of this many words is valid, and a file of this length has all of them. */
 static bool has_all_words(uint64_t words, off_t length) {
     return words >= HEADER_WORDS && words <= MOST_WORDS && words < (uint64_t)length / WORD;
 }
@@ -208,10 +208,10 @@ static bool has_all_words(uint64_t words, off_t length) {
 /* What is known of a file by its bytes. */
 struct content {
     bool is_new;  /* nothing was counted there */
-    size_t words; /* of a segment that has all that its header tells of; else 0 */
+    size_t words; /* of a segment whose words are all there; else 0 */
 };
 
-/* EEXIST where a file of this length is neither new nor begins as a segment's. */
+/* EEXIST if a file of this length is neither new nor begins as a segment's. */
 static int inspect(int descriptor, off_t length, struct content *content) {
     uint64_t first[1 + HEADER_WORDS] = {0};
     const uint64_t *image = first + 1;
@@ -235,7 +235,7 @@ static int inspect(int descriptor, off_t length, struct content *content) {
 struct request {
     const char *path;
     size_t bytes;
-    size_t cursors; /* for which there is to be room behind the words of a segment that stands there */
+    size_t cursors; /* for which there has to be room after the words of a segment in the file */
     unsigned flags;
     mode_t mode;
 };
@@ -255,7 +255,7 @@ static int status_at(const struct request *request, struct stat *about) {
     return fstatat(AT_FDCWD, request->path, about, flags) == 0 ? 0 : errno;
 }
 
-/* What is no file is not even opened: that alone may make a device do something. */
+/* What is no file is not even opened: opening alone may make a device do something. */
 static int open_descriptor(const struct request *request, struct povundiri_mapping *mapping) {
     const int no_link = (request->flags & POVUNDIRI_FILE_FOLLOW) != 0 ? 0 : O_NOFOLLOW;
     struct stat about;
@@ -279,7 +279,7 @@ static int judge(const struct request *request, const struct stat *about) {
     return (about->st_mode & S_IWOTH) != 0 ? EPERM : 0;
 }
 
-/* EBUSY where somebody else has the lock. */
+/* EBUSY if somebody else has the lock. */
 static int lock(int descriptor) {
     while (flock(descriptor, LOCK_EX | LOCK_NB) != 0) {
         if (errno != EINTR) return errno == EWOULDBLOCK ? EBUSY : errno;
@@ -287,7 +287,7 @@ static int lock(int descriptor) {
     return 0;
 }
 
-/* EBUSY where the path leads to another file by now, or to none: somebody has set this one aside. */
+/* EBUSY if the path leads to another file by now, or to none: somebody has set this one aside. */
 static int look_for_name(const struct request *request, const struct stat *about) {
     struct stat named;
     const int fault = status_at(request, &named);
@@ -299,8 +299,8 @@ static void cut(int descriptor, off_t length) {
     while (ftruncate(descriptor, length) != 0 && errno == EINTR) continue;
 }
 
-/* Gives a file of this length so many bytes, and blocks for all of them; where there are none, its length is as before. The blocks come by
- * pieces, so that signals which come all the time do not keep one long call from its end. */
+/* Extends a file of this length, and reserves blocks for all its bytes; if there are none, its length is unchanged. The blocks are reserved
+ * in pieces, so that repeated signals do not keep one long call from its end. */
 static int reserve(int descriptor, off_t length, off_t bytes) {
     struct rlimit limit;
     off_t at;
@@ -314,7 +314,7 @@ static int reserve(int descriptor, off_t length, off_t bytes) {
     return fault;
 }
 
-/* How many bytes are to be mapped: all of a file whose words are not all there, which keeps its length. */
+/* How many bytes to map: for a file whose words are not all there, all that it has; it keeps its length. */
 static int give_length(const struct request *request, struct povundiri_mapping *mapping, size_t *bytes) {
     const size_t length = (size_t)mapping->was;
     struct content content;
@@ -345,7 +345,7 @@ static int map(struct povundiri_mapping *mapping, size_t bytes) {
     return fault;
 }
 
-/* Gives the file that is locked its length, and maps it. */
+/* Gives the locked file its length, and maps it. */
 static int prepare(const struct request *request, struct povundiri_mapping *mapping) {
     struct stat about;
     size_t bytes = 0;
@@ -392,7 +392,7 @@ static int open_in_time(const struct request *request, struct povundiri_mapping 
     }
 }
 
-/* A thread that is cancelled meanwhile ends behind it: what it had open would stay open, and locked. */
+/* A thread that is cancelled meanwhile ends after it: what it had open would stay open, and locked. */
 static int open_request(struct povundiri_file *file, const struct request *request) {
     struct povundiri_mapping *mapping = new_mapping((request->flags & POVUNDIRI_FILE_KEEP_ON_FORK) != 0);
     int state, fault;
@@ -435,7 +435,7 @@ struct povundiri_room povundiri_file_room(const struct povundiri_file *file) {
     return room;
 }
 
-/* Whether nothing was counted in these bytes of a file, which are all that it has. */
+/* Whether nothing was counted in these bytes, which are all that the file has. */
 static bool is_unfinished(const unsigned char *bytes, size_t count) {
     uint64_t first[1 + HEADER_WORDS] = {0};
     const size_t known = count < sizeof first ? count : sizeof first;
@@ -479,7 +479,7 @@ void povundiri_file_close(struct povundiri_file *file) {
 
 /* ---- Setting aside ---- */
 
-/* Never over another file. Where the system cannot do it in one step, the file has both names for a moment. */
+/* Never over another file. If the system cannot do it in one step, the file has both names for a moment. */
 static int rename_to_free(const char *from, const char *to) {
     do {
         if (renameat2(AT_FDCWD, from, AT_FDCWD, to, RENAME_NOREPLACE) == 0) return 0;
@@ -488,7 +488,7 @@ static int rename_to_free(const char *from, const char *to) {
     return link(from, to) == 0 && unlink(from) == 0 ? 0 : errno;
 }
 
-/* The first name PATH.KIND-YYYYMMDDThhmmssZ-N that is free becomes that of the file. */
+/* Gives the file the first name PATH.KIND-YYYYMMDDThhmmssZ-N that is free. */
 static int rename_aside(const char *path, const char *kind, char *name) {
     const time_t now = time(NULL);
     struct tm parts;
@@ -503,7 +503,7 @@ static int rename_aside(const char *path, const char *kind, char *name) {
     return fault;
 }
 
-/* The file that is open gets another name. Where the path is that of a link, it is the file that does. */
+/* The open file gets another name; if the path is that of a link, the file that it leads to. */
 static int set_aside(const struct request *request, const struct povundiri_file *file, const char *kind, char *name) {
     const bool follows = (request->flags & POVUNDIRI_FILE_FOLLOW) != 0;
     char *real = follows ? realpath(request->path, NULL) : NULL;
@@ -555,7 +555,7 @@ static uint32_t make(const struct task *task) {
     return povundiri_units(task->segment, &opened->units);
 }
 
-/* What is said of an adopted segment with this header. */
+/* What is reported of an adopted segment with this header. */
 static void describe(struct povundiri_opened *opened, const uint64_t *image, const struct povundiri_shape *asked) {
     const struct povundiri_shape shape = {image[SIZE_AT], image[PAGE_AT], image[ID_AT], asked->cursors, image[VERSION_AT]};
     opened->outcome = POVUNDIRI_ADOPTED;
@@ -584,14 +584,14 @@ static uint32_t adopt_or_make(const struct task *task) {
     return status;
 }
 
-/* As what the file has to be set aside, or null. That is done once in a call. */
+/* The kind under which the file has to be set aside, or null. That is done once in a call. */
 static const char *kind_of(const struct task *task, uint32_t status) {
     if (task->policy == POVUNDIRI_ADOPT_OR_FAIL || task->opened->set_aside[0] != 0) return NULL;
     if (is_refused_for_good(status)) return "damaged";
     return status == POVUNDIRI_DONE && task->opened->spent && task->policy == POVUNDIRI_ADOPT_OR_BEGIN_ANEW ? "full" : NULL;
 }
 
-/* Closes the file, which has its old length again. */
+/* Closes the file, which gets its old length again. */
 static void close_as_it_was(struct povundiri_file *file) {
     struct povundiri_mapping *mapping = file->mapping;
     munmap(mapping->at, mapping->bytes);
@@ -600,7 +600,7 @@ static void close_as_it_was(struct povundiri_file *file) {
     povundiri_file_close(file);
 }
 
-/* Lets go what was opened, and what was said of it. */
+/* Gives up what was opened, and what was reported of it. */
 static void take_back(const struct task *task) {
     const struct povundiri_shape none = {0, 0, 0, 0, 0};
     struct povundiri_opened *opened = task->opened;
@@ -612,7 +612,7 @@ static void take_back(const struct task *task) {
     opened->units = 0;
 }
 
-/* Opens the file that stands at the path, if any. `again` where it was set aside. */
+/* Opens the file at the path, if any. `again` if it was set aside. */
 static uint32_t open_one(const struct task *task, bool *again) {
     struct povundiri_opened *opened = task->opened;
     int fault = open_request(task->file, &task->request);
@@ -635,7 +635,7 @@ static bool is_policy(enum povundiri_policy policy) {
     return policy == POVUNDIRI_ADOPT_OR_FAIL || policy == POVUNDIRI_ADOPT_OR_SET_ASIDE || policy == POVUNDIRI_ADOPT_OR_BEGIN_ANEW;
 }
 
-/* Whether a segment may be made as this, before any file is touched. */
+/* Whether a segment of this shape may be made, before any file is touched. */
 static uint32_t check_shape(struct povundiri_shape shape) {
     struct povundiri_handle segment = {false, NULL};
     const uint32_t status = povundiri_create(shape, &segment);

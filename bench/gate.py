@@ -1,11 +1,11 @@
 #!/usr/bin/env python3
-"""Runs the merge gate 'rt ci' and tells what it takes, crate by crate: for proofs, for tests and for edits.
+"""Runs the merge gate 'rt ci' and reports what it takes, crate by crate: for proofs, for tests and for edits.
 
     bench/gate.py
 
 It prints what the gate prints, and then a table: minutes of processor time (user and system), and the most memory that
 one check had. Behind it stand the ten dearest edits; the first of a crate pays for a check of all of it. The processes of the
-gate are looked at twice a second; what ended between two looks is told as the rest. The status is that of the gate. Run it on a
+gate are looked at twice a second; what ended between two looks is reported as the rest. The status is that of the gate. Run it on a
 clean clone, on a machine that does nothing else.
 """
 
@@ -75,7 +75,7 @@ def children():
 
 
 def tasks_below(gate):
-    """Each process below the gate, with its crate and its part of the gate, or None where it is no check."""
+    """Each process below the gate, with its crate and its part of the gate, or None if it is no check."""
     below, left = children(), [(gate, None)]
     while left:
         pid, task = left.pop()

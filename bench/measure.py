@@ -1,4 +1,4 @@
-"""Runs of a program over an image: what it answers, what memory it takes, and how long it needs."""
+"""Runs of a program over an image: what it returns, what memory it takes, and how long it needs."""
 
 import dataclasses
 import pathlib
@@ -42,7 +42,7 @@ def summary(pieces):
 
 
 def answered(program, path, gibibytes):
-    """What the program answers to 'report PATH' with so much memory."""
+    """What the program returns to 'report PATH' with so much memory."""
     command = [sys.executable, HERE / "peak.py", str(gibibytes), program, "report", path]
     with subprocess.Popen(command, stdout=subprocess.PIPE, stderr=subprocess.PIPE) as running:
         errors = []

@@ -1,5 +1,5 @@
 #!/usr/bin/env python3
-"""Runs a command with a limit on its memory and tells what it took.
+"""Runs a command with a limit on its memory and reports what it took.
 
     peak.py GIB COMMAND WORD..
 

@@ -103,7 +103,7 @@ private:
     char* end_;
 };
 
-// The number that decimal digits write, where it is at most `most`.
+// The number that decimal digits write, if it is at most `most`.
 std::optional<Word> number(std::string_view digits, Word most) {
     if (digits.empty() || digits[0] < '0' || digits[0] > '9') return std::nullopt;
     Word value = 0;
@@ -234,7 +234,7 @@ struct Stop {
     Fault why = nullptr;
 };
 
-// Makes the calls of a worker, each `workers` behind the one before.
+// Makes the calls of a worker, each `workers` after the one before.
 Stop work(Segment& segment, const Script& script, std::size_t part, std::size_t workers, Word units) {
     Recorder recorder(segment, units);
     std::vector<std::optional<std::size_t>> places(script.hists.size());
@@ -283,7 +283,7 @@ void run_workers(Segment& segment, const Script& script, std::size_t workers) {
     if (least != nullptr) refuse(*least);
 }
 
-// Makes or empties OUT behind all else, so a fault before leaves it as it was. A fault of the device does not.
+// Makes or empties OUT after all else, so a fault before leaves it unchanged. A fault of the device does not.
 void write_image(const char* path, const Words& words) {
     std::string bytes(8 * words.size(), '\0');
     for (std::size_t i = 0; i < words.size(); ++i) {

@@ -185,7 +185,7 @@ private:
         return nullptr;
     }
 
-    // The name, empty where it is unlawful.
+    // The name, empty if it is invalid.
     std::string name_of(Word at) const {
         const Word length = words_[at + 14];
         if (length < 1 || length > 128 || 15 + (length + 7) / 8 > words_[at]) return {};
@@ -197,7 +197,7 @@ private:
         return is_lawful ? name : std::string();
     }
 
-    // Writes the boundaries of the record's ranges to boundaries_; false where its spec is unlawful.
+    // Writes the boundaries of the record's ranges to boundaries_; false if its spec is invalid.
     bool take_spec(Word at, Word name_words) {
         const Word kind = words_[at + 4], least = words_[at + 5], most = words_[at + 6], n = words_[at + 7];
         boundaries_.clear();

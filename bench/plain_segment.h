@@ -109,7 +109,7 @@ class Recorder {
 public:
     Recorder(Segment& segment, Word units) : segment_(segment), units_(units) {}
 
-    // The histogram of a name, made where there is none, and its place among those that this recorder knows.
+    // The histogram of a name, made if there is none, and its place among those that this recorder knows.
     Fault hist(std::string_view name, const Made& made, std::size_t& place) {
         if (!is_name(name)) return "BadName";
         if (made.fault != nullptr) return made.fault;
@@ -176,7 +176,7 @@ private:
         return kName + (name.size() + 7) / 8 + spec.ranges.size();
     }
 
-    // The first block of the list behind a place that the test takes, or 0; the place is then the list's end.
+    // The first block of the list after a place that the test takes, or 0; the place is then the list's end.
     template <typename Test>
     Word walk(Word& place, const Test& test) {
         for (Word next = segment_[place + kNext].load(); next != kQueue; next = segment_[place + kNext].load()) {
@@ -193,7 +193,7 @@ private:
         return name;
     }
 
-    // The first record of a name on the list, or 0: one that was met, or one behind the place up to which this recorder has looked.
+    // The first record of a name on the list, or 0: one that was visited, or one after the place up to which this recorder has looked.
     Word first_named(const std::string& name) {
         if (const auto met = met_.find(name); met != met_.end()) return met->second;
         walk(passed_, [&](Word at) {
@@ -279,7 +279,7 @@ private:
         }
     }
 
-    // The word in which the units of a value are counted, or none where they were packed.
+    // The word in which the units of a value are counted, or none if they were packed.
     Fault count_units(const Known& known, std::int64_t value, Word count) {
         Word counted = 0;
         if (known.spec.kind == kSparse) {
@@ -296,7 +296,7 @@ private:
         return nullptr;
     }
 
-    // Packs units into the single word, where that is free for their bucket.
+    // Packs units into the single word, if that is free for their bucket.
     bool pack(const Known& known, Word bucket, Word count) {
         std::atomic<Word>& single = segment_[known.at + kSingleAt];
         while (true) {
@@ -332,7 +332,7 @@ private:
         return segment_[at + 2].load() == kSample && segment_[at + kOwner].load() == known.at;
     }
 
-    // The sample of a value, or 0: one that was met, or one behind the place up to which this recorder has looked for samples.
+    // The sample of a value, or 0: one that was visited, or one after the place up to which this recorder has looked for samples.
     Word first_sampled(Word owner, Word value) {
         const Word key = owner << 32 | (value & 0xFFFF'FFFF);
         if (const auto met = sampled_.find(key); met != sampled_.end()) return met->second;
@@ -389,7 +389,7 @@ private:
     std::unordered_map<std::string, std::size_t> places_;
     std::unordered_map<std::string, Word> met_;
     Word passed_ = kQueue;
-    std::unordered_map<Word, Word> sampled_;  // samples that were met, by histogram and value
+    std::unordered_map<Word, Word> sampled_;  // samples that were visited, by histogram and value
     Word sampled_place_ = kQueue;
 };
 

@@ -128,7 +128,7 @@ Plan plan_of(bool packed, bool shared, std::size_t threads) {
     return plan;
 }
 
-// The histograms as they are before a burst: empty, and with counts behind each record where they are to be in use.
+// The histograms as they are before a burst: empty, and with counts after each record if they are to be in use.
 void lay_out(Segment& segment, const Plan& plan, bool packed) {
     segment.clear();
     if (packed) return;

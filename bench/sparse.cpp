@@ -1,4 +1,4 @@
-// Samples of values that a sparse histogram has, recorded by a plain C++ program with a hash map of the samples that it met.
+// Samples of values that a sparse histogram has, recorded by a plain C++ program with a hash map of the samples that it visited.
 //
 //     sparse VALUES BURSTS
 //

@@ -41,7 +41,7 @@ struct Entry {
 
 enum class Stage { loading_single, loading_counts, counting, summing, noting };
 
-// A segment with one actor, whose add goes on by one event a step.
+// A segment with one actor, whose add continues by one event a step.
 class World {
 public:
     World() : words_(kWords), boundaries_(linear()) {
@@ -57,7 +57,7 @@ public:
         stage_ = Stage::loading_single;
     }
 
-    // Whether the add goes on.
+    // Whether the add continues.
     bool step() {
         begun_ = entries_.size();
         switch (stage_) {

@@ -1,4 +1,4 @@
-/* What a test checks: a line for each that fails, and behind each group of them a line with its name. */
+/* What a test checks: a line for each that fails, and after each group of them a line with its name. */
 #ifndef CHECKS_H
 #define CHECKS_H
 

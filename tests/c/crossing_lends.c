@@ -20,7 +20,7 @@ struct pass {
 /* How many of the two threads are there. */
 static int ready;
 
-/* A thread goes on once both are there: so that their calls begin within a few steps of each other, it does not sleep. */
+/* A thread continues once both are there: so that their calls begin within a few steps of each other, it does not sleep. */
 static void meet(void) {
     __atomic_fetch_add(&ready, 1, __ATOMIC_SEQ_CST);
     while (__atomic_load_n(&ready, __ATOMIC_SEQ_CST) < 2) sched_yield();
@@ -69,7 +69,7 @@ static void is_whole(struct povundiri_handle *segment) {
 }
 
 /* The first thread lends a recorder of the other segment. The second lends or joins one to the other segment: one of the first, where both
- * cross, else its own, and then it is answered rightly, or BUSY. */
+ * cross, else its own, and then its call is done, or returns BUSY. */
 static void cross(bool both, bool joins) {
     const struct povundiri_shape shape = {1024, 256, 7, 0, 2};
     struct povundiri_handle here = {0}, there = {0};

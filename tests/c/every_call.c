@@ -294,7 +294,7 @@ static void has_units(struct povundiri_handle *it, uint32_t wanted) {
     HOLDS(units == wanted);
 }
 
-/* A recorder whose share is used up goes on, with the same histograms at the same numbers. In the end all units are there but those that
+/* A recorder whose share is used up continues, with the same histograms at the same numbers. In the end all units are there but those that
  * were counted. */
 static void lends(void) {
     struct povundiri_handle segment = segment_of(WORDS, PAGE), recorder = recorder_of(&segment, 2);
@@ -321,7 +321,7 @@ static void lends(void) {
     DONE(povundiri_drop(&segment));
 }
 
-/* All units may be lent, and no more: then all is as it was. */
+/* All units may be lent, and no more: then all is unchanged. */
 static void lends_all(void) {
     struct povundiri_handle segment = segment_of(WORDS, PAGE), recorder = recorder_of(&segment, 10);
     ANSWERS(REFUSED_NO_UNITS, povundiri_lend(&segment, &recorder, UINT32_MAX - 9));
@@ -338,7 +338,7 @@ static void lends_all(void) {
     DONE(povundiri_drop(&segment));
 }
 
-/* A recorder of another segment is not lent to: both segments and the recorder are as they were. */
+/* A recorder of another segment is not lent to: both segments and the recorder are unchanged. */
 static void lends_to_its_own(void) {
     struct povundiri_handle segment, recorder, other = segment_of(WORDS, PAGE), all;
     size_t hist = 9;

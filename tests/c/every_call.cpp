@@ -110,7 +110,7 @@ void corrupt() {
     RETURNS(AdoptCorrupt, Segment::try_adopt(image, segment));
 }
 
-// A room is the caller's again behind the last of the segment and its recorders, whichever ends first; what was moved from is empty.
+// A room is the caller's again after the last of the segment and its recorders, whichever ends first; what was moved from is empty.
 void moves() {
     Memory memory(kBytes);
     Segment segment;

@@ -43,7 +43,7 @@ static const struct povundiri_file_options KEPT = {POVUNDIRI_FILE_KEEP_ON_FORK, 
 
 /* ---- A child without the file ---- */
 
-/* A child that only ends, by exit or _exit: its parent goes on. */
+/* A child that only ends, by exit or _exit: its parent continues. */
 static void child_that_ends(void) {
     struct povundiri_file file = {0};
     struct povundiri_handle segment = {0};
@@ -190,7 +190,7 @@ static void pre_fork_server(void) {
 
 /* ---- A daemon ---- */
 
-/* Opens, becomes a daemon, and counts: `leaves` as the file is not to go on to children of the daemon, of which one lives on. */
+/* Opens, becomes a daemon, and counts: `leaves` as the file is not to be passed on to children of the daemon, of which one lives on. */
 static void become_daemon(const struct gate *ready, const struct gate *stop, const struct gate *last, bool leaves) {
     struct povundiri_file file = {0};
     struct povundiri_handle segment = {0};

@@ -80,7 +80,7 @@ static void other_descriptors(void) {
     HOLDS(opened_by_another("others") == 0);
 }
 
-/* Nor does a daemon that closes all that it has; and what it opens behind that under the same number is not closed with the file. */
+/* Nor does a daemon that closes all that it has; and what it opens after that under the same number is not closed with the file. */
 static void all_descriptors_closed(void) {
     struct povundiri_file file = {0};
     int descriptor, other;
@@ -239,7 +239,7 @@ static void open_in_storm(const char *where, int rounds) {
     folder = before;
 }
 
-/* In a folder in memory, where there is one: there the system is longest at work on one call. */
+/* In a folder in memory, if there is one: there the system is longest at work on one call. */
 static void signal_storm(void) {
     char memory[64];
     open_in_storm(folder, 5);

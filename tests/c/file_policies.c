@@ -426,7 +426,7 @@ static void other_faults(void) {
 
 /* ---- What is adopted ---- */
 
-/* An older segment keeps its shape, which is told; there is room for the cursors that are asked for. */
+/* An older segment keeps its shape, which is reported; there is room for the cursors that are asked for. */
 static void other_shapes(void) {
     const struct povundiri_shape small = {512, 64, 8, 8, 2}, large = {4096, 1024, 7, 0, 2};
     struct povundiri_file file = {0};
@@ -480,7 +480,7 @@ static void spent(void) {
 
 /* ---- Kills and faults at each call to the system ---- */
 
-/* What stands at the path before, and what is to stand there or under another name behind it. */
+/* What stands at the path before, and what is to stand there or under another name after it. */
 enum start { NOTHING_THERE, GROWS, IS_DAMAGED, IS_SPENT, STARTS };
 
 static unsigned char *begin(enum start start, size_t *length) {
@@ -582,7 +582,7 @@ static int is_no_memory(uint32_t status, int fault) {
            status == POVUNDIRI_ADOPT_NO_MEMORY;
 }
 
-/* Refuses each allocation in turn; how often one was. No file is set aside for want of memory. */
+/* Refuses each allocation in turn; how often one was. No file is set aside for lack of memory. */
 static int refuse_each_allocation(enum start start) {
     struct povundiri_opened opened;
     int at, refused = 0;

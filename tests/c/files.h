@@ -32,7 +32,7 @@ enum { LARGEST = 8388688 };
 
 static const char *folder;
 
-/* The path of a name in the folder, until the fourth call of this thread behind this. */
+/* The path of a name in the folder, until the fourth call of this thread after this. */
 static const char *path_of(const char *name) {
     static __thread char paths[4][4096];
     static __thread int turn;
@@ -141,7 +141,7 @@ static UNUSED void count_units(struct povundiri_handle *segment, uint32_t count)
     DONE(povundiri_join(segment, &recorder));
 }
 
-/* Opens by a policy, and adds units where that is done. */
+/* Opens by a policy, and adds units if that is done. */
 static UNUSED uint32_t open_and_count(const char *name, enum povundiri_policy policy, uint32_t count, struct povundiri_opened *opened) {
     struct povundiri_file file = {0};
     struct povundiri_handle segment = {0};
@@ -162,7 +162,7 @@ static UNUSED void make_segment(const char *name, uint32_t count) {
     HOLDS(opened.outcome == POVUNDIRI_MADE);
 }
 
-/* How many units of 3 's' has in the segment that stands in a file; -1 where none does. It is only read. */
+/* How many units of 3 's' has in the segment that stands in a file; -1 if none does. It is only read. */
 static UNUSED long units_in(const char *path) {
     size_t length, needed = 0;
     unsigned char *bytes = bytes_at(path, &length);
@@ -185,7 +185,7 @@ static UNUSED long units_in(const char *path) {
     return found;
 }
 
-/* What another process is told that opens the file, as a segment of one word. */
+/* What another process gets that opens the file, as a segment of one word. */
 static UNUSED int opened_by_another(const char *name) {
     const pid_t child = fork();
     if (child == 0) {

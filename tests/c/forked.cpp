@@ -1,5 +1,5 @@
-// Forked children of a process with segments and recorders: forked FOLDER. Their calls are refused, and where they end, nothing is touched
-// or locked; the parent goes on as before. And what ends behind main, in any order.
+// Forked children of a process with segments and recorders: forked FOLDER. Their calls are refused, and when they end, nothing is touched
+// or locked; the parent continues as before. And what ends after main, in any order.
 
 #include <pthread.h>
 #include <sys/wait.h>
@@ -14,7 +14,7 @@
 
 #include "checks.hpp"
 
-// A child leaves what its parent made where it is: that is no leak.
+// A child leaves what its parent made as it is: that is no leak.
 static bool is_child = false;
 extern "C" int __lsan_is_turned_off() { return is_child; }
 
@@ -36,7 +36,7 @@ std::string folder;
 
 std::string path_of(const char* name) { return folder + "/" + name; }
 
-// The status of a child that does this; -1 where it is ended by a signal, as by the alarm of one that waits for ever.
+// The status of a child that does this; -1 if it is ended by a signal, as by the alarm of one that waits for ever.
 template <typename Work>
 int status_of_child(const Work& work) {
     std::fflush(stdout);
@@ -230,7 +230,7 @@ void server_that_forks() {
     HOLDS(status_of_child(next) == 0);
 }
 
-// A daemon opens its file behind daemon(3).
+// A daemon opens its file after daemon(3).
 void daemon_that_opens() {
     int ends[2];
     HOLDS(pipe(ends) == 0);

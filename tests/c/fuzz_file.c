@@ -1,6 +1,6 @@
 /* Opens files of any bytes, for libFuzzer: clang -fsanitize=fuzzer,address,undefined. FUZZ_FOLDER names the folder in which it works.
  *
- * A file that is neither new nor begins as a segment's is refused and untouched; one whose image is refused is as it was, under its
+ * A file that is neither new nor begins as a segment's is refused and untouched; one whose image is refused is unchanged, under its
  * name or the one that it was given; and what is adopted or made can be recorded into and opened again. Each of these that does not hold
  * ends the run. */
 #include "files.h"
@@ -83,7 +83,7 @@ static int begins_as_a_segment(const unsigned char *content, size_t length) {
     return length >= 16 && memcmp(content, cookie, 16) == 0;
 }
 
-/* Whether the file has these bytes, and behind them at most zeros. */
+/* Whether the file has these bytes, and after them at most zeros. */
 static int is_longer_by_zeros(const unsigned char *content, size_t length) {
     size_t there;
     unsigned char *bytes = bytes_at(path_of("fuzz"), &there);
@@ -92,7 +92,7 @@ static int is_longer_by_zeros(const unsigned char *content, size_t length) {
     return same;
 }
 
-/* Whether a file has these bytes; of one that `is_full` the shared cursors, which stand behind the image, may be others. */
+/* Whether a file has these bytes; of one that `is_full` the shared cursors, which come after the image, may be others. */
 static int has_image(const char *path, const unsigned char *content, size_t length, int is_full) {
     size_t there, known = length;
     unsigned char *bytes = bytes_at(path, &there);

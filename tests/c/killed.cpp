@@ -2,7 +2,7 @@
 //
 //     killed PLACE FILE TALLY SEED VERSION WORDS PAGE
 //
-// PLACE is 'file': the segment lies in FILE, which is mapped, and goes on where one stands there; or 'heap': it lies in the heap, and goes
+// PLACE is 'file': the segment lies in FILE, which is mapped, and continues where one stands there; or 'heap': it lies in the heap, and goes
 // on with the image FILE where there is such a file. It prints 'begins' first. A status that may not come ends it with status 3.
 
 #include <fcntl.h>

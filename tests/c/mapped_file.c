@@ -75,7 +75,7 @@ static void others_files(void) {
     static const uint64_t cookie[2] = {0, COOKIE};
     static unsigned char image[65536];
     memset(image, 0, sizeof image);
-    image[1024 + 56] = 0x53; /* the magic number of ext4, behind a kilobyte of zeros */
+    image[1024 + 56] = 0x53; /* the magic number of ext4, after a kilobyte of zeros */
     image[1024 + 57] = 0xEF;
     memset(image + 4096, 0x5A, 8192);
     store("ext4", image, sizeof image);
@@ -99,7 +99,7 @@ static void others_files(void) {
     refuse(__LINE__, "sparse_header", NULL, (size_t)1 << 30);
 }
 
-/* A header of which some words are 0 still, with zeros behind, was not made to its end. */
+/* A header of which some words are 0 still, with zeros after, was not made to its end. */
 static void unfinished(void) {
     static const uint64_t header[18] = {0, COOKIE, 2, 64, 64, 7, 1, 0, 16, 12, 0, 0, 0, 4, 1, 0, 12, 0};
     uint64_t changed[18];
@@ -123,7 +123,7 @@ static void unfinished(void) {
     povundiri_file_close(&file);
 }
 
-/* One of the words that are never 0 is 0, and data stands behind: adopt names the fault, and the file is as it was. The cookie is what
+/* One of the words that are never 0 is 0, and data comes after: adopt names the fault, and the file is unchanged. The cookie is what
  * makes the file one of a segment. */
 static void one_zero(void) {
     static const struct {
@@ -284,7 +284,7 @@ static void no_files(void) {
     close(listening);
 }
 
-/* Segments of the same file, one behind the other. */
+/* Segments of the same file, one after the other. */
 static uint32_t record(struct povundiri_file *file, uint32_t count) {
     struct povundiri_handle segment = {0};
     size_t length = 9;

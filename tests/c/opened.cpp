@@ -1,4 +1,4 @@
-// Segments in files by povundiri.hpp: opened FOLDER. What 'open' has done is returned, and what was recorded goes on or is set aside.
+// Segments in files by povundiri.hpp: opened FOLDER. What 'open' has done is returned, and what was recorded continues or is set aside.
 
 #include <sys/stat.h>
 #include <unistd.h>
@@ -132,7 +132,7 @@ void faults() {
     HOLDS(open("busy", Policy::AdoptOrSetAside, opened) == std::errc::device_or_resource_busy && *opened.set_aside() == 0);
     HOLDS(recorded(first.segment) == 1);
     HOLDS(Segment::try_open(nullptr, kShape, Policy::AdoptOrFail, opened) == Status::Null);
-    // Who may write it is trusted only where the options say so.
+    // Who may write it is trusted only if the options say so.
     HOLDS(chmod(path_of("goes_on").c_str(), 0660) == 0);
     HOLDS(open("goes_on", Policy::AdoptOrSetAside, opened) == std::errc::operation_not_permitted);
     povundiri_file_options options{};

@@ -1,4 +1,4 @@
-/* Each allocation of each call is refused alone: the call says so, and made once more it answers as if nothing had been. Of an add and of a batch
+/* Each allocation of each call is refused alone: the call says so, and made once more it returns as if nothing had been. Of an add and of a batch
  * to a sparse histogram, which grow an index, the call is done all the same. In the end all blocks were given back. The library's heap is replaced by the three functions below. */
 #include <stdlib.h>
 
@@ -193,7 +193,7 @@ static void second_value(void) {
     HOLDS(number > 1 && blocks == 0);
 }
 
-/* A batch of both values: it is refused where there is no memory for its items, and done where there is none for the index. */
+/* A batch of both values: it is refused if there is no memory for its items, and done if there is none for the index. */
 static void batch_of_values(void) {
     static const struct povundiri_item items[] = {{-3, 1}, {5, 4}};
     bool asked = true;

@@ -32,7 +32,7 @@ void release(Words* words) {
     if (words->owners.fetch_sub(1, std::memory_order_acq_rel) == 1) delete words;
 }
 
-// What a handle has, which is written anew as a call does.
+// What a handle has, which is written again as a call does.
 Held* held(povundiri_handle* handle) {
     const povundiri_handle was = *handle;
     *handle = was;

@@ -1,6 +1,6 @@
 // What threads have begun to count and have ended, in a page that is shared with whoever kills them.
 //
-// A thread alone writes its own numbers. It adds to 'begun' before a call and to 'ended' behind it, so at any moment the segment has of
+// A thread alone writes its own numbers. It adds to 'begun' before a call and to 'ended' after it, so at any moment the segment has of
 // a cell at least what all threads ended, and at most what they began.
 
 #pragma once

@@ -1,6 +1,6 @@
 """Images are adopted, recorded into and read again, by `trials adopt`.
 
-Of each image a plain reckoning (plain_adoption.py) says whether it may be adopted, or by which fault it may not. A segment that goes on
+Of each image a plain reckoning (plain_adoption.py) says whether it may be adopted, or by which fault it may not. A segment that continues
 with one reads as the plain reader reads the image, and in addition what was recorded: in each of its histograms and in new ones of all
 kinds. So no record is bad then. The first delta of a histogram takes what no delta had taken yet, and the units that are left are those
 that the image had not used, but for what was recorded.
@@ -72,7 +72,7 @@ def pairs(numbers):
 
 
 class Going:
-    """A segment that goes on with the words of an image, as the lines of `trials adopt` say it does."""
+    """A segment that continues with the words of an image, as the lines of `trials adopt` say it does."""
 
     def __init__(self, words):
         read = plain_adoption.Read(words)

@@ -64,7 +64,7 @@ def values():
     return layout.image_of(SIZE, VERSION, [record, *((at, 8, SAMPLE, [FIRST, number, 1, 0]) for number, at in enumerate(references))])
 
 
-# Each image, and what is answered when it is adopted.
+# Each image, and what is returned when it is adopted.
 IMAGES = ((unused, "Done"), (one_block, "Damaged"), (overlapping, "Damaged"), (values, "Done"))
 
 

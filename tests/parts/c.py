@@ -15,7 +15,7 @@ from support.program import ROOT, Answer, answer, difference
 PROGRAM = "persist_report"
 NO_EXCEPTIONS = "-fno-exceptions"
 MOST_SECONDS = 300
-# A source, more flags, and whether it is told a folder to work in.
+# A source, more flags, and whether it is given a folder to work in.
 CHECKS = (
     ("every_call.c", [], False),
     ("every_call.cpp", [], False),
@@ -85,7 +85,7 @@ def report_in(program, file):
 
 
 def recorded_twice(installed, program, source, home):
-    """A program that records a thousand samples into latency.seg, run twice: the second time it goes on with what stands there."""
+    """A program that records a thousand samples into latency.seg, run twice: the second time it continues with what stands there."""
     built = installed.program(source)
     home.mkdir()
     for _ in range(2):

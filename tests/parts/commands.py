@@ -1,7 +1,7 @@
 """Command lines with known answers: in the folders cases/program/NNN and cases/resume/NNN the words (`cmd`) and the files that
 they name, and beside them what the program has to print, its status, and what it has to write into OUT (`OUT.expected`).
 
-There is no OUT before the command, and none behind a fault: the `OUT.expected` of a fault is empty, which says that nothing
+There is no OUT before the command, and none after a fault: the `OUT.expected` of a fault is empty, which says that nothing
 is written. The answers are those of an independent implementation.
 """
 
@@ -27,7 +27,7 @@ def wanted_of(case):
 
 
 def image_of(case, status):
-    """What has to stand in OUT behind the command; None where there has to be no OUT."""
+    """What has to stand in OUT after the command; None if there has to be no OUT."""
     written = (case / "OUT.expected").read_bytes()
     return written if written or status == 0 else None
 

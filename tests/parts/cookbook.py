@@ -1,6 +1,6 @@
 """The tasks of docs/COOKBOOK.md: each command there is run, and prints what stands below it.
 
-A block of the page is code, and the text before it names the file that has it, or commands, each behind a `$`. They run one behind the
+A block of the page is code, and the text before it names the file that has it, or commands, each after a `$`. They run one after the
 other in a new folder, which has the examples. What they print, on both streams, is compared line by line; `[..]` stands for any lines. Where
 there is no `sqlite3`, the commands that ask for it are left out, and a line says so.
 """

@@ -23,7 +23,7 @@ MOST_BYTES = 8_388_608
 # What stands in OUT before a command.
 STOOD = b"what stood there before"
 
-# What is stored at a word of a lawful header, and the fault that the image then has.
+# What is stored at a word of a valid header, and the fault that the image then has.
 HEADER_FAULTS = [
     (0, 0, "Image BadCookie"),
     (1, 3, "Image BadVersion"),
@@ -305,7 +305,7 @@ def outputs(program, folder):
 
 
 def inputs_of_commands(program, folder):
-    """Inputs of `run`, `merge` and `resume`: all files are opened in the order of the arguments, and last OUT, which stays as it was."""
+    """Inputs of `run`, `merge` and `resume`: all files are opened in the order of the arguments, and last OUT, which stays unchanged."""
     out, base = folder / "out", base_of(program, folder)
     no_words = folder / "no-words"
     no_words.write_bytes(b"1234567")
@@ -359,7 +359,7 @@ def wrong_folder(folder, beside, out, wanted):
 
 
 def base_of(program, folder):
-    """The image of the script, with which `resume` goes on."""
+    """The image of the script, with which `resume` continues."""
     path = folder / "base"
     if not path.exists():
         answer(program, ["run", SCRIPT, path])
@@ -512,7 +512,7 @@ def answer_to_short_out(program, words, most):
 
 
 def outputs_of_commands(program, folder):
-    """Outputs of `run`, `merge` and `resume` that cannot be written: OUT stays as it was, and no report is begun behind a fault of the
+    """Outputs of `run`, `merge` and `resume` that cannot be written: OUT stays unchanged, and no report is begun after a fault of the
     image."""
     out = folder / "out"
     run, merge, resume = ["run", SCRIPT], ["merge", EXAMPLE, EXAMPLE], ["resume", base_of(program, folder), SCRIPT]

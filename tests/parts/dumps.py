@@ -1,7 +1,7 @@
 """Four threads of a C++ program record into a segment in the heap. It is stopped at random moments, and its memory is read out.
 
 `extract` finds the segment in that, `report` shows no bad record and no stop, and each bucket has at most what was begun and at least
-what had ended. The image of the last stop is adopted by the next run, which goes on in its own heap.
+what had ended. The image of the last stop is adopted by the next run, which continues in its own heap.
 
 In the memory stand other segments too: what the segment was made of, and the image that was adopted. These have what was there before.
 """
@@ -23,7 +23,7 @@ MOST_SECONDS = 60
 
 
 class Chain:
-    """Runs of the program, each of which goes on with the image that was found in the memory of the one before."""
+    """Runs of the program, each of which continues with the image that was found in the memory of the one before."""
 
     def __init__(self, killed, program, folder, chance, version):
         self.killed, self.program, self.folder, self.chance, self.version = killed, program, folder, chance, version

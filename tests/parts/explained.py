@@ -1,4 +1,4 @@
-"""Faults with `--explain`: the line of a fault is as it was, and lines follow it. `devices` runs these cases."""
+"""Faults with `--explain`: the line of a fault is unchanged, and lines follow it. `devices` runs these cases."""
 
 import errno
 import itertools
@@ -12,7 +12,7 @@ from support import faults, tracer
 from support.program import EXAMPLE, SCRIPT, Answer, answer, difference, explained, fault, untried
 
 SEGMENT = "segment,256,64,7\n"
-# A record behind a segment and a histogram, and what is said of it.
+# A record after a segment and a histogram, and what is said of it.
 BAD_RECORDS = {
     "hist,B,liner": "field 2 behind `hist` is `liner`; kinds are boolean, linear, custom, sparse",
     "hits,B,boolean": "`hits` stands first; records begin with segment, hist, add, delta",
@@ -58,7 +58,7 @@ REFUSED = {
     "add,A,1,0": "ZeroCount",
     "add,A,1,4294967295\nadd,A,1,1": "NoUnits",
 }
-# What is stored at a word of a lawful header, the fault, and what is said of it.
+# What is stored at a word of a valid header, the fault, and what is said of it.
 WORDS = [
     (0, 0x21, "BadCookie", "word 0 is 0x21; it has to be 0x408305dc; is this a Povundiri image?"),
     (1, 3, "BadVersion", "word 1 is 3; it has to be 1 or 2"),
@@ -81,7 +81,7 @@ DAMAGES = [
     ({42: 1}, "Damaged", ", all records are read; other words are none that a segment can have"),
     ({36: 2**32 - 1, 38: 2**32 - 1}, "NoUnits", ""),
 ]
-# Records of a script behind the one of BASE's segment, why they are refused, and what is said of BASE.
+# Records of a script after the one of BASE's segment, why they are refused, and what is said of BASE.
 REFUSED_ON = [
     (["hist,A,linear,1,2,3"], "OtherSpec", " has `A` as boolean"),
     (["hist,B,boolean", "hist,B,sparse"], "OtherSpec", None),

@@ -57,7 +57,7 @@ NO_PREFIXES = ["", "9a", "a-b", "a b", "a.b", "\u00e9", "a{"]
 
 
 def parser():
-    """The parser, or None where it is not installed."""
+    """The parser, or None if it is not installed."""
     try:
         from prometheus_client.parser import text_string_to_metric_families
     except ImportError:
@@ -69,7 +69,7 @@ def parser():
 
 
 def complaint(parse, text, families, prefix=plain_export.PREFIX):
-    """What the parser says of a text, or where it reads other samples than were meant; None where all is well."""
+    """What the parser says of a text, or where it reads other samples than were meant; None if all is well."""
     wanted = {}
     for family, samples in families.items():
         kind = plain_export.FAMILIES[family][0]

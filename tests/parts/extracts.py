@@ -1,6 +1,6 @@
 """Segments in files of any bytes: `extract` beside a plain search, for every number from 1 on and one more.
 
-A segment stands at each multiple of eight bytes at which a lawful header stands, with all its words before the end; also
+A segment stands at each multiple of eight bytes at which a valid header stands, with all its words before the end; also
 inside the words of another segment.
 """
 
@@ -22,7 +22,7 @@ MOST_WORDS = 1_048_576
 MIB = 2**20
 BLOCK = 65_536
 STOOD = b"what stood there before"
-# What is stored at a word of a header so that it is not lawful.
+# What is stored at a word of a header so that it is not valid.
 FAULTS = [(1, 0), (1, 3), (2, 0), (2, 63), (2, 65), (2, 2**63), (3, 0), (3, 48), (3, 72), (3, 131_072), (5, 0), (5, 2), (7, 15), (7, 65), (12, 5), (13, 2), (14, 1)]
 
 
@@ -81,7 +81,7 @@ def noise(chance, size):
 
 
 def blank(size, page=64, fault_at=None):
-    """The bytes of a segment without blocks, with one word of its header changed where this is asked for."""
+    """The bytes of a segment without blocks, with one word of its header changed if this is asked for."""
     words = [0x408305DC, 2, size, page, 7, 1, 0, 16, 12, 0, 0, 0, 4, 1, 0, 12] + [0] * (size - HEADER)
     if fault_at is not None:
         words[fault_at[0]] = fault_at[1]
@@ -89,7 +89,7 @@ def blank(size, page=64, fault_at=None):
 
 
 def nested(sizes):
-    """Three segments, of which each begins four words behind the one before, inside its header."""
+    """Three segments, of which each begins four words after the one before, inside its header."""
     first, second, third = sizes
     words = [0] * (max(first, second + 4, third + 8))
     words[0:8] = [0x408305DC, 1, first, 64, 0x408305DC, 1, second, 64]

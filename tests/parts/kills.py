@@ -1,7 +1,7 @@
 """Four threads of a C++ program record into a mapped file until it is killed, at a random moment.
 
 `extract` and `report` then show no bad record and no stop, and each bucket has at most what was begun and at least what had ended.
-An image of version 2 is adopted by the next run in the same file, which goes on recording and is killed again, twenty times over.
+An image of version 2 is adopted by the next run in the same file, which continues recording and is killed again, twenty times over.
 """
 
 import collections
@@ -79,7 +79,7 @@ class Chain:
 
 
 def chains(kills):
-    """The version of each chain and how often its program is killed: of version 1 once, five such behind each twenty of version 2."""
+    """The version of each chain and how often its program is killed: of version 1 once, five such after each twenty of version 2."""
     while kills > 0:
         for version, length in ((2, CHAIN), *(((1, 1),) * 5)):
             length = min(length, kills)

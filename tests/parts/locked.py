@@ -45,7 +45,7 @@ def is_locked(path):
 
 
 def commands(base, out):
-    """The command lines that write a file; `base` is an image that may be gone on with."""
+    """The command lines that write a file; `base` is an image that may be continued."""
     yield ["run", SCRIPT, out]
     yield ["resume", base, SCRIPT, out]
     yield ["merge", EXAMPLE, EXAMPLE, out]
@@ -68,7 +68,7 @@ def touched(folder, wanted):
 
 
 def wrong_while_locked(program, folder, words, wanted):
-    """What is wrong where OUT is locked, and then where it is not, or None."""
+    """What is wrong if OUT is locked, and then if it is not, or None."""
     out = renewed(folder)
     before = out.stat().st_ino
     for how in HOLDS:
@@ -139,7 +139,7 @@ class Waiting:
             time.sleep(0.001)
 
     def answer(self):
-        """What it answers once the script has come."""
+        """What it returns once the script has come."""
         self.script.write(SCRIPT.read_bytes())
         self.script.close()
         output, error = self.command.communicate(timeout=MOST_SECONDS)

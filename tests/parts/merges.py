@@ -20,7 +20,7 @@ class Stopped(Exception):
 
 
 def read(image):
-    """The histograms of a lawful image by their names, in the order of its list."""
+    """The histograms of a valid image by their names, in the order of its list."""
     words = plain_reader.words_of(image, collections.Counter())
     references, stopped = plain_reader.walk(words, collections.Counter())
     histograms, bad = plain_reader.read_records(words, references, collections.Counter())

@@ -24,7 +24,7 @@ USAGES = [["--html", "--width", "20"], ["--html", "--ascii"], ["--ascii", "--htm
 
 
 def complaint(data, page, **options):
-    """Where a page is not well formed, or does not say what the plain renderer says of the image, in its order; None where all is well."""
+    """Where a page is not well formed, or does not say what the plain renderer says of the image, in its order; None if all is well."""
     read, wrong = page_text.read(page)
     if wrong is not None:
         return wrong

@@ -41,7 +41,7 @@ COMMAND_LINES = [
 
 
 def answer_within(program, pages, words, data=b"", setting=EACH_BY_ITSELF):
-    """What the program answers with so many pages of data."""
+    """What the program returns with so many pages of data."""
     limits = (PAGE * pages, PAGE * pages)
     limited = {"env": {**os.environ, **setting}, "preexec_fn": lambda: resource.setrlimit(resource.RLIMIT_DATA, limits)}
     return answer(program, words, data, **limited)
@@ -57,7 +57,7 @@ def wrong_of(program, words, data, pages, step, setting, out=None):
     """What is wrong with the answers under limits that grow by `step` from these pages on, or None.
 
     Each has to be NoMemory until it is the one that the program gives with ample memory; and NoMemory has to come. Where
-    there is none to start a worker, it is NoThread. Before, `out` is as it was, and nothing else is made beside it.
+    there is none to start a worker, it is NoThread. Before, `out` is unchanged, and nothing else is made beside it.
     """
     ample = answer(program, words, data)
     refused = 0

@@ -1,8 +1,8 @@
-"""Chains of scripts that come of a seed: the first is run, and each other one goes on with the image before, with 1 and with 3
+"""Chains of scripts that are generated from a seed: the first is run, and each other one continues with the image before, with 1 and with 3
 workers. Each gives the report that a plain tally of all samples so far has, and an image that reads as that report too.
 
 Where one worker has recorded all, the marks are known by the scripts: a delta takes all before it, also what earlier ones recorded.
-A script that gives a name another spec, or that takes more units than are left, is refused. The next one goes on without it.
+A script that gives a name another spec, or that takes more units than are left, is refused. The next one continues without it.
 """
 
 import random
@@ -50,7 +50,7 @@ def chain_of(chance):
 
 
 def refusal_of(script, before):
-    """Why a script is refused that goes on behind others, as the text of the fault; or None."""
+    """Why a script is refused that continues after others, as the text of the fault; or None."""
     taken = units_of(before.calls)
     for number, (_, *sample) in enumerate(script.calls, 2 + len(script.hists)):
         taken += sample[1] if sample else 0
@@ -65,7 +65,7 @@ def refusal_of(script, before):
 
 
 def both_of(before, script):
-    """What both scripts record, one behind the other."""
+    """What both scripts record, one after the other."""
     return seeded.Script(script.size, script.page, script.id, before.hists + script.hists, before.calls + script.calls)
 
 

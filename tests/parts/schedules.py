@@ -4,13 +4,13 @@ Those in the folder cases/schedules have known answers: NNN.csv is a schedule, a
 comes of it; NNN.report and NNN.words are what it shows after the events of NNN.stop. The answers are those of an
 independent implementation.
 
-Worked examples are stopped at every event. Others come of a seed and are stopped at events of the seed. Then the words are those
+Worked examples are stopped at every event. Others are generated from a seed and are stopped at events of the seed. Then the words are those
 that the lines lead to, the report is that of a plain reader and has no fault, and each bucket has no more units than were begun,
 and no fewer than calls that ended have counted. In version 1, units are added that are on their way from the single word to the
 counts.
 
-A known schedule in version 2 is stopped every few events, and another goes on with the image: its lines lead from the words of the image
-to its own, and its report is a plain tally of what the image counted and of the samples since. Images that nothing goes on with
+A known schedule in version 2 is stopped every few events, and another continues with the image: its lines lead from the words of the image
+to its own, and its report is a plain tally of what the image counted and of the samples since. Images that nothing continues with
 have their faults.
 """
 
@@ -29,7 +29,7 @@ PROGRAM = "stepped"
 FOLDER = ROOT / "tests" / "cases" / "schedules"
 FULL = "/dev/full"
 
-# A known schedule, and what goes on with its images.
+# A known schedule, and what continues with its images.
 STOPPED = FOLDER / "054.csv"
 EVENTS_APART = 5
 GOES_ON = """adopt,{image},2
@@ -47,7 +47,7 @@ step,0,1000
 
 
 def shown_of(case):
-    """What a known schedule shows: a name, the words of the command line behind its path, and what has to come."""
+    """What a known schedule shows: a name, the words of the command line after its path, and what has to come."""
 
     def kept(kind):
         return case.with_suffix(kind).read_bytes()
@@ -118,7 +118,7 @@ def wrong_stop(program, schedule, path, lines, events):
 
 
 def wrong_seeded(program, seed, stops, folder):
-    """What is wrong with the schedule of a seed, or None. It is stopped at so many events, or at each where they are 0."""
+    """What is wrong with the schedule of a seed, or None. It is stopped at so many events, or at each if they are 0."""
     chance = random.Random(seed)
     path = folder / f"{seed}.csv"
     schedule, came = seeded_schedules.schedule_of(chance, lambda text: replayed(program, path, text))
@@ -170,7 +170,7 @@ def told_of(image):
 
 
 def report_behind(image):
-    """The report of an image that GOES_ON has gone on with."""
+    """The report of an image that GOES_ON has continued."""
     tally, differs = told_of(image)
     tally.setdefault("A", plain_tally.Histogram.of(("linear", 1, 10, 5))).add(3, 4)
     tally.setdefault("C", plain_tally.Histogram.of(("sparse",))).add(-7, 2)
@@ -199,7 +199,7 @@ def wrong_lines(lines, image, last):
 
 
 def wrong_gone_on(program, events, folder):
-    """What is wrong where the known schedule stops after so many events, and another goes on with its image, or None."""
+    """What is wrong where the known schedule stops after so many events, and another continues with its image, or None."""
     image = folder / f"stopped-{events}.img"
     path = folder / f"goes-on-{events}.csv"
     stopped = answer(program, [STOPPED, "--stop", str(events), "--image"]).output
@@ -218,7 +218,7 @@ def wrong_stops(program, pool, folder):
 
 
 def not_gone_on(program, folder):
-    """Images that nothing goes on with: a name, the first record, and what comes."""
+    """Images that nothing continues with: a name, the first record, and what comes."""
     image = folder / "image.img"
 
     def of(name, data, record, wanted):

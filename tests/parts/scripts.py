@@ -1,4 +1,4 @@
-"""Scripts that come of a seed, run with 1, 2, 3 and 16 workers: each gives the report that a plain tally of the samples
+"""Scripts that are generated from a seed, run with 1, 2, 3 and 16 workers: each gives the report that a plain tally of the samples
 has, and an image that reads as that report too."""
 
 import collections

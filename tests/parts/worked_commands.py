@@ -129,7 +129,7 @@ def adding(count):
     return SEGMENT + b"hist,A,boolean\nadd,A,1,%d\n" % count
 
 
-# BASE, the script, and what comes; and the words of the image that are others than those of BASE, where they are known.
+# BASE, the script, and what comes; and the words of the image that are others than those of BASE, if they are known.
 RESUMES = {
     "one sample more": (image(IN_VERSION_2), ONE_MORE, Answer(ONE_MORE_REPORT), {FIRST_COUNT: 2, REDUNDANT: 4}),
     "three samples more": (image(IN_VERSION_2), THREE_SAMPLES, Answer(b"A,boolean,0,1,2\nA,boolean,1,2,4\nA,total,6,4\n"), THREE_MORE),
@@ -219,7 +219,7 @@ def merges(program, folder):
 
 
 def wrong_resume(program, words, base, wanted, stored):
-    """What is wrong with the image that is gone on with, or None."""
+    """What is wrong with the image that is continued, or None."""
     out = words[-1]
     if wanted.status:
         return wrong_fault(program, words, wanted, out)

@@ -3,7 +3,7 @@
 
     tests/support/faults.py [--write]
 
-With --write it writes the file. Without, it says what differs in the file that is there, and the status is 1 where anything does.
+With --write it writes the file. Without, it says what differs in the file that is there, and the status is 1 if anything does.
 """
 
 import pathlib
@@ -40,7 +40,7 @@ ENTRY = re.compile(r'^    \(\n        "(.*)",\n        "(.*)",\n        "(.*)",\
 BRANCH = re.compile(r"^ +((?:CliFault|Failure)::.*) => (\d),$", re.MULTILINE)
 IN_C = re.compile(r"^    POVUNDIRI_((?:REFUSED|OPEN|ADOPT|SPEC|IMAGE)_(\w+)|NO_MEMORY) = \d+,?(.*)$", re.MULTILINE)
 NEVER = "never returned"
-# What a fault means begins so where it is a line of a report, and the other one where only a program of one's own can see it.
+# What a fault means begins so if it is a line of a report, and has the other one if only a program of one's own can see it.
 OF_REPORTS = "In a report: "
 OF_PROGRAMS = "Only programs that "
 REFUSED = 3

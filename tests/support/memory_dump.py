@@ -1,4 +1,4 @@
-"""The memory of a process that is stopped, as a file of its pages one behind the other (Linux)."""
+"""The memory of a process that is stopped, as a file of its pages one after the other (Linux)."""
 
 import os
 import signal

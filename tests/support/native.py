@@ -15,7 +15,7 @@ COMPILERS = {".c": ("CC", "cc", "-std=c99"), ".cpp": ("CXX", "c++", "-std=c++17"
 STRICT = ["-O1", "-g", "-Wall", "-Wextra", "-Wpedantic", "-Werror", "-pthread"]
 SANITIZED = ["-fsanitize=address,undefined", "-fno-sanitize-recover=all"]
 MOST_SECONDS = 300
-# `make` has the proved part built first, where that is not there.
+# `make` has the proved part built first, if that is not there.
 MOST_SECONDS_TO_BUILD = 7200
 
 

@@ -29,7 +29,7 @@ DAMAGES = [damage.strip() for damage in DAMAGES.split(";") if damage.strip()]
 
 
 class Read:
-    """What the words of an image with a lawful header read as."""
+    """What the words of an image with a valid header read as."""
 
     def __init__(self, words):
         nothing = collections.Counter()

@@ -39,7 +39,7 @@ def made_of(event, found):
 
 
 def allocate(world, payload, tag):
-    """Claims a block, and gives its reference, or None where it is refused."""
+    """Claims a block, and gives its reference, or None if it is refused."""
     size = payload + HEADER
     while True:
         if (yield load(FLAGS)) & CORRUPT:
@@ -71,7 +71,7 @@ def publish(reference):
 
 
 def make(world, payload, tag):
-    """Makes a record, and gives its reference, or None where it is refused."""
+    """Makes a record, and gives its reference, or None if it is refused."""
     reference = yield from allocate(world, len(payload), tag)
     if reference is not None:
         for index, word in enumerate(payload):
@@ -123,7 +123,7 @@ def are(block, words):
 
 
 def sample(world, histogram, value):
-    """The first sample of a value, or None where it is refused."""
+    """The first sample of a value, or None if it is refused."""
     at, word = histogram, value % WORD
     while True:
         reference = yield load(at + NEXT)
@@ -149,7 +149,7 @@ def packed(word, bucket, count):
 
 
 def mount(world, histogram, buckets):
-    """The reference of the counts of a histogram, or None where they are refused."""
+    """The reference of the counts of a histogram, or None if they are refused."""
     counts = yield load(histogram + COUNTS)
     if counts:
         return counts
@@ -208,7 +208,7 @@ def count(world, known, value, units):
 
 
 def batch(world, known, items, amount, note_last):
-    """Counts items, each with what it adds to the sum where that is told, and then an amount."""
+    """Counts items, each with what it adds to the sum if that is reported, and then an amount."""
     for value, units in items:
         if not (yield from count(world, known, value, units)):
             return
@@ -220,7 +220,7 @@ def batch(world, known, items, amount, note_last):
 
 
 def call(world, known, record):
-    """The events of the call of a record, whose actor knows these histograms, or None where they are not told."""
+    """The events of the call of a record, whose actor knows these histograms, or None if they are not told."""
     kind, _, *rest = record
     if kind == "hist":
         return hist(world, rest[0], spec_of(rest[1:]))
@@ -238,7 +238,7 @@ def spec_of(fields):
 
 
 def has_ended(events, found):
-    """Whether no event comes behind one that found this."""
+    """Whether no event comes after one that found this."""
     try:
         events.send(found)
     except StopIteration:
@@ -260,7 +260,7 @@ class Calls:
         self.running[actor] = call(self.world, self.known.get(actor, {}), self.records[number - 1]), None
 
     def step(self, actor, words, change):
-        """What an actor's call does by its next event, or None where it is not told. The event changed this, and is to have changed no more."""
+        """What an actor's call does by its next event, or None if it is not told. The event changed this, and is to have changed no more."""
         events, found = self.running[actor]
         if events is None:
             return None

@@ -60,7 +60,7 @@ RULES = [rule.strip() for rule in RULES.replace("\n", ";").split(";") if rule.st
 
 
 class ImageFault(Exception):
-    """Why there is no report of an image; its text is what the program prints behind its name."""
+    """Why there is no report of an image; its text is what the program prints after its name."""
 
 
 class Bad(Exception):
@@ -155,7 +155,7 @@ def name_of(words, at, seen):
 
 
 def linear_boundaries(least, most, n):
-    """The boundaries of a linear spec, or None where it is unlawful."""
+    """The boundaries of a linear spec, or None if it is invalid."""
     if least == 0 or most <= least or most > GREATEST - 1 or n < 3 or n > 1000 or n > most - least + 2:
         return None
     inner = [(2 * (least * (n - 1 - i) + most * (i - 1)) + (n - 2)) // (2 * (n - 2)) for i in range(1, n)]
@@ -200,7 +200,7 @@ def check_counts_block(words, counts, n):
 
 
 def kept_in(words, at, n):
-    """The bucket and the units that the single word keeps beside the counts, or None where it keeps none.
+    """The bucket and the units that the single word keeps beside the counts, or None if it keeps none.
 
     A packed word keeps them, and in version 2 a frozen one too.
     """
@@ -234,7 +234,7 @@ def packed_bucket(single, n, word):
 
 
 def disabled_bucket(single, n):
-    """The bucket of a single word that is disabled, as in version 1; None where nothing was packed."""
+    """The bucket of a single word that is disabled, as in version 1; None if nothing was packed."""
     bucket = single - TOP
     if bucket == NOTHING_PACKED:
         return None
@@ -244,7 +244,7 @@ def disabled_bucket(single, n):
 
 
 def frozen_bucket(single, n):
-    """The bucket of a single word that is frozen, as in version 2; None where nothing was packed."""
+    """The bucket of a single word that is frozen, as in version 2; None if nothing was packed."""
     return None if single == TOP else packed_bucket(single - TOP, n, "frozen")
 
 
@@ -267,7 +267,7 @@ def named_bucket(words, at, n, seen):
 
 
 def most_single_mark(version, total):
-    """The greatest lawful mark of the packed bucket. In version 1 its units may be on their way to the counts."""
+    """The greatest valid mark of the packed bucket. In version 1 its units may be on their way to the counts."""
     return max(total, MOST_PACKED) if version == 1 else total
 
 
@@ -291,7 +291,7 @@ def check_marks(words, at, totals, named, seen):
 
 
 def marks_of(words, at, n, named):
-    """The marks of the buckets: that of the packed bucket stands in the record, the others behind the counts."""
+    """The marks of the buckets: that of the packed bucket stands in the record, the others after the counts."""
     counts = words[at + 8]
     marks = list(words[counts + 4 + n : counts + 4 + 2 * n]) if counts else [0] * n
     if named is not None:
@@ -385,7 +385,7 @@ def read_records(words, references, seen):
 
 
 def lawful_name(words, at):
-    """The name of a record in a list, which is empty where the record has none."""
+    """The name of a record in a list, which is empty if the record has none."""
     try:
         return [name_of(words, at, collections.Counter())] if words[at + 2] == 1 and words[at] >= 16 else []
     except Bad:
@@ -394,7 +394,7 @@ def lawful_name(words, at):
 
 def reading_of(data, seen):
     """What an image reads as: its histograms by their names, its bad records, why its list stops or None, and its word of
-    flags; raises its fault where there is none."""
+    flags; raises its fault if there is none."""
     words = words_of(data, seen)
     check_header(words, seen)
     references, stopped = walk(words, seen)
@@ -403,7 +403,7 @@ def reading_of(data, seen):
 
 
 def report_of(data, seen):
-    """The bytes of the report of an image; raises its fault where there is none."""
+    """The bytes of the report of an image; raises its fault if there is none."""
     by_name, bad_records, stopped, flags = reading_of(data, seen)
     lines, redundant = [], []
     for name in sorted(by_name):

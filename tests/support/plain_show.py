@@ -50,7 +50,7 @@ def quantile_of(rows, total, hundredths, is_sparse):
 
 
 def left_out_of(rows, is_sparse, shows_all):
-    """The values of a sparse histogram that have no line: those behind the 20 with the most units, the lower first among equals."""
+    """The values of a sparse histogram that have no line: those after the 20 with the most units, the lower first among equals."""
     if shows_all or not is_sparse:
         return set()
     return {low for low, _, _ in sorted(rows, key=lambda row: (-row[2], row[0]))[MOST_VALUES:]}

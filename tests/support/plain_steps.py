@@ -36,7 +36,7 @@ def name_at(words, block):
 
 
 def in_counts(words, histogram, block, place):
-    """The name of a word behind the header of a block of counts."""
+    """The name of a word after the header of a block of counts."""
     buckets, index = words[histogram + 7], place - len(COMMON)
     part = f"count[{index}]" if index < buckets else f"mark[{index - buckets}]"
     return f"{name_at(words, histogram)}.{part}"

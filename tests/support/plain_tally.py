@@ -12,7 +12,7 @@ MOST_VALUE = GREATEST - 1
 
 
 def boundaries_of(spec):
-    """The boundaries of a lawful spec, or none of a sparse one."""
+    """The boundaries of a valid spec, or none of a sparse one."""
     kind, *numbers = spec
     if kind == "linear":
         return linear_boundaries(*numbers)
@@ -46,7 +46,7 @@ class Histogram:
         return self.boundaries[bisect.bisect_right(self.boundaries, self.clamped(value)) - 1]
 
     def high(self, key):
-        """What stands behind a bucket: the least value of the next one."""
+        """What comes after a bucket: the least value of the next one."""
         if self.kind == "sparse":
             return key + 1
         return self.boundaries[bisect.bisect_right(self.boundaries, key)]

@@ -1,4 +1,4 @@
-"""A program under test: what it answers, and how that differs from what was wanted."""
+"""A program under test: what it returns, and how that differs from what was wanted."""
 
 import dataclasses
 import pathlib
@@ -39,7 +39,7 @@ def explained(text, status, lines):
 
 
 def answer(program, words, data=b"", **settings):
-    """What the program answers to these words; `data` is its standard input, unless the settings name another."""
+    """What the program returns to these words; `data` is its standard input, unless the settings name another."""
     given = {"input": data} if "stdin" not in settings else {}
     streams = {"stdout": subprocess.PIPE, "stderr": subprocess.PIPE}
     try:
@@ -56,12 +56,12 @@ def untried(why, options):
 
 
 def content(path):
-    """The bytes of a file; None where there is none."""
+    """The bytes of a file; None if there is none."""
     return path.read_bytes() if path.is_file() else None
 
 
 def difference(wanted, came):
-    """What was wanted and what came, where two answers differ first; None where they are the same."""
+    """What was wanted and what came, where two answers differ first; None if they are the same."""
     if came.status != wanted.status:
         return f"wanted status {wanted.status}, came {came.status} with {came.error[:200]!r} on the error stream"
     for stream in ("error", "output"):

@@ -1,4 +1,4 @@
-"""Lawful scripts that come of a seed: all kinds of histograms, in segments with room to spare for up to 16 workers."""
+"""Lawful scripts that are generated from a seed: all kinds of histograms, in segments with room to spare for up to 16 workers."""
 
 import concurrent.futures
 import os
@@ -45,7 +45,7 @@ class Script:
         return self.tally(self.calls)
 
     def remainders(self):
-        """What its samples behind the last delta of their histogram add up to, by name."""
+        """What its samples after the last delta of their histogram add up to, by name."""
         last = {call[0]: place for place, call in enumerate(self.calls) if len(call) == 1}
         return self.tally(call for place, call in enumerate(self.calls) if place > last.get(call[0], -1))
 
@@ -130,7 +130,7 @@ def shape_of(chance, histograms, calls):
 
 
 def script_of(chance, most=MOST_UNITS):
-    """A lawful script whose samples take no more than `most` units."""
+    """A valid script whose samples take no more than `most` units."""
     hists = [(name_of(chance), spec_of(chance)) for _ in range(chance.choice([1, 1, 2, 3, 5]))]
     first = {}
     for name, spec in hists:
@@ -151,7 +151,7 @@ def field(chance, value):
 
 
 def text_of(chance, script):
-    """The bytes of a script, whose lines end in one of the lawful ways and may have empty lines between them."""
+    """The bytes of a script, whose lines end in one of the valid ways and may have empty lines between them."""
     end = chance.choice(["\n", "\n", "\r\n", "\r"])
     lines = [",".join(field(chance, value) for value in record) + end for record in script.records()]
     lines = [line + end * chance.choice([0, 0, 0, 0, 1]) for line in lines]
@@ -161,7 +161,7 @@ def text_of(chance, script):
 
 
 def tried(seeds, wrong_of):
-    """Each seed with what is wrong with it, or None: tried side by side, in one folder that is gone behind the last."""
+    """Each seed with what is wrong with it, or None: tried side by side, in one folder that is gone after the last."""
     with tempfile.TemporaryDirectory() as scratch, concurrent.futures.ThreadPoolExecutor(os.cpu_count()) as pool:
         folder = pathlib.Path(scratch)
         yield from zip(seeds, pool.map(lambda seed: wrong_of(seed, folder), seeds))

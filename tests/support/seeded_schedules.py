@@ -1,6 +1,6 @@
-"""Schedules of the stepped world that come of a seed, and what the lines of one say of its calls.
+"""Schedules of the stepped world that are generated from a seed, and what the lines of one say of its calls.
 
-A schedule is made a round at a time, in which each actor begins a call or goes on by a few events; then it is replayed, to
+A schedule is made a round at a time, in which each actor begins a call or continues by a few events; then it is replayed, to
 know which calls have ended. So no record of it is a fault.
 """
 
@@ -53,7 +53,7 @@ class Running:
 class Done:
     """What the lines of a schedule say was done up to an event: the words, and the calls that run and that were accepted.
 
-    `lines` are those up to the answer behind the event; with -1 events they are all.
+    `lines` are those up to the answer after the event; with -1 events they are all.
     """
 
     def __init__(self, schedule, lines, events):
@@ -90,7 +90,7 @@ class Done:
                 self.disabled[actor] = at, old
 
     def answer(self, number, actor, said):
-        # A call that needs no event is answered at once.
+        # A call that needs no event returns at once.
         ended = self.running.pop(actor, None)
         record = ended.record if ended else self.schedule.records[number - 2]
         if said[0] == "hist":

@@ -16,7 +16,7 @@ from support.program import ROOT, answer
 SOURCE = ROOT / "examples" / "cpp" / "service.cpp"
 MOST_SECONDS = 120
 ENOUGH = 200
-# Of the image in a file, which begins at byte 8, the word behind which nothing was claimed.
+# Of the image in a file, which begins at byte 8, the word after which nothing was claimed.
 FREE_AT = 8 * (1 + 7)
 ALL_UNITS = 4_294_967_295
 
@@ -52,7 +52,7 @@ class Service:
             return running.stdout.read()
 
     def ended(self, file, **settings):
-        """What it says to its two streams when it is told to end, once it has answered some hundred requests."""
+        """What it says to its two streams when it is reported to end, once it has answered some hundred requests."""
         streams = {"stdout": subprocess.PIPE, "stderr": subprocess.PIPE, "text": True}
         with subprocess.Popen([self.program, file], **streams, **settings) as running:
             time.sleep(1)
@@ -78,13 +78,13 @@ class Service:
 
 
 def counts(said):
-    """How many requests were answered and how many of them not recorded, as the service says at its end; None where it does not."""
+    """How many requests were answered and how many of them not recorded, as the service says at its end; None if it does not."""
     found = re.search(r"^served: (\d+), not recorded: (\d+)$", said, re.MULTILINE)
     return None if found is None else (int(found[1]), int(found[2]))
 
 
 def is_killed_thrice(service):
-    """It goes on with what the one before had left, and says so."""
+    """It continues with what the one before had left, and says so."""
     file, before = service.folder / "killed.seg", 0
     for _ in range(3):
         said = service.killed(file, before)
@@ -107,7 +107,7 @@ def ends_well(service):
 
 
 def has_another_spec(service):
-    """A release before had other buckets: it answers, and does not record."""
+    """A release before had other buckets: it returns, and does not record."""
     file = service.made("spec.seg", 'recorder.add_or_throw(recorder.linear("latency_us", 1, 500, 10), 17);')
     said, errors = service.ended(file)
     served, missed = counts(said) or (0, 0)

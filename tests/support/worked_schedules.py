@@ -15,7 +15,7 @@ def ended(*records):
 
 
 def stored(path):
-    """The records of a stored schedule, behind the first."""
+    """The records of a stored schedule, after the first."""
     lines = path.read_text().splitlines()[1:]
     return [tuple(int(field) if field.isdigit() else field for field in line.split(",")) for line in lines]
 

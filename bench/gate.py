@@ -22,20 +22,24 @@ SECONDS_BETWEEN = 0.5
 TICKS = 100
 GIBIBYTE = 2**30
 
+# A crate and a part of the gate; the number of a process, and when it began.
+Task = tuple[str, str]
+Process = tuple[int, int]
+
 
 class Costs:
     """What the processes of the gate have taken so far: seconds by process, and the most bytes at one look."""
 
     def __init__(self):
-        self.seconds = collections.defaultdict(dict)
-        self.rooms = collections.defaultdict(dict)
-        self.most = collections.Counter()
+        self.seconds: dict[Task, dict[Process, float]] = collections.defaultdict(dict)
+        self.rooms: dict[Task, dict[str, dict[Process, float]]] = collections.defaultdict(dict)
+        self.most: collections.Counter[Task] = collections.Counter()
         self.most_together = 0
 
     def look(self, gate):
         """Looks once at all processes that the gate has started."""
         tasks = {pid: task for pid, task in tasks_below(gate) if task is not None}
-        held = collections.Counter()
+        held: collections.Counter[Task] = collections.Counter()
         for pid, task in tasks.items():
             try:
                 seconds, size, started = taken_by(pid)
@@ -107,7 +111,7 @@ def taken_by(pid):
 
 def show(costs):
     """Prints the table, a line for each crate, the dearest first."""
-    crates = collections.Counter()
+    crates: collections.Counter[str] = collections.Counter()
     for crate, part in list(costs.seconds):
         crates[crate] += costs.minutes((crate, part))
     print("\n| Crate | proofs, min | tests, min | edits, min | together | most GiB |")

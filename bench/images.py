@@ -47,8 +47,14 @@ class Segment(layout.Words):
     def __init__(self, size):
         super().__init__(size, min(layout.PAGE, size))
 
+    def first_block(self, size: int, tag: int) -> int:
+        """A block that fits."""
+        at = self.block(size, tag)
+        assert at is not None, "no room for a block"
+        return at
+
     def publish_all(self, references, is_scattered):
-        """Publishes blocks as they come, or in no order; answers them in the order of the list."""
+        """Publishes blocks as they come, or in no order; returns them in the order of the list."""
         listed = list(references)
         if is_scattered:
             random.Random(7).shuffle(listed)
@@ -58,7 +64,7 @@ class Segment(layout.Words):
 
 
 def adoptable(data):
-    """The bytes of a lawful image as one of version 2, which may be adopted: a single word that is disabled, and in which nothing was
+    """The bytes of a valid image as one of version 2, which may be adopted: a single word that is disabled, and in which nothing was
     packed, has another form there."""
     words = layout.words_of(data)
     words[1] = 2
@@ -127,7 +133,7 @@ def sparse_samples(size, is_scattered):
     """One sparse histogram and as many samples as fit, whose values stand in no order."""
     segment = Segment(size)
     chance = random.Random(2)
-    record = segment.block(16, HISTOGRAM)
+    record = segment.first_block(16, HISTOGRAM)
     segment.publish(record)
     references, lines, units, total = [], [], 0, 0
     for value in chance.sample(range(-(2**31), 2**31), size // 8):
@@ -162,7 +168,7 @@ def linear_histograms(size, spec, name_length, most_count):
         name_words = words_of(name)
         at = segment.block(15 + len(name_words), HISTOGRAM)
         counts_at = segment.block(4 + 2 * n, COUNTS) if at is not None else None
-        if counts_at is None:
+        if at is None or counts_at is None:
             break
         counts = [chance.randrange(1, most_count) for _ in range(n)]
         units = sum(counts)
@@ -205,11 +211,12 @@ def overlapping_records(size, last_mark):
     """
     stride, overlap = 9, 16
     segment = Segment(size)
-    counts_at = segment.block(4 + 2 * MOST_BUCKETS, COUNTS)
+    counts_at = segment.first_block(4 + 2 * MOST_BUCKETS, COUNTS)
     segment.words[counts_at + 4] = BLOCK_COOKIE
     segment.words[counts_at + 4 + 2 * MOST_BUCKETS - 1] = last_mark
     limits = distinct_limits(size // stride)
-    names, references = [], []
+    names: list[bytes] = []
+    references: list[int] = []
     while segment.free < size:
         fitting = (segment.room() - overlap) // stride + 1
         for _ in range(fitting):
@@ -248,7 +255,7 @@ def lines(size):
     count = 4_000_000_000
     units = count * MOST_BUCKETS
     segment = Segment(size)
-    counts_at = segment.block(4 + 2 * MOST_BUCKETS, COUNTS)
+    counts_at = segment.first_block(4 + 2 * MOST_BUCKETS, COUNTS)
     segment.store(counts_at + 4, *[count] * MOST_BUCKETS)
     taken = []
     for name in names_of(size // 31, 128):
@@ -291,7 +298,7 @@ def custom(size):
 def overlapping_blocks(size, tag):
     """Blocks of five words that begin every four words, on one list that goes through them in no order."""
     segment = Segment(size)
-    references = []
+    references: list[int] = []
     for page in range(0, size, segment.page):
         first = max(page, FIRST)
         references += range(first, page + segment.page - 4, 4)
@@ -337,7 +344,7 @@ def samples(size):
     stride, smallest = 5, 8
     segment = Segment(size)
     chance = random.Random(8)
-    record = segment.block(16, HISTOGRAM)
+    record = segment.first_block(16, HISTOGRAM)
     segment.publish(record)
     values, number = set(), 0
     while segment.free < size:

@@ -45,10 +45,12 @@ def answered(program, path, gibibytes):
     """What the program returns to 'report PATH' with so much memory."""
     command = [sys.executable, HERE / "peak.py", str(gibibytes), program, "report", path]
     with subprocess.Popen(command, stdout=subprocess.PIPE, stderr=subprocess.PIPE) as running:
-        errors = []
-        taking = threading.Thread(target=lambda: errors.append(running.stderr.read()))
+        assert running.stdout is not None and running.stderr is not None
+        output, error = running.stdout, running.stderr
+        errors: list[bytes] = []
+        taking = threading.Thread(target=lambda: errors.append(error.read()))
         taking.start()
-        length, checksum = summary(iter(lambda: running.stdout.read(PIECE), b""))
+        length, checksum = summary(iter(lambda: output.read(PIECE), b""))
         taking.join()
     *before, last = errors[0].decode(errors="replace").splitlines(keepends=True)
     status, kibibytes = map(int, last.split())

@@ -19,7 +19,7 @@ import tempfile
 
 from parts.schedules import FOLDER, replayed
 from support import forge, forge_adoption, plain_adoption, plain_tally, seeded_schedules, worked_schedules
-from support.plain_reader import KINDS, MOST_BYTES, MOST_UNITS, ImageFault, words_of
+from support.plain_reader import KINDS, MOST_BYTES, MOST_UNITS, words_of
 from support.program import answer, built
 
 PROGRAM = "trials"

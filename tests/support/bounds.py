@@ -3,6 +3,8 @@
 The program is `tests/c/killed.cpp`, and the file in which it tells both is that of `tests/c/tally.hpp`.
 """
 
+from __future__ import annotations
+
 import collections
 import struct
 
@@ -15,13 +17,17 @@ CELLS = [
     *(("sparse", low) for low in range(-64, 64)),
     *((f"made_{number}", 1) for number in range(111)),
 ]
+# A histogram and the least value of a bucket, and how many units each has.
+Cell = tuple[str, int]
+Units = collections.Counter[Cell]
 BYTES = THREADS * len(CELLS) * 16
 MOST_PACKED = 65_535
 
 
-def numbers(data):
+def numbers(data: bytes) -> tuple[Units, Units]:
     """Of each cell what all threads began, and what they ended."""
-    begun, ended = collections.Counter(), collections.Counter()
+    begun: Units = collections.Counter()
+    ended: Units = collections.Counter()
     for place, (more, fewer) in enumerate(struct.iter_unpack("<QQ", data)):
         cell = CELLS[place % len(CELLS)]
         begun[cell] += more
@@ -29,9 +35,10 @@ def numbers(data):
     return begun, ended
 
 
-def units_of(report):
+def units_of(report: bytes) -> tuple[Units, list[str]]:
     """The units of each bucket that a report has, and its lines of faults."""
-    units, faults = collections.Counter(), []
+    units: Units = collections.Counter()
+    faults: list[str] = []
     for line in report.decode().splitlines():
         fields = line.split(",")
         if fields[0] in ("!bad", "!stopped") or line == "!flag,corrupt":
@@ -41,7 +48,7 @@ def units_of(report):
     return units, faults
 
 
-def short_of(units, least, version):
+def short_of(units: Units, least: Units, version: int) -> list[Cell]:
     """The buckets that have too few units. In version 1 one of each histogram with buckets may lack those that were being moved."""
     short = [cell for cell in least if units[cell] < least[cell]]
     if version == 2:
@@ -50,7 +57,7 @@ def short_of(units, least, version):
     return [cell for cell in short if cell[0] == "sparse" or names[cell[0]] > 1 or least[cell] - units[cell] > MOST_PACKED]
 
 
-def wrong_of(units, faults, before, data, version):
+def wrong_of(units: Units, faults: list[str], before: Units, data: bytes, version: int) -> str | None:
     """What is wrong with the units of a report, beside those that were there before and what the threads told; or None."""
     if faults:
         return f"the report has {faults[:3]}"

@@ -1,9 +1,13 @@
 """The faults of a command that reads an image and writes a text: those of `report`."""
 
-from support.program import EXAMPLE, answer, difference, fault
+from __future__ import annotations
+
+from collections.abc import Iterator, Sequence
+
+from support.program import EXAMPLE, Case, Path, Word, answer, difference, fault
 
 
-def cases(program, words):
+def cases(program: Path, words: Sequence[Word]) -> Iterator[Case]:
     """The faults where these words ask for the command: of the file, the bytes and the device."""
     yield "a missing file", difference(fault("Read", 4), answer(program, [*words, "missing.img"]))
     yield "too many bytes", difference(fault("TooLong", 3), answer(program, words, bytes(8_388_609)))

@@ -2,11 +2,16 @@
 with exceptions and without; and under the thread sanitizer.
 """
 
+from __future__ import annotations
+
+import pathlib
 import re
 import shutil
 import subprocess
+from collections.abc import Iterator
 
 from support import native
+from support.program import Case, Word
 
 WARNINGS = ["-Wall", "-Wextra", "-Wpedantic", "-Wconversion", "-Wshadow", "-Werror", "-fsyntax-only", f"-I{native.LIBRARY}"]
 CPP_WARNINGS = ["-Wold-style-cast", "-Wzero-as-null-pointer-constant"]
@@ -14,7 +19,7 @@ C_HEADERS, CPP_HEADERS = ("povundiri.h", "povundiri_file.h"), ("povundiri.h", "p
 MOST_SECONDS = 300
 
 
-def languages():
+def languages() -> Iterator[tuple[str, list[str], str]]:
     """The compilers that are there, with the words for each language and standard, and the suffix of its sources."""
     for c, cpp in (("gcc", "g++"), ("clang", "clang++")):
         if shutil.which(c) is not None:
@@ -25,7 +30,7 @@ def languages():
                 yield cpp, [f"-std={standard}", "-fno-exceptions", *CPP_WARNINGS], ".cpp"
 
 
-def warnings(folder):
+def warnings(folder: pathlib.Path) -> Iterator[Case]:
     """Each header alone, and the sources."""
     seen = set()
     for compiler, words, suffix in languages():
@@ -62,7 +67,7 @@ PROGRAMS = {
 }
 
 
-def mistakes(folder):
+def mistakes(folder: pathlib.Path) -> Iterator[Case]:
     """What is easily done wrong does not compile, or with a warning; and the program without it does."""
     for suffix, statement, word in (*((suffix, "", "") for suffix in PROGRAMS), *MISTAKES):
         source = folder / f"mistake{suffix}"
@@ -73,7 +78,7 @@ def mistakes(folder):
         yield f"refused: {statement or f'nothing ({suffix})'}", f"status {done.returncode}: {done.stderr[-1000:]}" if wrong else None
 
 
-def own_lines(source, *flags):
+def own_lines(source: pathlib.Path, *flags: str) -> list[str]:
     """What the preprocessor leaves of the library's headers."""
     text = native.run([*native.compiler(".cpp"), *flags, f"-I{native.LIBRARY}", "-E", source])
     kept, is_own = [], False
@@ -86,7 +91,7 @@ def own_lines(source, *flags):
     return kept
 
 
-def one_definition(folder):
+def one_definition(folder: pathlib.Path) -> Iterator[Case]:
     """A file with exceptions and one without see the same definitions."""
     source = folder / "definitions.cpp"
     source.write_text("#include <povundiri.hpp>\n")
@@ -95,20 +100,20 @@ def one_definition(folder):
     yield "the same definitions with exceptions and without", None if found and thrown == plain else "they differ"
 
 
-def compiled(folder, source, *flags):
+def compiled(folder: pathlib.Path, source: pathlib.Path, *flags: str) -> pathlib.Path:
     """An object of a source, with the headers of the library."""
     built = folder / f"{source.stem}.o"
     native.run([*native.compiler(source.suffix), *native.STRICT, *flags, f"-I{native.LIBRARY}", "-c", "-o", built, source])
     return built
 
 
-def said_by(program, *words):
+def said_by(program: pathlib.Path, *words: Word) -> tuple[int, str]:
     """The status of a program and what it printed."""
     done = subprocess.run([program, *words], capture_output=True, text=True, timeout=MOST_SECONDS)
     return done.returncode, done.stdout + done.stderr
 
 
-def mixed(installed, folder):
+def mixed(installed: native.Installed, folder: pathlib.Path) -> Iterator[Case]:
     """Files with exceptions and without in one program; what throws then throws, or ends it where povundiri_raise.cpp is built without."""
     plain = compiled(folder, native.PROGRAMS / "mixed_plain.cpp", "-fno-exceptions")
     status, said = said_by(installed.program(native.PROGRAMS / "mixed.cpp", plain))
@@ -119,7 +124,7 @@ def mixed(installed, folder):
     yield "povundiri_raise.cpp without exceptions", None if (status, said) == wanted else f"status {status}: {said}"
 
 
-def thread_sanitized(folder):
+def thread_sanitized(folder: pathlib.Path) -> Iterator[Case]:
     """What is in `c/` alone, with a stand-in for the proved functions: the sanitizer cannot see into those."""
     flags = ["-fsanitize=thread", "-DSTAND_IN"]
     sources = [native.LIBRARY / name for name in ("povundiri.c", "povundiri_file.c", "povundiri_raise.cpp")]
@@ -131,7 +136,7 @@ def thread_sanitized(folder):
     yield "recorders.cpp under the thread sanitizer", None if status == 0 else f"status {status}: {said[-3000:]}"
 
 
-def cases(installed, folder):
+def cases(installed: native.Installed, folder: pathlib.Path) -> Iterator[Case]:
     yield from warnings(folder)
     yield from mistakes(folder)
     for test in (lambda: one_definition(folder), lambda: mixed(installed, folder), lambda: thread_sanitized(folder)):

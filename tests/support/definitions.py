@@ -95,7 +95,7 @@ def definitions(text):
 
 def grouped(listed):
     """Definitions with one comment between them stand in one entry."""
-    groups = []
+    groups: list[tuple[list[str], str]] = []
     for name, comment in listed:
         if groups and groups[-1][1] == comment:
             groups[-1][0].append(name)
@@ -119,8 +119,8 @@ def module_lines(crate, file, used):
     """The lines of a module, or none where nothing of it is listed. One in a room has the room's name before its own."""
     text = file.read_text()
     module = ".".join(file.relative_to(ROOT / "crates" / crate / "specs").with_suffix("").parts)
-    about = re.match(r"(?:--.*\n)*", text)[0]
-    about = in_short(" ".join(line[2:].strip() for line in about.splitlines()))
+    begin = re.match(r"(?:--.*\n)*", text)
+    about = in_short(" ".join(line[2:].strip() for line in (begin[0] if begin else "").splitlines()))
     listed = [one for one in definitions(text) if (crate, module, one[0]) in used]
     if not listed:
         return []

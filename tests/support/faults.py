@@ -6,6 +6,8 @@
 With --write it writes the file. Without, it says what differs in the file that is there, and the status is 1 if anything does.
 """
 
+from __future__ import annotations
+
 import pathlib
 import re
 import sys
@@ -46,19 +48,19 @@ OF_PROGRAMS = "Only programs that "
 REFUSED = 3
 
 
-def texts():
+def texts() -> list[tuple[str, str, str]]:
     """The name of each fault, what it means and what to do, in the order of the table."""
     return ENTRY.findall(TABLE.read_text())
 
 
-def statuses():
+def statuses() -> dict[str, str]:
     """The status of each fault that is a line by itself."""
     return {name: status for names, status in BRANCH.findall(STATUSES.read_text()) for name in re.findall(r"::(\w+)", names)}
 
 
-def names_in_c():
+def names_in_c() -> dict[str, list[str]]:
     """The names in C of each fault."""
-    found = {}
+    found: dict[str, list[str]] = {}
     for name, fault, comment in IN_C.findall(HEADER.read_text()):
         if NEVER not in comment:
             words = (fault or name).split("_")
@@ -66,14 +68,14 @@ def names_in_c():
     return found
 
 
-def status_of(name, meaning):
+def status_of(name: str, meaning: str) -> str:
     """The status with which the program ends, as the document shows it."""
     if OF_PROGRAMS in meaning:
         return ""
     return "0" if meaning.startswith(OF_REPORTS) else statuses().get(name, str(REFUSED))
 
 
-def document():
+def document() -> str:
     in_c = names_in_c()
     rows = []
     for name, meaning, remedy in texts():
@@ -82,7 +84,7 @@ def document():
     return HEAD + "".join(rows)
 
 
-def difference():
+def difference() -> str | None:
     """Where the document differs from its sources, or None."""
     return made.difference({DOCUMENT: document()}, SOURCES)
 

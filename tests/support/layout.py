@@ -1,7 +1,11 @@
 """The layout of a segment, as docs/FORMAT.md has it, and words of a segment that are filled from the front."""
 
+from __future__ import annotations
+
 import array
+import builtins
 import sys
+from collections.abc import Collection, Iterable
 
 SEGMENT_COOKIE = 0x408305DC
 MOST_WORDS = 1_048_576
@@ -26,11 +30,14 @@ MOST_SUM = 2**31 * MOST_UNITS
 MOST_BUCKETS = 1000
 WORD = 2**64
 
+# A block: its reference, size, type and payload.
+Listed = tuple[int, int, int, Iterable[int]]
+
 
 class Words:
     """The words of a segment, claimed from the front, and its list."""
 
-    def __init__(self, size, page, version=1, flags=0):
+    def __init__(self, size: int, page: int, version: int = 1, flags: int = 0) -> None:
         self.page = page
         self.words = array.array("Q", bytes(8 * size))
         self.free = FIRST
@@ -38,16 +45,16 @@ class Words:
         self.store(0, SEGMENT_COOKIE, version, size, page, 7, 1, flags)
         self.store(QUEUE, BLOCK_HEADER, 1, 0, QUEUE)
 
-    def store(self, at, *words):
+    def store(self, at: int, *words: int) -> None:
         """Stores what of the words lies in the segment."""
         kept = words[: max(0, len(self.words) - at)]
         self.words[at : at + len(kept)] = array.array("Q", [word % WORD for word in kept])
 
-    def room(self):
+    def room(self) -> int:
         """The words from the free pointer to the end of its page."""
         return self.page - self.free % self.page
 
-    def block(self, size, tag):
+    def block(self, size: int, tag: int) -> int | None:
         """A new block of so many words or up to four more, or None where it does not fit."""
         if self.free + size > len(self.words) or size > self.page:
             return None
@@ -61,19 +68,19 @@ class Words:
         self.free += claimed
         return at
 
-    def publish(self, at):
+    def publish(self, at: int) -> None:
         """Links a block behind the last one of the list."""
         self.store(self.tail + NEXT, at)
         self.store(at + NEXT, QUEUE)
         self.tail = at
 
-    def bytes(self):
+    def bytes(self) -> builtins.bytes:
         """The bytes of the image."""
         self.store(FREE, self.free, self.tail)
         return data_of(self.words)
 
 
-def image_of(size, version, listed, others=()):
+def image_of(size: int, version: int, listed: Collection[Listed], others: Iterable[Listed] = ()) -> bytes:
     """The bytes of a full image whose list has these blocks, each its reference, size, type and payload, and which has others."""
     image = Words(size, PAGE, version)
     for at, words, tag, payload in [*listed, *others]:
@@ -84,15 +91,15 @@ def image_of(size, version, listed, others=()):
     return image.bytes()
 
 
-def data_of(words):
+def data_of(words: Iterable[int]) -> bytes:
     """The bytes of words, the least of each first."""
-    words = array.array("Q", words)
+    stored = array.array("Q", words)
     if sys.byteorder == "big":
-        words.byteswap()
-    return words.tobytes()
+        stored.byteswap()
+    return stored.tobytes()
 
 
-def words_of(data):
+def words_of(data: bytes) -> array.array[int]:
     """The words whose bytes these are."""
     words = array.array("Q", data)
     if sys.byteorder == "big":

@@ -16,7 +16,7 @@ import sys
 
 sys.dont_write_bytecode = True
 sys.path.insert(0, os.path.dirname(os.path.realpath(shutil.which("rt") or "rt")))
-import rtlib
+import rtlib  # type: ignore[import]
 
 CRATES = pathlib.Path(__file__).resolve().parents[2] / "crates"
 rtlib.Crate.stamp = functools.cache(rtlib.Crate.stamp)

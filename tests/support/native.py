@@ -1,13 +1,17 @@
 """C and C++ programs: the library as `make -C c` builds it, installed for one run, and what is compiled against it by pkg-config."""
 
+from __future__ import annotations
+
 import os
 import pathlib
 import shlex
 import shutil
 import subprocess
 import tempfile
+from collections.abc import Callable, Iterable, Iterator
+from typing import Any
 
-from support.program import ROOT
+from support.program import ROOT, Case, Path, Word
 
 LIBRARY = ROOT / "c"
 PROGRAMS = ROOT / "tests" / "c"
@@ -23,20 +27,21 @@ class Failed(Exception):
     """What was not there, or what a tool said that failed."""
 
 
-def run(words, seconds=MOST_SECONDS, **settings):
+def run(words: Iterable[Word], seconds: int = MOST_SECONDS, **settings: Any) -> str:
     """What a tool prints; it has to end well."""
+    line = [str(word) for word in words]
     try:
-        done = subprocess.run([str(word) for word in words], capture_output=True, text=True, timeout=seconds, **settings)
+        done = subprocess.run(line, capture_output=True, text=True, timeout=seconds, **settings)
     except FileNotFoundError:
-        raise Failed(f"there is no {words[0]}, which this part needs") from None
+        raise Failed(f"there is no {line[0]}, which this part needs") from None
     except subprocess.TimeoutExpired:
-        raise Failed(f"{words[0]}: no end within {seconds} seconds") from None
+        raise Failed(f"{line[0]}: no end within {seconds} seconds") from None
     if done.returncode != 0:
-        raise Failed(f"{words[0]}: status {done.returncode}, {(done.stderr or done.stdout)[-1500:]}")
+        raise Failed(f"{line[0]}: status {done.returncode}, {(done.stderr or done.stdout)[-1500:]}")
     return done.stdout
 
 
-def compiler(suffix):
+def compiler(suffix: str) -> list[str]:
     """The words with which sources of this kind are compiled."""
     variable, usual, standard = COMPILERS[suffix]
     words = shlex.split(os.environ.get(variable, usual))
@@ -45,9 +50,9 @@ def compiler(suffix):
     return [*words, standard]
 
 
-def groups(said):
+def groups(said: str) -> Iterator[Case]:
     """The name of each group of checks that a program tells of, and what failed in it or None. What it leaves out is printed."""
-    failed = []
+    failed: list[str] = []
     for line in said.splitlines():
         name, _, how = line.rpartition(": ")
         if line.startswith("left out: "):
@@ -64,20 +69,20 @@ def groups(said):
 class Installed:
     """The library, built and installed in a folder."""
 
-    def __init__(self, folder):
+    def __init__(self, folder: Path) -> None:
         for suffix in COMPILERS:
             compiler(suffix)
         self.folder = pathlib.Path(folder)
         self.prefix = self.folder / "prefix"
-        self.objects = {}
+        self.objects: dict[pathlib.Path, pathlib.Path] = {}
         run(["make", "-s", "-C", LIBRARY, "install", f"PREFIX={self.prefix}"], seconds=MOST_SECONDS_TO_BUILD)
 
-    def words(self, what):
+    def words(self, what: str) -> list[str]:
         """What pkg-config answers for the library."""
         path = str(self.prefix / "lib" / "pkgconfig")
         return shlex.split(run(["pkg-config", what, "povundiri"], env={**os.environ, "PKG_CONFIG_PATH": path}))
 
-    def sanitized(self, suffix):
+    def sanitized(self, suffix: str) -> list[pathlib.Path]:
         """What is in `c/` for a program in this language, compiled under the sanitizers: it is linked in place of the library's own."""
         kept = [".c"] if suffix == ".c" else [*COMPILERS]
         for source in sorted(path for path in LIBRARY.iterdir() if path.suffix in kept):
@@ -86,19 +91,21 @@ class Installed:
                 run([*compiler(source.suffix), *STRICT, *SANITIZED, *self.words("--cflags"), "-c", "-o", self.objects[source], source])
         return [built for source, built in self.objects.items() if source.suffix in kept]
 
-    def program(self, source, *flags):
+    def program(self, source: pathlib.Path, *flags: Word) -> pathlib.Path:
         """A program, compiled and linked; `flags` are more words for the compiler."""
         built = self.folder / f"{source.stem}{source.suffix.replace('.', '_')}{'_sanitized' if SANITIZED[0] in flags else ''}"
         objects = self.sanitized(source.suffix) if SANITIZED[0] in flags else []
         run([*compiler(source.suffix), *STRICT, *flags, *self.words("--cflags"), "-o", built, source, *objects, *self.words("--libs")])
         return built
 
-    def with_file_layer(self, source, compiler_words, flags, replaced=()):
+    def with_file_layer(
+        self, source: pathlib.Path, compiler_words: Iterable[str], flags: Iterable[str], replaced: Iterable[str] = ()
+    ) -> pathlib.Path:
         """A program of `tests/c` with povundiri_file.c compiled for it: by these words and flags, and with the calls to the system that are
         in `replaced` going to the program's own `test_` functions. The proved part is that of the library."""
         built = self.folder / f"{source.stem}_with_file_layer"
         words = [*compiler_words, *STRICT, *flags, *self.words("--cflags")]
-        parts = []
+        parts: list[pathlib.Path] = []
         for name in ("povundiri.c", "povundiri_file.c"):
             parts.append(self.folder / f"{source.stem}_{name}.o")
             run([*words, *(f"-D{call}=test_{call}" for call in replaced), "-c", "-o", parts[-1], LIBRARY / name])
@@ -106,7 +113,7 @@ class Installed:
         return built
 
 
-def cases_of(source, test):
+def cases_of(source: str, test: Callable[[pathlib.Path, pathlib.Path], Iterable[Case]]) -> Iterator[Case]:
     """The cases of a test that is given a program of `tests/c` and a folder to work in; or that there is no such program, and why."""
     with tempfile.TemporaryDirectory() as scratch:
         folder = pathlib.Path(scratch)

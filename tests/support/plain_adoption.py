@@ -20,19 +20,19 @@ AMOUNT_OF_UNIT = 2**31
 MOST_CURSORS = 8
 
 # What makes an image damaged, in no order: any of these does.
-DAMAGES = """
+LISTED = """
 a list that stops; a bad record; two records overlap; a record and counts overlap; counts overlap; a word behind the free pointer
 too little room behind the free pointer; a tail that is not on the list; a later sample with a count; a later sample with a mark
 a name that is not padded; counts that are not in use; marks that are not in use; a mark of the packed bucket on its counts
 """.replace("\n", ";")
-DAMAGES = [damage.strip() for damage in DAMAGES.split(";") if damage.strip()]
+DAMAGES = [damage.strip() for damage in LISTED.split(";") if damage.strip()]
 
 
 class Read:
     """What the words of an image with a valid header read as."""
 
     def __init__(self, words):
-        nothing = collections.Counter()
+        nothing: collections.Counter[str] = collections.Counter()
         self.words = words
         self.references, self.stopped = walk(words, nothing)
         self.histograms, self.bad = read_records(words, self.references, nothing)

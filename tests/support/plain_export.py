@@ -3,10 +3,17 @@
 It gives the samples first, and then their text, so that a parser of the format can be asked whether it reads the same ones.
 """
 
+from __future__ import annotations
+
 import collections
+from collections.abc import Iterator
+from typing import Any
 
 from support import plain_reader
 
+# A name without the prefix, labels, and a whole number.
+Sample = tuple[str, dict[str, str], int]
+Families = dict[str, list[Sample]]
 PREFIX = "povundiri"
 FAMILIES = {
     "histogram": ("histogram", "Units of a histogram up to the greatest value of each bucket."),
@@ -17,7 +24,7 @@ FAMILIES = {
 ESCAPES = {"\\": "\\\\", '"': '\\"', "\n": "\\n"}
 
 
-def histogram_samples(name, histogram):
+def histogram_samples(name: str, histogram: dict[str, Any]) -> Iterator[Sample]:
     """A histogram that has ranges: the units up to each bucket's greatest value."""
     units = 0
     for low in sorted(histogram["buckets"]):
@@ -29,10 +36,10 @@ def histogram_samples(name, histogram):
     yield "histogram_count", {"histogram": name}, units
 
 
-def families_of(data):
+def families_of(data: bytes) -> Families:
     """The samples of each family, each a name without the prefix, labels and a whole number; raises the image's fault."""
     by_name, bad_records, stopped, flags = plain_reader.reading_of(data, collections.Counter())
-    families = {family: [] for family in FAMILIES}
+    families: Families = {family: [] for family in FAMILIES}
     for name in sorted(by_name):
         histogram, text = by_name[name], name.decode()
         if plain_reader.KINDS[histogram["kind"]] != "sparse":
@@ -47,15 +54,15 @@ def families_of(data):
     return families
 
 
-def line_of(prefix, sample):
+def line_of(prefix: str, sample: Sample) -> str:
     name, labels, value = sample
     escaped = {label: "".join(ESCAPES.get(letter, letter) for letter in text) for label, text in labels.items()}
     inside = ",".join(f'{label}="{text}"' for label, text in escaped.items())
     return f"{prefix}_{name}{{{inside}}} {value}\n" if labels else f"{prefix}_{name} {value}\n"
 
 
-def text_of(families, prefix=PREFIX):
-    lines = []
+def text_of(families: Families, prefix: str = PREFIX) -> bytes:
+    lines: list[str] = []
     for family, samples in families.items():
         kind, meaning = FAMILIES[family]
         lines += [f"# HELP {prefix}_{family} {meaning}\n", f"# TYPE {prefix}_{family} {kind}\n"]
@@ -63,7 +70,7 @@ def text_of(families, prefix=PREFIX):
     return "".join(lines).encode()
 
 
-def answer(data, prefix=PREFIX):
+def answer(data: bytes, prefix: str = PREFIX) -> tuple[bytes, bytes, int]:
     """What a program writes to its two streams, and its status."""
     try:
         return text_of(families_of(data), prefix), b"", 0

@@ -22,7 +22,7 @@ MOST_PACKED = 65_535
 NOTHING_PACKED = 65_535
 KINDS = {1: "linear", 2: "boolean", 3: "custom", 4: "sparse"}
 
-RULES = """
+LISTED = """
 TooLong; NotWords
 TooShort; BadCookie; BadVersion; BadPage; BadSize, other than the words; BadSize, no whole pages; NotReady; Deleted
 BadFree; BadQueue
@@ -56,7 +56,7 @@ BadSample of a small block; BadSample of no value; BadSample of a count; BadSamp
 BadSample of no histogram that was read; BadSample of a histogram that is not sparse
 flag corrupt; flag full; a redundant count that differs
 """
-RULES = [rule.strip() for rule in RULES.replace("\n", ";").split(";") if rule.strip()]
+RULES = [rule.strip() for rule in LISTED.replace("\n", ";").split(";") if rule.strip()]
 
 
 class ImageFault(Exception):
@@ -123,7 +123,7 @@ def check_block(words, reference):
 
 def walk(words, seen):
     """The references on the list in their order, and the fault that stops it, or None."""
-    met = {}
+    met: dict[int, bool] = {}
     following = words[QUEUE + 3]
     while following != QUEUE:
         try:

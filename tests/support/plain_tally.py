@@ -3,15 +3,20 @@
 A spec is a tuple as a script writes it: ("linear", MIN, MAX, BUCKETS), ("boolean",), ("custom", V, ..) or ("sparse",).
 """
 
+from __future__ import annotations
+
 import bisect
 import collections
+from collections.abc import Mapping
+from typing import Any
 
 from support.plain_reader import GREATEST, linear_boundaries
 
 MOST_VALUE = GREATEST - 1
+Spec = tuple[Any, ...]
 
 
-def boundaries_of(spec):
+def boundaries_of(spec: Spec) -> list[int]:
     """The boundaries of a valid spec, or none of a sparse one."""
     kind, *numbers = spec
     if kind == "linear":
@@ -26,42 +31,42 @@ def boundaries_of(spec):
 class Histogram:
     """What one histogram's samples add up to: the units of each key, and the sum of all samples."""
 
-    def __init__(self, kind, boundaries):
+    def __init__(self, kind: str, boundaries: list[int]) -> None:
         self.kind = kind
         self.boundaries = boundaries
-        self.counts = collections.Counter()
+        self.counts: collections.Counter[int] = collections.Counter()
         self.sum = 0
 
     @classmethod
-    def of(cls, spec):
+    def of(cls, spec: Spec) -> Histogram:
         return cls(spec[0], boundaries_of(spec))
 
-    def clamped(self, value):
+    def clamped(self, value: int) -> int:
         return value if self.kind == "sparse" else min(max(value, 0), MOST_VALUE)
 
-    def key(self, value):
+    def key(self, value: int) -> int:
         """The low end of the bucket that holds a value; of a sparse histogram the value."""
         if self.kind == "sparse":
             return value
         return self.boundaries[bisect.bisect_right(self.boundaries, self.clamped(value)) - 1]
 
-    def high(self, key):
+    def high(self, key: int) -> int:
         """What comes after a bucket: the least value of the next one."""
         if self.kind == "sparse":
             return key + 1
         return self.boundaries[bisect.bisect_right(self.boundaries, key)]
 
-    def add(self, value, count):
+    def add(self, value: int, count: int) -> None:
         self.counts[self.key(value)] += count
         self.sum += self.clamped(value) * count
 
-    def take(self, counts, amount):
+    def take(self, counts: Mapping[int, int], amount: int) -> None:
         """Adds units by their keys, and an amount to the sum."""
         self.counts.update(counts)
         self.sum += amount
 
 
-def report(histograms):
+def report(histograms: Mapping[str, Histogram]) -> bytes:
     """The text of the report of histograms by their names, which are ASCII."""
     lines = []
     for name in sorted(histograms):

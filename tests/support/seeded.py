@@ -5,6 +5,7 @@ import os
 import pathlib
 import string
 import tempfile
+from typing import Any
 
 from support.plain_reader import GREATEST
 from support.plain_tally import Histogram
@@ -50,7 +51,7 @@ class Script:
         return self.tally(call for place, call in enumerate(self.calls) if place > last.get(call[0], -1))
 
     def tally(self, calls):
-        histograms = {}
+        histograms: dict[str, Histogram] = {}
         for name, spec in self.hists:
             histograms.setdefault(name, Histogram.of(spec))
         for name, *sample in calls:
@@ -97,7 +98,7 @@ def value_of(chance, histogram):
 
 def calls_of(chance, histograms, most):
     """Samples and deltas whose counts take no more than `most` units."""
-    calls = []
+    calls: list[tuple[Any, ...]] = []
     for _ in range(chance.choice([0, 1, 2, 5, 17, 40, 80])):
         name = chance.choice(list(histograms))
         if chance.random() < 0.15:
@@ -132,14 +133,15 @@ def shape_of(chance, histograms, calls):
 def script_of(chance, most=MOST_UNITS):
     """A valid script whose samples take no more than `most` units."""
     hists = [(name_of(chance), spec_of(chance)) for _ in range(chance.choice([1, 1, 2, 3, 5]))]
-    first = {}
+    first: dict[str, Any] = {}
     for name, spec in hists:
         first.setdefault(name, spec)
     hists = [(name, first[name]) for name, _ in hists]
     histograms = {name: Histogram.of(spec) for name, spec in first.items()}
     calls = calls_of(chance, histograms, most)
     segment_id = chance.choice([0, 7, 2**64 - 1, chance.randrange(2**64)])
-    return Script(*shape_of(chance, histograms, calls), segment_id, hists, calls)
+    size, page = shape_of(chance, histograms, calls)
+    return Script(size, page, segment_id, hists, calls)
 
 
 def field(chance, value):

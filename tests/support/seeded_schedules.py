@@ -5,6 +5,7 @@ know which calls have ended. So no record of it is a fault.
 """
 
 import collections
+from typing import Any
 
 from support.plain_reader import GREATEST, SEGMENT_COOKIE, TOP
 from support.plain_tally import Histogram
@@ -61,8 +62,8 @@ class Done:
         self.words = schedule.words()
         self.lines = []
         self.running = {}
-        self.known = collections.defaultdict(dict)
-        self.counted = collections.Counter()
+        self.known: dict[int, dict[str, Histogram]] = collections.defaultdict(dict)
+        self.counted: collections.Counter[tuple[str, int]] = collections.Counter()
         # By actor, the word that its last event disabled, and what it was before.
         self.disabled = {}
         last = None
@@ -107,7 +108,7 @@ class Done:
         kind, _, name, *rest = record
         numbers = rest if kind == "add" else rest[1:]
         histogram = self.known[actor][name]
-        units = collections.Counter()
+        units: collections.Counter[tuple[str, int]] = collections.Counter()
         for value, count in list(zip(numbers[::2], numbers[1::2]))[:most]:
             units[name, histogram.key(value)] += count
         return units
@@ -150,7 +151,8 @@ def schedule_of(chance, replay, versions=(1, 2)):
     size, page = chance.choice(SHAPES)
     schedule = Schedule(size, page, chance.choice([0, 7, 2**64 - 1]), chance.randrange(1, 6), chance.choice(versions))
     specs = {name: chance.choice(SPECS) for name in NAMES}
-    running, known = {}, collections.defaultdict(dict)
+    running: dict[int, Any] = {}
+    known: dict[int, dict[str, Any]] = collections.defaultdict(dict)
     for number in range(ROUNDS + 1):
         last = number == ROUNDS
         for actor in chance.sample(range(schedule.actors), schedule.actors):

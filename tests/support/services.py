@@ -9,9 +9,10 @@ import signal
 import struct
 import subprocess
 import time
+from typing import Any
 
 from support import native
-from support.program import ROOT, answer
+from support.program import ROOT
 
 SOURCE = ROOT / "examples" / "cpp" / "service.cpp"
 MOST_SECONDS = 120
@@ -49,11 +50,11 @@ class Service:
                     time.sleep(0.05)
             finally:
                 running.kill()
-            return running.stdout.read()
+            return running.communicate()[0]
 
     def ended(self, file, **settings):
-        """What it says to its two streams when it is reported to end, once it has answered some hundred requests."""
-        streams = {"stdout": subprocess.PIPE, "stderr": subprocess.PIPE, "text": True}
+        """What it says to its two streams when it is told to end, once it has answered some hundred requests."""
+        streams: dict[str, Any] = {"stdout": subprocess.PIPE, "stderr": subprocess.PIPE, "text": True}
         with subprocess.Popen([self.program, file], **streams, **settings) as running:
             time.sleep(1)
             running.send_signal(signal.SIGTERM)

@@ -154,7 +154,7 @@ def next_stop(first):
 
 def follow(first, fault):
     """Follows a program from its beginning to its end; its status, of a signal the number with a minus."""
-    to_set = {}
+    to_set: dict[int, typing.Any] = {}
     thread, signal_given = first, 0
     while True:
         try:
@@ -173,7 +173,7 @@ def follow(first, fault):
 def answer(program, words, fault, **settings):
     """What the program answers where calls fail."""
     with tempfile.TemporaryFile() as output, tempfile.TemporaryFile() as error:
-        streams = {"stdin": subprocess.DEVNULL, "stdout": output, "stderr": error}
+        streams: dict[str, typing.Any] = {"stdin": subprocess.DEVNULL, "stdout": output, "stderr": error}
         running = subprocess.Popen([program, *words], preexec_fn=lambda: ptrace(TRACE_ME, 0), **streams, **settings)
         os.waitpid(running.pid, 0)
         ptrace(SET_OPTIONS, running.pid, 0, STOP_AT_CALLS | FOLLOW_THREADS | END_WITH_US)

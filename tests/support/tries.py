@@ -1,8 +1,12 @@
 """Programs that are run by `rt try`, which builds them without any proof, and how their answers differ from what was wanted."""
 
+from __future__ import annotations
+
 import dataclasses
+import pathlib
 import re
 import subprocess
+from collections.abc import Collection, Iterable, Iterator
 
 from support.program import ROOT, Answer, content, difference
 
@@ -21,23 +25,23 @@ class Case:
     one that it must not make."""
 
     name: str
-    words: list
+    words: list[str]
     data: bytes
     wanted: Answer
-    written: dict = dataclasses.field(default_factory=dict)
+    written: dict[pathlib.Path, bytes | None] = dataclasses.field(default_factory=dict)
 
 
-def run(crate, words, data=b""):
+def run(crate: str, words: Iterable[str], data: bytes = b"") -> subprocess.CompletedProcess[bytes]:
     """What `rt try` says in the folder of a crate."""
     return subprocess.run(["rt", "try", *words], cwd=ROOT / "crates" / crate, input=data, capture_output=True)
 
 
-def end_of(came):
+def end_of(came: subprocess.CompletedProcess[bytes]) -> str:
     """The end of what a run of `rt try` said."""
     return f"status {came.returncode}\n" + (came.stdout[-1000:] + came.stderr[-2000:]).decode(errors="replace").rstrip()
 
 
-def store(cases, folder):
+def store(cases: Iterable[Case], folder: pathlib.Path) -> None:
     """Writes a folder of cases as `rt try` reads it: NAME is the standard input, NAME.args the words, NAME.stdout the output.
 
     Of a case that tells a fault there is no NAME.stdout, since `rt try` shows what it tells only then.
@@ -50,7 +54,7 @@ def store(cases, folder):
             (folder / f"{case.name}.stdout").write_bytes(case.wanted.output)
 
 
-def wrong_of(case, line, shown):
+def wrong_of(case: Case, line: tuple[bytes, ...] | None, shown: bytes) -> str | None:
     """What is wrong with a case by its line and what it wrote, or None."""
     if line is None:
         return "it was not run"
@@ -72,13 +76,13 @@ def wrong_of(case, line, shown):
     return wrong
 
 
-def replay(crate, cases, folder):
+def replay(crate: str, cases: Collection[Case], folder: pathlib.Path) -> Iterator[tuple[str, str | None]]:
     """Builds the program of a crate once and runs it on each case: the name of each, and what is wrong with it, or None."""
     store(cases, folder / "cases")
     came = run(crate, ["--cases", str(folder / "cases")])
     lines = {name: (told, *found) for told, name, *found in LINE.findall(came.stderr)}
-    _, *shown = SHOWN.split(came.stdout)
-    shown = dict(zip(shown[::2], shown[1::2]))
+    _, *parts = SHOWN.split(came.stdout)
+    shown = dict(zip(parts[::2], parts[1::2]))
     if not lines:
         yield "build", end_of(came)
         return

@@ -75,7 +75,7 @@ def adoptable(data):
 
 
 def names_of(count, length=8):
-    """Distinct names of at most eight bytes, or of just `length` where that is more, in no order."""
+    """Distinct names of at most eight bytes, or of just `length` if that is more, in no order."""
     numbers = random.Random(1).sample(range(16**7), count)
     return [f"h{number:x}".ljust(length if length > 8 else 0, "x") for number in numbers]
 
@@ -193,7 +193,7 @@ def largest(size):
 
 
 def distinct_limits(count):
-    """Distinct maxima of linear specs whose four bytes are a lawful name, in no order."""
+    """Distinct maxima of linear specs whose four bytes are a valid name, in no order."""
     lawful = [byte for byte in range(0x23, 0x7F) if byte != ord(",")]
     numbers = random.Random(4).sample(range(len(lawful) ** 4), count)
     side = len(lawful)

@@ -20,7 +20,7 @@ READ_FAULT, WRITE_FAULT, BUSY = fault("Read", 4), fault("Write", 4), fault("Busy
 NO_MEMORY, NO_THREAD = fault("NoMemory", 5), fault("NoThread", 5)
 # What comes where the program is not even loaded.
 NOT_LOADED = (127, -signal.SIGSEGV)
-# What stands in OUT before a command; None where there is no OUT.
+# What stands in OUT before a command; None if there is no OUT.
 STOOD = b"what stood there before"
 BEFORE = (STOOD, None)
 # Of three workers the second alone makes blocks, and each histogram is one worker's: so any run writes the same image.
@@ -39,7 +39,7 @@ delta,B
 add,A,1,1
 add,S,7,70000
 """
-# The same of the run that goes on with that image.
+# The same of the run that continues with that image.
 MORE = b"""\
 segment,256,64,7
 hist,A,boolean
@@ -58,7 +58,7 @@ add,S,9,1
 
 
 class Command:
-    """A command line with its files, and what it answers where nothing fails. OUT has a folder of its own."""
+    """A command line with its files, and what it returns if nothing fails. OUT has a folder of its own."""
 
     def __init__(self, program, name, words, inputs=(), out=None):
         self.program = program
@@ -83,13 +83,13 @@ class Command:
         return {path.name: path.read_bytes() for path in self.out.parent.iterdir()} if self.out else {}
 
     def failing(self, made, stood=STOOD):
-        """What it answers where calls fail, and what then stands in OUT's folder."""
+        """What it returns where calls fail, and what then stands in OUT's folder."""
         self.prepare(stood)
         settings = {"env": {**os.environ, **tracer.EACH_BY_ITSELF}}
         return tracer.answer(self.program, self.words, made, **settings), self.left()
 
     def each(self, stood=STOOD, **which):
-        """The place of each call that is meant, the answer where it fails, and what then stands in OUT's folder."""
+        """The place of each call that is meant, the answer if it fails, and what then stands in OUT's folder."""
         place = 0
         while True:
             made = tracer.Fault(at=place, **which)
@@ -117,7 +117,7 @@ def told(left):
 
 
 def wrong_where(command, wanted, what, before=(STOOD,), **fault):
-    """What is wrong where each such call fails in turn, and a fault is wanted and OUT as it was; or None."""
+    """What is wrong where each such call fails in turn, and a fault is wanted and OUT unchanged; or None."""
     for stood in before:
         tried = 0
         for place, came, left in command.each(stood, **fault):
@@ -131,7 +131,7 @@ def wrong_where(command, wanted, what, before=(STOOD,), **fault):
 
 
 def wrong_where_some(command, faults, what, **fault):
-    """What is wrong where each such call fails in turn, and one of these faults is wanted and OUT as it was, or the right
+    """What is wrong where each such call fails in turn, and one of these faults is wanted and OUT unchanged, or the right
     answer; or None. The last of the faults has to come."""
     for stood in BEFORE:
         tried = 0
@@ -177,7 +177,7 @@ def wrong_modes(command):
 
 
 def wrong_renames(command):
-    """The renaming comes behind all else, so the report is whole."""
+    """The renaming comes after all else, so the report is whole."""
     wanted = Answer(command.right.output, WRITE_FAULT.error, WRITE_FAULT.status)
     return wrong_where(command, wanted, "renaming", BEFORE, numbers=tracer.RENAMES)
 
@@ -201,13 +201,13 @@ def wrong_clashes(command):
 
 
 def fatal_openings(command, stood, error):
-    """The openings behind whose error comes `Write`: that of OUT, and then that of the new file."""
+    """The openings after whose error comes `Write`: that of OUT, and then that of the new file."""
     tried = command.each(stood, numbers=(tracer.OPEN_AT,), error=error)
     return [place for place, came, _ in tried if came == WRITE_FAULT]
 
 
 def wrong_kill(command, came, left, stood):
-    """What is wrong where the program was killed, or None. The new file may stand beside OUT as it was."""
+    """What is wrong where the program was killed, or None. The new file may stand beside OUT unchanged."""
     if came.status != -signal.SIGKILL:
         return f"wanted a kill, came the status {came.status}"
     if left == command.made:
@@ -247,7 +247,7 @@ def wrong_report_writes(command):
 
 
 def wrong_growths(command):
-    """Each allocation and all behind it are refused."""
+    """Each allocation and all after it are refused."""
     tried = 0
     for place, came, left in command.each(numbers=tracer.GROWTHS, lasting=True, error=errno.ENOMEM):
         if came.status in NOT_LOADED and not tried:

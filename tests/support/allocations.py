@@ -33,8 +33,8 @@ class Refuser:
         native.run([*native.compiler(".c"), "-std=gnu11", *native.STRICT, "-fPIC", "-shared", "-o", self.library, SOURCE])
 
     def answer(self, program, words, refused=None, lasting=False):
-        """What the program answers where the allocation at `refused` is refused, from 0, or none, and all allocations of the calls that it
-        named. Where it is `lasting`, so are those behind it of the same call."""
+        """What the program returns where the allocation at `refused` is refused, from 0, or none, and all allocations of the calls that it
+        named. Where it is `lasting`, so are those after it of the same call."""
         settings = {**os.environ, "LD_PRELOAD": str(self.library), "REFUSE_LOG": str(self.log)}
         if refused is not None:
             settings["REFUSE_AT"] = str(refused)

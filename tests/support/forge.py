@@ -1,4 +1,4 @@
-"""Forged images of both versions: lawful ones with histograms of all kinds, and then faults in them.
+"""Forged images of both versions: valid ones with histograms of all kinds, and then faults in them.
 
 `image_of(chance)` gives the bytes of one; the same random numbers give the same bytes.
 """
@@ -79,7 +79,7 @@ class Forge(Words):
         return [0, 0, 0], []
 
     def histogram(self):
-        """A histogram where there is room for it, lawful but for a name of 129 bytes or 1,001 buckets now and then."""
+        """A histogram where there is room for it, valid but for a name of 129 bytes or 1,001 buckets now and then."""
         chance = self.chance
         kind = chance.choice([LINEAR, BOOLEAN, CUSTOM, SPARSE])
         name = chance.choice(NAMES) if chance.random() < 0.97 else b"m" * 129
@@ -104,7 +104,7 @@ class Forge(Words):
         return (packed, TOP + bucket, NOTHING_PACKED) if self.version == 1 else (packed, TOP + packed, TOP)
 
     def samples_of(self, record):
-        """A lawful single word, counts and marks of a histogram that is not sparse; gives its units."""
+        """A valid single word, counts and marks of a histogram that is not sparse; gives its units."""
         chance, at, n = self.chance, record.at, record.n
         shared = [other.counts for other in self.histograms if other.counts and other.n == n]
         if shared and chance.random() < 0.3:
@@ -138,7 +138,7 @@ class Forge(Words):
         self.store(record.at + 11, total, mark, redundant)
 
     def sample(self):
-        """A sample of a sparse histogram, where there is one and room."""
+        """A sample of a sparse histogram, if there is one and room."""
         chance = self.chance
         owners = [record.at for record in self.histograms if record.kind == SPARSE]
         at = self.block(8, SAMPLE) if owners else None
@@ -161,7 +161,7 @@ def small_block(forge, record):
 
 
 def shortened_block(forge, record):
-    """The block ends right behind the name or the ranges, or one word before."""
+    """The block ends right after the name or the ranges, or one word before."""
     ranges = record.n - 1 if record.kind == CUSTOM else 0
     forge.store(record.at, record.first_range + ranges - record.at - forge.chance.choice([0, 1, 1]))
 
@@ -430,7 +430,7 @@ def overwrite(forge):
 
 
 def break_list(forge):
-    """A next that leads elsewhere, or the header of a block on the list that is no more lawful."""
+    """A next that leads elsewhere, or the header of a block on the list that is no more valid."""
     chance = forge.chance
     records = [record.at for record in forge.histograms + forge.samples]
     at = chance.choice(records)

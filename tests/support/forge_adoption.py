@@ -1,4 +1,4 @@
-"""Images of version 2 that come of a seed and may be adopted, and then mostly one or two reasons why they may not.
+"""Images of version 2 that are generated from a seed and may be adopted, and then mostly one or two reasons why they may not.
 
 `image_of(chance)` gives the bytes of one; the same random numbers give the same bytes.
 """
@@ -41,7 +41,7 @@ class Forge(forge.Forge):
         return kept + (sum(self.words[counts + 4 : counts + 4 + n]) if counts else 0)
 
     def settle(self, record):
-        """Makes the counts small, or 0 where they are not in use, and the marks fit to them."""
+        """Makes the counts small, or 0 if they are not in use, and the marks fit to them."""
         at, n, counts = record.at, record.n, record.counts
         single = self.words[at + 9]
         for bucket in range(n):
@@ -75,7 +75,7 @@ class Forge(forge.Forge):
 
 
 def longer_block(made):
-    """A block that goes on into the one behind it, mostly."""
+    """A block that continues into the one after it, mostly."""
     at = made.chance.choice([record.at for record in made.histograms + made.samples])
     room = min(made.page - at % made.page, made.free - at)
     size = made.words[at]

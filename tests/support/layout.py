@@ -14,7 +14,7 @@ PAGE = 65_536
 FLAGS, FREE, TAIL, QUEUE, FIRST = 6, 7, 8, 12, 16
 CORRUPT, FULL = 1, 2
 
-# A block: its size, its cookie, its type and the next on the list; behind these its payload.
+# A block: its size, its cookie, its type and the next on the list; after these its payload.
 SIZE, COOKIE, TYPE, NEXT, BLOCK_HEADER = 0, 1, 2, 3, 4
 BLOCK_LEAST = 5
 BLOCK_COOKIE, WASTED = 0xC8799269, 2**64 - 1
@@ -55,7 +55,7 @@ class Words:
         return self.page - self.free % self.page
 
     def block(self, size: int, tag: int) -> int | None:
-        """A new block of so many words or up to four more, or None where it does not fit."""
+        """A new block of so many words or up to four more, or None if it does not fit."""
         if self.free + size > len(self.words) or size > self.page:
             return None
         if size > self.room():
@@ -69,7 +69,7 @@ class Words:
         return at
 
     def publish(self, at: int) -> None:
-        """Links a block behind the last one of the list."""
+        """Links a block after the last one of the list."""
         self.store(self.tail + NEXT, at)
         self.store(at + NEXT, QUEUE)
         self.tail = at

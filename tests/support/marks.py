@@ -28,7 +28,7 @@ def sums():
 
 
 def keep(noted):
-    """Marks the libraries whose sums are as they were noted."""
+    """Marks the libraries whose sums are still as they were noted."""
     for crate in rtlib.crates_below(str(CRATES)):
         if pathlib.Path(crate.rlib, "format").is_file() and noted.get(crate.name) == crate.stamp():
             pathlib.Path(crate.folder, "out", "rlib", "stamp").write_text(crate.stamp(), encoding="utf-8")

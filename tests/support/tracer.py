@@ -55,9 +55,9 @@ class Call(ctypes.Structure):
 
 @dataclasses.dataclass
 class Fault:
-    """Which calls fail: of those with these numbers, on these files and those in these folders alone where any are named,
-    the one at `at`, from 0; and all behind it, where it is `lasting`; or those behind it up to the thread's next call of another
-    number, where it is one `growth`, for which the C library asks more than once. With `kills` the program is killed there
+    """Which calls fail: of those with these numbers, on these files and those in these folders alone if any are named,
+    the one at `at`, from 0; and all after it, if it is `lasting`; or those after it up to the thread's next call of another
+    number, if it is one `growth`, for which the C library asks more than once. With `kills` the program is killed there
     instead. With `most`, each read and write of them moves so many bytes at most instead.
     """
 
@@ -111,7 +111,7 @@ def ptrace(request, thread, address=0, data=0):
 
 
 def begin(thread, call, fault):
-    """Meets a call that begins; the registers that are to be set where it ends, each with its value."""
+    """Meets a call that begins; the registers that are to be set when it ends, each with its value."""
     if not fault.is_meant(thread, call):
         fault.pass_by(thread)
         return []
@@ -124,7 +124,7 @@ def begin(thread, call, fault):
         os.kill(thread, signal.SIGKILL)
         return []
     if call.number == BREAK:
-        # It has no error: where it can't move the end of the data it tells where that is, as it does when asked for 0.
+        # It has no error: if it can't move the end of the data it says where that is, as it does when asked for 0.
         ptrace(POKE_USER, thread, FIRST, 0)
         return [(FIRST, call.arguments[0])]
     ptrace(POKE_USER, thread, NUMBER, NO_CALL)
@@ -143,7 +143,7 @@ def meet(thread, fault, to_set):
 
 
 def next_stop(first):
-    """The next thread that stops and why, or None and the program's status where it has ended."""
+    """The next thread that stops and why, or None and the program's status if it has ended."""
     while True:
         thread, status = os.waitpid(-1, ALL_CHILDREN)
         if os.WIFSTOPPED(status):
@@ -171,7 +171,7 @@ def follow(first, fault):
 
 
 def answer(program, words, fault, **settings):
-    """What the program answers where calls fail."""
+    """What the program returns where calls fail."""
     with tempfile.TemporaryFile() as output, tempfile.TemporaryFile() as error:
         streams: dict[str, typing.Any] = {"stdin": subprocess.DEVNULL, "stdout": output, "stderr": error}
         running = subprocess.Popen([program, *words], preexec_fn=lambda: ptrace(TRACE_ME, 0), **streams, **settings)

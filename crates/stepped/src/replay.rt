@@ -55,7 +55,7 @@ fn change_of(old: &[u64], new: &[u64]) -> Option<Change>
 impl Replay {
     /// Returns a new world [world] in which so many events may happen [left], which are shown in this form [form].
     /// Else the fault is `World` of record 1 with the first reason why there can be no such world, or `NoMemory`
-    /// where there is none [faults].
+    /// where memory runs out [faults].
     pub fn new(
         alloc: Global,
         opening: NewWorld,

@@ -26,7 +26,7 @@ WIDTH = 140
 # How many signs a clause may have that is shown as it stands.
 SHORT = 80
 # The crates whose doc comments do not name their clauses yet: docs/PROVED_BY_HAND.md has what is proved of them.
-LEFT = ("list_index", "live_segment", "owned_recorder", "povundiri_c", "reading_shows", "persist_report_core")
+LEFT = ("list_index", "live_segment", "owned_recorder", "povundiri_c", "reading_shows", "persist_report_core", "fault_texts", "persist_report")
 # Programs of the tests, which promise nothing.
 PROGRAMS_OF_TESTS = ("trials", "worked_lists", "worked_rows", "worked_words")
 

@@ -73,7 +73,7 @@ fn start_of(text: &[u8], taken: usize) -> usize
     text.len() - rest.len() + ends
 }
 
-/// Returns the record of a script with this number, from 1, where there is one. It begins within the text.
+/// The record of a script with this number, from 1, where there is one.
 pub fn place_of(alloc: Global, text: &[u8], number: u32) -> Result<Option<Place>, AllocError>
     ensures { IfOk result (λ found. IfSome found (λ place. place.start ≤ length text.now)) }
 {
@@ -121,7 +121,7 @@ fn line_feeds(text: &[u8]) -> usize
     text.iter().filter(|byte| **byte == b'\n').count()
 }
 
-/// Returns the line of a file in which a byte stands, from 1: one more than the line feeds before it.
+/// The line of a file in which a byte stands, from 1: one more than the line feeds before it.
 pub fn line_of(text: &[u8], start: usize) -> usize
     requires { start ≤ length text.now }
     ensures { result ≡ 1 + count_by (λ byte. byte == 10) (take start text.now) }

@@ -50,7 +50,7 @@ fn find_text<'a>(table: &'a [(&'a str, &'a str, &'a str)], name: &str) -> Option
     None
 }
 
-/// Returns the text of a fault by its name, where there is one; it has that name.
+/// The text of a fault by its name, where there is one.
 pub fn text_of(name: &str) -> Option<FaultText<'static>>
     ensures { IfSome result (λ text. text.name.now ≡ name.now) }
 {

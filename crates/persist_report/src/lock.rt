@@ -35,8 +35,7 @@ impl From<Cause> for Unopened {
 
 /// Takes the lock of an open file, which has it until it is closed.
 ///
-/// The failure is `Busy` where another has had it for 100 ms, or `Write` where the system cannot lock the file; never
-/// another.
+/// `Busy` where another has had it for 100 ms, and `Write` where the system cannot lock the file.
 pub fn take_lock<R: Clock>(rt: &R, file: &File) -> Result<(), Unopened>
     ensures { IfErr result IsBusyOrWrite }
 {

@@ -10,7 +10,7 @@ pub struct Nth {
 }
 
 impl Nth {
-    /// Returns the segment with this number [same], where there may be one: from 1 on [all].
+    /// The segment with this number, where there may be one.
     pub fn of(number: u64) -> Option<Nth>
         ensures all { IsSome result ↔ (1 ≤ number) }
         ensures same { IfSome result (λ nth. nth.number ≡ number) }
@@ -21,7 +21,7 @@ impl Nth {
         Some(Nth { number })
     }
 
-    /// Returns its number [same], which is 1 or more [any].
+    /// Its number.
     pub fn number(&self) -> u64
         ensures same { result ≡ self.now.number }
         ensures any { 1 ≤ result }

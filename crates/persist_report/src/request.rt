@@ -395,8 +395,7 @@ impl<'a> Request<'a> {
     }
 }
 
-/// Returns what is wrong with a command line in which an argument is not UTF-8 text: a mistake in a value. The one
-/// error is that memory runs out.
+/// What is wrong with a command line in which an argument is not UTF-8 text.
 pub fn not_text(alloc: Global) -> Result<Error, AllocError>
     ensures { IfOk result (λ error. kind_of error ≡ ErrorKind.ValueValidation) }
 {
@@ -406,16 +405,14 @@ pub fn not_text(alloc: Global) -> Result<Error, AllocError>
     )
 }
 
-/// Returns what is wrong with a command line that asks for a fault that there is not: a wrong value. The one error is
-/// that memory runs out.
+/// What is wrong with a command line that asks for a fault that there is not.
 pub fn no_fault(alloc: Global) -> Result<Error, AllocError>
     ensures { IfOk result (λ error. kind_of error ≡ ErrorKind.InvalidValue) }
 {
     command(alloc)?.error(ErrorKind::InvalidValue, "no fault has this name")
 }
 
-/// Returns what is wrong with a command line whose prefix is none: a mistake in a value. The one error is that memory
-/// runs out.
+/// What is wrong with a command line whose prefix is none.
 pub fn no_prefix(alloc: Global) -> Result<Error, AllocError>
     ensures { IfOk result (λ error. kind_of error ≡ ErrorKind.ValueValidation) }
 {

@@ -147,9 +147,14 @@ def sources(crate):
     return sorted((ROOT / "crates" / crate / "src").glob("**/*.rt"))
 
 
+def promising(crate):
+    """Whether the crate has a public function that has clauses."""
+    return any(True for file in sources(crate) for _ in functions(file.read_text()))
+
+
 def done():
     """The crates that have a page, in the order of docs/ARCHITECTURE.md."""
-    return [crate for crate in definitions.crates() if crate not in (*LEFT, *PROGRAMS_OF_TESTS)]
+    return [crate for crate in definitions.crates() if crate not in (*LEFT, *PROGRAMS_OF_TESTS) and promising(crate)]
 
 
 def refused():

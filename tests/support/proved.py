@@ -241,20 +241,25 @@ def function_lines(function):
 
 
 def about(text):
-    """What a file says that it is about, in its first sentence."""
+    """What a file says that it is about, in its first paragraph."""
     head = re.match(r"(?://!.*\n)*", text)[0]
-    first = " ".join(line[3:].strip() for line in head.split("\n//!\n")[0].splitlines())
-    return definitions.in_short(LINK.sub(r"\1", first))
+    return LINK.sub(r"\1", " ".join(line[3:].strip() for line in head.split("\n//!\n")[0].splitlines()))
+
+
+def root_of(crate):
+    """The root file of a crate, which says what the crate is about."""
+    return next(file for file in sources(crate) if file.name in ("lib.rt", "main.rt"))
 
 
 def page(crate):
-    lines = [f"# What is proved of `{crate}`", "", "Made by `tests/support/proved.py` of the doc comments; `../PROVED.md` says how to read it."]
+    lines = [f"# What is proved of `{crate}`", "", *wrapped(about(root_of(crate).read_text())), ""]
+    lines += ["This page is made by `tests/support/proved.py` of the doc comments; `../PROVED.md` says how to read it."]
     for file in sources(crate):
         text = file.read_text()
         entries = [line for function in functions(text) for line in function_lines(function)]
         if entries:
             name = ".".join(file.relative_to(ROOT / "crates" / crate / "src").with_suffix("").parts)
-            said = about(text)
+            said = definitions.in_short(about(text)) if file != root_of(crate) else ""
             lines += ["", f"## `{name}`" + (f": {said}" if said else ""), *entries]
     return "\n".join(lines) + "\n"
 

@@ -73,9 +73,9 @@ impl Walk {
     ///
     /// `Record` comes with a reference, where the walk then stands; `End` where the next is 12, and `Stray` where it
     /// is neither 12 nor from 16 to five below the number of words. After these two the walk stands where it stood,
-    /// and can be stepped again [stands]. It stays within the words [reach]. If it had given the front of a chain
-    /// from the start, it has given that and this record now [given]. In any words with a chain, a walk at a place of
-    /// it gives the record after that place, or `End` at the end of the chain [chain].
+    /// and can be stepped again [stands]. It stays within the words [reach]. Where it stood after what a walk from
+    /// the start had given, it stands after that and what it gives now [given]. In any words with a chain, a walk at
+    /// a place of it gives the record after that place, or `End` at the end of the chain [chain].
     pub fn step(&mut self, words: &[u64]) -> WalkStep
         requires headed { HEADER_WORDS ≤ length words.now }
         requires reach { is_reference (length words.now) self.old ≡ true }

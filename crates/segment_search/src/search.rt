@@ -23,7 +23,9 @@ pub struct Found {
     pub image: Image,
 }
 
-/// Returns the segment with the number `nth`, from 1, of those that stand among the bytes that a reader has left.
+/// Returns the segment with the number `nth`, from 1, of those that stand among the bytes that a reader has left: one
+/// stands at each whole word at which a valid header stands, with all the words that it says before the end, also
+/// inside another segment's words.
 ///
 /// The reader has not failed before. On `Ok` the segment stands at the word that is returned, has exactly these
 /// words, and one fewer stand before it. `NoSegment` comes only where fewer stand there, `TooLong` only where there

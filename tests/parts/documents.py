@@ -1,11 +1,15 @@
-"""Documents that are made of the sources are what these say now, and the Python of tests/ and bench/ is clean. No program is run."""
+"""Documents that are made of the sources are what these say now, links lead to files that are there, and the Python of tests/ and bench/ is
+clean. No program is run."""
 
-from support import definitions, faults, linted
+from support import definitions, faults, linted, links, proved
 
 PROGRAM = None
 
 
 def cases(_program, _options):
-    yield "docs/DEFINITIONS.md, which tests/support/definitions.py --write makes anew", definitions.difference()
+    yield "docs/DEFINITIONS.md, which tests/support/definitions.py --write makes anew, as it does docs/definitions", definitions.difference()
     yield "docs/FAULTS.md, which tests/support/faults.py --write makes anew", faults.difference()
+    yield "what tests/support/proved.py refuses of a made-up file", proved.self_check()
+    yield "docs/proved, which tests/support/proved.py --write makes anew", proved.difference()
+    yield "the links of documents", links.broken()
     yield from linted.cases()

@@ -1,14 +1,16 @@
 #!/usr/bin/env python3
-"""Makes docs/DEFINITIONS.md of the comments in specs/, and a page of docs/definitions for each crate.
+"""Makes docs/DEFINITIONS.md, which lists the crates that have definitions, and of the comments in specs/ a page of docs/definitions for
+each of them. The pages are not kept in git.
 
     tests/support/definitions.py [--write]
 
-With --write it writes the files. Without, it says what differs in the files that are there, and the status is 1 where anything does.
+With --write it writes the files. Without, it says where docs/DEFINITIONS.md differs, and the status is 1 if it does.
 """
 
 import pathlib
 import re
 import sys
+import textwrap
 
 sys.path.insert(0, str(pathlib.Path(__file__).resolve().parents[1]))
 from support import made
@@ -21,15 +23,19 @@ MOST_SIGNS = 110
 HEAD = """\
 # The definitions
 
-The definitions that contracts speak of, a page for each crate. The pages are made of the comments in `specs/`: do not edit them, but
-the comment there, and then run `tests/support/definitions.py --write`.
+The definitions that contracts cite have a page for each crate. The pages are not in git. This makes them, in `docs/definitions`:
 
-Crates stand in the order of `ARCHITECTURE.md`. On its page, every module of `specs/` has its name, what it is about, and its definitions
-in the order of the file, each with the first sentence of its comment. Left out are those that no contract names, and no definition of
-another crate: the parts of those that are listed. The comment in the file says each in full.
+    tests/support/definitions.py --write
 
-A definition says what is meant, and never how the code finds it. The machine has a page of its own to read first: `MACHINE.md`.
-What is proved of the definitions: `PROVED.md` and `PROVED_MACHINE.md`.
+They are made of the comments in `specs/`. A page has every module of `specs/`: its name, what it is about, and its definitions in the order of
+the file, each with the first sentence of its comment. It leaves out those that no contract names, and no definition of another crate: they
+are parts of those that are listed. The comment in the file says each in full.
+
+A definition says what is meant, and never how the code finds it. `MACHINE.md` explains the machine; read it first.
+What is proved of the definitions: `PROVED.md`.
+
+These crates have a page, in the order of `ARCHITECTURE.md`:
+
 """
 
 # The head of a definition that others may name.
@@ -141,17 +147,18 @@ def pages():
             yield crate, "\n".join(lines) + "\n"
 
 
-def documents():
-    """The index and the pages, by their paths."""
-    made_of = dict(pages())
-    index = "".join(f"- [`{crate}`](definitions/{crate}.md)\n" for crate in made_of)
-    return {DOCUMENT: f"{HEAD}\n{index}", **{PAGES / f"{crate}.md": text for crate, text in made_of.items()}}
+def index():
+    """The document that says how the pages are made, and of which crates, by its path."""
+    crates_in_a_row = " ".join(f"`{crate}`" for crate, _ in pages())
+    return {DOCUMENT: HEAD + "\n".join(textwrap.wrap(crates_in_a_row, WIDTH)) + "\n"}
 
 
 def difference():
-    """Where the documents differ from the comments, or a page has no crate; or None."""
-    return made.difference(documents(), "specs/", PAGES)
+    """Where that document differs, or None. To say which crates have a page, all pages are made."""
+    return made.difference(index(), "specs/")
 
 
 if __name__ == "__main__":
-    sys.exit(made.run(sys.argv[1:], __doc__, documents(), "specs/", PAGES))
+    if sys.argv[1:] == ["--write"]:
+        made.write({PAGES / f"{crate}.md": text for crate, text in pages()})
+    sys.exit(made.run(sys.argv[1:], __doc__, index(), "specs/"))

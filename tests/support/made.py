@@ -18,12 +18,16 @@ def difference(documents, source, folder=None):
     return "\n".join(came) or None
 
 
+def write(documents):
+    for path, text in documents.items():
+        path.parent.mkdir(exist_ok=True)
+        path.write_text(text)
+
+
 def run(arguments, usage, documents, source, folder=None):
     """The program of a script: with --write it writes the files; without, it says what differs, and the status is 1 where anything does."""
     if arguments == ["--write"]:
-        for path, text in documents.items():
-            path.parent.mkdir(exist_ok=True)
-            path.write_text(text)
+        write(documents)
         return 0
     if arguments:
         sys.exit(usage)

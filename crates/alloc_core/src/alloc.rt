@@ -143,7 +143,8 @@ impl Alloc {
     ghost use Rattle.alloc_core.specs.Alloc.{event_at, next_event, stage_of_plan, seen_after, stage_after, started, moved, Allocation, IsStep, IsCorruptBy};
     ghost use Rattle.alloc_core.specs.Laws.{Keeps, IsNewBlock};
 
-    /// An allocation of a block with `payload` words behind its header, and of a type; a payload of 0 is taken as 1.
+    /// Starts an allocation of a block with `payload` words after its header, and of a type; a payload of 0 is taken
+    /// as 1.
     ///
     /// `TooLarge` where header and payload are more words than a page has.
     pub fn start(shape: Shape, payload: u64, tag: u64) -> Result<Alloc, TooLarge>
@@ -161,12 +162,19 @@ impl Alloc {
         })
     }
 
-    /// Goes on by one event, which changes one word at most. The words are as many as the shape says, and the step
-    /// before, if there was one, said `More`.
+    /// Performs the allocation's next event, which changes one word at most [step]. The words are as many as the
+    /// shape says, and the step before, if there was one, returned `More`. It takes no memory.
     ///
-    /// `Done` with the reference of the block comes where its type was stored, the last of its header. `Full` comes where
-    /// the words that are wanted pass the end of the segment, once the full flag is set. `Corrupt` comes where the corrupt
-    /// flag was loaded, or a free pointer that no segment has. These three end the allocation; `More` says that it goes on.
+    /// - `More`: it continues, and has a next event [more].
+    /// - `Done` with the reference of the block: its type was stored, the last of its header. The block is new: its
+    ///   header is stored, its next and payload are zeros, it lies in one page and below the free pointer. It is
+    ///   apart from every block that anybody claimed, every wasted rest and every gap of the segment [done].
+    /// - `Full`: the words that are wanted pass the end of the segment from the free pointer that it loaded last
+    ///   [full]; the full flag is set.
+    /// - `Corrupt`: it loaded the corrupt flag, or a free pointer that no segment has [corrupt].
+    ///
+    /// Where the words and any allocations, this one among them, kept the allocation invariant, they keep it after
+    /// the step [keeps].
     pub fn step(&mut self, words: &mut [u64]) -> AllocStep
         requires long { length words.old ≡ self.old.shape.size }
         requires running { is_some (next_event self.old) ≡ true }
@@ -182,7 +190,7 @@ impl Alloc {
         self.stage.answer()
     }
 
-    /// The exchange that is its next event, where that is one.
+    /// Returns the exchange that its next event is, if it is one: the word, and the value that is wanted there.
     pub fn next_exchange(&self) -> Option<Attempt>
         ensures { result ≡ attempt_of (next_event self.now) }
     {

@@ -4,7 +4,7 @@ ghost use Rattle.std.specs.Prelude.{◌≡◌, ◌<◌, length};
 ghost use Rattle.segment_image.specs.Words.{word_at};
 ghost use Rattle.alloc_core.specs.Event.{store as store_of, exchange as exchange_of, set_bits as set_bits_of, after};
 
-/// Stores a value in the word `at`, which is one of the words. It gives the value that was there.
+/// Stores a value in the word `at`, which is one of the words [words]. Returns the value that was there [found].
 pub fn store(words: &mut [u64], at: usize, value: u64) -> u64
     requires { at < length words.old }
     ensures words { words.new ≡ after (store_of at value) words.old }
@@ -15,8 +15,8 @@ pub fn store(words: &mut [u64], at: usize, value: u64) -> u64
     found
 }
 
-/// Exchanges the word `at` for a new value where it is the old one. It gives the value that was there, so the exchange
-/// went through where this is the old one.
+/// Exchanges the word `at` for a new value where it is the old one [words]. Returns the value that was there, so the
+/// exchange succeeded if that is the old one [found].
 pub fn exchange(words: &mut [u64], at: usize, old: u64, new: u64) -> u64
     requires { at < length words.old }
     ensures words { words.new ≡ after (exchange_of at old new) words.old }
@@ -29,7 +29,7 @@ pub fn exchange(words: &mut [u64], at: usize, old: u64, new: u64) -> u64
     found
 }
 
-/// Sets bits of the word `at`, and leaves its others. It gives the value that was there.
+/// Sets bits of the word `at`, and leaves its others unchanged [words]. Returns the value that was there [found].
 pub fn set_bits(words: &mut [u64], at: usize, bits: u64) -> u64
     requires { at < length words.old }
     ensures words { words.new ≡ after (set_bits_of at bits) words.old }

@@ -24,39 +24,39 @@ pub fn opening_words_keep()
     ensures { (shape : Dimensions) (id : ℕ) → IsShape shape → StateKeeps shape (opening shape id) }
 {}
 
-/// Whatever happens next keeps it: an allocation starts, or goes on by its next event; the owner of a claimed block stores
-/// a word of its payload; somebody sets the corrupt flag.
+/// Whatever happens next keeps the invariant: an allocation starts, or performs its next event; the owner of a
+/// claimed block stores a word of its payload; somebody sets the corrupt flag.
 pub fn moves_keep()
     ensures { (shape : Dimensions) (move : Move) (old new : State) → StateKeeps shape old → IsMove shape move old new → StateKeeps shape new }
 {}
 
-/// So do any moves, one after the other, in whatever order.
+/// So do any such moves, one after the other, in whatever order.
 pub fn runs_keep()
     ensures { (shape : Dimensions) (moves : List Move) (old new : State) → StateKeeps shape old → IsRun shape moves old new → StateKeeps shape new }
 {}
 
-/// The words that two allocations have taken and not wasted, their claimed blocks among them, are apart.
+/// The words that two allocations have taken and not wasted, their claimed blocks among them, do not overlap.
 pub fn blocks_are_apart()
     ensures { (shape : Dimensions) (state : State) (i j : ℕ) (a b : Allocation) (block other : ℕ × ℕ) → StateKeeps shape state → i ≢ j
         → get_elem? state.allocations i ≡ some a → get_elem? state.allocations j ≡ some b
         → taken a.stage ≡ Some block → taken b.stage ≡ Some other → Apart block other }
 {}
 
-/// A claimed block is one that a reader of images takes: below the free pointer, with its cookie, in one page.
+/// A reader of images accepts each claimed block: it lies below the free pointer, with its cookie, in one page.
 pub fn claimed_blocks_are_lawful()
     ensures { (shape : Dimensions) (state : State) (reference : ℕ) → StateKeeps shape state → IsRecord state.allocations reference
         → is_block state.words (head_of state.words) reference ≡ true }
 {}
 
-/// The free pointer is lawful, and it is the one that an allocation loaded last, or at least five above it. So an
+/// The free pointer is valid, and it is the one that an allocation loaded last, or at least five above it. So an
 /// exchange that fails finds it at least five higher.
 pub fn free_pointer_rises()
     ensures { (shape : Dimensions) (state : State) (owner : ℕ) (a : Allocation) → StateKeeps shape state → get_elem? state.allocations owner ≡ some a
         → Behind a.seen (word_at state.words FREE_WORD) × (is_pointer shape (word_at state.words FREE_WORD) ≡ true) }
 {}
 
-/// The flags change only by those that set them: the corrupt flag by somebody who spoils the segment, the full flag by
-/// an allocation that has found no room. All other bits of their word stay as they were.
+/// The flags change only by those that set them: the corrupt flag by somebody who spoils the segment, the full flag
+/// by an allocation that has found no room [setters]. All other bits of their word stay unchanged [others].
 pub fn flags_have_setters()
     ensures setters { (shape : Dimensions) (move : Move) (old new : State) → StateKeeps shape old → IsMove shape move old new → FlagsBy move old new }
     ensures others { (shape : Dimensions) (move : Move) (old new : State) (bit : ℕ) → StateKeeps shape old → IsMove shape move old new
@@ -70,8 +70,8 @@ pub fn image_words_keep()
         → StateKeeps shape (record state { words = slice_set state.words at value }) }
 {}
 
-/// A block that no allocation has stays as it is, whatever happens. So do the blocks of a segment that was made of an image:
-/// they are in every later layout, and each new block is apart from them.
+/// A block that no allocation has stays unchanged, whatever happens. So do the blocks of a segment that was made of
+/// an image: they are in every later layout, and each new block is apart from them.
 pub fn image_blocks_stay()
     ensures { (shape : Dimensions) (moves : List Move) (old new : State) (kept : StateKeeps shape old) → IsRun shape moves old new
         → (later : StateKeeps shape new) × Leaves kept.layout later.layout }
@@ -84,14 +84,15 @@ pub fn list_words_keep()
         → StateKeeps shape (record state { words = slice_set state.words at value }) }
 {}
 
-/// And whatever happens leaves the words of the list as they are.
+/// Whatever happens leaves the words of the list unchanged.
 pub fn moves_leave_list_words()
     ensures { (shape : Dimensions) (move : Move) (old new : State) (at : ℕ) → StateKeeps shape old → IsMove shape move old new
         → IsListWord old.allocations at → (word_at new.words at ≡ word_at old.words at) × IsListWord new.allocations at }
 {}
 
-/// Whatever happens leaves the words of the header but the flags and the free pointer, those between the tail and the queue
-/// block among them; the list beside allocations may store in the tail and in the next of the queue block.
+/// Whatever happens leaves the words of the header unchanged but the flags and the free pointer, those between the
+/// tail and the queue block among them. Only the list, beside allocations, stores in the tail and in the next of the
+/// queue block.
 pub fn header_words_stay()
     ensures { (shape : Dimensions) (move : Move) (old new : State) (at : ℕ) → StateKeeps shape old → IsMove shape move old new
         → at < HEADER_WORDS → at ≢ FLAGS_WORD → at ≢ FREE_WORD → word_at new.words at ≡ word_at old.words at }
@@ -102,8 +103,9 @@ pub fn words_behind_are_zeros()
     ensures { (shape : Dimensions) (state : State) (at : ℕ) → StateKeeps shape state → word_at state.words FREE_WORD ≤ at → word_at state.words at ≡ 0 }
 {}
 
-/// All words that allocations have taken and not wasted lie between the queue block and the free pointer. A claimed block is
-/// five of them or more, so five times the number of claimed blocks is at most the free pointer less 16.
+/// All words that allocations have taken and not wasted lie between the queue block and the free pointer [taken]. A
+/// claimed block is five of them or more, so five times the number of claimed blocks is at most the free pointer less
+/// 16 [claimed].
 pub fn taken_words_fit()
     ensures claimed { (shape : Dimensions) (state : State) → StateKeeps shape state
         → HEADER_WORDS + BLOCK_LEAST * count_by (λ a. has_claimed a.stage) state.allocations ≤ word_at state.words FREE_WORD }

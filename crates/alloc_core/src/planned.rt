@@ -18,7 +18,8 @@ pub enum Planned {
     Full,
 }
 
-/// What an allocation of `size` words, its header among them, does from the free pointer `free` on.
+/// Returns what an allocation of `size` words, its header among them, does from the free pointer `free` on: it claims
+/// them, it wastes the rest of the page, or the segment is full.
 pub fn plan(free: u64, size: u64, shape: Shape) -> Planned
     ensures { result ≡ planned free size shape }
 {

@@ -28,7 +28,7 @@ impl From<Vec<u32>> for CustomValues {
 }
 
 impl CustomValues {
-    /// The values, in the vector that they were given in.
+    /// Returns the values, in the vector that they were given in.
     pub fn into_vec(self) -> Vec<u32>
         ensures { result.items ≡ self }
     {
@@ -36,7 +36,7 @@ impl CustomValues {
         values
     }
 
-    /// The values.
+    /// Returns the values.
     pub fn as_slice(&self) -> &[u32]
         ensures { result.now ≡ self.now }
     {
@@ -49,8 +49,9 @@ ghost use Rattle.std.specs.List.Sorted.{IsStrictlyIncreasing};
 ghost use Rattle.bucket_ranges.specs.Spec.{distinct_values, AreDistinctValues};
 ghost use Rattle.bucket_ranges.specs.Ranges.{custom_boundaries};
 
-/// The distinct values of a custom spec are those of its values that are above 0, each once and below the next, and
-/// no other list is like that. So values that stand like that already are the boundaries between both ends.
+/// The distinct values of a custom spec are those of its values that are above 0, each once and below the next
+/// [stand], and no other list is like that [only]. So values that are in that order already are the boundaries
+/// between both ends [in_order].
 ///
 /// It does nothing: what it promises are laws of the definitions.
 pub fn distinct_values_stand_once()

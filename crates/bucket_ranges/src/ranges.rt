@@ -28,10 +28,9 @@ impl Ranges {
     ghost use Rattle.bucket_ranges.specs.Spec.{spec_fault, buckets_of};
     ghost use Rattle.bucket_ranges.specs.Ranges.{boundaries_of, clamped, IsBucketOf};
 
-    /// The ranges of a spec.
-    ///
-    /// The first fault is answered: `BadMin`, `BadMax`, `TooFew`, `TooMany`, `BadRange`, `Empty`; then `NoMemory` where
-    /// there is none. The ranges of a sparse spec have no buckets.
+    /// Returns the ranges of a spec: its boundaries as they are defined, or its first fault: `BadMin`, `BadMax`,
+    /// `TooFew`, `TooMany`, `BadRange`, `Empty`; then `NoMemory` where memory runs out [boundaries]. There are as
+    /// many buckets as the spec has, of a sparse one none [buckets].
     pub fn of(alloc: Global, spec: &Spec) -> Result<Ranges, SpecFault>
         ensures boundaries { MatchOption (spec_fault spec.now) (MatchResult result (λ ranges. ranges ≡ boundaries_of spec.now) (λ fault. fault ≡ SpecFault.NoMemory)) (λ fault. result ≡ Err fault) }
         ensures buckets { IfOk result (λ ranges. length ranges - 1 ≡ buckets_of spec.now) }
@@ -53,14 +52,14 @@ impl Ranges {
         }
     }
 
-    /// The number of buckets.
+    /// Returns the number of buckets.
     pub fn len(&self) -> usize
         ensures { result ≡ length self.now - 1 }
     {
         self.boundaries.len().saturating_sub(1)
     }
 
-    /// The least value of bucket `i`, which is below the least value behind it.
+    /// Returns the least value of bucket `i` [value], which is below that of the next bucket [below].
     pub fn low(&self, i: usize) -> i32
         requires { i + 1 < length self.now }
         ensures value { result ≡ pos (slice_index self.now i) }
@@ -69,7 +68,7 @@ impl Ranges {
         self.boundaries[i] as i32
     }
 
-    /// The least value behind bucket `i`.
+    /// Returns the boundary after bucket `i`: its values are below this one.
     pub fn high(&self, i: usize) -> i32
         requires { i + 1 < length self.now }
         ensures { result ≡ pos (slice_index self.now (i + 1)) }
@@ -77,8 +76,9 @@ impl Ranges {
         self.boundaries[i + 1] as i32
     }
 
-    /// The bucket of a value, which is clamped first: a value below 0 counts as 0, and one above 2,147,483,646 as that
-    /// (Chromium's histograms). It is found by halving, without memory and without a branch on the value.
+    /// Returns the bucket that holds the clamped value: a value below 0 counts as 0, and one above 2,147,483,646 as
+    /// that (Chromium's histograms) [found]. No other bucket holds it [only]. It is found by halving, without memory
+    /// and without a branch on the value.
     pub fn bucket(&self, value: i32) -> usize
         requires { 1 < length self.now }
         ensures found { IsBucketOf self.now (clamped value) result }

@@ -40,7 +40,7 @@ impl RecordFault {
     ghost use Rattle.std.specs.Prelude.{◌≡◌};
     ghost use Rattle.bucket_ranges.specs.Fault.{record_fault_number};
 
-    /// The fault's number, from 1.
+    /// Returns the fault's number, from 1.
     pub fn number(&self) -> u32
         ensures { result ≡ record_fault_number self.now }
     {
@@ -75,26 +75,26 @@ pub fn one_reading()
     ensures { (words : List ℕ) (head : SegmentHead) (a b : Reading) → IsReading words head a → IsReading words head b → a ≡ b }
 {}
 
-/// The words of a record that are those of a lawful spec name a spec without a fault, which has the number of buckets
-/// that they say.
+/// The words of a record that are those of a valid spec name a spec without a fault [lawful], which has the number of
+/// buckets that they say [buckets].
 ///
-/// It does nothing: what it promises is a law of the definitions.
+/// It does nothing: what it promises are laws of the definitions.
 pub fn named_specs_are_lawful()
     ensures lawful { (kind min max n : ℕ) (inner : List ℕ) → is_spec_named kind min max n inner ≡ true → spec_fault (spec_named kind min max n inner) ≡ None }
     ensures buckets { (kind min max n : ℕ) (inner : List ℕ) → is_spec_named kind min max n inner ≡ true → buckets_of (spec_named kind min max n inner) ≡ n }
 {}
 
-/// The inner ranges that a custom record names lawfully are the boundaries of its spec between 0 and 2,147,483,647.
+/// The inner ranges that a custom record names validly are the boundaries of its spec between 0 and 2,147,483,647.
 ///
 /// It does nothing: what it promises is a law of the definitions.
 pub fn inner_ranges_are_boundaries()
     ensures { (min max n : ℕ) (inner : List ℕ) → is_custom_named min max n inner ≡ true → boundaries_of (Custom inner) ≡ 0 ∷ (inner ++ LAST_BOUNDARY ∷ []) }
 {}
 
-/// The samples that count for a sparse histogram stand in the order of their values, each value once, and the one of a
-/// value is the first of that value among the samples that name the histogram.
+/// The samples that count for a sparse histogram are in the order of their values, each value once [ascending]. The
+/// one of a value is the first of that value among the samples that name the histogram [first].
 ///
-/// It does nothing: what it promises is a law of the definitions.
+/// It does nothing: what it promises are laws of the definitions.
 pub fn first_samples_are_first()
     ensures ascending { (words samples : List ℕ) (histogram : ℕ) → IsStrictlySortedBy (by_value words) (first_samples words samples histogram) }
     ensures first { (words samples : List ℕ) (histogram : ℕ) (value : ℤ) → find (λ sample. int_eq value (sample_value words sample)) (first_samples words samples histogram)

@@ -23,8 +23,12 @@ pub struct Plain {
     pub sum: i64,
 }
 
-/// Adds samples up, each a value and its units: the plain answer that every histogram of the same samples has to
-/// give. There is an error where there is no memory for the counts.
+/// Adds samples up, each a value and its units: the result that every histogram of the same samples has to have. It
+/// has the units of each bucket under its least value or, if the ranges are sparse, of each value that has units
+/// [counts]; the number of all units [units]; and the sum of the values, each as often as it has units [sum]. The
+/// samples have at most 4,294,967,295 units.
+///
+/// The one error is that memory runs out for the counts.
 pub fn tally(alloc: Global, ranges: &Ranges, samples: &[(i32, u32)]) -> Result<Plain, AllocError>
     requires { units_of_samples samples.now ≤ 4294967295 }
     ensures counts { IfOk result (λ plain. AreCounts ranges.now samples.now plain.counts.items) }
@@ -43,7 +47,7 @@ pub fn tally(alloc: Global, ranges: &Ranges, samples: &[(i32, u32)]) -> Result<P
     })
 }
 
-/// All buckets in order, each under its least value and without units. There is an error where there is no memory for them.
+/// Returns all buckets in order, each under its least value and without units. The one error is that memory runs out.
 pub fn empty_buckets(alloc: Global, ranges: &Ranges) -> Result<Vec<(i32, u64)>, AllocError>
     ensures { IfOk result (λ counts. counts.items ≡ bucket_counts_of ranges.now []) }
 {
@@ -121,7 +125,8 @@ fn counted_value(ranges: &Ranges, value: i32) -> i64
     }
 }
 
-/// What a sample adds to the sum: its value as often as it has units. The value is clamped first, unless the ranges are sparse.
+/// Returns what a sample adds to the sum: its value as often as it has units [amount]. The value is clamped first,
+/// unless the ranges are sparse. Its size is at most 2^31 for each unit [small].
 pub fn amount_of(ranges: &Ranges, value: i32, units: u32) -> i64
     ensures amount { result ≡ amount_of_sample ranges.now (value, units) }
     ensures small { unsigned_abs result ≤ 2147483648 * units }

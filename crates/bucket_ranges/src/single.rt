@@ -32,8 +32,9 @@ const NO_BUCKET: u64 = 65_535;
 const UNITS: u64 = 1 << 32;
 
 impl SingleWord {
-    /// The form of a single word of a histogram with so many buckets in a version of the format, or `None` where it
-    /// has no lawful form there. Every version but 2 has the forms of version 1.
+    /// Returns the form of a single word of a histogram with so many buckets in a version of the format, or `None`
+    /// where it has no valid form there [exact]. Such a form is valid in that version and has this word [found]; no
+    /// other valid form has this word [only]. Every version but 2 has the forms of version 1.
     pub fn of(version: u64, word: u64, buckets: usize) -> Option<SingleWord>
         requires { buckets ≤ 65535 }
         ensures exact { result ≡ single_of version buckets word }

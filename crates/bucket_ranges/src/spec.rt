@@ -22,8 +22,9 @@ ghost use Rattle.std.specs.Prelude.{◌≡◌, ◌↔◌, true};
 ghost use Rattle.bucket_ranges.specs.Spec.{SameSpec, distinct_values, has_values as has_values_of};
 
 impl Spec {
-    /// Whether two specs are the same: their kind, minimum, maximum and number of buckets are, and of custom ones all
-    /// ranges. So the order of custom values, values that repeat and values of 0 make no difference. It takes no memory.
+    /// Returns whether two specs are the same: their kind, minimum, maximum and number of buckets are, and of custom
+    /// ones all ranges. So the order of custom values, values that repeat and values of 0 make no difference. It
+    /// takes no memory.
     pub fn is_same(&self, other: &Spec) -> bool
         ensures { (result ≡ true) ↔ SameSpec self.now other.now }
     {
@@ -92,7 +93,7 @@ impl SpecFault {
     ghost use Rattle.std.specs.Prelude.{◌≡◌};
     ghost use Rattle.bucket_ranges.specs.Fault.{spec_fault_number};
 
-    /// The fault's number, from 1.
+    /// Returns the fault's number, from 1.
     pub fn number(&self) -> u32
         ensures { result ≡ spec_fault_number self.now }
     {

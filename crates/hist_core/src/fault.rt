@@ -34,7 +34,7 @@ impl WorldFault {
     ghost use Rattle.std.specs.Prelude.{◌≡◌};
     ghost use Rattle.hist_core.specs.WorldFault.{world_fault_number};
 
-    /// The fault's number, from 1.
+    /// Returns the fault's number, from 1.
     pub fn number(&self) -> u32
         ensures { result ≡ world_fault_number self.now }
     {

@@ -39,9 +39,10 @@ impl World {
     ghost use Rattle.hist_core.specs.Moves.{Makes, MakesAll, FaultsAt, StopsAt};
     ghost use Rattle.hist_core.specs.World.{actor_checks, world_checks, IsAdoptFault, begin_checks, TakesMemory, BeginSays, step_checks, ChangesOneWord, ended_of, begun_of, taken_of};
 
-    /// A new segment of `size` words in pages of `page` words, of version 1 or 2, with so many actors that have done nothing.
-    ///
-    /// `BadShape` where page or size is not lawful, the actors are not 1 to 64, or the version is another; then `NoMemory`.
+    /// Returns a world with a new segment of `size` words in pages of `page` words, of version 1 or 2, and so many
+    /// actors that have done nothing. Or the first fault, `BadShape`, where page or size is not valid, the actors are
+    /// not 1 to 64, or the version is another; or `NoMemory` [world]. The machine reaches this world from a new
+    /// segment [starts].
     pub fn new(
         alloc: Global,
         size: u64,
@@ -84,13 +85,14 @@ impl World {
         })
     }
 
-    /// A segment that goes on with the words of an image, with so many actors that have done nothing and know no histogram. Its names,
-    /// counts, sums, marks and free space go on where they stood, and its pool has the units that the image has not used.
+    /// Returns a world that continues from the words of an image, with so many actors that have done nothing and know
+    /// no histogram. Its names, counts, sums, marks and free space are the image's, as are its shape and its version,
+    /// and its pool has the units that the image has not used. Or the first fault: `BadShape` where the actors are
+    /// not 1 to 64; then `Adopt` with the first fault of the image, in the order of `AdoptFault`; or `NoMemory`, also
+    /// where memory ran out before all was looked at [world]. The machine reaches this world from the image: its
+    /// opener stands for all that the image counts [starts].
     ///
     /// - `words`: those of an image of version 2. They are copied, and may be any.
-    ///
-    /// `BadShape` where the actors are not 1 to 64; then `Adopt` with the first fault of the image, in the order of `AdoptFault`.
-    /// `NoMemory` also where there was none to look further.
     pub fn adopt(alloc: Global, words: &[u64], actors: usize) -> Result<World, WorldFault>
         ensures world { MatchOption (first_fault (actor_checks actors)) (MatchResult result (λ world. IsAdoptedWorldState words.now actors world.world_state) (IsAdoptFault words.now)) (λ fault. result ≡ Err fault) }
         ensures starts { IfOk result (λ world. ∥ IsReachedFromImage words.now world.world_state ∥₁) }
@@ -119,11 +121,22 @@ impl World {
         })
     }
 
-    /// The words of the segment. Their header has no fault, and what they show is consistent; and whenever the world is looked at, they read back as exactly
-    /// the published histograms, each once, with no unit that was not begun and all ended ones but those in transit. What a `Hist`
-    /// was answered with is the first histogram of its name, and has the same spec. Units that are on their way out of a single word are
-    /// in the hands of a call that counts in just that histogram. In version 2, unless the corrupt flag is set, they may be gone on from
-    /// by `World::adopt`.
+    /// Returns the words of the segment [words]. Their header has no fault [header].
+    ///
+    /// - The machine reaches the world from a new segment, or from an image that may be adopted; there the opener has
+    ///   accepted, taken and been answered what it had at the start [reached].
+    /// - Each state that the words stand for is consistent in all eight parts, beside the words of the start
+    ///   [consistent].
+    /// - The words read back as exactly the published histograms, each once. No bucket holds a unit that was not
+    ///   begun. A bucket holds every unit of ended calls, except, in version 1, units that are just being moved out
+    ///   of the single word. What an image counted is there too: its units, sums, marks and redundant counts continue
+    ///   [reads].
+    /// - In version 2, unless the corrupt flag is set, the words may be adopted: any stop can be continued by
+    ///   [`World::adopt`] [adoptable].
+    /// - A histogram that an actor between two calls knows is the first of its name on the list, with the same spec
+    ///   [names].
+    /// - An actor that has disabled a single word and has its units to move runs an `Add` or a `Batch` of that
+    ///   histogram [moves].
     pub fn words(&self) -> &[u64]
         ensures words { result.now ≡ self.now.world_state.words.items }
         ensures header { header_of self.now.world_state.words.items ≡ Ok (head_of self.now.world_state.words.items) }
@@ -137,8 +150,8 @@ impl World {
         self.world_state.words.as_slice()
     }
 
-    /// The entries of an actor's ended calls and, from its first event on, those of its running call. An actor that is not there has
-    /// none.
+    /// Returns the entries of an actor's ended calls and, from its first event on, those of its running call. An
+    /// actor that is not there has none.
     pub fn begun(&self, actor: usize) -> &[Entry]
         ensures { result.now ≡ begun_of self.now.world_state actor }
     {
@@ -149,7 +162,7 @@ impl World {
         &actor_run.entries[..actor_run.begun]
     }
 
-    /// The entries of an actor's ended calls, in order. An actor that is not there has none.
+    /// Returns the entries of an actor's ended calls, in order. An actor that is not there has none.
     pub fn ended(&self, actor: usize) -> &[Entry]
         ensures { result.now ≡ ended_of self.now.world_state actor }
     {
@@ -160,19 +173,33 @@ impl World {
         &actor_run.entries[..actor_run.ended]
     }
 
-    /// An actor begins a call, which asks for a histogram, counts a value or a batch, takes of a histogram or looks at it, or marks the
-    /// segment as corrupt.
+    /// An actor begins a call, which asks for a histogram, counts a value or a batch, takes of a histogram or looks
+    /// at it, or marks the segment as corrupt.
     ///
-    /// `NoActor` where there is no such actor, then `Busy` where a call of it is going on, then `Unknown` where the call is of a
-    /// histogram and no `Hist` of the actor was answered with one of that name, then `NoMemory`. Where the call needs no event it
-    /// has ended: a `Hist` that is refused `BadName`, `BadSpec` or `TooLarge`, and only then one of a name that the actor knows, which
-    /// returns its reference or is refused `OtherSpec`; an `Add`
-    /// that is refused `ZeroCount`, or `NoUnits` where it counts more units than the pool has; a `Batch` that is refused so, with
-    /// no item counted, and one of no items and sum 0, which is `Added`. All actors draw on one pool of 4,294,967,295 units: a call
-    /// takes its units with its begin, and gives them back where it is refused later. A `Batch` costs the units of its items, and
-    /// no fewer than its sum has times 2^31 in size, rounded up. A `Snapshot` or a `Delta` is refused here alone, for want of memory,
-    /// and a `SetCorrupt` never. No word of the segment changes. The actor holds no free pointer then: where its call stands at one, it has
-    /// loaded that itself.
+    /// `NoActor` where there is no such actor, then `Busy` where a call of it is running, then `Unknown` where the
+    /// call is of a histogram and no `Hist` of the actor returned one of that name; only for these causes. Then the
+    /// one fault is `NoMemory`, and never of a `SetCorrupt` [faults]. After a fault the world is unchanged; only its
+    /// lists may have more room [fault].
+    ///
+    /// No word of the segment changes [words], and no other actor [others]. The world stands for the same state as
+    /// before, or for one in which the opener has lent the actor the units of its call [begins]. The actor holds no
+    /// free pointer: where its call stands at one, it has loaded that itself [loads].
+    ///
+    /// What a begin says [says]:
+    ///
+    /// - A `Hist` runs. Or it has ended, refused for `BadName`, `BadSpec` or `TooLarge`; or, if none of these holds,
+    ///   with what the actor knows of the name: its reference, or `OtherSpec`.
+    /// - An `Add` runs: its entry is pending, nothing of it has begun, and its units are out of the pool. Or it is
+    ///   refused: `ZeroCount` if it has no units, `NoUnits` if it has more than the pool.
+    /// - A `Batch` runs in the same way, with an entry for each item and one for the sum, or is refused so with no
+    ///   item counted. It costs the units of its items, or the size of its sum divided by 2^31 and rounded up, if
+    ///   that is more. A batch of no items and sum 0 has ended, `Added`, and no other has.
+    /// - A `Delta` and a `Snapshot` run, with a histogram of the name that the actor knows. A snapshot has done no
+    ///   event yet.
+    /// - A `SetCorrupt` runs, and nothing else can come of it.
+    ///
+    /// All actors draw on one pool of 4,294,967,295 units: a call takes its units when it begins, and gives them back
+    /// where it is refused later.
     pub fn begin(&mut self, actor: usize, call: &Call) -> Result<Begun, WorldFault>
         ensures faults { MatchOption (first_fault (begin_checks self.old.world_state actor call.now)) (IfErr result (λ fault. (fault ≡ WorldFault.NoMemory) × TakesMemory call.now)) (λ fault. result ≡ Err fault) }
         ensures fault { OnErr result (IsAsBefore self.old.world_state self.new.world_state) }
@@ -222,8 +249,9 @@ impl World {
         }
     }
 
-    /// The exchange that is the next event of an actor's call, where that is one: of which word, and what is wanted there. An actor that is
-    /// not there, or that runs no call, has none.
+    /// Returns the exchange that the next event of an actor's call is, if it is one: of which word, and what is
+    /// wanted there. The stage at which the call stands says so; of an allocation and of a publish their own next
+    /// event does. An actor that is not there, or that runs no call, has none.
     pub fn next_exchange(&self, actor: usize) -> Option<Attempt>
         ensures { result ≡ next_attempt self.now.world_state actor }
     {
@@ -233,26 +261,57 @@ impl World {
         self.world_state.actor_runs[actor].next_exchange()
     }
 
-    /// An actor goes on with its call by one event. `Added` puts what the call counted at the end of `ended`; a `BatchRefused` puts the
-    /// entries of the items there that are counted, and their units are spent; nothing else changes that. The other units of a call
-    /// that is refused come back to the pool. `Full` comes with an event that sets the full flag: the block that the call needs passes
-    /// the end of the segment from a free pointer that it has loaded. `Corrupt` comes with an event that loads flags with the corrupt
-    /// one. What an earlier call saw or set is no cause. A `Hist` is also refused `OtherSpec`, where the actor has seen that the first
-    /// record of the name has another spec. `Refused` is answered by a `Hist` or an `Add` alone, `BatchRefused` by a `Batch`, with 0
-    /// where no item is counted. A call that is refused a block needed it: the actor of a `Hist` has seen the list to its end, and no
-    /// record of the name; that of an `Add` or a `Batch` a single word that cannot take the units and a counts reference of 0, or, of a
-    /// sparse histogram, the list to its end and no sample of the value. It has met no counts of its histogram, so it has moved no
-    /// units of other calls. A `SetCorrupt` ends with its one event, as `Flagged`, which nothing else answers; from then on no call of
-    /// the actor claims a block. No other event sets the corrupt flag, and none but that of a refusal `Full` the full one.
+    /// An actor performs the next event of its call. `NoActor` where there is no such actor, then `Idle` where no
+    /// call of it is running, only for these causes; else it succeeds [faults]. After a fault the world is unchanged
+    /// [fault]. It takes no memory.
     ///
-    /// A record that an event links is one that its call is for: of the name and the spec with which a `Hist` began; or a sample of a value
-    /// that an `Add` or a `Batch` counts, in its histogram. The other calls link none. So it is where an event raises the free pointer: for
-    /// the block that the call needs, as above, which it claims there, or for which it wastes the rest of a page that is too short.
+    /// It is one event of the machine; if the call was refused, the units that it has not spent go back to the pool
+    /// after that event. What the call answers is as promised [steps]:
     ///
-    /// A `Snapshot` answers what the actor saw since its first event: of each key at least the units that it had accepted and those that
-    /// it had seen before; so does its redundant count. Of a sparse histogram the values ascend, each with a count above 0.
+    /// - A `Snapshot` has what the actor saw since its first event, which looks anew; no later event of it changes
+    ///   since when. The values of a sparse histogram ascend, each with a count above 0.
+    /// - A `Delta` took all that the actor saw since the call began. Of each key the snapshot, or all deltas
+    ///   together, have at least what the actor had accepted and seen before, with the one exception of version 1
+    ///   that `deltas_take_accepted` names.
+    /// - If the actor stands at a free pointer after the event, it stood there before, or the event has loaded it
+    ///   from the segment. So each at which a call stands was loaded by that call.
+    /// - `Full`: the actor stood at a free pointer from which the block that the call needs passes the end of the
+    ///   segment, and has set the full flag for that with this event. The block is the record of a `Hist`; of an
+    ///   `Add` or a `Batch` the counts of the histogram, or the sample of a value. `Corrupt`: with this event it has
+    ///   loaded flags with the corrupt one. With neither it has claimed or published anything, and the flag is set.
+    ///   What an earlier call saw or set is no cause. `OtherSpec`: the actor has seen that the first record of the
+    ///   name has another spec.
+    /// - A `Hist` that is refused `Full` or `Corrupt` has seen the list to its end: the next of the last record that
+    ///   its actor has visited was the end of the list when the actor loaded it. No record of the list has the name.
+    /// - A refused `Add`, or the next item of a refused `Batch`, needed its block. With buckets: its actor has seen a
+    ///   single word that is not off and cannot take the units, and has loaded a counts reference that was 0. Sparse:
+    ///   its actor has seen the list to its end, and no record of it after the histogram's is a sample of the value.
+    /// - A refused `Add` or `Batch` has moved no units of other calls. They are moved only after the actor has met
+    ///   counts, and of its histogram, if that has buckets, its actor has met none.
+    /// - `Flagged`: the actor has set the corrupt flag. Once it has, no event of it claims a block.
+    /// - No event sets the corrupt flag except that of a `SetCorrupt`, and none sets the full flag except one that
+    ///   ends with the refusal `Full`. So by `consistent` of [`World::words`] the flags in the words change with
+    ///   these alone.
+    /// - A record that an event links holds what the call is for: the name and the spec with which a `Hist` began, or
+    ///   a value that an `Add` or a `Batch` counts in its sparse histogram. The other calls link none.
+    /// - An event raises the free pointer only for the block that its call needs, of just as many words: the record
+    ///   of a `Hist`; of an `Add` or a `Batch` the counts of its histogram, or a sample. The actor has seen before
+    ///   that it needs it, as one whose call is refused that block. By the rules of the machine the event claims the
+    ///   block, or wastes the rest of a page that is too short for it: no page is passed over that has room for it.
+    ///   The other calls do not raise it.
     ///
-    /// `NoActor` where there is no such actor, then `Idle` where no call of it is going on. It takes no memory.
+    /// At most one word changes [word], and no other actor [others].
+    ///
+    /// What becomes of the actor's lists, and which answer fits which call [says]:
+    ///
+    /// - From the first event of a call on all its entries have begun. `Added` puts them at the end of `ended`.
+    ///   `BatchRefused` puts the entries of the first items there, as many as it says, and their units are spent.
+    ///   Nothing else changes `ended`.
+    /// - From its first event on a delta is last in `taken`. It lists what its events take, and in the end it is what
+    ///   the call returns. Nothing else changes `taken`.
+    /// - A `Hist` that is answered is known from then on. `Flagged` has set the corrupt flag.
+    /// - A `SetCorrupt` ends with its first event, as `Flagged`, which nothing else does. Only a `Hist` or an `Add`
+    ///   ends as `Refused`, and only a `Batch` as `BatchRefused`. No `Snapshot` and no `Delta` is refused.
     pub fn step(&mut self, actor: usize) -> Result<Stepped, WorldFault>
         ensures faults { MatchOption (first_fault (step_checks self.old.world_state actor)) (IsOk result) (λ fault. result ≡ Err fault) }
         ensures fault { OnErr result (self.new.world_state ≡ self.old.world_state) }
@@ -298,8 +357,8 @@ impl World {
         Ok(())
     }
 
-    /// What an actor's deltas took, in order. A running one stands last from its first event on, so far as it went. The keys of
-    /// each ascend, at every moment. An actor that is not there took nothing.
+    /// Returns what an actor's deltas took, in order [items]. A running one is last from its first event on, as far
+    /// as it is. The keys of each ascend, at every moment [ascending]. An actor that is not there took nothing.
     pub fn taken(&self, actor: usize) -> &[Taken]
         ensures items { result.now ≡ taken_of self.now.world_state actor }
         ensures ascending { ∥ All (λ taken. AreUnits taken.counts.items) result.now ∥₁ }
@@ -314,7 +373,8 @@ impl World {
 ghost use Rattle.std.specs.Prelude.{IfOk, IfErr};
 ghost use Rattle.hist_core.specs.Moves.{LeadsOn, LeadsTo, StopsOn, StopsWith};
 
-/// The world after these moves, one after the other. It stops at the first fault, that of `World::new` or of a move.
+/// Returns the world after these moves, one after the other, none with a fault [world]. Or the first fault, that of
+/// [`World::new`] or of a move after moves without one [fault].
 pub fn run_schedule(
     alloc: Global,
     size: u64,
@@ -332,8 +392,8 @@ pub fn run_schedule(
     Ok(world)
 }
 
-/// The world after these moves, one after the other, from one on that goes on with the words of an image. It stops at the first fault,
-/// that of `World::adopt` or of a move.
+/// Returns the world after these moves, one after the other, from one that continues from the words of an image, none
+/// with a fault [world]. Or the first fault, that of [`World::adopt`] or of a move after moves without one [fault].
 pub fn run_schedule_on(
     alloc: Global,
     words: &[u64],

@@ -24,11 +24,14 @@ pub struct Adoptable {
     pub used: u64,
 }
 
-/// What is known of an image that may be adopted with so many shared cursors, or why it may not be.
+/// Returns what is known of an image that may be adopted with so many shared cursors, or why it may not be.
 ///
-/// The first fault that holds is answered: `Image` with the header's first fault; `OldVersion`; `Corrupt`; `Damaged`;
-/// `NoUnits`; `BadCursors` where there are to be more than [`MAX_CURSORS`]. `NoMemory` is answered where there was no memory
-/// to look further. Any words may be given, and they are only read. Whether blocks overlap is looked at before anything of the
+/// On `Ok` the image may be adopted with so many cursors; this is its list, and it has used so many units by what it
+/// reads as. Else the first fault that holds is returned, and none before it does: `Image` with the header's first
+/// fault; `OldVersion`; `Corrupt`; `Damaged`; `NoUnits`; `BadCursors` where there are to be more than
+/// [`MAX_CURSORS`]. `NoMemory` comes where memory runs out, and has no cause in the words [answer].
+///
+/// Any words may be given, and they are only read. Whether blocks overlap is looked at before anything of the
 /// records, and histogram by histogram is read and given back again. So no image takes more than ten times its bytes.
 pub fn check(alloc: Global, words: &[u64], cursors: usize) -> Result<Adoptable, AdoptFault>
     ensures answer { AdoptionOf words.now cursors result }

@@ -37,7 +37,7 @@ impl AdoptFault {
     ghost use Rattle.std.specs.Prelude.{◌≡◌};
     ghost use Rattle.image_adoption.specs.Fault.{adopt_fault_number};
 
-    /// The fault's number, from 1.
+    /// Returns the fault's number, from 1.
     pub fn number(&self) -> u32
         ensures { result ≡ adopt_fault_number self.now }
     {

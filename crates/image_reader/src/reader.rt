@@ -14,10 +14,14 @@ use crate::walk::list_of;
 use segment_image::{ImageFault, SegmentHead, header};
 use std::alloc::{AllocError, Global};
 
-/// What the words of a segment read as.
+/// Returns what the words of a segment read as.
 ///
-/// The header's first fault is answered, `TooShort` to `BadQueue`, and `NoMemory` where there is none for the
-/// answer. Nothing else is refused: records with faults, and why the list stops, are part of the reading.
+/// The header's first fault is returned, `TooShort` to `BadQueue`; `NoMemory` where memory runs out; else exactly the
+/// reading of the words. It has of each name on the list the first valid histogram, with its totals and marks; each
+/// record that has a fault, with its first one; and why the list stops [answer]. Of each histogram the spec is valid,
+/// each bucket has its count, and the units fit a word [readable].
+///
+/// Any words may be given: records with faults, and why the list stops, are part of the reading.
 pub fn read(alloc: Global, words: &[u64]) -> Result<Reading, ImageFault>
     ensures answer { MatchResult (header_of words.now) (λ head. MatchResult result (λ reading. IsReading words.now head (reading_view reading)) (λ fault. fault ≡ ImageFault.NoMemory)) (λ fault. result ≡ Err fault) }
     ensures readable { IfOk result (λ reading. All IsReadable (map histogram_view reading.hists.items)) }
@@ -26,10 +30,10 @@ pub fn read(alloc: Global, words: &[u64]) -> Result<Reading, ImageFault>
     read_list(alloc, words, &head).map_err(|_| ImageFault::NoMemory)
 }
 
-/// Whether what the words of a segment read as has more keys than `most`: buckets of its histograms, and values of the sparse ones.
-/// No counts are made, so this takes much less memory than [`read`].
+/// Returns whether what the words of a segment read as has more keys than `most`: buckets of its histograms, and
+/// values of the sparse ones. Or the header's first fault, or `NoMemory`, as of [`read`] [answer].
 ///
-/// The faults are those of [`read`].
+/// No counts are made, so this takes much less memory than [`read`].
 pub fn has_more_keys(alloc: Global, words: &[u64], most: u64) -> Result<bool, ImageFault>
     ensures answer { MatchResult (header_of words.now) (λ head. MatchResult result (HasMoreKeys words.now head most) (λ fault. fault ≡ ImageFault.NoMemory)) (λ fault. result ≡ Err fault) }
 {

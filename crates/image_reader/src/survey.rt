@@ -56,8 +56,11 @@ fn gather(
 }
 
 impl Survey {
-    /// What a list has, which is that of the segment whose header, read from the same words, is `head`. Only memory can be
-    /// wanting: up to some 100 bytes for each record on the list and one for each word, however many buckets there are.
+    /// Surveys a list, which is that of the segment whose header, read from the same words, is `head`: which of its
+    /// histograms are read, which of its records are bad, and its samples [survey]. It keeps the list [list].
+    ///
+    /// The one error is that memory runs out: it takes up to some 100 bytes for each record on the list and one for
+    /// each word, however many buckets there are.
     pub fn of(
         alloc: Global,
         words: &[u64],
@@ -81,8 +84,10 @@ impl Survey {
         })
     }
 
-    /// What the histogram at one of the references in `hists` reads as, where the survey is of these words. Only memory can be
-    /// wanting: for its name, its spec, and 24 bytes for each of its keys.
+    /// Returns what the histogram at one of the references in `hists` reads as, where the survey is of these words
+    /// [hist]. Its spec is valid, each bucket has its count, and the units fit a word [readable].
+    ///
+    /// The one error is that memory runs out, for its name, its spec, and 24 bytes for each of its keys.
     pub fn hist(
         &self,
         alloc: Global,
@@ -114,8 +119,8 @@ impl Survey {
         }
     }
 
-    /// Whether the histograms that are read have more keys than so many, all together: buckets, and values of sparse ones. No
-    /// memory is taken.
+    /// Returns whether the histograms that are read have more keys than `most`, all together: buckets, and values of
+    /// sparse ones. It takes no memory.
     pub fn has_more_keys(&self, words: &[u64], head: &SegmentHead, most: u64) -> bool
         requires header { header_of words.now ≡ Ok head.now }
         requires survey { IsSurvey words.now head.now self.now }

@@ -17,8 +17,9 @@ pub struct Listed {
     pub stopped: Option<ImageFault>,
 }
 
-/// The list of the segment whose header, read from the same words, is `head`. Only memory can be wanting. Each block is marked when it
-/// is met, so the walk ends.
+/// Returns the list of the segment whose header, read from the same words, is `head`: the references of its records
+/// in order [listed], and why it stops [stopped]. The one error is that memory runs out. Each block is marked when it
+/// is visited, so the walk ends.
 pub fn list_of(alloc: Global, words: &[u64], head: &SegmentHead) -> Result<Listed, AllocError>
     requires { header_of words.now ≡ Ok head.now }
     ensures listed { IfOk result (λ list. IsListed words.now head.now list.references.items) }

@@ -82,7 +82,7 @@ impl Cursor {
     ghost use Rattle.list_core.specs.declared.cursor.Stage.{Stage};
     ghost use Rattle.list_core.specs.Cursor.{found_by, said_of, shared_after, IsStep, IsReach, IsRecordBy, IsEndBy, IsStrayBy, IsShared, Stands, MaySay, given_after};
 
-    /// A cursor that has not begun.
+    /// Returns a cursor that has not begun.
     pub fn start() -> Cursor
         ensures { result ≡ Stage.LoadCursor }
     {
@@ -91,17 +91,23 @@ impl Cursor {
         }
     }
 
-    /// Goes on by one event, which changes no word but the shared one. The words are at least 16, and as many at each step.
+    /// Performs the cursor's next event, which changes no word but the shared one [step]. The words are at least 16,
+    /// and as many at each step; the cursor stays within them [reach]. It takes no memory.
     ///
-    /// A cursor loads the shared word, then the next of the block there, and exchanges the shared word for that next:
-    /// `Record` comes where the exchange went through, and nothing else changes the shared word. Where another cursor was
-    /// faster the step says `More`, and the cursor begins anew. `End` comes where the next is 12. `Stray` comes where the
-    /// shared word or the next is neither 12 nor from 16 to five below the number of words; this step has then changed
-    /// nothing. After `Record` and `End` the cursor is at its start, and may be stepped again.
+    /// A cursor loads the shared word, then the next of the block there, and exchanges the shared word for that next.
     ///
-    /// In words with a list, where the shared word stands behind what its cursors gave, a front of the chain, `Record` gives
-    /// the record behind it, `End` comes only where that is all of the chain, and `Stray` never. So it stays, for this
-    /// cursor and for all others of the word.
+    /// - `Record`: the exchange succeeded. So the shared word was still what the cursor had loaded; it is this record
+    ///   now, and the cursor is at its start [record].
+    /// - `More`: the shared word is unchanged [more]. Where another cursor was faster, the cursor begins anew.
+    /// - `End`: the next of the block where the cursor stood is 12, the queue block. The shared word is unchanged,
+    ///   and the cursor is at its start [end].
+    /// - `Stray`: the shared word or the next is neither 12 nor from 16 to five below the number of words. Nothing
+    ///   has changed [stray].
+    ///
+    /// Now let the words have a list, and the shared word stand after what its cursors gave, a front of the chain.
+    /// Then `Record` gives the next record of the chain, `End` comes only where all of the chain was given, `Stray`
+    /// never comes, and the shared word stands after what was given then [given]. Any other cursor of the word stands
+    /// where it stood [others].
     pub fn step(&mut self, words: &[u64], shared: &mut u64) -> CursorStep
         requires headed { HEADER_WORDS ≤ length words.now }
         requires reach { IsReach (length words.now) self.old }

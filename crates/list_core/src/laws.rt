@@ -19,8 +19,8 @@ pub fn opening_words_have_a_list()
     ensures { (size page id : ℕ) → IsList (blank_words size page id) [] }
 {}
 
-/// In words with a list a publish may start of any record that is off the chain. Each of its steps keeps the list then, and
-/// where all others stand, by the clauses `list` and `others` of `Publish::step`.
+/// In words with a list a publish may start of any record that is off the chain. Each of its steps keeps the list
+/// then, and leaves all others where they stand, by the clauses `list` and `others` of `Publish::step`.
 pub fn records_off_the_chain_may_start()
     ensures { (words chain : List ℕ) (reference : ℕ) → IsList words chain → ¬ (IsStop chain reference) → StandsOn words chain (started reference) }
 {}
@@ -33,21 +33,21 @@ pub fn published_records_are_the_chain()
         → IsChain words (head_of words) chain }
 {}
 
-/// The chain only grows, at its end: the records before stay, and so does what a walk has given. Which record is added is in
-/// `chain_after`: that of the publish whose link succeeds.
+/// The chain only grows, at its end: the records before stay, and so does what a walk has given. `chain_after` says
+/// which record is added: that of the publish whose link succeeds.
 pub fn chain_only_grows()
     ensures { (words chain given : List ℕ) (publish : Publishing) → IsPrefix given chain → IsPrefix given (chain_after words chain publish) }
 {}
 
-/// A walk from the start gives a prefix of the chain, in order: a walk that has given one gives the record behind it, or
+/// A walk from the start gives a prefix of the chain, in order: a walk that has given one gives the next record, or
 /// says that this is all of the chain; it never strays.
 pub fn walks_give_prefixes()
     ensures { (words chain given : List ℕ) → IsList words chain → IsPrefix given chain
         → IsGiven given chain (said_of (length words) (word_at words (stands_behind given + BLOCK_NEXT))) }
 {}
 
-/// Cursors that share a word give a front of the chain, each record once, in whatever order they step and while the list grows.
-/// None of them strays, and one says that the list ends only when all of the chain was given.
+/// Cursors that share a word give a front of the chain, each record once, in whatever order they step and while the
+/// list grows. None of them strays, and one says that the list ends only when all of the chain was given.
 pub fn cursors_give_fronts()
     ensures { CursorsGiveFronts }
 {}

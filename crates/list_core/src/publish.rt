@@ -74,7 +74,7 @@ impl Publish {
     ghost use Rattle.list_core.specs.Chain.{IsStop};
     ghost use Rattle.list_core.specs.Publish.{Publishing, next_event, stage_after, started, moved, IsStep, IsStrayBy, IsReach, chain_after, StandsOn, TailGoesOn};
 
-    /// A publish of the record at a reference, from 16 to five below the number of words.
+    /// Starts the publish of the record at a reference, from 16 to five below the number of words.
     pub fn start(reference: u64) -> Publish
         ensures { result ≡ started reference }
     {
@@ -84,17 +84,23 @@ impl Publish {
         }
     }
 
-    /// Goes on by one event, which changes one word at most. The words are at least 16, and as many at each step; the record
-    /// begins five words or more before their end; and the step before, if there was one, said `More`.
+    /// Performs the publish's next event, which changes one word at most [step]. The words are at least 16, and as
+    /// many at each step; the record begins five words or more before their end, and the publish stays within them
+    /// [reach]. The step before, if there was one, returned `More`. It takes no memory.
     ///
-    /// `Done` comes where the tail was exchanged, or could not be, after the record was linked. `Stray` comes where a tail was
-    /// loaded, or a next was found, that is neither 12 nor from 16 to five below the number of words; this step has then
-    /// changed nothing. Both end the publish; `More` says that it goes on.
+    /// - `More`: it continues, and has a next event [more].
+    /// - `Done`: the tail was exchanged, or could not be, after the record was linked.
+    /// - `Stray`: it loaded a tail, or found a next, that is neither 12 nor from 16 to five below the number of
+    ///   words. Nothing has changed [stray].
     ///
-    /// In words with a list (`IsList` in `specs/Chain.antt`: nexts along a chain, and the tail on it), on which the publish stands
-    /// where its stage says, the step keeps both, with the record at the end of the chain where it is linked. Other publishes,
-    /// of other records, stand where they stood, and the tail does not go back. `Done` comes only where the record is on the
-    /// chain, and `Stray` never.
+    /// Now let the words have a list (nexts along a chain, and the tail on it), on which the publish stands where its
+    /// stage says:
+    ///
+    /// - They have a list after the step too, with the record at the end of the chain if the step linked it, and the
+    ///   publish stands on it [list].
+    /// - A publish of another record that stood on the list still stands on it [others].
+    /// - The tail is where it was, or at the next record [tail].
+    /// - `Done` comes only where the record is on the chain [done], and `Stray` never [lawful].
     pub fn step(&mut self, words: &mut [u64]) -> PubStep
         requires reach { IsReach (length words.old) self.old }
         requires running { is_some (next_event self.old) ≡ true }
@@ -114,7 +120,7 @@ impl Publish {
         self.stage.answer()
     }
 
-    /// The exchange that is its next event, where that is one.
+    /// Returns the exchange that its next event is, if it is one: the word, and the value that is wanted there.
     pub fn next_exchange(&self) -> Option<Attempt>
         ensures { result ≡ attempt_of (next_event self.now) }
     {

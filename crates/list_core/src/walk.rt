@@ -53,26 +53,29 @@ impl Walk {
     ghost use Rattle.list_core.specs.Chain.{is_reference, stops, IsChain};
     ghost use Rattle.list_core.specs.Walk.{said_of, stands_after, stands_behind, given_after, GivesNext};
 
-    /// A walk from the start of the list.
+    /// Starts a walk at the start of the list.
     pub fn from_start() -> Walk
         ensures { result ≡ QUEUE }
     {
         Walk { at: QUEUE }
     }
 
-    /// A walk that goes on behind the record at a reference, which is from 16 to five below the number of words, or 12 for the
-    /// queue block.
+    /// Returns a walk that continues after the record at a reference, which is from 16 to five below the number of
+    /// words, or 12 for the queue block.
     pub fn from(reference: u64) -> Walk
         ensures { result ≡ reference }
     {
         Walk { at: reference }
     }
 
-    /// Loads one next, and says what it names. The words are at least 16, and as many at each step.
+    /// Loads the next of the block where the walk stands, and says what it names [says]. The words are at least 16,
+    /// and as many at each step. It takes no memory.
     ///
-    /// `Record` with a reference, where the walk then stands; `End` where the next is 12, and `Stray` where it is neither 12
-    /// nor from 16 to five below the number of words. After these two the walk stands where it stood, and can be stepped
-    /// again. In any words with a chain, a walk at a place of it gives the record behind that place, or `End` at its end.
+    /// `Record` comes with a reference, where the walk then stands; `End` where the next is 12, and `Stray` where it
+    /// is neither 12 nor from 16 to five below the number of words. After these two the walk stands where it stood,
+    /// and can be stepped again [stands]. It stays within the words [reach]. Where it stood after what a walk from
+    /// the start had given, it stands after that and what it gives now [given]. In any words with a chain, a walk at
+    /// a place of it gives the record after that place, or `End` at the end of the chain [chain].
     pub fn step(&mut self, words: &[u64]) -> WalkStep
         requires headed { HEADER_WORDS ≤ length words.now }
         requires reach { is_reference (length words.now) self.old ≡ true }

@@ -17,6 +17,7 @@ pub trait Gate {
 pub struct OpenGate;
 
 impl Gate for OpenGate {
+    /// Lets each call come.
     fn before(&self, _worker: u32, _call: u64) -> bool
         ensures { result ≡ true }
     {

@@ -122,12 +122,30 @@ fn merge_inputs(alloc: Global, base: &Input, dead: &Input) -> Result<Image, CliF
     Ok(image)
 }
 
-/// Merges two images, and writes the image of a new segment: it has the size, the page and the id of the first one, BASE, and version 2.
-/// Its histograms are those of BASE and then of DEAD, with what deltas had not taken of them.
+/// Merges two images, and writes the image of a new segment: it has the size, the page and the id of the first one,
+/// BASE, and version 2. Its histograms are those of BASE and then of DEAD, with what deltas had not taken of them.
+/// BASE is read and checked whole before DEAD. The readers and the writer have not failed before.
 ///
-/// BASE is read and checked whole before DEAD. `Read` where a read of one fails; `TooLong`, `NotWords` and `Image` as for a report, of BASE
-/// and then of DEAD; `Merge` with the name of the histogram at which the merge stopped, and why: `Full` where its next block passes the end of
-/// the segment, behind what was merged before it; `NoMemory` where there is none. After each of these nothing was written. `Write` where the write or the flush fails.
+/// On `Ok` both are images, and the bytes of an image were written. No record of it is bad, and its list does not
+/// stop. It reads as exactly the names of both, each once, with a spec that is the same as each that they have for
+/// it. The units of each key, the sum and the redundant count are what is left of BASE and of DEAD together. All
+/// marks and sum marks are 0, and no flag is set [image]. The writer is flushed [flushed].
+///
+/// A fault has its cause in BASE, or in DEAD where BASE has none, or in both: `TooLong`, `NotWords` and `Image` as
+/// for a report; `Merge` with the name of the histogram at which the merge stopped, and why. `Merge` is never
+/// `Corrupt` [cause]:
+///
+/// - `NoUnits`: the histograms up to that one cost more units than a segment has.
+/// - `TooLarge`: its record or its counts have more words than a page of BASE.
+/// - `BadName`, `BadSpec`: its name or its spec is not valid.
+/// - `OtherSpec`: a histogram before it has the same name and another spec. So both images have the name.
+/// - `Full`: there was no room for it. A segment with the size and the page of BASE has words that read as exactly
+///   what was merged before it, and of as many of its items. From the free pointer of these words its next block
+///   passes the end: its record, if the name is not there, else its counts or a sample.
+///
+/// `Read` comes exactly where a read of one failed [read]; DEAD is read only where BASE was, and is an image
+/// [base_first]. `Write` comes exactly where the write or the flush failed [write]. `NoMemory` comes where memory
+/// runs out. After every fault but `Write` nothing was written [untouched].
 pub fn merge_files<A: Read, B: Read, W: Write>(
     alloc: Global,
     base: &mut Watched<A>,

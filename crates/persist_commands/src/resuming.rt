@@ -64,22 +64,35 @@ fn read_base<B: Read>(alloc: Global, reader: &mut Watched<B>) -> Result<Base, Cl
     adopt_words(alloc, &words)
 }
 
-/// Goes on with the image that the first reader, BASE, has left, and runs the script that the second one has left in its segment, by 1 to 16
-/// workers, as [`run_script`](crate::run_script) does in a new one. Writes the image of that segment, and then the report of that image.
+/// Continues from the image that the first reader, BASE, has left, and runs the script that the second one has left
+/// in its segment, by 1 to 16 workers, as [`run_script`](crate::run_script) does in a new one. Writes the image of
+/// that segment, and then the report of that image.
 ///
-/// BASE is read and adopted before the script is read. The script's `segment` record has to name the size, the page and the id of BASE, and
-/// its `add` records may take the units that BASE has not used.
+/// BASE is read and adopted before the script is read. The script's `segment` record has to name the size, the page
+/// and the id of BASE, and its `add` records may take the units that BASE has not used. The readers and writers have
+/// not failed before.
 ///
-/// On `Ok`, the image has the size, the page and the id of BASE and is of version 2. It is read as exactly the histograms of BASE and of
-/// the script, each with its spec, and with the counts and the sum that BASE has and the `add` records add up to, whatever the number of workers.
-/// A histogram of which no `delta` record takes has BASE's marks. Of each other a single worker has taken all that BASE has, and what the
-/// `add` records in front of its last `delta` record add up to. Both outputs are flushed.
+/// On `Ok` BASE is an image that may be adopted; the script has at most 16,777,216 bytes, no fault, and names BASE's
+/// size, page and id. The bytes of an image were written, with the size, the page and the id of BASE and of version
+/// 2, and then the report of that image. It reads as exactly the histograms of BASE and of the script's `hist`
+/// records, each once, and with a spec that is the same as each that they have for it. No record is bad, the list
+/// does not stop, and the full flag alone is set, if BASE has it. The units of each key, the sum and the redundant
+/// count are what BASE has and what the script's `add` records add up to, whatever the number of workers. A histogram
+/// of which no `delta` record takes has the marks and the sum mark of BASE, or 0 if BASE has not the name. With one
+/// worker the marks of each other are the units, and its sum mark the sum, that BASE has and that the `add` records
+/// before its last `delta` record add up to [recorded]. Both outputs are flushed [flushed].
 ///
-/// Of BASE: `Read` where a read fails; `TooLong` where more than 8,388,608 bytes come; `NotWords` where their number is no multiple of
-/// eight; `Adopt` with the first fault for which the image may not be adopted. Of the script and its run: as `run_script`, and `BadLine`
-/// of record 1 also where it names another segment, `Refused` also with the first `add` record that adds more than BASE has left.
-/// `NoMemory` where there is none. After each of these nothing was written. `Write` where a write or a flush fails; where it is one
-/// of the image, the report is not begun.
+/// A fault has its cause in BASE: `TooLong` where there are more than 8,388,608 bytes; `NotWords` where their number
+/// is no multiple of eight; `Adopt` with a fault for which its words may not be adopted without shared cursors. Or
+/// BASE is an image that may be adopted, and the fault is one of the script or of its run, as of `run_script`; then
+/// `BadLine` of record 1 comes also where that names another segment than BASE, and `Refused` with `NoUnits` also for
+/// the first record that adds more than BASE has left [cause]. Out of memory is `NoMemory`: no `Refused` has it as
+/// its cause [tells].
+///
+/// `Read` comes exactly where a read of one failed [read]; that of the script fails only where that of BASE has not,
+/// and BASE may be adopted [base_first]. `Write` comes exactly where a write or a flush of one of the writers failed
+/// [write]. After every other fault nothing was written [untouched]. Where the writer of the image has failed,
+/// nothing of the report was written [unbegun].
 pub fn resume_script<R: Threads + Wait, B: Read, S: Read, I: Write, W: Write, G: Gate + Sync>(
     rt: &R,
     alloc: Global,

@@ -195,21 +195,31 @@ fn new_segment(alloc: Global, script: &Script) -> Result<(Segment, Opener), CliF
     }
 }
 
-/// Runs the script that the reader has left, by 1 to 16 workers, each in a thread of its own. Writes the image of the segment in
-/// which it was run, and then the report of that image.
+/// Runs the script that the reader has left, by 1 to 16 workers, each in a thread of its own. Writes the image of the
+/// segment in which it was run, and then the report of that image. The reader and the writers have not failed before.
 ///
-/// The histograms of the script are made first, in their order. Then each worker makes its calls, those whose number, from 0, leaves
-/// the worker's, less 1, when it is divided by the number of workers. The gate is asked before each, and told of it afterwards.
+/// The histograms of the script are made first, in their order. Then each worker makes its calls, those whose number,
+/// from 0, leaves the worker's, less 1, when it is divided by the number of workers. The gate is asked before each,
+/// and told of it afterwards.
 ///
-/// On `Ok`, the image has the script's shape and id and is of version 2. It is read as exactly the histograms of the script, each
-/// with its spec and with the counts and the sum that the `add` records add up to, whatever the number of workers. A single worker has taken
-/// of each histogram what the `add` records in front of its last `delta` record add up to: these are its marks. Both outputs are flushed.
+/// On `Ok` the script has at most 16,777,216 bytes and no fault. The bytes of an image were written, of the script's
+/// shape and id and of version 2, and then the report of that image. It reads as exactly the histograms of the
+/// script's `hist` records, each once and with its spec. No record is bad, the list does not stop, and no flag is
+/// set. The units of each key, the sum and the redundant count are what the script's `add` records add up to,
+/// whatever the number of workers. A histogram of which no `delta` record takes has marks and a sum mark of 0. With
+/// one worker the marks of each other are the units, and its sum mark the sum, that the `add` records before its last
+/// `delta` record add up to [recorded]. Both outputs are flushed [flushed].
 ///
-/// `Read` where a read fails; `TooLong` where more than 16,777,216 bytes come; `BadLine` with the first record that has no lawful form;
-/// `Refused` with the first that adds no unit, or more than a segment has. Then, by the first of these that is met: `NoThread` where a
-/// worker could not be started, `NoMemory`, `Gate` where the gate did not let a call come, and `Refused` with the least record whose
-/// histogram or whose call was refused. After each of these nothing was written. `Write` where a write or a flush fails; where it is one of
-/// the image, the report is not begun.
+/// `TooLong` comes only where there are more than 16,777,216 bytes. Of a script with a fault the first one is
+/// reported: `BadLine` with the record that has no valid form, or `Refused` with one that adds no unit, or more than
+/// a segment has. A script without a fault may end with `Write`, or, by the first of these: `NoThread` where a worker
+/// could not be started, `NoMemory`, `Gate` where the gate did not let a call come, and `Refused` with the least
+/// record whose histogram or whose call was refused [cause]. Out of memory is `NoMemory`: no `Refused` has it as its
+/// cause [tells].
+///
+/// `Read` comes exactly where a read failed [read], and `Write` exactly where a write or a flush of one of the
+/// writers failed [write]. After every other fault nothing was written [untouched]. Where the writer of the image has
+/// failed, nothing of the report was written [unbegun].
 pub fn run_script<R: Threads + Wait, S: Read, I: Write, W: Write, G: Gate + Sync>(
     rt: &R,
     alloc: Global,

@@ -69,7 +69,7 @@ impl CliFault {
     ghost use Rattle.std.specs.Prelude.{◌≡◌};
     ghost use Rattle.persist_report_core.specs.Fault.{cli_fault_number};
 
-    /// The fault's number, from 1.
+    /// Returns the fault's number, from 1.
     pub fn number(&self) -> u32
         ensures { result ≡ cli_fault_number self.now }
     {

@@ -9,7 +9,7 @@ use bucket_ranges::{CustomValues, Spec};
 use csv::ByteRecord;
 use std::alloc::{AllocError, Global};
 
-/// The fields from one on, where there are three.
+/// Returns the fields from `start` on [some]. None only where these are not three [none].
 pub fn three_from(fields: &ByteRecord, start: usize) -> Option<(&[u8], &[u8], &[u8])>
     requires { start ≤ 4 }
     ensures some { IfSome result (λ three. drop start (fields_of fields.now) ≡ three.0.now ∷ three.1.now ∷ three.2.now ∷ []) }
@@ -82,7 +82,7 @@ fn alone(fields: &ByteRecord, spec: Spec, start: usize) -> Option<Spec>
     }
 }
 
-/// The spec of a kind and the fields behind it, which stand from one on; none where they name no spec.
+/// Returns the spec of a kind and the fields after it, which begin at `start`; none where they name no spec.
 pub fn read_spec(
     alloc: Global,
     kind: &[u8],

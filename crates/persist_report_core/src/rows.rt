@@ -29,7 +29,8 @@ pub(crate) fn next_fields(
     }
 }
 
-/// All records of a text, without a header row, each with any number of fields. Empty lines are none.
+/// Returns all records of a text, without a header row, each with any number of fields; empty lines are none [rows].
+/// There are no more than the text has bytes [few].
 pub fn read_rows(alloc: Global, text: &[u8]) -> Result<Vec<ByteRecord>, AllocError>
     ensures rows { IfOk result (λ rows. map fields_of rows.items ≡ records default_config (strip_bom text.now)) }
     ensures few { IfOk result (λ rows. length rows.items ≤ length text.now) }

@@ -56,7 +56,7 @@ fn high(hist: &HistReading, ranges: &Ranges, i: usize) -> i64
     }
 }
 
-/// The units of a histogram.
+/// Returns the units of a histogram.
 pub fn units(hist: &HistReading) -> u64
     requires { units_of (histogram_view hist.now) < 2 ^ 64 }
     ensures { result ≡ units_of (histogram_view hist.now) }
@@ -64,7 +64,9 @@ pub fn units(hist: &HistReading) -> u64
     hist.counts.iter().map(|(_, count)| *count).sum()
 }
 
-/// All rows of a histogram, ascending: also those without units. It fails for want of memory alone.
+/// Returns all rows of a histogram, ascending, also those without units: for each bucket, or for each value of a
+/// sparse histogram, its least value, the boundary after it, its units, and those of it and all rows before it. The
+/// one error is that memory runs out.
 pub fn rows_of(alloc: Global, hist: &HistReading) -> Result<Vec<HistRow>, AllocError>
     requires { IsReadable (histogram_view hist.now) }
     ensures { IfOk result (λ rows. rows.items ≡ rows_of_histogram (histogram_view hist.now)) }

@@ -8,14 +8,14 @@ use bucket_ranges::Spec;
 use image_reader::RecordFault;
 use segment_image::ImageFault;
 
-/// Whether a spec is sparse.
+/// Returns whether a spec is sparse.
 pub fn is_sparse(spec: &Spec) -> bool
     ensures { result ≡ is_sparse_of spec.now }
 {
     matches!(spec, Spec::Sparse)
 }
 
-/// The word for a kind of histogram.
+/// Returns the word for a kind of histogram.
 pub fn kind_word(spec: &Spec) -> &[u8]
     ensures { result.now ≡ kind_word_of spec.now }
 {
@@ -27,7 +27,7 @@ pub fn kind_word(spec: &Spec) -> &[u8]
     }
 }
 
-/// The name of a record's fault.
+/// Returns the name of a record's fault.
 pub fn record_fault_word(fault: RecordFault) -> &'static [u8]
     ensures { result.now ≡ record_fault_word_of fault }
 {
@@ -43,7 +43,7 @@ pub fn record_fault_word(fault: RecordFault) -> &'static [u8]
     }
 }
 
-/// The name of an image's fault.
+/// Returns the name of an image's fault.
 pub fn image_fault_word(fault: ImageFault) -> &'static [u8]
     ensures { result.now ≡ image_fault_word_of fault }
 {

@@ -84,13 +84,17 @@ fn bytes_of<R: Read>(alloc: Global, reader: &mut Watched<R>) -> Result<Vec<u8>, 
     }
 }
 
-/// The schedule that the reader has left, which is CSV: `world,SIZE,PAGE,ID,ACTORS,VERSION` or `adopt,FILE,ACTORS` first, and then what
-/// the actors are to do.
+/// Reads the schedule that the reader has left, which is CSV: `world,SIZE,PAGE,ID,ACTORS,VERSION` or
+/// `adopt,FILE,ACTORS` first, and then what the actors are to do.
 ///
-/// It is read whole before any record is looked at: `Read` where a read fails; `TooLong` where more than 16,777,216 bytes
-/// come, of which one more than these is taken at most. Otherwise the first record without a lawful form, or with a
-/// number out of its type, is told by its number as `BadLine`; a schedule without records is `BadLine` of record 1.
-/// `NoMemory` where there is none. Shapes, files, actors, names and specs are taken as they are, lawful or not.
+/// On `Ok` it is exactly the schedule that the bytes are: its world, a new one or one that continues from a file, and
+/// each later record in order. `TooLong` comes only where there are more than 16,777,216 bytes. `BadLine` comes with
+/// the number of the first record without a valid form, or with a number out of its type; a schedule without records
+/// is `BadLine` of record 1. `NoMemory` comes where memory runs out [answer]. Shapes, files, actors, names and specs
+/// are taken as they are, valid or not.
+///
+/// The reader has not failed before. It is read whole before any record is looked at: on `Ok` it is at its end [end],
+/// and at most one byte more than these is taken from it [taken]. `Read` comes exactly where a read failed [read].
 pub fn read_schedule<R: Read>(
     alloc: Global,
     reader: &mut Watched<R>,

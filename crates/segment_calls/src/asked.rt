@@ -33,10 +33,11 @@ pub struct Asked {
 }
 
 impl Asked {
-    /// What asks for the histogram of a name and a spec, in a segment of a shape.
+    /// Returns what asks for the histogram of a name and a spec, in a segment of a shape; or why nothing may be
+    /// asked.
     ///
-    /// `BadName`, then `BadSpec`; then `NoMemory` where there is none; then `TooLarge` where the record or its counts do not
-    /// fit in a page.
+    /// `BadName`, then `BadSpec`; then `NoMemory` where memory runs out; then `TooLarge` where the record or its
+    /// counts do not fit in a page.
     pub fn of(alloc: Global, shape: Shape, name: &[u8], spec: &Spec) -> Result<Asked, Refusal>
         ensures { MatchResult result (IsAskedFor shape name.now spec.now) (IsRefusedFor shape name.now spec.now) }
     {

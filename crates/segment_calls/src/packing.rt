@@ -16,8 +16,8 @@ const NO_BUCKET: u64 = 65_535;
 // The units of a packed word stand below this, and the bucket above.
 const UNITS: u64 = 1 << 32;
 
-/// The single word with units of a bucket more, or `None` where it cannot take them: it has units of another bucket, or
-/// would have more than a single word holds. The word is 0 or has units.
+/// Returns the single word with units of a bucket more, or `None` where it cannot take them: it has units of another
+/// bucket, or would have more than a single word holds. The word is 0 or has units.
 pub fn packed_with(word: u64, bucket: usize, units: u32) -> Option<u64>
     requires few { bucket ≤ 65535 }
     ensures { MatchOption result ((packed : _) → IsPacking bucket units word packed → ⊥) (λ packed. (word ≡ 0) ⊎ (1 ≤ word % 2 ^ 32) → IsPacking bucket units word packed) }
@@ -35,7 +35,7 @@ pub fn packed_with(word: u64, bucket: usize, units: u32) -> Option<u64>
     Some(word + units)
 }
 
-/// The word with which a single word is disabled in version 1, or frozen in version 2.
+/// Returns the word with which a single word is disabled in version 1, or frozen in version 2.
 pub fn off_word(version: u64, word: u64) -> u64
     requires on { word < 2 ^ 63 }
     ensures { result ≡ off_word version word }
@@ -49,15 +49,15 @@ pub fn off_word(version: u64, word: u64) -> u64
     DISABLED_BIT + word / UNITS
 }
 
-/// The bucket of a packed word, and its units.
+/// Returns the bucket of a packed word, and its units.
 pub fn unpacked(word: u64) -> (usize, u64)
     ensures { result ≡ (word / 2 ^ 32, word % 2 ^ 32) }
 {
     ((word / UNITS) as usize, word % UNITS)
 }
 
-/// The bucket whose units a single word of a version holds or held, where there is one, and the units that it holds. A word
-/// without a lawful form has none.
+/// Returns the bucket whose units a single word of a version holds or held, where there is one, and the units that it
+/// holds; a word without a valid form has none [says]. These are at most 65,535 [small].
 pub fn packed_in(version: u64, word: u64, buckets: usize) -> (Option<usize>, u64)
     requires few { buckets ≤ 65535 }
     ensures says { SaysPacked version buckets word result.0 result.1 }

@@ -44,7 +44,7 @@ impl Refusal {
     ghost use Rattle.std.specs.Prelude.{◌≡◌};
     ghost use Rattle.segment_calls.specs.Refusal.{refusal_number};
 
-    /// The refusal's number, from 1.
+    /// Returns the refusal's number, from 1.
     pub fn number(&self) -> u32
         ensures { result ≡ refusal_number self.now }
     {

@@ -24,7 +24,8 @@ use crate::layout::{
 
 const LEAST: u64 = BLOCK_LEAST as u64;
 
-/// The header of the block at a reference of an image whose header, read from the same words, is `head`.
+/// Returns the header of the block at a reference of an image whose header, read from the same words, is `head`; or
+/// the first fault of that block.
 ///
 /// `BadRef` where the reference is below 16 or the smallest block, of five words, does not fit below the free
 /// pointer; `BadBlock` where the cookie is another, the size is below five words, the block passes the free pointer,

@@ -50,7 +50,7 @@ impl ImageFault {
     ghost use Rattle.std.specs.Prelude.{◌≡◌};
     ghost use Rattle.segment_image.specs.Fault.{image_fault_number};
 
-    /// The fault's number, from 1.
+    /// Returns the fault's number, from 1.
     pub fn number(&self) -> u32
         ensures { result ≡ image_fault_number self.now }
     {
@@ -79,7 +79,7 @@ impl ReadFault {
     ghost use Rattle.std.specs.Prelude.{◌≡◌};
     ghost use Rattle.segment_image.specs.Fault.{read_fault_number};
 
-    /// The fault's number, from 1.
+    /// Returns the fault's number, from 1.
     pub fn number(&self) -> u32
         ensures { result ≡ read_fault_number self.now }
     {

@@ -32,8 +32,9 @@ ghost use Rattle.std.specs.Prelude.{◌≡◌, ◌==◌, ◌&&◌, not, [], ◌�
 ghost use Rattle.segment_image.specs.Checks.{first_fault};
 ghost use Rattle.segment_image.specs.Head.{header_of};
 
-/// The header of an image, or its first fault: `TooShort`, `BadCookie`, `BadVersion`, `BadPage`, `BadSize`,
-/// `NotReady`, `Deleted`, `BadFree`, `BadQueue`, checked in this order. Any words may be given. It takes no memory.
+/// Returns the header of an image, or its first fault: `TooShort`, `BadCookie`, `BadVersion`, `BadPage`, `BadSize`,
+/// `NotReady`, `Deleted`, `BadFree`, `BadQueue`, checked in this order. Versions 1 and 2 are valid. Any words may be
+/// given. It takes no memory.
 pub fn header(words: &[u64]) -> Result<SegmentHead, ImageFault>
     ensures { result ≡ header_of words.now }
 {

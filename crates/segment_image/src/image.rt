@@ -32,9 +32,9 @@ impl Image {
     ghost use Rattle.segment_image.specs.Head.{header_of};
     ghost use Rattle.segment_image.specs.Image.{blank_words};
 
-    /// A ready segment of `size` words in pages of `page` words without blocks.
+    /// Returns a ready segment of `size` words in pages of `page` words without blocks.
     ///
-    /// The first fault of the shape is answered, `BadPage` or `BadSize`; then `NoMemory` where there is none.
+    /// The first fault of the shape is returned, `BadPage` or `BadSize`; then `NoMemory` where memory runs out.
     pub fn blank(alloc: Global, size: u64, page: u64, id: u64) -> Result<Image, ImageFault>
         ensures { MatchOption (first_fault (shape_checks size page)) (MatchResult result (λ image. image ≡ blank_words size page id) (λ fault. fault ≡ ImageFault.NoMemory)) (λ fault. result ≡ Err fault) }
     {
@@ -42,7 +42,7 @@ impl Image {
         blank_of(alloc, shape, id).map_err(|_| ImageFault::NoMemory)
     }
 
-    /// The image that these words are. Their header is lawful.
+    /// Returns the image that these words are. Their header is valid.
     pub fn of(words: Vec<u64>) -> Image
         requires { is_ok (header_of words.items) ≡ true }
         ensures { result ≡ words.items }
@@ -50,7 +50,7 @@ impl Image {
         Image { words }
     }
 
-    /// The words.
+    /// Returns the words.
     pub fn words(&self) -> &[u64]
         ensures { result.now ≡ self.now }
     {

@@ -29,10 +29,10 @@ impl Shape {
     ghost use Rattle.segment_image.specs.Checks.{checked};
     ghost use Rattle.segment_image.specs.Shape.{shape_checks, is_page, is_size};
 
-    /// The shape of a segment of `size` words in pages of `page` words.
+    /// Returns the shape of a segment of `size` words in pages of `page` words.
     ///
-    /// The first fault is answered: `BadPage` where the page is no multiple of 16 from 64 to 65,536, then
-    /// `BadSize` where the segment is no multiple of the page from one page to 1,048,576 words.
+    /// The first fault is returned: `BadPage` where the page is no multiple of 16 from 64 to 65,536, then `BadSize`
+    /// where the segment is no multiple of the page from one page to 1,048,576 words.
     pub fn of(size: u64, page: u64) -> Result<Shape, ImageFault>
         ensures { result ≡ checked (shape_checks size page) (record { size = size; page = page }) }
     {
@@ -45,7 +45,7 @@ impl Shape {
         Ok(Shape { size, page })
     }
 
-    /// The number of words of the segment.
+    /// Returns the number of words of the segment [value], which is a valid size for its page [lawful].
     pub fn size(&self) -> u64
         ensures value { result ≡ self.now.size }
         ensures lawful { is_size self.now.size self.now.page ≡ true }
@@ -53,7 +53,7 @@ impl Shape {
         self.size
     }
 
-    /// The number of words of a page.
+    /// Returns the number of words of a page [value], which is a valid page [lawful].
     pub fn page(&self) -> u64
         ensures value { result ≡ self.now.page }
         ensures lawful { is_page self.now.page ≡ true }

@@ -39,12 +39,13 @@ fn fill<R: Read>(reader: &mut Watched<R>, block: &mut [u8]) -> Result<usize, Rea
     Ok(filled)
 }
 
-/// All bytes that a reader has left, `limit` of them at most.
+/// Reads all bytes that a reader has left, at most `limit` of them.
 ///
-/// The reader is one that has not failed before. `Device` where a read failed in this call, of whatever sort the
-/// failure is; `TooLong` where more than `limit` bytes come; `NoMemory` where there is none for the bytes, for which
-/// memory is asked only as they come. It is never `NotWords`. No more than `limit + 1` bytes are taken from the
-/// reader.
+/// The reader has not failed before. On `Ok` these are all bytes that it had left; `TooLong` comes only where there
+/// are more than `limit` [answer]. On `Ok` there are at most `limit`, whatever the reader is [within], and the reader
+/// is at its end [end]. `Device` comes exactly where a read failed in this call, of whatever sort the failure is
+/// [device]. `NoMemory` comes where memory runs out for the bytes, for which memory is asked only as they come.
+/// `NotWords` never comes [other]. At most `limit + 1` bytes are taken from the reader [taken].
 pub fn read_bytes<R: Read>(
     alloc: Global,
     reader: &mut Watched<R>,
@@ -100,12 +101,14 @@ fn push_words(words: &mut Vec<u64>, bytes: &[u8]) -> Result<(), AllocError>
     Ok(())
 }
 
-/// All bytes that a reader has left, as at most `limit` words of eight bytes each, the least byte first.
+/// Reads all bytes that a reader has left, as at most `limit` words of eight bytes each, the least byte first.
 ///
-/// The reader is one that has not failed before. `Device` where a read failed in this call, of whatever sort the
-/// failure is; `TooLong` where more than `8 * limit` bytes come; `NotWords` where no more come and their number is
-/// no multiple of eight, which is known at their end; `NoMemory` where there is none for the words, for which
-/// memory is asked only as bytes come. No more than `8 * limit + 1` bytes are taken from the reader.
+/// The reader has not failed before. On `Ok` the words' bytes are all that it had left. `TooLong` comes only where
+/// there are more than `8 * limit` bytes; `NotWords` only where there are no more and their number is no multiple of
+/// eight, which is known at their end [answer]. On `Ok` there are at most `limit` words, whatever the reader is
+/// [within], and the reader is at its end [end]. `Device` comes exactly where a read failed in this call, of whatever
+/// sort the failure is [device]. `NoMemory` comes where memory runs out for the words, for which memory is asked only
+/// as bytes come. At most `8 * limit + 1` bytes are taken from the reader [taken].
 pub fn read_words<R: Read>(
     alloc: Global,
     reader: &mut Watched<R>,
@@ -144,8 +147,9 @@ pub fn read_words<R: Read>(
 
 /// Writes words, eight bytes for each, the least byte first. It takes no memory, and does not flush.
 ///
-/// `Device` where a write failed in this call, of whatever sort the failure is. How many of the bytes went out is then
-/// not said.
+/// On `Ok` what the writer holds grew by exactly these bytes [bytes]. `Device` comes where a write failed in this
+/// call, of whatever sort the failure is. The writer has then failed, and else it has failed only if it had before
+/// [failed]. If there was a word to write it is not flushed [flushed].
 pub fn write_words<W: Write>(writer: &mut Watched<W>, words: &[u64]) -> Result<(), WriteFault>
     ensures bytes { OnOk result (Appends (W.contents (watched_inner writer.old)) (W.contents (watched_inner writer.new)) (bytes_of_words words.now)) }
     ensures failed { has_failed writer.new ≡ (has_failed writer.old || is_err result) }

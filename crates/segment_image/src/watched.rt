@@ -19,7 +19,8 @@ pub struct Watched<T> {
 impl<T> Watched<T> {
     ghost use Rattle.segment_image.specs.Watched.{has_failed, is_flushed, watched_inner};
 
-    /// Watches a reader or a writer from here on.
+    /// Watches this reader or writer from here on [inner]. It has not failed yet [failed], and is not flushed
+    /// [flushed].
     pub fn new(inner: T) -> Watched<T>
         ensures inner { watched_inner result ≡ inner }
         ensures failed { has_failed result ≡ false }
@@ -32,14 +33,15 @@ impl<T> Watched<T> {
         }
     }
 
-    /// Whether a read, a write or a flush that was passed on has failed.
+    /// Returns whether a read, a write or a flush that was passed on has failed.
     pub fn failed(&self) -> bool
         ensures { result ≡ has_failed self.now }
     {
         self.failed
     }
 
-    /// Whether the last write or flush that was passed on was a flush, and went well. Reads make no difference.
+    /// Returns whether the last write or flush that was passed on was a flush, and succeeded. Reads make no
+    /// difference.
     pub fn flushed(&self) -> bool
         ensures { result ≡ is_flushed self.now }
     {
@@ -59,7 +61,7 @@ impl<T> Watched<T> {
         outcome
     }
 
-    /// The reader or the writer itself.
+    /// Returns the reader or the writer itself.
     pub fn into_inner(self) -> T
         ensures { result ≡ watched_inner self }
     {
@@ -72,6 +74,9 @@ impl<R: Read> Read for Watched<R> {
 
     ghost remaining = { λ watched. R.remaining (watched_inner watched) };
 
+    /// Reads into an array as the reader does: at most as many bytes as it has room for [bound], which are the next
+    /// that the reader had left [bytes]. It has failed from then on if the read failed [failed]. Whether it is
+    /// flushed does not change [flushed].
     fn read(&mut self, buf: &mut [u8]) -> io::Result<usize>
         ensures bound { ReadsAtMost result buf.new }
         ensures bytes { ReadConsumes (R.remaining (watched_inner self.old)) (R.remaining (watched_inner self.new)) result buf.new }
@@ -82,6 +87,8 @@ impl<R: Read> Read for Watched<R> {
         self.watch(read)
     }
 
+    /// Fills an array as the reader does. On `Ok` the bytes are the next that the reader had left [bytes]. It has
+    /// failed from then on if the read failed [failed]. Whether it is flushed does not change [flushed].
     fn read_exact(&mut self, buf: &mut [u8]) -> io::Result<()>
         ensures bytes { OnOk result (Consumes (R.remaining (watched_inner self.old)) (R.remaining (watched_inner self.new)) buf.new) }
         ensures failed { has_failed self.new ≡ (has_failed self.old || is_err result) }
@@ -97,6 +104,9 @@ impl<W: Write> Write for Watched<W> {
 
     ghost contents = { λ watched. W.contents (watched_inner watched) };
 
+    /// Writes as the writer does: at most the bytes that are given [bound], and what the writer holds grew by those
+    /// that it took [bytes]. It has failed from then on if the write failed [failed], and it is not flushed
+    /// [flushed].
     fn write(&mut self, buf: &[u8]) -> io::Result<usize>
         ensures bound { WritesAtMost result buf.now }
         ensures bytes { WriteAppends (W.contents (watched_inner self.old)) (W.contents (watched_inner self.new)) result buf.now }
@@ -108,6 +118,8 @@ impl<W: Write> Write for Watched<W> {
         self.watch(written)
     }
 
+    /// Flushes the writer; what it holds does not change [bytes]. It has failed from then on if the flush failed
+    /// [failed], and it is flushed exactly if the flush succeeded [flushed].
     fn flush(&mut self) -> io::Result<()>
         ensures bytes { Keeps (W.contents (watched_inner self.old)) (W.contents (watched_inner self.new)) }
         ensures failed { has_failed self.new ≡ (has_failed self.old || is_err result) }
@@ -118,6 +130,8 @@ impl<W: Write> Write for Watched<W> {
         self.watch(flushed)
     }
 
+    /// Writes all bytes as the writer does: on `Ok` what it holds grew by exactly these [bytes]. It has failed from
+    /// then on if the write failed [failed], and it is not flushed [flushed].
     fn write_all(&mut self, buf: &[u8]) -> io::Result<()>
         ensures bytes { OnOk result (Appends (W.contents (watched_inner self.old)) (W.contents (watched_inner self.new)) buf.now) }
         ensures failed { has_failed self.new ≡ (has_failed self.old || is_err result) }

@@ -70,7 +70,7 @@ pub fn batch_agrees()
     ensures { BatchAgrees }
 {}
 
-/// The list is no chain where a word behind the free pointer is not 0.
+/// The list is no chain where a word after the free pointer is not 0.
 pub fn list_breaks()
     ensures { ListBreaks }
 {}
@@ -140,7 +140,7 @@ pub fn opening_is_kept()
     ensures { OpeningIsKept }
 {}
 
-/// Its blocks open segments, and it was opened with its words.
+/// The words of a new segment of a valid shape, in version 1 or 2, are an opening: what a segment may be opened with.
 pub fn new_is_opening()
     ensures { NewIsOpening }
 {}
@@ -200,42 +200,42 @@ pub fn events_keep()
     ensures { EventsKeep }
 {}
 
-/// What holds between any two events holds on where an opener says how many units it is to hand out next.
+/// What holds between any two events holds after an opener says how many units it hands out next.
 pub fn offers_keep()
     ensures { OffersKeep }
 {}
 
-/// What holds between any two events holds on where an opener makes a recorder.
+/// What holds between any two events holds after an opener makes a recorder.
 pub fn splits_keep()
     ensures { SplitsKeep }
 {}
 
-/// What holds between any two events holds on where an opener joins a recorder.
+/// What holds between any two events holds after an opener joins a recorder.
 pub fn joins_keep()
     ensures { JoinsKeep }
 {}
 
-/// What holds between any two events holds on where an opener lends units to a recorder.
+/// What holds between any two events holds after an opener lends units to a recorder.
 pub fn lends_keep()
     ensures { LendsKeep }
 {}
 
-/// What holds between any two events holds on where an opener gets units back from a recorder.
+/// What holds between any two events holds after an opener takes units back from a recorder.
 pub fn returns_keep()
     ensures { ReturnsKeep }
 {}
 
-/// What holds between any two events holds on where an opener puts the units that it offered into a purse.
+/// What holds between any two events holds after an opener puts the units that it offered into a purse.
 pub fn fills_keep()
     ensures { FillsKeep }
 {}
 
-/// What holds between any two events holds on where a purse is poured out to a recorder.
+/// What holds between any two events holds after a purse is poured out to a recorder.
 pub fn pours_keep()
     ensures { PoursKeep }
 {}
 
-/// What holds between any two events holds on where a recorder tells notes without an event.
+/// What holds between any two events holds after a recorder's ghost notes without an event.
 pub fn announcements_keep()
     ensures { AnnouncementsKeep }
 {}
@@ -246,7 +246,7 @@ pub fn kept_flags_are_set()
     ensures { KeptFlagsAreSet }
 {}
 
-/// The list of a kept state is the chain: the records of the opening, and behind them those that actors linked.
+/// The list of a kept state is the chain: the records of the opening, and after them those that actors linked.
 pub fn kept_is_chain()
     ensures { KeptIsChain }
 {}
@@ -276,9 +276,9 @@ pub fn kept_marks_are_taken()
     ensures { KeptMarksAreTaken }
 {}
 
-/// What holds between any two events holds on where a recorder notes something: that a call which counts begins, goes on or ends,
-/// that an amount became known, that a delta or a snapshot begins or ends, what a block of its own is to hold, or which histogram it
-/// was answered.
+/// What holds between any two events holds after each ghost note of a recorder: that a call which counts begins,
+/// continues or ends, that an amount became known, that a delta or a snapshot begins or ends, what a block of its own
+/// is to hold, or which histogram it was answered.
 pub fn notes_keep()
     ensures { NotesKeep }
 {}
@@ -288,7 +288,7 @@ pub fn kept_records_hold()
     ensures { KeptRecordsHold }
 {}
 
-/// A kept state is consistent, in all its parts, whatever its segment was opened with.
+/// A kept state is consistent in all eight parts, whatever its segment was opened with.
 pub fn kept_is_consistent()
     ensures { KeptIsConsistent }
 {}

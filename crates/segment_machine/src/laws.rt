@@ -21,18 +21,19 @@ pub fn keys_are_least()
     ensures { KeysAreLeast }
 {}
 
-/// An actor goes along with an allocation that is stepped by itself: while the two agree, the event that is next is one that the actor
-/// may do, and behind it they agree again.
+/// An actor runs along with an allocation that is stepped by itself: while the two agree, the actor may do the
+/// allocation's next event, and after it they agree again.
 pub fn allocations_agree()
     ensures { AllocationsAgree }
 {}
 
-/// An actor goes along with a publish, which never strays.
+/// An actor runs along with a publish in the same way. Such a publish never strays.
 pub fn publishes_agree()
     ensures { PublishesAgree }
 {}
 
-/// An actor goes along with a walk from the start: what the walk has given is the front of the chain that the actor has seen.
+/// An actor runs along with a walk from the start in the same way: what the walk has given is the front of the chain
+/// that the actor has seen.
 pub fn walks_agree()
     ensures { WalksAgree }
 {}
@@ -128,7 +129,7 @@ pub fn purses_carry()
     ensures { PursesCarry }
 {}
 
-/// Who owes an answer is not joined.
+/// A recorder that owes an answer is not joined.
 pub fn debts_stay()
     ensures { DebtsStay }
 {}
@@ -138,7 +139,8 @@ pub fn tails_stay()
     ensures { TailsStay }
 {}
 
-/// Whoever has loaded flags with the corrupt one has seen it for good; a join keeps that, and a newcomer has it of its opener.
+/// An actor that has loaded flags with the corrupt one has seen it for good; a join keeps that, and a new recorder
+/// has it of its opener.
 pub fn corrupt_stays()
     ensures { CorruptStays }
 {}
@@ -153,7 +155,7 @@ pub fn words_off_first()
     ensures { WordsOffFirst }
 {}
 
-/// Who disabled a word with units moves these, and does nothing else before.
+/// An actor that disabled a word with units moves these, and does nothing else before.
 pub fn units_remembered()
     ensures { UnitsRemembered }
 {}

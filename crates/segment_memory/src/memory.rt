@@ -40,7 +40,8 @@ impl Lender {
         Ok((Memory { heap, lent }, Lender { shelf }))
     }
 
-    /// A memory in the room, and its lender. Where the heap has no memory for what these share, the room comes back.
+    /// Lends a room: returns a memory that allocates in it, and its lender, which knows its size [ok]. Where the heap
+    /// has no memory for what these two share, the same room comes back [err].
     pub fn lend(heap: Global, room: Room) -> Result<(Memory, Lender), Room>
         ensures ok { IfOk result (λ made. IsLent room.size made.0 made.1) }
         ensures err { IfErr result (λ back. back ≡ room) }
@@ -55,7 +56,8 @@ impl Lender {
         }
     }
 
-    /// The room that was lent. None while a block is in it, and where it was taken back before.
+    /// Returns the room that was lent, which has the size of the one that was lent; none while a block is in it, and
+    /// where it was taken back before.
     pub fn take_back(&self) -> Option<Room>
         ensures { IfSome result (λ room. room.size ≡ lent_size self.now) }
     {
@@ -66,7 +68,7 @@ impl Lender {
 impl Memory {
     ghost use Rattle.segment_memory.specs.Memory.{block_size, is_of_heap, room_size};
 
-    /// That of the heap.
+    /// Returns the memory of the heap.
     pub fn of_heap(heap: Global) -> Memory
         ensures { is_none result.lent ≡ true }
     {

@@ -44,16 +44,26 @@ struct Part {
     left: Option<Remainder>,
 }
 
-/// Adds what deltas have not taken of a reading to a recorder's segment: for each of its histograms in order, `hist` of its name and spec,
-/// and then one `batch` of the units above their marks, with the sum less its mark. The report names each histogram that was reached, with
-/// the units that were added to it. The first that is refused stops the merge, also where there is no memory for its `hist`; what was
-/// added before stays. So merging a reading twice adds it twice.
+/// Adds what deltas have not taken of a reading to a recorder's segment: for each of its histograms in order, `hist`
+/// of its name and spec, and then one `batch` of the units above their marks, with the sum less its mark. The first
+/// that is refused stops the merge, also where memory runs out in its `hist`; what was added before stays. So merging
+/// a reading twice adds it twice. Any reading may be given.
 ///
-/// Any reading may be given. A histogram of which more is left than a segment has units stops the merge there with `NoUnits`, as any does
-/// whose batch costs more than the recorder has.
+/// The log of the recorder grew by the batches of the histograms, one after the other in the order of the reading;
+/// where one stopped the merge, by those of the histograms before it, and by its own first items, as many as the
+/// report says. Their costs are taken from the share, and spent for each name. The recorder knows a histogram of each
+/// of these names, with the same spec. If nothing stopped the merge, it has not set the full flag. The report names
+/// each histogram that was reached, in order, with the units that were added to it. The one that stopped the merge
+/// has a cause: its `hist` was refused, for what a `hist` is refused for; or its batch costs more than the share has,
+/// as it does where [`remainder_of`] returns none, and no item is counted; or its next item needed a block, and none
+/// could be claimed. The recorder's deltas and snapshots, and what shared cursors gave it, are unchanged, and it has
+/// seen and done no less. The histograms that it has come to know are of the reading [answer].
 ///
-/// `NoMemory` where there is none for the report, before anything has happened; nothing else is refused. It asks for 120 bytes for each
-/// histogram, for its name twice, and for eight bytes for each of its keys; then for what the `hist` of each asks for.
+/// It records into the same segment, and each histogram that it knew it knows at the same place [same].
+///
+/// The one error is `NoMemory`, where memory runs out for the report: the recorder is then unchanged [answer]. It
+/// asks for 120 bytes for each histogram, for its name twice, and for eight bytes for each of its keys; then for what
+/// the `hist` of each asks for.
 pub fn merge(
     alloc: Global,
     recorder: &mut Recorder,

@@ -15,11 +15,11 @@ pub struct Remainder {
     pub sum: i64,
 }
 
-/// What deltas have not taken of a histogram: of each key that has more units than its mark, those above it, and the
-/// sum less its mark. A key without a mark beside it has the mark 0.
+/// Returns what deltas have not taken of a histogram: of each key that has more units than its mark, those above it,
+/// in order, and the sum less its mark. A key without a mark beside it has the mark 0.
 ///
-/// None where more than 4,294,967,295 units of a key are left, or where the sum less its mark does not fit 64 bits. No histogram
-/// that is read is so: a batch of what is left of it would cost more units than a segment has.
+/// None exactly where more than 4,294,967,295 units of a key are left, or where the sum less its mark does not fit 64
+/// bits. No histogram that is read is so: a batch of what is left of it would cost more units than a segment has.
 pub fn remainder_of(alloc: Global, histogram: &HistReading) -> Result<Option<Remainder>, AllocError>
     ensures { IfOk result (IsLeftOf histogram.now) }
 {

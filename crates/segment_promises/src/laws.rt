@@ -13,7 +13,8 @@ ghost use Rattle.segment_promises.specs.Lists.{LinksAppend, ChainsAreLinks, Walk
 ghost use Rattle.segment_promises.specs.Adoption.{AdoptionOpens, KeptAreAdoptable};
 ghost use Rattle.segment_promises.specs.Examples.{LinksLengthen, DeltaOwes, SnapshotOwes};
 
-/// Every state that is reached from a kept one is kept, in whatever order actors step.
+/// Every state that is reached from a kept one is kept, in whatever order actors step, whatever the segment was
+/// opened with.
 pub fn reached_states_follow()
     ensures { ReachedStatesFollow }
 {}
@@ -28,12 +29,13 @@ pub fn states_are_consistent()
     ensures { StatesAreConsistent }
 {}
 
-/// A step keeps what holds, and its actor learns of the number that was found.
+/// A step keeps what holds, and its actor learns of the number that it found.
 pub fn steps_follow()
     ensures { StepsFollow }
 {}
 
-/// A table, whose slots have values of a type, is opened with the words of a kept segment and its one actor.
+/// A table of atomic words, whose slots have values of a type, is opened with the words of a kept segment and its one
+/// actor.
 pub fn tables_open<S>()
     ensures { TablesOpen S }
 {}
@@ -43,17 +45,17 @@ pub fn tables_close<S>()
     ensures { TablesClose S }
 {}
 
-/// A table may do a step on a segment's words that is an event, with notes before and behind it.
+/// A table may do a step on a segment's words that is an event, with ghost notes before and after it.
 pub fn tables_follow<S>()
     ensures { TablesFollow S }
 {}
 
-/// A table may do a step on the word that never changes that makes notes.
+/// A table may do a step on the word that never changes and make ghost notes by it alone.
 pub fn tables_announce<S>()
     ensures { TablesAnnounce S }
 {}
 
-/// On that word an opener may also say how many units it is to hand out next.
+/// By a step on that word an opener may also say how many units it hands out next.
 pub fn tables_offer<S>()
     ensures { TablesOffer S }
 {}
@@ -63,62 +65,81 @@ pub fn tables_split<S>()
     ensures { TablesSplit S }
 {}
 
-/// It may take in the seat of a recorder that it may join.
+/// An opener's seat may take in the seat of a recorder that it may join.
 pub fn tables_join<S>()
     ensures { TablesJoin S }
 {}
 
-/// An opener's seat may be cut in two where it may fill a purse with the units that it offered.
+/// An opener's seat may be cut in two where it may fill a purse with the units that it offered, also beside 256
+/// recorders.
 pub fn tables_fill<S>()
     ensures { TablesFill S }
 {}
 
-/// A recorder's seat may take in the purse's, which is poured out to it.
+/// A recorder's seat may take in that of a purse: then it has these units more, and nothing else changes.
 pub fn tables_pour<S>()
     ensures { TablesPour S }
 {}
 
-/// The tallies of the parts of a list by number add up to that of the list.
+/// The tallies of the parts of a list by number modulo n add up to that of the list.
 pub fn parts_add_up()
     ensures { PartsAddUp }
 {}
 
-/// Stopped after any event, the words read as exactly the published histograms, with all units but those in transit.
+/// Of any kept state: whenever everything stops, the words read as exactly the published histograms, with all units
+/// but those in transit.
+///
+/// - No record is bad, and the list does not stop. The id is the opening's. A flag is read if the opening had it or
+///   an actor has set it; so the corrupt one is read if an actor has seen it.
+/// - Of each name on the list exactly one histogram is read: the first record, with the spec that its maker was
+///   given.
+/// - Of each key the units are those that were counted, less those in transit. So a bucket holds every unit of ended
+///   calls except those in transit, and no unit of a call that had not begun. Only the packed bucket, in version 1,
+///   has units in transit: they are just being moved out of the single word.
+/// - Sum, redundant count, marks and sum mark are what was added, noted and taken.
 pub fn stopped_reads()
     ensures { StoppedReads }
 {}
 
-/// Once all recorders are joined, they read as the answered histograms, with the tally of all that was accepted.
+/// Of any kept state: once all recorders are joined, the words read as the histograms that `hist` returned, each
+/// once, with its spec.
+///
+/// Units and sum are the tally of the opener's log: what one thread records of the accepted samples. The redundant
+/// count is that of the opening and the units noted since. Marks and sum mark are what was taken. A flag is read if
+/// the opening had it or an actor has set it.
 pub fn joined_reads()
     ensures { JoinedReads }
 {}
 
-/// Where a final delta was taken, all deltas together took the totals and the sum.
+/// After the joins, all deltas of a histogram that had a final one took its totals and its sum.
 pub fn final_deltas_take_all()
     ensures { FinalDeltasTakeAll }
 {}
 
-/// Where a delta's recorder was alone, and the last, the deltas up to it took exactly what the entries in front of it come to.
+/// After the joins, where no recorder was outstanding when the recorder of a delta was made, and none was made since,
+/// the deltas up to it took exactly what the entries before it in the log come to.
 pub fn lone_deltas_take_all()
     ensures { LoneDeltasTakeAll }
 {}
 
-/// A final snapshot has the totals, the sum and the redundant count.
+/// After the joins, a final snapshot has the totals, the sum and the redundant count.
 pub fn final_snapshots_are_exact()
     ensures { FinalSnapshotsAreExact }
 {}
 
-/// No bucket and no value of a snapshot is above the final total.
+/// After the joins, no bucket and no value of any snapshot is above the final total.
 pub fn snapshots_stay_below()
     ensures { SnapshotsStayBelow }
 {}
 
-/// A call that counts and is refused has counted and noted its first entries, and otherwise nothing.
+/// A refused call that counts has counted and noted its first entries, and added no amount. Nothing of it is in
+/// transit, and it took nothing. Of a refused `add` no entry is counted.
 pub fn refused_adds_few()
     ensures { RefusedAddsFew }
 {}
 
-/// Once a recorder has set the corrupt flag, its calls claim no block.
+/// Once a recorder has set the corrupt flag, its calls claim no block until it is joined, in whatever order actors
+/// step.
 pub fn spoilers_claim_nothing()
     ensures { SpoilersClaimNothing }
 {}
@@ -128,62 +149,76 @@ pub fn links_append()
     ensures { LinksAppend }
 {}
 
-/// The chain of a state that is reached is what it was, and behind it the records that were linked since, in the order of their links.
+/// The chain of a state that is reached is what it was, and after it the records that were linked since, in the order
+/// of their links.
 pub fn chains_are_links()
     ensures { ChainsAreLinks }
 {}
 
-/// A walk along the list gives the front of the chain; where it ends, it gave all that its caller had met.
+/// A walk along the list gives the front of the chain; at its end it has given all that its caller had made or seen.
 pub fn walks_give_all()
     ensures { WalksGiveAll }
 {}
 
-/// What a shared cursor gave one recorder stands in the order of the chain.
+/// What a shared cursor gave one recorder is in the order of the chain.
 pub fn cursors_keep_order()
     ensures { CursorsKeepOrder }
 {}
 
-/// What a shared cursor gave all recorders is the front of the chain, each record once.
+/// What a shared cursor gave all recorders together is the front of the chain, each record once.
 pub fn cursors_give_fronts()
     ensures { CursorsGiveFronts }
 {}
 
-/// A shared cursor answers None only where all that its caller had met was given.
+/// A shared cursor returns None only once all that its caller had made or seen was given.
 pub fn cursors_give_all()
     ensures { CursorsGiveAll }
 {}
 
-/// The tally of the entries of samples is what the samples add up to.
+/// The tally of the entries of samples is what `tally` returns of the samples.
 pub fn tallies_are_counts()
     ensures { TalliesAreCounts }
 {}
 
-/// A histogram that a `hist` was answered Ok with is the first of its name on the chain, with the same spec.
+/// A histogram that `hist` returned is the first record of its name on the chain, with the same spec.
 pub fn names_are_first()
     ensures { NamesAreFirst }
 {}
 
-/// What a caller saw of the first record of a name, where it refuses `OtherSpec`, says that this has another spec.
+/// A caller that saw another spec of the first record of a name, and so refuses `OtherSpec`, is right: that record
+/// has another spec.
 pub fn others_differ()
     ensures { OthersDiffer }
 {}
 
-/// Once a delta has taken all that it saw, all took of each bucket and value at least what its recorder had accepted and seen.
+/// Once a delta has taken all that it saw, all deltas together took of each bucket and value at least what its
+/// recorder had accepted and seen.
+///
+/// One exception: in version 1, once the packed bucket's units were moved out of the single word, the deltas took of
+/// that bucket at least each count that the recorder had seen, and no more is said.
 pub fn deltas_take_accepted()
     ensures { DeltasTakeAccepted }
 {}
 
-/// A snapshot that is answered has of each bucket and value at least what its recorder had accepted and seen.
+/// A snapshot that is returned has of each bucket and value at least what its recorder had accepted and seen, with
+/// the exception of `deltas_take_accepted`. Its redundant count is at least that of the opening and the units that
+/// were accepted since, and at least each that its recorder had seen.
 pub fn snapshots_see_accepted()
     ensures { SnapshotsSeeAccepted }
 {}
 
-/// The words of a kept state of version 2 that is not corrupt may be adopted.
+/// In version 2, while the corrupt flag is not set, the words of a kept state may be adopted: they have none of the
+/// faults of adoption.
 pub fn kept_are_adoptable()
     ensures { KeptAreAdoptable }
 {}
 
-/// An image that may be adopted opens a kept segment.
+/// An image that has none of the faults of adoption opens a kept segment, with any number of shared cursors.
+///
+/// Its records are those on the image's list. Its opener has one first entry for each key that has units, and one for
+/// each sum. The marks and sum marks count as taken at first, and its pool is all units but those that the image has
+/// used. So all that holds of a kept state holds of what is reached from there. It is consistent beside the image's
+/// words.
 pub fn adoption_opens()
     ensures { AdoptionOpens }
 {}

@@ -42,7 +42,8 @@ pub fn units_of_sums_read()
     ensures { UnitsOfSumsRead }
 {}
 
-/// An image that was adopted goes on: the words read as what it had with what was counted since, whether it had ended or stopped.
+/// A segment that continues from an adopted image: the words read as what the image had with what was counted since,
+/// whether it had ended or stopped.
 pub fn adopted_run_reads()
     ensures { AdoptedRunReads }
 {}

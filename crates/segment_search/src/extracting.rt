@@ -10,11 +10,14 @@ use segment_image::{Watched, write_words};
 use std::alloc::Global;
 use std::io::{Read, Write};
 
-/// Writes the words of the segment with the number `nth`, from 1, of those that stand among the bytes that a reader has left.
-/// Answers how many bytes stand before it.
+/// Writes the words of the segment with the number `nth`, from 1, of those that stand among the bytes that a reader
+/// has left, and flushes. Returns how many bytes stand before it.
 ///
-/// The reader and the writer are ones that have not failed before. Faults are those of [`find_segment`], after which nothing
-/// was written; and `Write` where the write or the flush failed.
+/// The reader and the writer have not failed before. On `Ok` the segment stands at that place, and what the writer
+/// holds grew by exactly the bytes of its words; `NoSegment` and `TooLong` have their cause in the bytes, as of
+/// [`find_segment`] [answer]. On `Ok` the writer is flushed [flushed]. `Device` comes exactly where a read failed
+/// [device], and `Write` exactly where the write or the flush failed [write]. After any other fault the writer is
+/// unchanged [untouched].
 pub fn extract<R: Read, W: Write>(
     alloc: Global,
     reader: &mut Watched<R>,

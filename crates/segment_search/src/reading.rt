@@ -50,8 +50,11 @@ fn push_words(words: &mut Vec<u64>, bytes: &[u8]) -> Result<(), AllocError>
 
 /// Reads words until there are `count` of them, or the reader is at its end. There are fewer before, and they stay in front.
 ///
-/// The reader is one that has not failed before. `Device` where a read failed in this call; `NoMemory` where there is none
-/// for the words: for `count` and a block more at most.
+/// The words and what the reader has left are together what they were [kept], and there are no fewer words than before
+/// [longer]. Where there are fewer than `count` then, the reader is at its end [end].
+///
+/// The reader has not failed before. `Device` comes exactly where a read failed in this call [device]; else
+/// `NoMemory`, where memory runs out for the words: for `count` and a block more at most [other].
 pub fn read_on<R: Read>(
     words: &mut Vec<u64>,
     reader: &mut Watched<R>,

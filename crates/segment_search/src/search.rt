@@ -23,11 +23,15 @@ pub struct Found {
     pub image: Image,
 }
 
-/// The segment with the number `nth`, from 1, of those that stand among the bytes that a reader has left.
+/// Returns the segment with the number `nth`, from 1, of those that stand among the bytes that a reader has left: one
+/// stands at each whole word at which a valid header stands, with all the words that it says before the end, also
+/// inside another segment's words.
 ///
-/// The reader is one that has not failed before. `NoSegment` where fewer stand there; `Device` where a read failed, of whatever
-/// sort the failure is; `NoMemory` where there is none for the words of a segment, or of what seems one, and a block;
-/// `TooLong` where there are 2^64 bytes or more, and it is not among the first of them.
+/// The reader has not failed before. On `Ok` the segment stands at the word that is returned, has exactly these
+/// words, and one fewer stand before it. `NoSegment` comes only where fewer stand there, `TooLong` only where there
+/// are 2^64 bytes or more, and it is not among the first of them [answer]. `Device` comes exactly where a read
+/// failed, of whatever sort the failure is [device]; `Write` never [no_write]. `NoMemory` comes where memory runs out
+/// for the words of a segment, or of what seems one, and a block. The word is below 2^61 [within].
 pub fn find_segment<R: Read>(
     alloc: Global,
     reader: &mut Watched<R>,

@@ -32,7 +32,7 @@ impl Window {
     ghost use Rattle.segment_image.specs.Watched.{has_failed, watched_inner};
     ghost use Rattle.segment_search.specs.Places.{ahead, said_words};
 
-    /// A window at the first place, with no words yet.
+    /// Returns a window at the first place, with no words yet.
     pub fn new(alloc: Global) -> Window
         ensures { result ≡ [] }
     {
@@ -49,9 +49,12 @@ impl Window {
         &self.words[self.at..]
     }
 
-    /// Whether there are `count` words ahead. They are read as far as there are.
+    /// Returns whether there are `count` words ahead [answer]. They are read as far as there are: the words ahead and
+    /// what the reader has left are together what they were [kept], there are no fewer words ahead than before
+    /// [longer], and where there are fewer than `count`, the reader is at its end [end].
     ///
-    /// `Device` where a read failed in this call; `NoMemory` where there is none for the words.
+    /// `Device` comes exactly where a read failed in this call [device]; else `NoMemory`, where memory runs out for
+    /// the words [other].
     pub fn has_words<R: Read>(
         &mut self,
         reader: &mut Watched<R>,
@@ -74,9 +77,13 @@ impl Window {
         Ok(self.words.len() - self.at >= count)
     }
 
-    /// How many words the segment has that begins here; none where no segment does.
+    /// Returns how many words the segment has that begins here: that many are ahead, and have a valid header [size].
+    /// None where no segment begins here: the words that it would have by its own size word have no valid header
+    /// [none]. The words ahead and what the reader has left are together what they were [kept], and there are still
+    /// 16 of them ahead [still].
     ///
-    /// `Device` where a read failed in this call; `NoMemory` where there is none for its words.
+    /// `Device` comes exactly where a read failed in this call [device]; else `NoMemory`, where memory runs out for
+    /// its words [other].
     pub fn segment_size<R: Read>(
         &mut self,
         reader: &mut Watched<R>,
@@ -114,7 +121,7 @@ impl Window {
         self.at += 1;
     }
 
-    /// The segment of so many words that begins here.
+    /// Returns the segment of `size` words that begins here.
     pub fn into_image(self, size: usize) -> Image
         requires { is_ok (header_of (take size self)) ≡ true }
         ensures { result ≡ take size self }

@@ -20,7 +20,7 @@ pub enum Failure {
 }
 
 impl Failure {
-    /// The status with which the program ends: 2 for `Usage`, and that of the fault for `Fault`.
+    /// Returns the status with which the program ends: 2 for `Usage`, and that of the fault for `Fault`.
     pub fn status(&self) -> u8
         ensures { result ≡ failure_status self.now }
     {

@@ -37,8 +37,8 @@ pub enum ReplayFault {
 }
 
 impl ReplayFault {
-    /// The status with which the program ends: 3 where the bytes are no schedule or no words, or the world does not take it; 4 where
-    /// a device failed; 5 for want of memory.
+    /// Returns the status with which the program ends: 3 where the bytes are no schedule or no words, or the world
+    /// does not take it; 4 where a device failed; 5 where memory runs out.
     pub fn status(&self) -> u8
         ensures { result ≡ replay_status self.now }
     {
@@ -52,7 +52,8 @@ impl ReplayFault {
         }
     }
 
-    /// What a fault of the world at the record of a number comes to.
+    /// Returns what a fault of the world at the record of a number comes to: `World` with that number, but out of
+    /// memory is no fault of a record.
     pub fn of_world(number: u64, fault: WorldFault) -> ReplayFault
         ensures { result ≡ fault_of_world number fault }
     {

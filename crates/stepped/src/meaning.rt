@@ -39,7 +39,7 @@ pub enum Role {
     Other,
 }
 
-/// A word, or 0 behind the last.
+/// Returns a word, or 0 after the last.
 pub fn word(words: &[u64], at: usize) -> u64
     ensures { result ≡ word_at words.now at }
 {
@@ -290,7 +290,9 @@ fn put_header_word<W: Write>(writer: &mut W, at: usize) -> io::Result<()>
     }
 }
 
-/// Writes what a word means, as these words stand. The error is the writer's.
+/// Writes what a word means, as these words stand: the first block that has it, by the sizes of all blocks before it;
+/// what that block is; and of counts the first histogram's record that has their reference. The error is the
+/// writer's.
 pub fn put_meaning<W: Write>(writer: &mut W, words: &[u64], at: usize) -> io::Result<()>
     ensures { OnOk result (Appends (W.contents writer.old) (W.contents writer.new) (meaning words.now at)) }
 {

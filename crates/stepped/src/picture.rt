@@ -70,7 +70,7 @@ fn put_call<W: Write>(writer: &mut W, call: &Call) -> io::Result<()>
     }
 }
 
-/// Writes the row of a call that begins. The error is the writer's.
+/// Writes the row of a call that begins, byte for byte. The error is the writer's.
 pub fn draw_begin<W: Write>(writer: &mut W, actor: usize, call: &Call) -> io::Result<()>
     ensures { OnOk result (Appends (W.contents writer.old) (W.contents writer.new) (row [] actor (begin_cell actor call.now))) }
 {
@@ -80,8 +80,8 @@ pub fn draw_begin<W: Write>(writer: &mut W, actor: usize, call: &Call) -> io::Re
     writer.write_all(b"\n")
 }
 
-/// Writes the row of an event, with the word that it changed, or with the exchange that did not go through, as the words then stand. The
-/// error is the writer's.
+/// Writes the row of an event, with the word that it changed, or with the exchange that failed, as the words then
+/// stand. The error is the writer's.
 pub fn draw_event<W: Write>(
     writer: &mut W,
     event: u64,
@@ -105,7 +105,7 @@ pub fn draw_event<W: Write>(
     }
 }
 
-/// Writes the row of an answer. The error is the writer's.
+/// Writes the row of an answer, byte for byte. The error is the writer's.
 pub fn draw_answer<W: Write>(writer: &mut W, actor: usize, answer: &Answer) -> io::Result<()>
     ensures { OnOk result (Appends (W.contents writer.old) (W.contents writer.new) (row [] actor (answer_cell answer.now))) }
 {

@@ -53,7 +53,9 @@ fn change_of(old: &[u64], new: &[u64]) -> Option<Change>
 }
 
 impl Replay {
-    /// A new world, in which so many events may happen, which are shown so. `World` of record 1 where it cannot be, `NoMemory` where there is none.
+    /// Returns a new world [world] in which so many events may happen [left], which are shown in this form [form].
+    /// Else the fault is `World` of record 1 with the first reason why there can be no such world, or `NoMemory`
+    /// where memory runs out [faults].
     pub fn new(
         alloc: Global,
         opening: NewWorld,
@@ -78,8 +80,9 @@ impl Replay {
         Ok(Replay::of(alloc, world, events, form)?)
     }
 
-    /// A world that goes on with the words of an image, in which so many events may happen, which are shown so. `World` of record 1 where it cannot be: with
-    /// `BadShape` of the actors, or with `Adopt` and the first fault of the image; `NoMemory` where there is none.
+    /// Returns a world that continues from the words of an image [world], in which so many events may happen [left],
+    /// which are shown in this form [form]. Else the fault is `World` of record 1, with `BadShape` of the number of
+    /// actors, or with `Adopt` and the first fault of the image; or `NoMemory` where memory runs out [faults].
     pub fn adopt(
         alloc: Global,
         words: &[u64],
@@ -111,7 +114,7 @@ impl Replay {
         })
     }
 
-    /// The words of its segment, whose header has no fault.
+    /// Returns the words of its segment [words], whose header has no fault [header].
     pub fn words(&self) -> &[u64]
         ensures words { result.now ≡ self.now.world.world_state.words.items }
         ensures header { header_of result.now ≡ Ok (head_of result.now) }
@@ -249,11 +252,18 @@ impl Replay {
         }
     }
 
-    /// Does what the records from 2 on say, in order, as long as events are left, and shows what it does. The world is as `new`
-    /// or `adopt` made it, or as an earlier `run` left it.
+    /// Does what the records from 2 on say, in order, as long as events are left, and shows what it does. The world
+    /// is as `new` or `adopt` made it, or as an earlier `run` left it.
     ///
-    /// `Write` where a write failed; then `World` of the first record at which the world has a fault, or `NoMemory` where there was none
-    /// for a call. What was done before such a fault is shown.
+    /// On `Ok` the world made the moves of the records: a record begins a call, or its actor performs as many events
+    /// as it says, and fewer only where the call ends or no event is left; once none is left, nothing more is done.
+    /// Exactly what was done is written, as lines or as a picture: each begin, with its answer where it needs no
+    /// event; each event, with the one word that it changed, from what to what, or none; and after it the answer of a
+    /// call that it ended. A picture says of an event that changed no word, where the world says that it is an
+    /// exchange which wants another number there than the word has, both numbers [replays].
+    ///
+    /// `Write` comes where a write failed. Else the fault is the first one that the world has at a move of a record,
+    /// `World` with the record's number, or `NoMemory`; and what was done before it is written [stops].
     pub fn run<W: Write>(&mut self, writer: &mut W, orders: &[Order]) -> Result<(), ReplayFault>
         ensures replays { OnOk result ((done : List (Place × Deed)) × Replays 2 orders.now self.old.left self.old.world.world_state self.new.world.world_state self.new.left done × Writes self.old.form self.new.form (W.contents writer.old) (W.contents writer.new) done) }
         ensures stops { IfErr result (λ fault. StopsWith orders.now self.old.left self.old.world.world_state fault (λ done. Appends (W.contents writer.old) (W.contents writer.new) (texts self.old.form done))) }

@@ -110,7 +110,8 @@ impl<'a> Request<'a> {
     }
 }
 
-/// What is wrong with a command line in which an argument is not UTF-8 text.
+/// Returns what is wrong with a command line in which an argument is not UTF-8 text: a mistake in a value. The one
+/// error is that memory runs out.
 pub fn not_text(alloc: Global) -> Result<Error, AllocError>
     ensures { IfOk result (λ error. kind_of error ≡ ErrorKind.ValueValidation) }
 {

@@ -31,7 +31,7 @@ impl ScriptFault {
     ghost use Rattle.std.specs.Prelude.{◌≡◌};
     ghost use Rattle.persist_report_core.specs.Script.{script_fault_number};
 
-    /// The fault's number, from 1; not that of a record.
+    /// Returns the fault's number, from 1; not that of a record.
     pub fn number(&self) -> u32
         ensures { result ≡ script_fault_number self.now }
     {

@@ -47,11 +47,12 @@ fn names(alloc: Global, bytes: &[u8], shape: Shape, id: u64) -> Result<bool, All
     Ok(is_of_segment(read_request(alloc, &fields)?, shape, id))
 }
 
-/// The script that the reader has left, for the segment of this shape and id, whose `add` records may take as many units as the
-/// pool has.
+/// Reads the script that the reader has left, for the segment of this shape and id, whose `add` records may take as
+/// many units as the pool has.
 ///
-/// It is read, and its faults are told, as [`read_script`](crate::read_script) does; and `BadLine` of record 1 is told too where that
-/// names another segment.
+/// On `Ok` it is exactly the script of the bytes. A fault is as of [`read_script`](crate::read_script); `BadLine` of
+/// record 1 comes also where that names another segment [answer]. `Read` comes exactly where a read failed [read]. On
+/// `Ok` the reader is at its end [end].
 pub fn read_script_for<R: Read>(
     alloc: Global,
     reader: &mut Watched<R>,

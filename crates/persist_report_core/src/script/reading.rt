@@ -62,14 +62,18 @@ pub(crate) fn bytes_of<R: Read>(
     }
 }
 
-/// The script that the reader has left. Its `add` records may take as many units as the pool has.
+/// Reads the script that the reader has left. Its `add` records may take as many units as the pool has. The reader
+/// has not failed before, and is read whole before any record is looked at.
 ///
-/// On `Ok`, exactly the script of the bytes was read, to their end. They are read whole before any record is looked at:
-/// `Read` where a read fails; `TooLong` where more than 16,777,216 bytes come, of which one more than these is taken at
-/// most. Otherwise the first record with a fault is told by its number: `BadLine` where it has no lawful form, a number
-/// out of its type, an unlawful shape or an unknown name, or stands out of order; otherwise `ZeroCount` where an `add`
+/// On `Ok` it is exactly the script of the bytes. `TooLong` comes only where there are more than 16,777,216 bytes.
+/// Else the first record with a fault is reported by its number: `BadLine` where it has no valid form, a number out
+/// of its type, an invalid shape or an unknown name, or comes out of order; otherwise `ZeroCount` where an `add`
 /// record adds no unit, and `NoUnits` where it passes the pool. A script without records is `BadLine` of record 1.
-/// `NoMemory` where there is none. Names and specs of `hist` records are taken as they are, lawful or not.
+/// `NoMemory` comes where memory runs out [answer]. Names and specs of `hist` records are taken as they are, valid or
+/// not.
+///
+/// `Read` comes exactly where a read failed [read]. On `Ok` the reader is at its end [end], and at most one byte more
+/// than 16,777,216 is taken from it [taken].
 pub fn read_script<R: Read>(
     alloc: Global,
     reader: &mut Watched<R>,

@@ -1,0 +1,24 @@
+"""The links of the documents lead to files of the repository."""
+
+import re
+
+from support import definitions
+from support.made import ROOT
+
+LINK = re.compile(r"\]\(([^)#\s]+)[^)]*\)")
+
+
+def documents():
+    places = ("*.md", "docs/**/*.md", "crates/*/*.md", "c/**/*.md", "bench/**/*.md", "examples/**/*.md", "tests/**/*.md")
+    return sorted(file for place in places for file in ROOT.glob(place) if definitions.PAGES not in file.parents)
+
+
+def broken():
+    """The links that lead to no file that is there, or to one that is made and not kept; or None."""
+    found = []
+    for file in documents():
+        for target in LINK.findall(file.read_text()):
+            path = (file.parent / target).resolve()
+            if ":" not in target and (not path.exists() or definitions.PAGES in (path, *path.parents)):
+                found.append(f"{file.relative_to(ROOT)} leads to {target}")
+    return "\n".join(found) or None

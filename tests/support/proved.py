@@ -1,0 +1,349 @@
+#!/usr/bin/env python3
+"""Makes docs/proved, a page for each crate, of the doc comments of the public functions that have clauses.
+
+    tests/support/proved.py [--write]
+
+A doc comment names the clauses of its function in brackets, each behind a sentence that it carries: 'Returns the bucket of the value
+[bucket].' A clause that stands alone needs no name, and then the whole comment is its sentence. A clause without a bracket is refused,
+and so is a bracket without a clause.
+
+With --write it writes the pages. Without, it says what differs in the pages that are there, and what was refused; the status is 1 where
+anything was.
+"""
+
+import pathlib
+import re
+import sys
+from typing import NamedTuple
+
+sys.path.insert(0, str(pathlib.Path(__file__).resolve().parents[1]))
+from support import definitions, made
+from support.made import ROOT
+
+PAGES = ROOT / "docs" / "proved"
+INDEX = ROOT / "docs" / "PROVED.md"
+WIDTH = 140
+# How many signs a clause may have that is shown as it stands.
+SHORT = 80
+# The crates whose doc comments do not name their clauses yet: docs/PROVED_BY_HAND.md has what is proved of them.
+LEFT = ("list_index", "live_segment", "owned_recorder", "povundiri_c", "reading_shows", "persist_report_core", "fault_texts", "persist_report")
+# Programs of the tests, which promise nothing.
+PROGRAMS_OF_TESTS = ("trials", "worked_lists", "worked_rows", "worked_words")
+
+FUNCTION = re.compile(r"^\s*(pub )?(?:const )?(?:unsafe )?(?:extern \"C\" )?fn (\w+)")
+ITEM = re.compile(r"^(?:unsafe )?(?:impl|pub trait)\b(?:<.*?>)? ?(?:(.*?) for )?(.*?)(?:<.*)? \{$")
+CLAUSE = re.compile(r"^\s*(ensures|requires) (?:(\w+) )?(\{.*)$")
+# What a comment has in brackets: names of clauses. A name in signs of code is a link to an item.
+BRACKET = re.compile(r"\[(\w+(?:, \w+)*)\]")
+LINK = re.compile(r"\[(`[^`]*`)\](?:\([^)]*\))?")
+CODE = re.compile(r"`[^`]*`")
+NAME = re.compile(r"[^\W\d][\w']*")
+
+
+class Clause(NamedTuple):
+    kind: str
+    name: str | None
+    text: str
+
+
+class Function(NamedTuple):
+    name: str
+    signature: str
+    comment: list
+    clauses: list
+    # Which definition each name of its clauses is: the crate, the module and the name there.
+    names: dict
+
+    def promises(self):
+        return [clause for clause in self.clauses if clause.kind == "ensures"]
+
+
+def imported(lines):
+    """What names mean by the `ghost use` lines among these: the crate, the module and the name there."""
+    found = {}
+    for _, crate, module, names in definitions.IMPORT.findall("\n".join(line.strip() for line in lines)):
+        for name in names.split(","):
+            there, _, here = name.strip().partition(" as ")
+            found[here or there] = (crate, module, there)
+    return found
+
+
+def clauses_from(lines, place):
+    """The clauses that stand from a line on, and the line behind them."""
+    found = []
+    while (match := CLAUSE.match(lines[place])) is not None:
+        text = match[3]
+        while text.count("{") > text.count("}"):
+            place += 1
+            text += " " + lines[place].strip()
+        found.append(Clause(match[1], match[2], text[1:-1].strip()))
+        place += 1
+    return found, place
+
+
+def comment_above(lines, place):
+    """The doc comment that ends above a line; attributes and comments may come between."""
+    while place > 0 and lines[place - 1].strip().startswith(("#[", "// ")):
+        place -= 1
+    start = place
+    while start > 0 and lines[start - 1].strip().startswith("///"):
+        start -= 1
+    return [line.strip()[3:].removeprefix(" ") for line in lines[start:place]]
+
+
+def head_from(lines, place):
+    """The head of the function that begins on a line, on one line and without its type parameters, and the line behind it."""
+    head = lines[place].strip()
+    while not re.search(r"[{;]$|\{\}$", head) and CLAUSE.match(lines[place + 1]) is None and lines[place + 1].strip() not in ("{", "{}"):
+        place += 1
+        head += " " + lines[place].strip()
+    head = re.sub(r"^(?:pub |const |unsafe |extern \"C\" )*fn (\w+)(?:<.*?>)?\(", r"\1(", head.rstrip("{; "))
+    return head.replace("( ", "(").replace(", )", ")").replace(",)", ")"), place + 1
+
+
+def functions(text):
+    """The public functions of a file that have clauses; those of a trait, or of its `impl`, are public too."""
+    lines = text.split("\n")
+    whole = imported(line for line in lines if line.startswith("ghost use"))
+    owner, is_open, inside = None, False, {}
+    for place, line in enumerate(lines):
+        if (item := ITEM.match(line)) is not None:
+            owner, is_open, inside = item[2], item[1] is not None or line.startswith("pub trait"), {}
+        elif line.startswith("}"):
+            owner, is_open, inside = None, False, {}
+        elif owner and line.strip().startswith("ghost use"):
+            inside |= imported([line])
+        match = FUNCTION.match(line)
+        if match is None or not (match[1] or is_open):
+            continue
+        signature, behind = head_from(lines, place)
+        clauses, _ = clauses_from(lines, behind)
+        if any(clause.kind == "ensures" for clause in clauses):
+            name = f"{owner}::{match[2]}" if owner else match[2]
+            yield Function(name, signature, comment_above(lines, place), clauses, whole | inside)
+
+
+def bracketed(comment):
+    """The clauses that a comment names, each as often as it does."""
+    return [name for names in BRACKET.findall(CODE.sub("", " ".join(comment))) for name in names.split(", ")]
+
+
+def faults(function):
+    """What is wrong between the comment of a function and its clauses."""
+    named, promised = bracketed(function.comment), [clause.name for clause in function.promises()]
+    if not any(function.comment):
+        yield f"{function.name} has clauses, and no doc comment"
+    if len(promised) > 1 and None in promised:
+        yield f"{function.name} has a clause without a name beside others"
+    for name in promised:
+        if name is not None and name not in named:
+            yield f"{function.name}: no sentence carries the clause [{name}]"
+    for name in dict.fromkeys(named):
+        if name not in promised:
+            yield f"{function.name}: there is no clause [{name}]"
+
+
+def sources(crate):
+    return sorted((ROOT / "crates" / crate / "src").glob("**/*.rt"))
+
+
+def promising(crate):
+    """Whether the crate has a public function that has clauses."""
+    return any(True for file in sources(crate) for _ in functions(file.read_text()))
+
+
+def done():
+    """The crates that have a page, in the order of docs/ARCHITECTURE.md."""
+    return [crate for crate in definitions.crates() if crate not in (*LEFT, *PROGRAMS_OF_TESTS) and promising(crate)]
+
+
+def refused():
+    """What is wrong in the doc comments of the crates that have a page, or of docs/PROVED.md, which leads to each."""
+    index = INDEX.read_text()
+    for crate in done():
+        for file in sources(crate):
+            for function in functions(file.read_text()):
+                yield from (f"{file.relative_to(ROOT)}: {fault}" for fault in faults(function))
+        if f"(proved/{crate}.md)" not in index:
+            yield f"docs/PROVED.md does not lead to proved/{crate}.md"
+
+
+def said_of(definition):
+    """The first sentence of the comment of a definition, '' where it has none, or None where it is of no crate here."""
+    crate, module, name = definition
+    file = ROOT / "crates" / crate / "specs" / f"{module.replace('.', '/')}.antt"
+    if not file.is_file():
+        return None
+    text = file.read_text()
+    for found, comment in definitions.definitions(text):
+        if found == name:
+            return definitions.in_short(comment)
+    for kind, other, where, names in definitions.IMPORT.findall(text):
+        if kind.startswith("pub") and name in (one.strip() for one in names.split(",")):
+            return said_of((other or crate, where, name))
+    return None
+
+
+def clause_entry(clause, function, told):
+    """A clause as it stands, where it is short, and what the definitions that it names say, where they were not told yet."""
+    cited = {}
+    for name in dict.fromkeys(NAME.findall(clause.text)):
+        if name in function.names and (said := said_of(function.names[name])) is not None:
+            cited[name] = said
+    head = "requires" if clause.kind == "requires" else ""
+    if clause.name:
+        head += f" `{clause.name}`"
+    stands = not cited or len(clause.text) <= SHORT and clause.text not in cited
+    parts = [f"`{clause.text}`"] if stands else []
+    for name, said in cited.items():
+        if said and name not in told:
+            parts.append(f"`{name}`: {said}")
+        elif not stands:
+            parts.append(f"`{name}`")
+    told.update(cited)
+    return (f"{head.strip()}: " if head else "") + ". ".join(parts) + ("." if len(parts) > 1 or not stands else "")
+
+
+def wrapped(text, first="", later=""):
+    """The lines of a paragraph; a name in signs of code is not parted."""
+    lines, line = [], first
+    for word in re.findall(r"(?:`[^`]*`|\S)+", text):
+        if len(line) + 1 + len(word) > WIDTH and line.strip():
+            lines.append(line.rstrip())
+            line = later
+        line += word + " "
+    return [*lines, line.rstrip()]
+
+
+def comment_lines(comment):
+    """A doc comment as it stands on a page: its paragraphs and its lists."""
+    shown = LINK.sub(r"\1", "\n".join(comment))
+    shown = BRACKET.sub(lambda names: "[" + ", ".join(f"`{name}`" for name in names[1].split(", ")) + "]", shown)
+    lines = []
+    for part in re.split(r"\n(?=\s*- |\n)", shown):
+        indent = re.match(r"\n?( *)(- )?", part)
+        if part.startswith("\n"):
+            lines.append("")
+        lines += wrapped(part, indent[1], indent[1] + ("  " if indent[2] else ""))
+    return lines
+
+
+def function_lines(function):
+    told = {}
+    is_law = re.search(r"\(\)$", function.signature) is not None
+    lines = ["", f"### `{function.name}`", ""]
+    if not is_law:
+        lines += [f"`{function.signature}`", ""]
+    lines += [*comment_lines(function.comment), ""]
+    for clause in [*function.promises(), *(clause for clause in function.clauses if clause.kind == "requires")]:
+        lines += wrapped(clause_entry(clause, function, told), "- ", "  ")
+    return lines
+
+
+def about(text):
+    """What a file says that it is about, in its first paragraph."""
+    head = re.match(r"(?://!.*\n)*", text)[0]
+    return LINK.sub(r"\1", " ".join(line[3:].strip() for line in head.split("\n//!\n")[0].splitlines()))
+
+
+def root_of(crate):
+    """The root file of a crate, which says what the crate is about."""
+    return next(file for file in sources(crate) if file.name in ("lib.rt", "main.rt"))
+
+
+def page(crate):
+    lines = [f"# What is proved of `{crate}`", "", *wrapped(about(root_of(crate).read_text())), ""]
+    lines += ["This page is made by `tests/support/proved.py` of the doc comments; `../PROVED.md` says how to read it."]
+    for file in sources(crate):
+        text = file.read_text()
+        entries = [line for function in functions(text) for line in function_lines(function)]
+        if entries:
+            name = ".".join(file.relative_to(ROOT / "crates" / crate / "src").with_suffix("").parts)
+            said = definitions.in_short(about(text)) if file != root_of(crate) else ""
+            lines += ["", f"## `{name}`" + (f": {said}" if said else ""), *entries]
+    return "\n".join(lines) + "\n"
+
+
+def documents():
+    """The pages by their paths."""
+    return {PAGES / f"{crate}.md": page(crate) for crate in done()}
+
+
+def difference():
+    """What was refused, or where the pages differ from the comments, or a page has no crate; or None."""
+    return "\n".join(refused()) or made.difference(documents(), "src/", PAGES)
+
+
+# A made-up file: its functions, and what is to be found wrong in each.
+MADE_UP = """
+ghost use Rattle.bucket_ranges.specs.Ranges.{clamped};
+
+/// Returns the number [value], which is small [small].
+pub fn right(x: i32) -> u32
+    ensures value { result ≡ x }
+    ensures small { result ≤
+        7 }
+{
+}
+
+/// Returns the number [value].
+pub fn lacks_a_sentence(
+    x: i32,
+) -> u32
+    ensures value { result ≡ x }
+    ensures small { result ≤ 7 }
+{
+}
+
+/// Returns the number [value], which is small [small].
+#[inline]
+pub fn lacks_a_clause(x: i32) -> u32
+    ensures value { result ≡ x }
+{
+}
+
+pub fn lacks_a_comment()
+    ensures { clamped 0 }
+{}
+
+/// Returns a number, as `[value]` or [`right`] has it.
+pub fn lacks_a_name() -> u32
+    ensures { result ≡ 0 }
+    ensures value { result ≡ 0 }
+{
+}
+
+// Nobody else calls it.
+fn private() -> u32
+    ensures value { result ≡ 0 }
+{
+}
+
+impl Read for Reader {
+    fn read(&self) -> u32
+        ensures value { result ≡ 0 }
+    {
+    }
+}
+"""
+FOUND_WRONG = [
+    "lacks_a_sentence: no sentence carries the clause [small]",
+    "lacks_a_clause: there is no clause [small]",
+    "lacks_a_comment has clauses, and no doc comment",
+    "lacks_a_name has a clause without a name beside others",
+    "lacks_a_name: no sentence carries the clause [value]",
+    "Reader::read has clauses, and no doc comment",
+    "Reader::read: no sentence carries the clause [value]",
+]
+
+
+def self_check():
+    """What is found wrong in a made-up file, if it is not what is wrong there; or None."""
+    found = [fault for function in functions(MADE_UP) for fault in faults(function)]
+    return None if found == FOUND_WRONG else "\n".join(["of a made-up file was found:", *found])
+
+
+if __name__ == "__main__":
+    if wrong := self_check() or "\n".join(refused()):
+        sys.exit(wrong)
+    sys.exit(made.run(sys.argv[1:], __doc__, documents(), "src/", PAGES))

@@ -7,7 +7,7 @@ from __future__ import annotations
 
 import collections
 import struct
-from collections.abc import Collection, Iterable, Iterator
+from collections.abc import Iterable, Iterator
 
 from support.layout import HISTOGRAM, MOST_UNITS, QUEUE, SAMPLE, SPARSE, TOP
 from support.plain_reader import (

@@ -8,7 +8,7 @@ import pathlib
 import random
 import string
 import tempfile
-from collections.abc import Callable, Iterable, Iterator
+from collections.abc import Callable, Collection, Iterable, Iterator
 from typing import Any
 
 from support.plain_reader import GREATEST
@@ -172,7 +172,7 @@ def text_of(chance: random.Random, script: Script) -> bytes:
 
 
 def tried(
-    seeds: Iterable[int], wrong_of: Callable[[int, pathlib.Path], str | None]
+    seeds: Collection[int], wrong_of: Callable[[int, pathlib.Path], str | None]
 ) -> Iterator[tuple[int, str | None]]:
     """Each seed with what is wrong with it, or None: tried side by side, in one folder that is gone after the last."""
     with tempfile.TemporaryDirectory() as scratch, concurrent.futures.ThreadPoolExecutor(os.cpu_count()) as pool:

@@ -207,7 +207,7 @@ def fatal_openings(command, stood, error):
 
 
 def wrong_kill(command, came, left, stood):
-    """What is wrong where the program was killed, or None. The new file may stand beside OUT unchanged."""
+    """What is wrong where the program was killed, or None. The new file may be beside OUT, which is unchanged."""
     if came.status != -signal.SIGKILL:
         return f"wanted a kill, came the status {came.status}"
     if left == command.made:

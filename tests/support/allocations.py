@@ -4,12 +4,15 @@
 the system for nothing.
 """
 
+from __future__ import annotations
+
 import dataclasses
 import os
 import pathlib
+from collections.abc import Iterable
 
 from support import native
-from support.program import answer
+from support.program import Answer, Path, Word, answer
 
 SOURCE = pathlib.Path(__file__).with_name("refuse.c")
 TRY = "try "
@@ -27,12 +30,14 @@ class Asked:
 class Refuser:
     """`refuse.c` built in a folder."""
 
-    def __init__(self, folder):
+    def __init__(self, folder: Path) -> None:
         self.library = pathlib.Path(folder) / "refuse.so"
         self.log = pathlib.Path(folder) / "allocations"
         native.run([*native.compiler(".c"), "-std=gnu11", *native.STRICT, "-fPIC", "-shared", "-o", self.library, SOURCE])
 
-    def answer(self, program, words, refused=None, lasting=False):
+    def answer(
+        self, program: Path, words: Iterable[Word], refused: int | None = None, lasting: bool = False
+    ) -> tuple[Answer, list[Asked]]:
         """What the program returns where the allocation at `refused` is refused, from 0, or none, and all allocations of the calls that it
         named. Where it is `lasting`, so are those after it of the same call."""
         settings = {**os.environ, "LD_PRELOAD": str(self.library), "REFUSE_LOG": str(self.log)}
@@ -43,5 +48,5 @@ class Refuser:
         self.log.unlink(missing_ok=True)
         came = answer(program, words, env=settings)
         calls = [line[len(TRY):] for line in came.output.decode(errors="replace").splitlines() if line.startswith(TRY)]
-        asked = [tuple(map(int, line.split())) for line in self.log.read_text().splitlines()]
-        return came, [Asked(calls[place], place, size) for place, size in asked]
+        asked = (line.split() for line in self.log.read_text().splitlines())
+        return came, [Asked(calls[int(place)], int(place), int(size)) for place, size in asked]

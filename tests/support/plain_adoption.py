@@ -3,12 +3,18 @@
 It follows the text of the format one sentence at a time. It reads by the plain reader, and shares nothing with the program.
 """
 
+from __future__ import annotations
+
 import collections
 import struct
+from collections.abc import Iterable, Iterator
 
 from support.layout import HISTOGRAM, MOST_UNITS, QUEUE, SAMPLE, SPARSE, TOP
 from support.plain_reader import (
     ImageFault,
+    ReadHistogram,
+    Seen,
+    Words,
     check_header,
     name_of,
     read_records,
@@ -31,32 +37,32 @@ DAMAGES = [damage.strip() for damage in LISTED.split(";") if damage.strip()]
 class Read:
     """What the words of an image with a valid header read as."""
 
-    def __init__(self, words):
-        nothing: collections.Counter[str] = collections.Counter()
+    def __init__(self, words: Words) -> None:
+        nothing: Seen = collections.Counter()
         self.words = words
         self.references, self.stopped = walk(words, nothing)
         self.histograms, self.bad = read_records(words, self.references, nothing)
 
-    def of_type(self, number):
+    def of_type(self, number: int) -> list[int]:
         return [at for at in self.references if self.words[at + 2] == number]
 
-    def counts(self):
+    def counts(self) -> list[int]:
         """The blocks that records of histograms name as counts, as often as they are named."""
         return [self.words[at + 8] for at in self.of_type(HISTOGRAM) if self.words[at + 8]]
 
 
-def shares_a_word(words, some, others):
+def shares_a_word(words: Words, some: Iterable[int], others: Iterable[int]) -> bool:
     """Whether a block of the ones and a block of the others have a word in common, these being other blocks."""
     taken = {word for at in others for word in range(at, at + words[at])}
     return any(word in taken for at in some for word in range(at, at + words[at]))
 
 
-def overlaps_itself(words, blocks):
+def overlaps_itself(words: Words, blocks: Iterable[int]) -> bool:
     taken = [word for at in blocks for word in range(at, at + words[at])]
     return len(taken) != len(set(taken))
 
 
-def damages_of_blocks(read):
+def damages_of_blocks(read: Read) -> Iterator[str]:
     words, counts = read.words, read.counts()
     if overlaps_itself(words, read.references):
         yield "two records overlap"
@@ -66,7 +72,7 @@ def damages_of_blocks(read):
         yield "counts overlap"
 
 
-def damages_of_ends(read):
+def damages_of_ends(read: Read) -> Iterator[str]:
     words = read.words
     page, free, tail = words[3], words[7], words[8]
     if any(words[free:]):
@@ -77,8 +83,9 @@ def damages_of_ends(read):
         yield "a tail that is not on the list"
 
 
-def damages_of_samples(read):
-    words, met = read.words, set()
+def damages_of_samples(read: Read) -> Iterator[str]:
+    words = read.words
+    met: set[tuple[int, int]] = set()
     for at in read.of_type(SAMPLE):
         key = words[at + 4], words[at + 5]
         if key in met:
@@ -89,7 +96,7 @@ def damages_of_samples(read):
         met.add(key)
 
 
-def damages_of_record(words, at):
+def damages_of_record(words: Words, at: int) -> Iterator[str]:
     """Those of the record of a histogram."""
     name = name_of(words, at, collections.Counter())
     padded = struct.pack(f"<{-(-len(name) // 8)}Q", *words[at + 15 : at + 15 + -(-len(name) // 8)])
@@ -107,7 +114,7 @@ def damages_of_record(words, at):
         yield "a mark of the packed bucket on its counts"
 
 
-def damages_of(read):
+def damages_of(read: Read) -> list[str]:
     """All that makes an image damaged. Where its reading has a fault, nothing else is looked at."""
     found = ["a list that stops"] * (read.stopped is not None) + ["a bad record"] * bool(read.bad)
     if found:
@@ -118,18 +125,18 @@ def damages_of(read):
     return found
 
 
-def used_by(histogram):
+def used_by(histogram: ReadHistogram) -> int:
     """The units that a histogram has used."""
     units = sum(count for _, count in histogram["buckets"].values())
     amounts = histogram["sum"], histogram["sum mark"], histogram["sum"] - histogram["sum mark"]
     return max(units, histogram["redundant"], *(-(-abs(amount) // AMOUNT_OF_UNIT) for amount in amounts))
 
 
-def used_of(read):
+def used_of(read: Read) -> int:
     return sum(used_by(histogram) for histogram in read.histograms.values())
 
 
-def fault_of(words, cursors, seen):
+def fault_of(words: Words, cursors: int, seen: collections.Counter[str | None]) -> str | None:
     """The fault by which words may not be adopted, or None. `seen` counts the faults, and what made images damaged."""
     fault, damages = found_in(words, cursors)
     seen[fault] += 1
@@ -137,7 +144,7 @@ def fault_of(words, cursors, seen):
     return fault
 
 
-def found_in(words, cursors):
+def found_in(words: Words, cursors: int) -> tuple[str | None, list[str]]:
     try:
         check_header(words, collections.Counter())
     except ImageFault as fault:

@@ -9,10 +9,14 @@ tells which of the format's rules came into play, so that a test can say what it
 prints the report of the image, or its fault on the error stream; without FILE it reads standard input.
 """
 
+from __future__ import annotations
+
 import collections
 import pathlib
 import struct
 import sys
+from collections.abc import Iterable, Sequence
+from typing import Any
 
 sys.path.insert(0, str(pathlib.Path(__file__).resolve().parents[1]))
 from support.layout import BLOCK_COOKIE, GREATEST, MOST_SUM, MOST_UNITS, MOST_WORDS, QUEUE, SEGMENT_COOKIE, TOP
@@ -59,6 +63,12 @@ flag corrupt; flag full; a redundant count that differs
 RULES = [rule.strip() for rule in LISTED.replace("\n", ";").split(";") if rule.strip()]
 
 
+# The words of an image; how often each rule came into play; what a histogram reads as, by its parts.
+Words = Sequence[int]
+Seen = collections.Counter[str]
+ReadHistogram = dict[str, Any]
+
+
 class ImageFault(Exception):
     """Why there is no report of an image; its text is what the program prints after its name."""
 
@@ -66,35 +76,35 @@ class ImageFault(Exception):
 class Bad(Exception):
     """The fault of a block or a record, and the rule by which it has it."""
 
-    def __init__(self, fault, rule):
+    def __init__(self, fault: str, rule: str) -> None:
         super().__init__(fault)
         self.fault = fault
         self.rule = rule
 
 
-def require(holds, fault, reason=""):
+def require(holds: bool, fault: str, reason: str = "") -> None:
     if not holds:
         raise Bad(fault, f"{fault} {reason}".strip())
 
 
-def require_image(holds, fault, rule, seen):
+def require_image(holds: bool, fault: str, rule: str, seen: Seen) -> None:
     if not holds:
         seen[rule] += 1
         raise ImageFault(fault)
 
 
-def signed(word):
+def signed(word: int) -> int:
     return word - 2**64 if word >= TOP else word
 
 
-def words_of(data, seen):
+def words_of(data: bytes, seen: Seen) -> tuple[int, ...]:
     require_image(len(data) <= MOST_BYTES, "TooLong", "TooLong", seen)
     require_image(len(data) % 8 == 0, "NotWords", "NotWords", seen)
     return struct.unpack(f"<{len(data) // 8}Q", data)
 
 
-def check_header(words, seen):
-    def wanted(holds, fault, reason=""):
+def check_header(words: Words, seen: Seen) -> None:
+    def wanted(holds: bool, fault: str, reason: str = "") -> None:
         require_image(holds, f"Image {fault}", fault + reason, seen)
 
     wanted(len(words) >= 16, "TooShort")
@@ -110,7 +120,7 @@ def check_header(words, seen):
     wanted(words[12:15] == (4, 1, 0), "BadQueue")
 
 
-def check_block(words, reference):
+def check_block(words: Words, reference: int) -> None:
     page, free = words[3], words[7]
     require(reference >= 16, "BadRef", "below the first block")
     require(reference + 5 <= free, "BadRef", "past the free pointer")
@@ -121,7 +131,7 @@ def check_block(words, reference):
     require(reference // page == (reference + size - 1) // page, "BadBlock", "in two pages")
 
 
-def walk(words, seen):
+def walk(words: Words, seen: Seen) -> tuple[list[int], str | None]:
     """The references on the list in their order, and the fault that stops it, or None."""
     met: dict[int, bool] = {}
     following = words[QUEUE + 3]
@@ -140,7 +150,7 @@ def walk(words, seen):
     return list(met), None
 
 
-def name_of(words, at, seen):
+def name_of(words: Words, at: int, seen: Seen) -> bytes:
     length = words[at + 14]
     require(1 <= length <= 128, "BadName", "by its length")
     taken = -(-length // 8)
@@ -154,7 +164,7 @@ def name_of(words, at, seen):
     return name
 
 
-def linear_boundaries(least, most, n):
+def linear_boundaries(least: int, most: int, n: int) -> list[int] | None:
     """The boundaries of a linear spec, or None if it is invalid."""
     if least == 0 or most <= least or most > GREATEST - 1 or n < 3 or n > 1000 or n > most - least + 2:
         return None
@@ -162,7 +172,7 @@ def linear_boundaries(least, most, n):
     return [0, *inner, GREATEST]
 
 
-def custom_boundaries(words, at, name):
+def custom_boundaries(words: Words, at: int, name: bytes) -> list[int]:
     least, most, n = words[at + 5 : at + 8]
     require(2 <= n <= 1000, "BadSpec", "of a custom's number of buckets")
     first = at + 15 + -(-len(name) // 8)
@@ -174,7 +184,7 @@ def custom_boundaries(words, at, name):
     return [*boundaries, GREATEST]
 
 
-def boundaries_of(words, at, name):
+def boundaries_of(words: Words, at: int, name: bytes) -> list[int]:
     """The boundaries of the record's ranges; none of a sparse one."""
     kind, spec = words[at + 4], words[at + 5 : at + 8]
     if kind == 4:
@@ -183,14 +193,15 @@ def boundaries_of(words, at, name):
     if kind == 3:
         boundaries = custom_boundaries(words, at, name)
     else:
-        boundaries = linear_boundaries(*spec)
-        require(kind == 2 or boundaries is not None, "BadSpec", "of a linear")
+        linear = linear_boundaries(*spec)
+        require(kind == 2 or linear is not None, "BadSpec", "of a linear")
         require(kind == 1 or spec == (1, 2, 3), "BadSpec", "of a boolean")
+        boundaries = linear or []
     require(4 + 2 * spec[2] <= words[3], "BadSpec", "past the page")
     return boundaries
 
 
-def check_counts_block(words, counts, n):
+def check_counts_block(words: Words, counts: int, n: int) -> None:
     try:
         check_block(words, counts)
     except Bad as bad:
@@ -199,7 +210,7 @@ def check_counts_block(words, counts, n):
     require(words[counts] >= 4 + 2 * n, "BadCounts", "of a block too small for them")
 
 
-def kept_in(words, at, n):
+def kept_in(words: Words, at: int, n: int) -> tuple[int, int] | None:
     """The bucket and the units that the single word keeps beside the counts, or None if it keeps none.
 
     A packed word keeps them, and in version 2 a frozen one too.
@@ -209,7 +220,7 @@ def kept_in(words, at, n):
     return (bucket, units) if bucket < n and 1 <= units <= MOST_PACKED else None
 
 
-def totals_of(words, at, n):
+def totals_of(words: Words, at: int, n: int) -> list[int]:
     """The totals of the buckets, after the checks of the counts."""
     counts = words[at + 8]
     totals = [0] * n
@@ -225,7 +236,7 @@ def totals_of(words, at, n):
     return totals
 
 
-def packed_bucket(single, n, word):
+def packed_bucket(single: int, n: int, word: str) -> int:
     """The bucket of a single word that is packed, or that was when it was frozen."""
     bucket, units = divmod(single, 2**32)
     require(1 <= units <= MOST_PACKED, "BadSingle", f"of a {word} word of no form")
@@ -233,7 +244,7 @@ def packed_bucket(single, n, word):
     return bucket
 
 
-def disabled_bucket(single, n):
+def disabled_bucket(single: int, n: int) -> int | None:
     """The bucket of a single word that is disabled, as in version 1; None if nothing was packed."""
     bucket = single - TOP
     if bucket == NOTHING_PACKED:
@@ -243,12 +254,12 @@ def disabled_bucket(single, n):
     return bucket
 
 
-def frozen_bucket(single, n):
+def frozen_bucket(single: int, n: int) -> int | None:
     """The bucket of a single word that is frozen, as in version 2; None if nothing was packed."""
     return None if single == TOP else packed_bucket(single - TOP, n, "frozen")
 
 
-def named_bucket(words, at, n, seen):
+def named_bucket(words: Words, at: int, n: int, seen: Seen) -> int | None:
     """The bucket that is or was packed, or None, after the checks of the single word."""
     version, counts, single = words[1], words[at + 8], words[at + 9]
     if single == 0:
@@ -256,22 +267,22 @@ def named_bucket(words, at, n, seen):
         seen["counts beside an empty single word"] += counts != 0
         return None
     if single < TOP:
-        bucket = packed_bucket(single, n, "packed")
+        packed = packed_bucket(single, n, "packed")
         seen["single word packed"] += 1
         seen["counts beside packed units"] += counts != 0 and any(words[counts + 4 : counts + 4 + n])
-        return bucket
+        return packed
     word, bucket = ("disabled", disabled_bucket(single, n)) if version == 1 else ("frozen", frozen_bucket(single, n))
     require(counts != 0, "BadSingle", f"of a {word} word without counts")
     seen[f"single word {word} {'without' if bucket is None else 'after'} packing"] += 1
     return bucket
 
 
-def most_single_mark(version, total):
+def most_single_mark(version: int, total: int) -> int:
     """The greatest valid mark of the packed bucket. In version 1 its units may be on their way to the counts."""
     return max(total, MOST_PACKED) if version == 1 else total
 
 
-def check_marks(words, at, totals, named, seen):
+def check_marks(words: Words, at: int, totals: Sequence[int], named: int | None, seen: Seen) -> None:
     version, counts, single_mark = words[1], words[at + 8], words[at + 10]
     require(named is not None or single_mark == 0, "BadMark", "where nothing was packed")
     if named is not None:
@@ -290,7 +301,7 @@ def check_marks(words, at, totals, named, seen):
                 seen["a mark of another bucket"] += mark > 0
 
 
-def marks_of(words, at, n, named):
+def marks_of(words: Words, at: int, n: int, named: int | None) -> list[int]:
     """The marks of the buckets: that of the packed bucket stands in the record, the others after the counts."""
     counts = words[at + 8]
     marks = list(words[counts + 4 + n : counts + 4 + 2 * n]) if counts else [0] * n
@@ -299,14 +310,14 @@ def marks_of(words, at, n, named):
     return marks
 
 
-def check_sum(words, at):
+def check_sum(words: Words, at: int) -> None:
     total, mark = signed(words[at + 11]), signed(words[at + 12])
     require(abs(total) <= MOST_SUM, "BadSum", "of the sum")
     require(abs(mark) <= MOST_SUM, "BadSum", "of the mark")
     require(abs(total - mark) <= MOST_SUM, "BadSum", "of the difference")
 
 
-def read_histogram(words, at, seen):
+def read_histogram(words: Words, at: int, seen: Seen) -> ReadHistogram:
     """What a histogram's record says; raises its first fault."""
     kind = words[at + 4]
     require(words[at] >= 16, "BadKind", "of a small block")
@@ -336,7 +347,7 @@ def read_histogram(words, at, seen):
     }
 
 
-def read_sample(words, at, read_at, seen):
+def read_sample(words: Words, at: int, read_at: dict[int, ReadHistogram], seen: Seen) -> None:
     """Adds a sample to its histogram; raises its fault. `read_at` has the histograms that were read, by reference."""
     require(words[at] >= 8, "BadSample", "of a small block")
     owner, value, count, mark = words[at + 4], signed(words[at + 5]), words[at + 6], words[at + 7]
@@ -357,10 +368,15 @@ def read_sample(words, at, read_at, seen):
     seen["the greatest value"] += value == 2**31 - 1
 
 
-def read_records(words, references, seen):
+def read_records(
+    words: Words, references: Iterable[int], seen: Seen
+) -> tuple[dict[bytes, ReadHistogram], list[tuple[int, str]]]:
     """The histograms by their names, and the bad records with their faults in the order of the list."""
-    by_name, read_at, bad_records = {}, {}, []
-    bad_names, counts_named = set(), set()
+    by_name: dict[bytes, ReadHistogram] = {}
+    read_at: dict[int, ReadHistogram] = {}
+    bad_records: list[tuple[int, str]] = []
+    bad_names: set[bytes] = set()
+    counts_named: set[int] = set()
     for at in references:
         try:
             if words[at + 2] == 1:
@@ -384,7 +400,7 @@ def read_records(words, references, seen):
     return by_name, bad_records
 
 
-def lawful_name(words, at):
+def lawful_name(words: Words, at: int) -> list[bytes]:
     """The name of a record in a list, which is empty if the record has none."""
     try:
         return [name_of(words, at, collections.Counter())] if words[at + 2] == 1 and words[at] >= 16 else []
@@ -392,7 +408,9 @@ def lawful_name(words, at):
         return []
 
 
-def reading_of(data, seen):
+def reading_of(
+    data: bytes, seen: Seen
+) -> tuple[dict[bytes, ReadHistogram], list[tuple[int, str]], str | None, int]:
     """What an image reads as: its histograms by their names, its bad records, why its list stops or None, and its word of
     flags; raises its fault if there is none."""
     words = words_of(data, seen)
@@ -402,7 +420,7 @@ def reading_of(data, seen):
     return by_name, bad_records, stopped, words[6]
 
 
-def report_of(data, seen):
+def report_of(data: bytes, seen: Seen) -> bytes:
     """The bytes of the report of an image; raises its fault if there is none."""
     by_name, bad_records, stopped, flags = reading_of(data, seen)
     lines, redundant = [], []
@@ -429,7 +447,7 @@ def report_of(data, seen):
     return "".join(line + "\n" for line in lines).encode()
 
 
-def answer(data, seen=None):
+def answer(data: bytes, seen: Seen | None = None) -> tuple[bytes, bytes, int]:
     """What a program writes to its two streams, and its status. `seen` counts how often each rule came into play."""
     try:
         return report_of(data, collections.Counter() if seen is None else seen), b"", 0
@@ -437,7 +455,7 @@ def answer(data, seen=None):
         return b"", f"persist_report: {fault}\n".encode(), 3
 
 
-def main(arguments):
+def main(arguments: Sequence[str]) -> int:
     if arguments[:1] != ["report"] or len(arguments) > 2:
         print(__doc__, file=sys.stderr)
         return 2

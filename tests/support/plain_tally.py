@@ -20,9 +20,9 @@ def boundaries_of(spec: Spec) -> list[int]:
     """The boundaries of a valid spec, or none of a sparse one."""
     kind, *numbers = spec
     if kind == "linear":
-        return linear_boundaries(*numbers)
+        return linear_boundaries(*numbers) or []
     if kind == "boolean":
-        return linear_boundaries(1, 2, 3)
+        return linear_boundaries(1, 2, 3) or []
     if kind == "custom":
         return sorted({0, *numbers, GREATEST})
     return []

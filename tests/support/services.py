@@ -108,7 +108,7 @@ def ends_well(service):
 
 
 def has_another_spec(service):
-    """A release before had other buckets: it returns, and does not record."""
+    """A release before had other buckets: it answers, and does not record."""
     file = service.made("spec.seg", 'recorder.add_or_throw(recorder.linear("latency_us", 1, 500, 10), 17);')
     said, errors = service.ended(file)
     served, missed = counts(said) or (0, 0)

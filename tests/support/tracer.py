@@ -4,6 +4,8 @@ The program is traced (ptrace): each call to the system stops it where the call 
 fail is not made, and the program is given an error in its place. Nor is one made at which the program is killed.
 """
 
+from __future__ import annotations
+
 import ctypes
 import dataclasses
 import errno
@@ -14,8 +16,9 @@ import subprocess
 import sys
 import tempfile
 import typing
+from collections.abc import Iterable
 
-from support.program import Answer
+from support.program import Answer, Path, Word
 
 LIBC = ctypes.CDLL(None, use_errno=True)
 LIBC.ptrace.restype = ctypes.c_long
@@ -38,6 +41,8 @@ LOCK, SYNC, CHANGE_MODE, OPEN_AT, RANDOM = 73, 74, 91, 257, 318
 RENAMES = (82, 264, 316)
 OUTPUT = "standard output"
 NOT_ALLOWED = "no program may be traced here"
+# Registers, each with its value.
+Registers = list[tuple[int, int]]
 
 
 class Call(ctypes.Structure):
@@ -61,8 +66,8 @@ class Fault:
     instead. With `most`, each read and write of them moves so many bytes at most instead.
     """
 
-    numbers: tuple
-    files: tuple = ()
+    numbers: tuple[int, ...]
+    files: tuple[str, ...] = ()
     at: int = -1
     lasting: bool = False
     growth: bool = False
@@ -72,18 +77,18 @@ class Fault:
     met: int = 0
     refused: typing.Optional[int] = None
 
-    def is_meant(self, thread, call):
+    def is_meant(self, thread: int, call: Call) -> bool:
         if call.number not in self.numbers or not self.files:
             return call.number in self.numbers
         path = file_of(thread, call.arguments[0])
         return path is not None and (path in self.files or os.path.dirname(path) in self.files)
 
-    def pass_by(self, thread):
+    def pass_by(self, thread: int) -> None:
         """Meets a thread's call that is not meant."""
         if thread == self.refused:
             self.refused = None
 
-    def fails_next(self, thread):
+    def fails_next(self, thread: int) -> bool:
         """Counts a call of a thread; whether it fails."""
         if thread == self.refused:
             return True
@@ -95,7 +100,7 @@ class Fault:
         return fails
 
 
-def file_of(thread, descriptor):
+def file_of(thread: int, descriptor: int) -> str | None:
     """The path of an open file, or None."""
     if descriptor == 1:
         return OUTPUT
@@ -105,12 +110,12 @@ def file_of(thread, descriptor):
         return None
 
 
-def ptrace(request, thread, address=0, data=0):
+def ptrace(request: int, thread: int, address: int = 0, data: int = 0) -> None:
     if LIBC.ptrace(request, thread, address, data) < 0:
         raise OSError(ctypes.get_errno(), f"ptrace {request}")
 
 
-def begin(thread, call, fault):
+def begin(thread: int, call: Call, fault: Fault) -> Registers:
     """Meets a call that begins; the registers that are to be set when it ends, each with its value."""
     if not fault.is_meant(thread, call):
         fault.pass_by(thread)
@@ -131,7 +136,7 @@ def begin(thread, call, fault):
     return [(RESULT, 2**64 - fault.error)]
 
 
-def meet(thread, fault, to_set):
+def meet(thread: int, fault: Fault, to_set: dict[int, Registers]) -> None:
     """Meets a thread that stands at a call, where it begins or ends. `to_set` has what is to be set there, by thread."""
     call = Call()
     ptrace(CALL_INFO, thread, ctypes.sizeof(call), ctypes.addressof(call))
@@ -142,7 +147,7 @@ def meet(thread, fault, to_set):
             ptrace(POKE_USER, thread, register, value)
 
 
-def next_stop(first):
+def next_stop(first: int) -> tuple[int | None, int]:
     """The next thread that stops and why, or None and the program's status if it has ended."""
     while True:
         thread, status = os.waitpid(-1, ALL_CHILDREN)
@@ -152,25 +157,25 @@ def next_stop(first):
             return None, os.waitstatus_to_exitcode(status)
 
 
-def follow(first, fault):
+def follow(first: int, fault: Fault) -> int:
     """Follows a program from its beginning to its end; its status, of a signal the number with a minus."""
-    to_set: dict[int, typing.Any] = {}
-    thread, signal_given = first, 0
+    to_set: dict[int, Registers] = {}
+    stopped, signal_given = first, 0
     while True:
         try:
-            ptrace(GO_ON, thread, 0, signal_given)
+            ptrace(GO_ON, stopped, 0, signal_given)
         except ProcessLookupError:
             pass  # another thread has ended the program
         thread, status = next_stop(first)
         if thread is None:
             return status
-        reason = status >> 8
+        stopped, reason = thread, status >> 8
         if reason == AT_CALL:
-            meet(thread, fault, to_set)
+            meet(stopped, fault, to_set)
         signal_given = reason if reason not in (AT_CALL, signal.SIGSTOP) and reason < 0x80 and reason != signal.SIGTRAP else 0
 
 
-def answer(program, words, fault, **settings):
+def answer(program: Path, words: Iterable[Word], fault: Fault, **settings: typing.Any) -> Answer:
     """What the program returns where calls fail."""
     with tempfile.TemporaryFile() as output, tempfile.TemporaryFile() as error:
         streams: dict[str, typing.Any] = {"stdin": subprocess.DEVNULL, "stdout": output, "stderr": error}
@@ -183,7 +188,7 @@ def answer(program, words, fault, **settings):
         return Answer(output.read(), error.read(), running.returncode)
 
 
-def can_trace():
+def can_trace() -> bool:
     """Whether programs may be traced here."""
     if platform.system() != "Linux" or platform.machine() != "x86_64":
         return False

@@ -1,20 +1,27 @@
 """Worked examples of the stepped world, as schedules of two actors: each is stopped at every event, in both versions."""
 
+from __future__ import annotations
+
+import pathlib
+from collections.abc import Iterator
+from typing import Any
+
 from support.program import ROOT
 from support.seeded_schedules import Schedule
 
+Record = tuple[Any, ...]
 ALL = 10**6
 STORED = ROOT / "examples" / "pack_before_disabling.csv"
-MOUNTED = [("hist", 0, "A", "boolean"), ("step", 0, ALL), ("add", 0, "A", 1, 1), ("step", 0, ALL), ("add", 0, "A", 1, 1), ("step", 0, ALL)]
-KNOWN_TWICE = [*MOUNTED, ("hist", 1, "A", "boolean"), ("step", 1, ALL)]
+MOUNTED: list[Record] = [("hist", 0, "A", "boolean"), ("step", 0, ALL), ("add", 0, "A", 1, 1), ("step", 0, ALL), ("add", 0, "A", 1, 1), ("step", 0, ALL)]
+KNOWN_TWICE: list[Record] = [*MOUNTED, ("hist", 1, "A", "boolean"), ("step", 1, ALL)]
 
 
-def ended(*records):
+def ended(*records: Record) -> list[Record]:
     """Calls of actor 0, each of which ends before the next begins."""
     return [part for record in records for part in (record, ("step", 0, ALL))]
 
 
-def stored(path):
+def stored(path: pathlib.Path) -> list[Record]:
     """The records of a stored schedule, after the first."""
     lines = path.read_text().splitlines()[1:]
     return [tuple(int(field) if field.isdigit() else field for field in line.split(",")) for line in lines]
@@ -59,7 +66,7 @@ WORDS = {
 }
 
 
-def examples():
+def examples() -> Iterator[tuple[str, Schedule, dict[int, int]]]:
     """The examples, each with its name, in both versions, and with the words that are known of its end."""
     for name, records in EXAMPLES.items():
         for version in (1, 2):

@@ -11,7 +11,7 @@ use Rattle.hist_core.specs.declared.entry.Taken.{Taken}
 use Rattle.hist_core.specs.declared.fault.WorldFault.{WorldFault}
 use Rattle.hist_core.specs.declared.fault.WorldFault.TheVariants.{BadShape, NoActor, Busy, Idle, Unknown, NoMemory, Adopt}
 use Rattle.image_adoption.specs.Checking.{IsFaultOf}
-use Rattle.image_adoption.specs.declared.fault.AdoptFault.TheVariants as adopt
+use Rattle.segment_calls.specs.declared.adopt_fault.AdoptFault.TheVariants as adopt
 use Rattle.hist_core.specs.declared.actor_run.ActorRun.{ActorRun}
 use Rattle.hist_core.specs.declared.world_state.WorldState.{WorldState}
 use Rattle.hist_core.specs.ActorRun.{ended_by, begun_by}

@@ -5,12 +5,12 @@ ghost use Rattle.alloc_core.specs.Layout.{IsShape};
 ghost use Rattle.segment_machine.specs.State.{memory};
 ghost use Rattle.segment_machine.specs.Reached.{new_state};
 
-use crate::fault::OpenFault;
 use crate::opener::Opener;
 use crate::rule::{Announcement, Opening, Pass, SegmentRule, Setting};
 use crate::seats::{Bound, Cut, Fill, Glue, Offer, Pour};
 use atomic_table::Table;
 use image_adoption::MAX_CURSORS;
+use segment_calls::OpenFault;
 use segment_image::layout::{
     HEADER_WORDS, QUEUE, QUEUE_COOKIE, QUEUE_SIZE, SEGMENT_COOKIE, STATE_READY, TYPE_PURGED,
     VERSION_FROZEN, VERSION_MOVING,

@@ -1,6 +1,6 @@
 //! Keys with units, in the order of their keys.
 
-ghost use Rattle.segment_promises.specs.Values.{AreSorted};
+ghost use Rattle.segment_calls.specs.Keys.{AreSorted};
 
 /// Sorts keys with units by their keys.
 pub fn sort_by_key(counts: &mut Vec<(i32, u64)>)

@@ -1,7 +1,7 @@
 //! What packing and disabling make of a single word.
 
 ghost use Rattle.std.specs.Prelude.{◌≡◌, ◌⊎◌, ◌/◌, ◌%◌, ◌^◌, ◌<◌, ◌≤◌, MatchOption};
-ghost use Rattle.segment_machine.specs.Form.{IsPacking, off_word, SaysPacked};
+ghost use Rattle.segment_calls.specs.Form.{IsPacking, off_word, SaysPacked};
 
 use bucket_ranges::SingleWord;
 use bucket_ranges::limits::MAX_PACKED;

@@ -17,8 +17,8 @@ use Rattle.hist_core.specs.declared.world_state.WorldState.{WorldState}
 use Rattle.hist_core.specs.ActorRun.{ended_by, begun_by}
 use Rattle.hist_core.specs.WorldState.{HistBegins, AddBegins, DeltaBegins, SnapshotBegins, BatchBegins, SetCorruptBegins}
 use Rattle.hist_core.specs.declared.call.Begun.{Begun}
-use Rattle.hist_core.specs.declared.call.Call.{Call}
-use Rattle.hist_core.specs.declared.call.Call.TheVariants.{Hist, Add, Delta, Snapshot, Batch, SetCorrupt}
+use Rattle.segment_calls.specs.declared.call.Call.{Call}
+use Rattle.segment_calls.specs.declared.call.Call.TheVariants.{Hist, Add, Delta, Snapshot, Batch, SetCorrupt}
 
 -- ---- what it shows of an actor, where that is there
 

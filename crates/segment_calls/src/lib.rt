@@ -8,6 +8,7 @@
 mod adopt_fault;
 mod answer;
 mod asked;
+mod call;
 mod keys;
 mod open_fault;
 pub mod packing;
@@ -16,6 +17,7 @@ mod refusal;
 pub use adopt_fault::AdoptFault;
 pub use answer::{Delta, Snapshot};
 pub use asked::Asked;
+pub use call::Call;
 pub use keys::sort_by_key;
 pub use open_fault::OpenFault;
 pub use refusal::{BatchRefusal, Refusal};

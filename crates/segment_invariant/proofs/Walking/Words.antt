@@ -29,7 +29,7 @@ use Rattle.segment_machine.specs.Calls.{sight}
 use Rattle.segment_invariant.specs.Body.{Record, Sample, Body, histogram, sample, other, record_words, spec_field, words_of, is_claimed, Piece, Listed, Anatomy, layout_of, order_of}
 use Rattle.segment_invariant.specs.Seen.{Stands, HasRecord, HasSample, IsFixedIn, WasFixed}
 use Rattle.segment_invariant.specs.Invariant.{StandsAs, Invariant, IsLawfulRecord, IsPassedOver}
-use Rattle.segment_invariant.proofs.Lists.Elements.{at_from, all_at, from_map, split_at}
+use Rattle.list_lemmas.proofs.Elements.{at_from, all_at, from_map, split_at}
 use Rattle.segment_invariant.proofs.Blocks.Places.{fixed_within}
 use Rattle.segment_invariant.proofs.Blocks.Pieces.{piece_word, one_index, one_stands}
 use Rattle.segment_invariant.proofs.Frames.OneActor.{Doing, turns_not, doing}

@@ -1,7 +1,7 @@
-"""Documents that are made of the sources are what these say now, links lead to files that are there, and the Python of tests/ and bench/ is
-clean. No program is run."""
+"""Documents that are made of the sources are what these say now, links lead to files that are there, the crates that read stand free of the
+machine, and the Python of tests/ and bench/ is clean. No program is run."""
 
-from support import definitions, faults, linted, links, proved
+from support import definitions, faults, layers, linted, links, proved
 
 PROGRAM = None
 
@@ -12,4 +12,6 @@ def cases(_program, _options):
     yield "what tests/support/proved.py refuses of a made-up file", proved.self_check()
     yield "docs/proved, which tests/support/proved.py --write makes anew", proved.difference()
     yield "the links of documents", links.broken()
+    yield "crates.txt: no crate that reads stands on the machine (tests/support/layers.py)", layers.difference()
+    yield "that this is found where one does", layers.let_through()
     yield from linted.cases()

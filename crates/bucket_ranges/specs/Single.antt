@@ -1,9 +1,8 @@
 -- The forms of the single word. Below 2^63 they are those of both versions of the format; from 2^63 on, where the counts
 -- are in use, each version has its own: in version 1 the units have moved to the counts, in version 2 they stay.
 use Rattle.std.specs.Prelude.{◌≡◌, ◌≢◌, Bool, true, false, ◌&&◌, ◌==◌, nat_lt, nat_le, if◌then◌else◌, ℕ, ◌+◌, ◌-◌, ◌*◌, ◌/◌, ◌%◌, ◌^◌, ◌<◌, ◌≤◌, Option, Some, None, unwrap_or, option_map}
-use Rattle.segment_image.specs.declared.layout.TheConstants.{VERSION_FROZEN}
+use Rattle.segment_image.specs.declared.layout.TheConstants.{NO_BUCKET, VERSION_FROZEN}
 use Rattle.bucket_ranges.specs.declared.limits.TheConstants.{MAX_PACKED}
-use Rattle.bucket_ranges.specs.declared.single.TheConstants.{NO_BUCKET}
 use Rattle.bucket_ranges.specs.declared.single.SingleWord.{SingleWord}
 use Rattle.bucket_ranges.specs.declared.single.SingleWord.TheVariants.{Empty, Packed, Disabled, FrozenEmpty, Frozen}
 

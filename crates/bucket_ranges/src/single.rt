@@ -4,7 +4,7 @@ ghost use Rattle.std.specs.Prelude.{◌≡◌, ◌≤◌, ◌<◌, true, ◌&&�
 ghost use Rattle.bucket_ranges.specs.Single.{single_of, word_of, IsForm};
 
 use crate::limits::MAX_PACKED;
-use segment_image::layout::VERSION_FROZEN;
+use segment_image::layout::{BUCKET_WEIGHT, DISABLED_BIT, NO_BUCKET, VERSION_FROZEN};
 
 /// What the single word of a histogram says: a histogram whose samples all fell into one bucket needs no block of
 /// counts (after the packed single sample of Chromium's `HistogramSamples`).
@@ -24,13 +24,6 @@ pub enum SingleWord {
     Frozen { bucket: usize, units: u64 },
 }
 
-const DISABLED_BIT: u64 = 1 << 63;
-
-// What a disabled word of version 1 has in place of a bucket where none was packed.
-const NO_BUCKET: u64 = 65_535;
-
-const UNITS: u64 = 1 << 32;
-
 impl SingleWord {
     /// Returns the form of a single word of a histogram with so many buckets in a version of the format, or `None`
     /// where it has no valid form there [exact]. Such a form is valid in that version and has this word [found]; no
@@ -45,8 +38,8 @@ impl SingleWord {
             return Some(SingleWord::Empty);
         }
         if word < DISABLED_BIT {
-            let bucket = (word / UNITS) as usize;
-            let units = word % UNITS;
+            let bucket = (word / BUCKET_WEIGHT) as usize;
+            let units = word % BUCKET_WEIGHT;
             if is_packed(bucket, units, buckets) {
                 return Some(SingleWord::Packed { bucket, units });
             }
@@ -57,8 +50,8 @@ impl SingleWord {
             if low == 0 {
                 return Some(SingleWord::FrozenEmpty);
             }
-            let bucket = (low / UNITS) as usize;
-            let units = low % UNITS;
+            let bucket = (low / BUCKET_WEIGHT) as usize;
+            let units = low % BUCKET_WEIGHT;
             if is_packed(bucket, units, buckets) {
                 return Some(SingleWord::Frozen { bucket, units });
             }

@@ -4,7 +4,7 @@ use Rattle.segment_image.specs.Checks.{first_fault}
 use Rattle.segment_machine.specs.State.{State}
 use Rattle.hist_core.specs.declared.world_state.WorldState.{WorldState}
 use Rattle.hist_core.specs.declared.call.Begun.{Begun}
-use Rattle.hist_core.specs.declared.call.Call.{Call}
+use Rattle.segment_calls.specs.declared.call.Call.{Call}
 use Rattle.hist_core.specs.declared.call.Move.{Move}
 use Rattle.hist_core.specs.declared.call.Move.TheVariants.{Begin, Step}
 use Rattle.hist_core.specs.declared.call.Stepped.{Stepped}

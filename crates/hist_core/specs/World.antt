@@ -11,14 +11,14 @@ use Rattle.hist_core.specs.declared.entry.Taken.{Taken}
 use Rattle.hist_core.specs.declared.fault.WorldFault.{WorldFault}
 use Rattle.hist_core.specs.declared.fault.WorldFault.TheVariants.{BadShape, NoActor, Busy, Idle, Unknown, NoMemory, Adopt}
 use Rattle.image_adoption.specs.Checking.{IsFaultOf}
-use Rattle.image_adoption.specs.declared.fault.AdoptFault.TheVariants as adopt
+use Rattle.segment_calls.specs.declared.adopt_fault.AdoptFault.TheVariants as adopt
 use Rattle.hist_core.specs.declared.actor_run.ActorRun.{ActorRun}
 use Rattle.hist_core.specs.declared.world_state.WorldState.{WorldState}
 use Rattle.hist_core.specs.ActorRun.{ended_by, begun_by}
 use Rattle.hist_core.specs.WorldState.{HistBegins, AddBegins, DeltaBegins, SnapshotBegins, BatchBegins, SetCorruptBegins}
 use Rattle.hist_core.specs.declared.call.Begun.{Begun}
-use Rattle.hist_core.specs.declared.call.Call.{Call}
-use Rattle.hist_core.specs.declared.call.Call.TheVariants.{Hist, Add, Delta, Snapshot, Batch, SetCorrupt}
+use Rattle.segment_calls.specs.declared.call.Call.{Call}
+use Rattle.segment_calls.specs.declared.call.Call.TheVariants.{Hist, Add, Delta, Snapshot, Batch, SetCorrupt}
 
 -- ---- what it shows of an actor, where that is there
 

@@ -1,24 +1,6 @@
-//! The calls of a world's actors, and what they answer.
+//! What the calls of a world's actors answer, and the moves that they are made of.
 
-use bucket_ranges::Spec;
-use segment_calls::{BatchRefusal, Delta, Refusal, Snapshot};
-
-/// A call on a segment.
-#[derive(Debug, Drop)]
-pub enum Call {
-    /// The histogram of a name and a spec, which is made where there is none.
-    Hist(Vec<u8>, Spec),
-    /// Counts a value in the histogram of a name, so many times.
-    Add(Vec<u8>, i32, u32),
-    /// What was counted in the histogram of a name since the deltas before.
-    Delta(Vec<u8>),
-    /// What is counted in the histogram of a name.
-    Snapshot(Vec<u8>),
-    /// Counts values in the histogram of a name, each so many times, and adds to its sum.
-    Batch(Vec<u8>, Vec<(i32, u32)>, i64),
-    /// Marks the segment as corrupt.
-    SetCorrupt,
-}
+use segment_calls::{BatchRefusal, Call, Delta, Refusal, Snapshot};
 
 /// What a call answers.
 #[derive(Debug, Drop)]

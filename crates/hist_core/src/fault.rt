@@ -1,6 +1,6 @@
 //! Why a world takes no move.
 
-use image_adoption::AdoptFault;
+use segment_calls::AdoptFault;
 use std::alloc::AllocError;
 use thiserror::Error;
 

@@ -23,9 +23,8 @@ mod world;
 mod world_state;
 
 pub use alloc_core::Attempt;
-pub use call::{Answer, Begun, Call, Move, Stepped};
+pub use call::{Answer, Begun, Move, Stepped};
 pub use entry::{Entry, Taken};
 pub use fault::WorldFault;
-pub use image_adoption::AdoptFault;
-pub use segment_calls::{BatchRefusal, Delta, Refusal, Snapshot};
+pub use segment_calls::{AdoptFault, BatchRefusal, Call, Delta, Refusal, Snapshot};
 pub use world::{MAX_ACTORS, World, run_schedule, run_schedule_on};

@@ -1,11 +1,12 @@
 //! A segment and the actors that call on it, as plain data: one event a step.
 
-use crate::call::{Begun, Call, Move, Stepped};
+use crate::call::{Begun, Move, Stepped};
 use crate::entry::{Entry, Taken};
 use crate::fault::WorldFault;
 use crate::world_state::WorldState;
 use alloc_core::Attempt;
 use image_adoption::{Adoptable, check};
+use segment_calls::Call;
 use segment_image::Shape;
 use segment_image::layout::{VERSION_FROZEN, VERSION_MOVING};
 use std::alloc::{AllocError, Global};

@@ -4,16 +4,11 @@ use crate::actor_run::{ActorRun, Running};
 use crate::call::{Answer, Begun, Stepped};
 use crate::ghost_notes::{are_some, batch_cost};
 use bucket_ranges::Spec;
+use bucket_ranges::limits::MAX_UNITS;
 use image_adoption::Adoptable;
 use segment_calls::{Asked, BatchRefusal, Refusal};
-use segment_image::layout::{
-    HEADER_WORDS, QUEUE, QUEUE_COOKIE, QUEUE_SIZE, SEGMENT_COOKIE, STATE_READY, TYPE_PURGED,
-};
-use segment_image::{Shape, header};
+use segment_image::{Shape, header, ready_header};
 use std::alloc::{AllocError, Global};
-
-// All units of a world.
-const POOL: u64 = 4_294_967_295;
 
 /// The words of a segment, and the actors that call on it.
 #[derive(Debug, Drop)]
@@ -36,27 +31,10 @@ ghost use Rattle.hist_core.specs.declared.call.Answer.TheVariants.{BatchRefused}
 fn new_words(alloc: Global, shape: Shape, version: u64, id: u64) -> Result<Vec<u64>, AllocError>
     ensures { IfOk result (λ words. words.items ≡ render shape (fresh shape version id)) }
 {
-    let size = shape.size();
-    let mut words = Vec::with_capacity(alloc, size as usize)?;
-    words.extend_from_slice(&[
-        SEGMENT_COOKIE,
-        version,
-        size,
-        shape.page(),
-        id,
-        STATE_READY,
-        0,
-        HEADER_WORDS as u64,
-        QUEUE,
-        0,
-        0,
-        0,
-        QUEUE_SIZE,
-        QUEUE_COOKIE,
-        TYPE_PURGED,
-        QUEUE,
-    ])?;
-    words.resize(size as usize, 0)?;
+    let size = shape.size() as usize;
+    let mut words = Vec::with_capacity(alloc, size)?;
+    words.extend_from_slice(&ready_header(shape, version, id))?;
+    words.resize(size, 0)?;
     Ok(words)
 }
 
@@ -109,7 +87,7 @@ impl WorldState {
             version,
             words: new_words(alloc, shape, version, id)?,
             actor_runs: new_actor_runs(alloc, actors)?,
-            units: POOL,
+            units: MAX_UNITS,
         })
     }
 
@@ -132,7 +110,7 @@ impl WorldState {
             version: head.version,
             words: Vec::from_slice(alloc, words)?,
             actor_runs: new_actor_runs(alloc, actors)?,
-            units: POOL - adoptable.used,
+            units: MAX_UNITS - adoptable.used,
         })
     }
 

@@ -6,14 +6,14 @@ use Rattle.segment_image.specs.Head.{header_of, header_checks, head_of}
 use Rattle.segment_image.specs.declared.head.SegmentHead.{SegmentHead}
 use Rattle.bucket_ranges.specs.Reading.{IsListed, Reading, reading_along}
 use Rattle.image_reader.proofs.Headers.{checked_ok}
-use Rattle.segment_promises.specs.Adoption.{IsAdoptable, IsUndamaged, used_of}
-use Rattle.segment_promises.specs.Reads.{HasNoFault}
+use Rattle.image_rules.specs.Adoption.{IsAdoptable, IsUndamaged, used_of}
+use Rattle.image_rules.specs.Adoption.{HasNoFault}
 use Rattle.image_adoption.specs.Checking.{IsAdoption, IsFaultOf, IsIntact, Reads}
 use Rattle.image_adoption.specs.Conditions.{IsWhole}
 use Rattle.image_adoption.specs.Damage.{IsDamageOf}
 use Rattle.image_adoption.specs.declared.checking.Adoptable.{Adoptable}
-use Rattle.image_adoption.specs.declared.fault.AdoptFault.{AdoptFault}
-use Rattle.image_adoption.specs.declared.fault.AdoptFault.TheVariants.{Image, OldVersion, Corrupt, Damaged, NoUnits, BadCursors, NoMemory}
+use Rattle.segment_calls.specs.declared.adopt_fault.AdoptFault.{AdoptFault}
+use Rattle.segment_calls.specs.declared.adopt_fault.AdoptFault.TheVariants.{Image, OldVersion, Corrupt, Damaged, NoUnits, BadCursors, NoMemory}
 
 module _ (words : List ℕ) (head : SegmentHead) (header : header_of words ≡ Ok head) where
   same : head_of words ≡ head

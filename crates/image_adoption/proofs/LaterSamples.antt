@@ -20,8 +20,8 @@ use Rattle.image_reader.specs.Later.{is_later, is_same_sample, later_samples}
 use Rattle.image_reader.proofs.Gathered.{is_sample-other, samples-push, samples-same}
 use Rattle.image_reader.proofs.Laters.{later-push, later-same}
 use Rattle.image_reader.proofs.Marks.{list_any-push}
-use Rattle.segment_invariant.specs.Consistent.{IsSample, IsSampleOf}
-use Rattle.segment_invariant.proofs.Lists.Firsts.{first_there}
+use Rattle.image_rules.specs.Records.{IsSample, IsSampleOf}
+use Rattle.list_lemmas.proofs.Firsts.{first_there}
 use Rattle.image_adoption.specs.Conditions.{AreLaterEmpty, CountsNothing}
 use Rattle.image_adoption.specs.Records.{HasNoBad}
 use Rattle.image_adoption.proofs.Faultless.{read_sample}

@@ -13,8 +13,8 @@ use Rattle.segment_image.specs.declared.fault.ImageFault.TheVariants.{BadBlock, 
 use Rattle.bucket_ranges.specs.Reading.{IsListed, reading_along}
 use Rattle.segment_image.specs.declared.head.SegmentHead.{SegmentHead}
 use Rattle.image_reader.proofs.Headers.{block_in_words}
-use Rattle.segment_invariant.proofs.Lists.Elements.{all_at}
-use Rattle.segment_promises.specs.Adoption.{IsUndamaged, named_counts}
+use Rattle.list_lemmas.proofs.Elements.{all_at}
+use Rattle.image_rules.specs.Adoption.{IsUndamaged, named_counts}
 use Rattle.image_reader.proofs.Sound.{IsReadable-from_none}
 use Rattle.image_adoption.specs.Records.{HasApartBlocks, IsFaultless, NamesBlock}
 use Rattle.image_adoption.proofs.Faultless.{counts_block, faultless_of}

@@ -9,9 +9,9 @@ use mathlib.Core.Option.{some}
 use lib.ListN.{get_elem?}
 use Rattle.segment_image.specs.Blocks.{field_at}
 use Rattle.alloc_core.specs.Laws.{Apart}
-use Rattle.segment_invariant.proofs.Lists.Elements.{at_snoc_index, below_length, index_at}
-use Rattle.segment_invariant.proofs.Lists.Pairs.{element_at}
-use Rattle.segment_promises.specs.Adoption.{run_at}
+use Rattle.list_lemmas.proofs.Elements.{at_snoc_index, below_length, index_at}
+use Rattle.list_lemmas.proofs.Pairs.{element_at}
+use Rattle.image_rules.specs.Adoption.{run_at}
 use Rattle.image_adoption.specs.Conditions.{AreApart}
 use Rattle.image_adoption.specs.Runs.{is_in}
 

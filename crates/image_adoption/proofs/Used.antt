@@ -3,7 +3,7 @@ use Rattle.std.proofs.Common.{◌≡◌, ℕ, ◌+◌, ◌<◌, List, length, ma
 use Rattle.std.proofs.lemmas.List.{map_more}
 use Rattle.std.proofs.lemmas.List.Sums.{sum_by_push}
 use Rattle.bucket_ranges.specs.Reading.{Histogram}
-use Rattle.segment_promises.specs.Adoption.{used_by}
+use Rattle.image_rules.specs.Adoption.{used_by}
 
 -- where each of these records reads as what a view gives
 module _ (view : ℕ → Histogram) (read : List ℕ) (k : ℕ) (below : k < length read) (hist : Histogram) (is : hist ≡ view (get_or read k 0)) where

@@ -3,10 +3,10 @@ use Rattle.std.specs.Prelude.{◌≡◌, ◌≢◌, true, false, ℕ, ◌<◌, �
 use Rattle.segment_image.specs.declared.layout.TheConstants.{VERSION_FROZEN}
 use Rattle.segment_image.specs.Head.{header_of, head_of}
 use Rattle.bucket_ranges.specs.Reading.{Reading, IsListed, reading_along}
-use Rattle.segment_promises.specs.Adoption.{IsAdoptable, IsUndamaged, used_of}
+use Rattle.image_rules.specs.Adoption.{IsAdoptable, IsUndamaged, used_of}
 use Rattle.image_adoption.specs.declared.checking.Adoptable.{Adoptable}
-use Rattle.image_adoption.specs.declared.fault.AdoptFault.{AdoptFault}
-use Rattle.image_adoption.specs.declared.fault.AdoptFault.TheVariants.{Image, OldVersion, Corrupt, Damaged, NoUnits, BadCursors, NoMemory}
+use Rattle.segment_calls.specs.declared.adopt_fault.AdoptFault.{AdoptFault}
+use Rattle.segment_calls.specs.declared.adopt_fault.AdoptFault.TheVariants.{Image, OldVersion, Corrupt, Damaged, NoUnits, BadCursors, NoMemory}
 
 -- the references on the list of an image, and what it reads as; words have one such list and one such reading
 pub record Reads (words references : List ℕ) (reading : Reading) : Type 0 where

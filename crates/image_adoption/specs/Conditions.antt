@@ -1,5 +1,5 @@
 -- What holds of the words and the records of an image that is not damaged, gathered as it is looked at.
-pub use Rattle.segment_promises.specs.Adoption.{AreApart, AreZerosFrom, AreLaterEmpty, HasPaddedName, HasUnusedCounts, HasPackedMark}
+pub use Rattle.image_rules.specs.Adoption.{AreApart, AreZerosFrom, AreLaterEmpty, HasPaddedName, HasUnusedCounts, HasPackedMark}
 use Rattle.std.specs.Prelude.{◌≡◌, true, ℕ, List}
 use Rattle.std.specs.List.{Contains}
 use Rattle.segment_image.specs.declared.layout.TheConstants.{BLOCK_TYPE, SAMPLE_COUNT, SAMPLE_MARK, TYPE_HISTOGRAM}
@@ -7,7 +7,7 @@ use Rattle.segment_image.specs.declared.head.SegmentHead.{SegmentHead}
 use Rattle.segment_image.specs.Blocks.{field_at}
 use Rattle.alloc_core.specs.Planned.{is_pointer}
 use Rattle.list_core.specs.Chain.{IsStop}
-use Rattle.segment_promises.specs.Adoption.{blocks_of, AreApart, AreZerosFrom, AreLaterEmpty, HasPaddedName, HasUnusedCounts, HasPackedMark}
+use Rattle.image_rules.specs.Adoption.{blocks_of, AreApart, AreZerosFrom, AreLaterEmpty, HasPaddedName, HasUnusedCounts, HasPackedMark}
 
 -- a sample has no units, and deltas took none of it
 abbrev pub CountsNothing : List ℕ → ℕ → Type 0

@@ -2,11 +2,11 @@
 use Rattle.std.specs.Prelude.{ℕ, List, ⊤}
 use Rattle.segment_image.specs.declared.head.SegmentHead.{SegmentHead}
 use Rattle.bucket_ranges.specs.Reading.{IsListed, reading_along}
-use Rattle.segment_promises.specs.Adoption.{IsUndamaged}
+use Rattle.image_rules.specs.Adoption.{IsUndamaged}
 use Rattle.image_reader.specs.declared.survey.Survey.{Survey}
 use Rattle.image_reader.specs.Survey.{IsSurvey}
-use Rattle.image_adoption.specs.declared.fault.AdoptFault.{AdoptFault}
-use Rattle.image_adoption.specs.declared.fault.AdoptFault.TheVariants.{Image, OldVersion, Corrupt, Damaged, NoUnits, BadCursors, NoMemory}
+use Rattle.segment_calls.specs.declared.adopt_fault.AdoptFault.{AdoptFault}
+use Rattle.segment_calls.specs.declared.adopt_fault.AdoptFault.TheVariants.{Image, OldVersion, Corrupt, Damaged, NoUnits, BadCursors, NoMemory}
 
 -- they are not damaged, and this is what their list has
 pub record IsUndamagedSurvey (words : List ℕ) (head : SegmentHead) (survey : Survey) : Type 0 where

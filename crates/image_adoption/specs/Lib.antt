@@ -2,8 +2,7 @@ pub use Rattle.segment_image.specs.Head
 pub use Rattle.bucket_ranges.specs.Reading
 pub use Rattle.image_reader.specs.Views
 pub use Rattle.image_reader.specs.Survey
-pub use Rattle.segment_promises.specs.Adoption
-pub mod Fault
+pub use Rattle.image_rules.specs.Adoption
 pub mod Checking
 pub mod Conditions
 pub mod Records

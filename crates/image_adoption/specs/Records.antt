@@ -4,7 +4,7 @@ use Rattle.std.specs.List.{filter_map}
 use Rattle.segment_image.specs.declared.head.SegmentHead.{SegmentHead}
 use Rattle.segment_image.specs.declared.layout.TheConstants.{BLOCK_SIZE, BLOCK_TYPE, HISTOGRAM_BUCKETS, HISTOGRAM_COUNTS, HISTOGRAM_LEAST, TYPE_HISTOGRAM, TYPE_SAMPLE}
 use Rattle.segment_image.specs.Blocks.{field_at, is_block}
-use Rattle.segment_promises.specs.Adoption.{AreApart, blocks_of}
+use Rattle.image_rules.specs.Adoption.{AreApart, blocks_of}
 use Rattle.bucket_ranges.specs.declared.limits.TheConstants.{MAX_BUCKETS}
 use Rattle.bucket_ranges.specs.Reading.{bad_record, counts_words, has_bad_sample, is_sparse, record_buckets, record_fault, with_earlier}
 

@@ -4,7 +4,7 @@ ghost use Rattle.std.specs.Prelude.{◌≡◌, ◌≤◌, ◌+◌, ◌||◌, ℕ
 ghost use Rattle.std.specs.Bool.{OnTrue};
 ghost use Rattle.segment_image.specs.Head.{header_of};
 ghost use Rattle.segment_image.specs.Blocks.{field_at, is_block};
-ghost use Rattle.segment_promises.specs.Adoption.{blocks_of as all_blocks, named_counts as named_counts_of};
+ghost use Rattle.image_rules.specs.Adoption.{blocks_of as all_blocks, named_counts as named_counts_of};
 ghost use Rattle.image_adoption.specs.Conditions.{AreApart};
 ghost use Rattle.image_adoption.specs.Records.{HasApartBlocks, NamesBlock};
 ghost use Rattle.image_adoption.specs.Runs.{is_in};

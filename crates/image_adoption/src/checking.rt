@@ -5,9 +5,9 @@ ghost use Rattle.segment_image.specs.Head.{header_of};
 ghost use Rattle.image_adoption.specs.Checking.{AdoptionOf};
 
 use crate::damage::undamaged;
-use crate::fault::AdoptFault;
 use crate::units::used_of;
 use bucket_ranges::limits::MAX_UNITS;
+use segment_calls::AdoptFault;
 use segment_image::layout::VERSION_FROZEN;
 use segment_image::{SegmentHead, header};
 use std::alloc::Global;

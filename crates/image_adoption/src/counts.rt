@@ -10,12 +10,9 @@ ghost use Rattle.image_adoption.specs.Records.{HasRoom};
 use crate::ends::are_zeros;
 use bucket_ranges::SingleWord;
 use segment_image::layout::{
-    BLOCK_HEADER, HISTOGRAM_BUCKETS, HISTOGRAM_COUNTS, HISTOGRAM_KIND, HISTOGRAM_SINGLE,
-    KIND_SPARSE, VERSION_FROZEN,
+    BLOCK_HEADER, DISABLED_BIT, HISTOGRAM_BUCKETS, HISTOGRAM_COUNTS, HISTOGRAM_KIND,
+    HISTOGRAM_SINGLE, KIND_SPARSE, VERSION_FROZEN,
 };
-
-// From this word on, a single word is frozen.
-const FROZEN: u64 = 1 << 63;
 
 // Whether the record of a histogram names a block of counts.
 fn has_block(words: &[u64], at: usize) -> bool
@@ -30,7 +27,7 @@ pub(crate) fn has_unused_counts(words: &[u64], at: usize) -> bool
     requires { HasRoom words.now at }
     ensures { Decides result (HasUnusedCounts words.now at) }
 {
-    if !has_block(words, at) || words[at + HISTOGRAM_SINGLE] >= FROZEN {
+    if !has_block(words, at) || words[at + HISTOGRAM_SINGLE] >= DISABLED_BIT {
         return true;
     }
     let first = words[at + HISTOGRAM_COUNTS] as usize + BLOCK_HEADER;

@@ -3,7 +3,7 @@
 ghost use Rattle.std.specs.Prelude.{◌≡◌, ◌+◌, ◌/◌, ◌<◌, ◌^◌, Ok, min, sum_by, IfOk};
 ghost use Rattle.segment_image.specs.Head.{header_of};
 ghost use Rattle.bucket_ranges.specs.Reading.{reading_along};
-ghost use Rattle.segment_promises.specs.Adoption.{used_by as used_by_of, used_of as used_of_of};
+ghost use Rattle.image_rules.specs.Adoption.{used_by as used_by_of, used_of as used_of_of};
 ghost use Rattle.image_reader.specs.Survey.{IsSurvey};
 ghost use Rattle.image_reader.specs.Views.{histogram_view};
 

@@ -2,6 +2,7 @@ pub use Rattle.segment_image.specs.Checks
 pub use Rattle.bucket_ranges.specs.Spec
 pub use Rattle.bucket_ranges.specs.Reading
 pub use Rattle.segment_calls.specs.Asked
+pub use Rattle.segment_calls.specs.Faults
 pub use Rattle.segment_calls.specs.Refusal
 pub use Rattle.segment_machine.specs.Actor
 pub use Rattle.segment_machine.specs.Entry
@@ -9,7 +10,6 @@ pub use Rattle.segment_machine.specs.Seats
 pub use Rattle.segment_promises.specs.Onward
 pub use Rattle.segment_promises.specs.Reads
 pub mod Ends
-pub mod Fault
 pub mod Rule
 pub mod Adopted
 pub mod Known

@@ -15,8 +15,8 @@ use Rattle.segment_invariant.specs.Invariant.{Invariant}
 use Rattle.segment_invariant.specs.Keeps.{IsOpening, opening_of}
 use Rattle.segment_promises.specs.Adoption.{adopter}
 use Rattle.segment_promises.specs.Follows.{Running}
-use Rattle.live_segment.specs.declared.fault.OpenFault.{OpenFault}
-use Rattle.live_segment.specs.declared.fault.OpenFault.TheVariants.{BadShape, BadCursors}
+use Rattle.segment_calls.specs.declared.open_fault.OpenFault.{OpenFault}
+use Rattle.segment_calls.specs.declared.open_fault.OpenFault.TheVariants.{BadShape, BadCursors}
 use Rattle.live_segment.specs.declared.rule.Announcement.{Announcement}
 use Rattle.live_segment.specs.declared.rule.Opening.{Opening}
 use Rattle.live_segment.specs.declared.rule.Setting.{Setting}

@@ -8,10 +8,7 @@ use crate::rule::Pass;
 use crate::segment::Segment;
 use segment_calls::Refusal;
 use segment_calls::packing::{DISABLED_BIT, off_word};
-use segment_image::layout::{BLOCK_HEADER, TYPE_COUNTS, VERSION_MOVING};
-
-// The units of a packed word stand below this, and the bucket above.
-const UNITS: u64 = 1 << 32;
+use segment_image::layout::{BLOCK_HEADER, BUCKET_WEIGHT, TYPE_COUNTS, VERSION_MOVING};
 
 // Whether units of a single word are in transit once it is disabled: in version 1 where it has some.
 fn moves_units(version: u64, word: u64) -> bool
@@ -94,7 +91,7 @@ impl Segment {
             let off = off_word(self.setting.version, word);
             if self.disable(seat, histogram.reference, word, off) == word {
                 if moves_units(self.setting.version, word) {
-                    self.add_moved(seat, counts, word / UNITS, word % UNITS);
+                    self.add_moved(seat, counts, word / BUCKET_WEIGHT, word % BUCKET_WEIGHT);
                 }
                 return;
             }

@@ -5,17 +5,14 @@ ghost use Rattle.alloc_core.specs.Layout.{IsShape};
 ghost use Rattle.segment_machine.specs.State.{memory};
 ghost use Rattle.segment_machine.specs.Reached.{new_state};
 
-use crate::fault::OpenFault;
 use crate::opener::Opener;
 use crate::rule::{Announcement, Opening, Pass, SegmentRule, Setting};
 use crate::seats::{Bound, Cut, Fill, Glue, Offer, Pour};
 use atomic_table::Table;
 use image_adoption::MAX_CURSORS;
-use segment_image::layout::{
-    HEADER_WORDS, QUEUE, QUEUE_COOKIE, QUEUE_SIZE, SEGMENT_COOKIE, STATE_READY, TYPE_PURGED,
-    VERSION_FROZEN, VERSION_MOVING,
-};
-use segment_image::{Image, Shape};
+use segment_calls::OpenFault;
+use segment_image::layout::{QUEUE, VERSION_FROZEN, VERSION_MOVING};
+use segment_image::{Image, Shape, ready_header};
 use segment_machine::Actor;
 use segment_memory::Memory;
 use std::alloc::{AllocError, Global};
@@ -42,25 +39,8 @@ fn opening_words(alloc: Global, setting: &Setting) -> Result<Vec<u64>, AllocErro
 {
     let size = setting.shape.size() as usize;
     let mut words = Vec::with_capacity(alloc, size + 1 + setting.cursors)?;
-    words.extend_from_slice(&[
-        0,
-        SEGMENT_COOKIE,
-        setting.version,
-        setting.shape.size(),
-        setting.shape.page(),
-        setting.id,
-        STATE_READY,
-        0,
-        HEADER_WORDS as u64,
-        QUEUE,
-        0,
-        0,
-        0,
-        QUEUE_SIZE,
-        QUEUE_COOKIE,
-        TYPE_PURGED,
-        QUEUE,
-    ])?;
+    words.push(0)?;
+    words.extend_from_slice(&ready_header(setting.shape, setting.version, setting.id))?;
     words.resize(size + 1, 0)?;
     words.resize(size + 1 + setting.cursors, QUEUE)?;
     Ok(words)

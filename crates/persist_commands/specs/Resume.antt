@@ -13,7 +13,7 @@ use Rattle.segment_machine.specs.Entry.{tally_noted, tally_sum, tally_units}
 use Rattle.segment_promises.specs.Adoption.{IsAdoptable, used_of}
 use Rattle.segment_promises.specs.Reads.{HasNoFault, mark_read, units_read}
 use Rattle.image_adoption.specs.Checking.{IsFaultOf, Reads}
-use Rattle.image_adoption.specs.declared.fault.AdoptFault.TheVariants as adoption
+use Rattle.segment_calls.specs.declared.adopt_fault.AdoptFault.TheVariants as adoption
 use Rattle.persist_report_core.specs.Report.{AreWordsOf, IsCausedBy}
 use Rattle.persist_report_core.specs.declared.fault.CliFault.{CliFault}
 use Rattle.persist_report_core.specs.declared.fault.CliFault.TheVariants as cli

@@ -6,14 +6,12 @@ ghost use Rattle.persist_report_core.specs.Script.{script_for, script_of, script
 ghost use Rattle.persist_commands.specs.Run.{IsFaultOfRun, IsFaultOfScript, fault_of_script};
 ghost use Rattle.persist_commands.specs.Stop.{TellsWant};
 
+use bucket_ranges::limits::MAX_UNITS;
 use persist_report_core::{CliFault, Script, ScriptFault, read_script, read_script_for};
 use segment_calls::Refusal;
 use segment_image::{SegmentHead, Watched};
 use std::alloc::Global;
 use std::io::Read;
-
-// The units of a segment.
-const UNITS: u64 = 4_294_967_295;
 
 // What a command tells of a script that was read, or was not.
 fn told(read: Result<Script, ScriptFault>) -> Result<Script, CliFault>
@@ -52,7 +50,7 @@ pub(crate) fn take_script<S: Read>(
     ensures other { IfErr result (λ fault. fault ≢ CliFault.Write) }
     ensures tells { IfErr result TellsWant }
 {
-    told(read_script(alloc, reader, UNITS))
+    told(read_script(alloc, reader, MAX_UNITS))
 }
 
 /// The script that the reader has left, for the segment of a header, which has so many units; or its first fault.

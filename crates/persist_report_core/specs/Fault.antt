@@ -4,8 +4,8 @@ use Rattle.segment_image.specs.declared.fault.ImageFault.{ImageFault}
 use Rattle.segment_image.specs.declared.fault.ImageFault.TheVariants as image
 use Rattle.segment_image.specs.declared.fault.ReadFault.{ReadFault}
 use Rattle.segment_image.specs.declared.fault.ReadFault.TheVariants as reading
-use Rattle.image_adoption.specs.declared.fault.AdoptFault.{AdoptFault}
-use Rattle.image_adoption.specs.declared.fault.AdoptFault.TheVariants as adopting
+use Rattle.segment_calls.specs.declared.adopt_fault.AdoptFault.{AdoptFault}
+use Rattle.segment_calls.specs.declared.adopt_fault.AdoptFault.TheVariants as adopting
 use Rattle.persist_report_core.specs.declared.fault.CliFault.{CliFault}
 use Rattle.persist_report_core.specs.declared.fault.CliFault.TheVariants as cli
 

@@ -1,7 +1,6 @@
 //! Why a call of the program did not do its work.
 
-use image_adoption::AdoptFault;
-use segment_calls::Refusal;
+use segment_calls::{AdoptFault, Refusal};
 use segment_image::{ImageFault, ReadFault};
 use std::alloc::AllocError;
 use std::fmt;

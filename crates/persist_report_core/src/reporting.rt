@@ -11,12 +11,13 @@ ghost use Rattle.image_reader.specs.Views.{histogram_view, reading_view};
 use crate::fault::CliFault;
 use image_reader::Reading;
 use reading_texts::text_of;
+use segment_image::layout::MAX_SIZE;
 use segment_image::{Watched, read_words};
 use std::alloc::Global;
 use std::io::{Read, Write};
 
 /// An image has at most so many words.
-pub const MAX_WORDS: usize = 1_048_576;
+pub const MAX_WORDS: usize = MAX_SIZE as usize;
 
 /// What the image that the words are reads as.
 ///

@@ -1,8 +1,8 @@
 -- A segment that was made is what a handle is filled with.
 use Rattle.std.proofs.Common.{◌≡◌, ◌⊎◌, false, ℕ, inl, inr, Option, Some, None, Result, Ok, Err, MatchOption}
 use Rattle.std.specs.Arc.{arc_value}
-use Rattle.live_segment.specs.declared.fault.OpenFault.{OpenFault}
-use Rattle.live_segment.specs.declared.fault.OpenFault.TheVariants.{NoMemory}
+use Rattle.segment_calls.specs.declared.open_fault.OpenFault.{OpenFault}
+use Rattle.segment_calls.specs.declared.open_fault.OpenFault.TheVariants.{NoMemory}
 use Rattle.live_segment.specs.declared.opener.Opener.{Opener}
 use Rattle.live_segment.specs.declared.segment.Segment.{Segment}
 use Rattle.povundiri_c.specs.declared.held.Held.{Held}

@@ -3,9 +3,9 @@ use Rattle.std.specs.Prelude.{◌≡◌, ◌⊎◌, ◌<◌, ◌≤◌, ◌++◌
 use Rattle.std.specs.Arc.{arc_value}
 use Rattle.segment_image.specs.Checks.{first_fault}
 use Rattle.segment_machine.specs.Actor.{outstanding_of}
-use Rattle.image_adoption.specs.declared.fault.AdoptFault.{AdoptFault}
+use Rattle.segment_calls.specs.declared.adopt_fault.AdoptFault.{AdoptFault}
 use Rattle.image_adoption.specs.Checking.{IsFaultOf}
-use Rattle.live_segment.specs.declared.fault.OpenFault.TheVariants.{NoMemory}
+use Rattle.segment_calls.specs.declared.open_fault.OpenFault.TheVariants.{NoMemory}
 use Rattle.live_segment.specs.declared.opener.Opener.{Opener}
 use Rattle.live_segment.specs.declared.rule.Setting.{Setting}
 use Rattle.live_segment.specs.declared.segment.Segment.{Segment}

@@ -6,11 +6,11 @@ use Rattle.segment_calls.specs.declared.refusal.Refusal.TheVariants.{BadSpec}
 use Rattle.segment_calls.specs.Refusal.{refusal_number}
 use Rattle.segment_image.specs.declared.fault.ImageFault.{ImageFault}
 use Rattle.segment_image.specs.Fault.{image_fault_number}
-use Rattle.image_adoption.specs.declared.fault.AdoptFault.{AdoptFault}
-use Rattle.image_adoption.specs.declared.fault.AdoptFault.TheVariants.{Image}
-use Rattle.image_adoption.specs.Fault.{adopt_fault_number}
-use Rattle.live_segment.specs.declared.fault.OpenFault.{OpenFault}
-use Rattle.live_segment.specs.Fault.{open_fault_number}
+use Rattle.segment_calls.specs.declared.adopt_fault.AdoptFault.{AdoptFault}
+use Rattle.segment_calls.specs.declared.adopt_fault.AdoptFault.TheVariants.{Image}
+use Rattle.segment_calls.specs.Faults.{adopt_fault_number}
+use Rattle.segment_calls.specs.declared.open_fault.OpenFault.{OpenFault}
+use Rattle.segment_calls.specs.Faults.{open_fault_number}
 
 -- of a call that is refused; for a spec with a fault, that fault's own
 abbrev pub status_of_refusal : Refusal → ℕ

@@ -2,8 +2,8 @@
 use Rattle.std.specs.Prelude.{if◌then◌else◌, ℕ, ℤ, List, [], ◌∷◌, codes, Option, Some, None, option_map}
 use Rattle.std.specs.Str.{bytes_eq}
 use Rattle.bucket_ranges.specs.declared.spec.Spec.{Spec}
-use Rattle.hist_core.specs.declared.call.Call as code
-use Rattle.hist_core.specs.declared.call.Call.TheVariants as variants
+use Rattle.segment_calls.specs.declared.call.Call as code
+use Rattle.segment_calls.specs.declared.call.Call.TheVariants as variants
 use Rattle.persist_report_core.specs.Number.{unsigned_number, signed_number, signed_long_number}
 use Rattle.persist_report_core.specs.Request.{from_two, spec_in}
 

@@ -6,8 +6,8 @@ ghost use Rattle.schedule.specs.Fields.{texts};
 ghost use Rattle.schedule.specs.Call.{call_view, call_in, hist_in, add_in, batch_in, item_in, items_in, name_in, sample_in};
 
 use csv::ByteRecord;
-use hist_core::Call;
 use persist_report_core::{read_spec, signed_long_number, signed_number, unsigned_number};
+use segment_calls::Call;
 use std::alloc::{AllocError, Global};
 
 // The name, where nothing stands behind it.

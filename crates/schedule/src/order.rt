@@ -8,8 +8,8 @@ ghost use Rattle.schedule.specs.Order.{image_in, kind_in, kind_view, new_world_i
 use crate::call::read_call;
 use crate::fields::list_fields;
 use csv::ByteRecord;
-use hist_core::Call;
 use persist_report_core::long_number;
+use segment_calls::Call;
 use std::alloc::{AllocError, Global};
 
 /// What a world starts with: the first record.

@@ -1,15 +1,15 @@
 -- The words of a name.
-use Rattle.std.proofs.Common.{◌≡◌, ◌≢◌, ℕ, zero, suc, ◌+◌, ◌-◌, ◌<◌, ◌≤◌, List, [], ◌∷◌, ◌++◌, length, drop, replicate, refl, sym, ap, ◌∙◌, arith, append_assoc, length-append, min, ◌*◌, true, true≢false}
+use Rattle.std.proofs.Common.{◌≡◌, ◌≢◌, ℕ, zero, suc, ◌+◌, ◌-◌, ◌<◌, ◌≤◌, List, [], ◌∷◌, ◌++◌, length, drop, replicate, refl, sym, ap, ◌∙◌, arith, append_assoc, length-append, min, ◌*◌, true, true≢false, ◌%◌, div-add-mod', mod-lt}
 use Rattle.std.specs.Prelude.{slice_index, nat_le}
 use Rattle.std.proofs.lemmas.List.{append-nil, get_or-append-add, get_or_append_left, length-replicate}
 use Rattle.std.proofs.lemmas.Bool.{leb-true, and_parts}
 use Rattle.std.proofs.lemmas.List.Folds.{list_all_at}
 use Rattle.segment_image.proofs.ReadWords.{length-bytes_of_words}
-use Rattle.bucket_ranges.specs.Reading.{is_name, is_name_byte}
+use Rattle.bucket_ranges.specs.Reading.{is_name, is_name_byte, name_words}
 use Rattle.std.proofs.lemmas.List.Concat.{flat_map-append}
 use Rattle.byteorder.specs.Endian.{little_bytes}
 use Rattle.segment_image.specs.Words.{bytes_of_words}
-use Rattle.segment_machine.specs.Made.{AreNameWords}
+use Rattle.segment_calls.specs.Asked.{AreNameWords}
 
 -- zeros behind up to eight bytes
 pub zeros_behind : (n : ℕ) → n ≤ 8 → drop n (0 ∷ 0 ∷ 0 ∷ 0 ∷ 0 ∷ 0 ∷ 0 ∷ 0 ∷ []) ≡ replicate {A = ℕ} (8 - n) 0
@@ -68,6 +68,18 @@ module _ (name rest words chunk : List ℕ) (word : ℕ) (have : HaveBytes name 
         bytes = ap (λ (l : List ℕ). l ++ x ∷ left) (longer ∙ (ap (λ (n : ℕ). (bytes_of_words words ++ chunk) ++ replicate n 0) full ∙ append-nil (bytes_of_words words ++ chunk)))
             ∙ (append_assoc (bytes_of_words words) chunk (x ∷ left) ∙ (ap (λ (l : List ℕ). bytes_of_words words ++ l) (sym is) ∙ (so_far ∙ sym (append-nil name))));
       }
+
+-- the words of a name are as many as its length says
+pub letters_long : (name letters : List ℕ) → AreNameWords name letters → name_words (length name) ≡ length letters
+letters_long name letters (k, few, are) =
+    let n : ℕ = length name in
+    let bytes = length-bytes_of_words letters in
+    let all = ap length are in
+    let e = length-append name (replicate {A = ℕ} k 0) in
+    let f = length-replicate {A = ℕ} k 0 in
+    let d = div-add-mod' (n + 7) 8 in
+    let m : (n + 7) % 8 < 8 = mod-lt (n + 7) (omega arith) in
+    omega (arith, few, bytes, all, e, f, d, m)
 
 -- ---- the last word of a name
 

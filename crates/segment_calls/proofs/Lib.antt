@@ -1,2 +1,3 @@
-mod Letters
+pub mod Letters
 mod Payloads
+pub mod SortedKeys

@@ -10,10 +10,8 @@ use Rattle.bucket_ranges.specs.Ranges.{custom_boundaries}
 use Rattle.bucket_ranges.specs.Spec.{spec_fault, spec_fields, spec_ranges, distinct_values, buckets_of}
 use Rattle.bucket_ranges.specs.declared.spec.SpecFault.{SpecFault}
 use Rattle.bucket_ranges.specs.Reading.{is_name}
-use Rattle.segment_machine.specs.Made.{AreNameWords}
-use Rattle.segment_calls.specs.Asked.{payload_words, IsPayloadFor, IsTooLarge}
-use Rattle.segment_invariant.proofs.Walking.Words.{letters_long}
-use Rattle.segment_calls.proofs.Letters.{last_letter, some_letter}
+use Rattle.segment_calls.specs.Asked.{AreNameWords, payload_words, IsPayloadFor, IsTooLarge}
+use Rattle.segment_calls.proofs.Letters.{last_letter, letters_long, some_letter}
 use Rattle.bucket_ranges.proofs.Distinct.{Member, distinct-member}
 use Rattle.bucket_ranges.proofs.Customs.{is_custom-from_checks, some_distinct, length-custom_boundaries}
 

@@ -1,17 +1,21 @@
 -- What a `hist` asks for.
-use Rattle.std.specs.Prelude.{◌≡◌, ◌≢◌, ◌⊎◌, ℕ, ◌+◌, ◌-◌, ◌*◌, ◌<◌, ◌≤◌, true, false, List, ◌∷◌, ◌++◌, length, slice_index, Some, None}
+use Rattle.std.specs.Prelude.{◌≡◌, ◌≢◌, ◌⊎◌, ℕ, ◌+◌, ◌-◌, ◌*◌, ◌<◌, ◌≤◌, true, false, List, ◌∷◌, ◌++◌, length, replicate, slice_index, Some, None}
+use Rattle.segment_image.specs.Words.{bytes_of_words}
 use Rattle.bucket_ranges.specs.declared.spec.Spec.{Spec}
 use Rattle.bucket_ranges.specs.Ranges.{boundaries_of}
 use Rattle.bucket_ranges.specs.Reading.{is_name, name_words}
 use Rattle.bucket_ranges.specs.Spec.{spec_fault, spec_fields, spec_ranges, buckets_of}
 use Rattle.segment_image.specs.declared.layout.TheConstants.{BLOCK_HEADER, HISTOGRAM_NAME}
 use Rattle.segment_image.specs.Shape.{Dimensions}
-use Rattle.segment_machine.specs.Made.{AreNameWords}
 use Rattle.segment_calls.specs.declared.asked.Asked.{Asked}
 use Rattle.segment_calls.specs.declared.refusal.Refusal.{Refusal}
 use Rattle.segment_calls.specs.declared.refusal.Refusal.TheVariants.{BadName, BadSpec, NoMemory, TooLarge}
 
 -- ---- the words of its record
+
+-- words that have the bytes of a name, and zeros behind them up to a whole word
+abbrev pub AreNameWords : List ℕ → List ℕ → Type 0
+AreNameWords name words = (k : ℕ) × (k < 8) × (bytes_of_words words ≡ name ++ replicate k 0)
 
 -- the words behind the header of a histogram's record, where these are the words of its name
 abbrev pub payload_words : List ℕ → Spec → List ℕ → List ℕ

@@ -6,8 +6,7 @@ ghost use Rattle.byteorder.specs.Endian.{little_bytes};
 ghost use Rattle.bucket_ranges.specs.Ranges.{boundaries_of};
 ghost use Rattle.bucket_ranges.specs.Reading.{is_name, is_name_byte};
 ghost use Rattle.bucket_ranges.specs.Spec.{spec_fault, spec_fields, spec_ranges, buckets_of};
-ghost use Rattle.segment_machine.specs.Made.{AreNameWords};
-ghost use Rattle.segment_calls.specs.Asked.{IsPayloadFor, IsAskedFor, IsRefusedFor};
+ghost use Rattle.segment_calls.specs.Asked.{AreNameWords, IsPayloadFor, IsAskedFor, IsRefusedFor};
 
 use crate::refusal::Refusal;
 use bucket_ranges::limits::MAX_NAME;

@@ -1,6 +1,6 @@
 //! Keys with units, in the order of their keys.
 
-ghost use Rattle.segment_promises.specs.Values.{AreSorted};
+ghost use Rattle.segment_calls.specs.Keys.{AreSorted};
 
 /// Sorts keys with units by their keys: they are the same pairs, and ascend if no key stands twice.
 pub fn sort_by_key(counts: &mut Vec<(i32, u64)>)

@@ -1,20 +1,12 @@
 //! What packing and disabling make of a single word.
 
 ghost use Rattle.std.specs.Prelude.{◌≡◌, ◌⊎◌, ◌/◌, ◌%◌, ◌^◌, ◌<◌, ◌≤◌, MatchOption};
-ghost use Rattle.segment_machine.specs.Form.{IsPacking, off_word, SaysPacked};
+ghost use Rattle.segment_calls.specs.Form.{IsPacking, off_word, SaysPacked};
 
 use bucket_ranges::SingleWord;
 use bucket_ranges::limits::MAX_PACKED;
-use segment_image::layout::VERSION_FROZEN;
-
-/// From this word on the counts are in use.
-pub const DISABLED_BIT: u64 = 1 << 63;
-
-// What a disabled word of version 1 has in place of a bucket where none was packed.
-const NO_BUCKET: u64 = 65_535;
-
-// The units of a packed word stand below this, and the bucket above.
-const UNITS: u64 = 1 << 32;
+pub use segment_image::layout::DISABLED_BIT;
+use segment_image::layout::{BUCKET_WEIGHT, NO_BUCKET, VERSION_FROZEN};
 
 /// Returns the single word with units of a bucket more, or `None` where it cannot take them: it has units of another
 /// bucket, or would have more than a single word holds. The word is 0 or has units.
@@ -23,13 +15,13 @@ pub fn packed_with(word: u64, bucket: usize, units: u32) -> Option<u64>
     ensures { MatchOption result ((packed : _) → IsPacking bucket units word packed → ⊥) (λ packed. (word ≡ 0) ⊎ (1 ≤ word % 2 ^ 32) → IsPacking bucket units word packed) }
 {
     let units = u64::from(units);
-    if word % UNITS + units > MAX_PACKED {
+    if word % BUCKET_WEIGHT + units > MAX_PACKED {
         return None;
     }
     if word == 0 {
-        return Some(bucket as u64 * UNITS + units);
+        return Some(bucket as u64 * BUCKET_WEIGHT + units);
     }
-    if word / UNITS != bucket as u64 {
+    if word / BUCKET_WEIGHT != bucket as u64 {
         return None;
     }
     Some(word + units)
@@ -46,14 +38,14 @@ pub fn off_word(version: u64, word: u64) -> u64
     if word == 0 {
         return DISABLED_BIT + NO_BUCKET;
     }
-    DISABLED_BIT + word / UNITS
+    DISABLED_BIT + word / BUCKET_WEIGHT
 }
 
 /// Returns the bucket of a packed word, and its units.
 pub fn unpacked(word: u64) -> (usize, u64)
     ensures { result ≡ (word / 2 ^ 32, word % 2 ^ 32) }
 {
-    ((word / UNITS) as usize, word % UNITS)
+    ((word / BUCKET_WEIGHT) as usize, word % BUCKET_WEIGHT)
 }
 
 /// Returns the bucket whose units a single word of a version holds or held, where there is one, and the units that it

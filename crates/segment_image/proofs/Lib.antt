@@ -1,2 +1,3 @@
 pub mod TakePut
 pub mod ReadWords
+pub mod WordsOfBytes

@@ -66,20 +66,17 @@ impl Image {
 }
 
 ghost use Rattle.std.specs.Prelude.{◌≡◌, IfOk};
-ghost use Rattle.segment_image.specs.Image.{blank_words};
+ghost use Rattle.segment_image.specs.Image.{blank_words, ready_header};
 
-// The words of a ready segment without blocks.
-fn blank_of(alloc: Global, shape: Shape, id: u64) -> Result<Image, AllocError>
-    ensures { IfOk result (λ image. image ≡ blank_words shape.size shape.page id) }
+/// The words of the header of a ready segment without blocks, in this version of the format.
+pub fn ready_header(shape: Shape, version: u64, id: u64) -> [u64; HEADER_WORDS]
+    ensures { result ≡ ready_header version shape.size shape.page id }
 {
-    let size = shape.size();
-    let page = shape.page();
-    let mut words = Vec::with_capacity(alloc, size as usize)?;
-    words.extend_from_slice(&[
+    [
         SEGMENT_COOKIE,
-        VERSION_MOVING,
-        size,
-        page,
+        version,
+        shape.size(),
+        shape.page(),
         id,
         STATE_READY,
         0,
@@ -92,7 +89,16 @@ fn blank_of(alloc: Global, shape: Shape, id: u64) -> Result<Image, AllocError>
         QUEUE_COOKIE,
         TYPE_PURGED,
         QUEUE,
-    ])?;
+    ]
+}
+
+// The words of a ready segment without blocks.
+fn blank_of(alloc: Global, shape: Shape, id: u64) -> Result<Image, AllocError>
+    ensures { IfOk result (λ image. image ≡ blank_words shape.size shape.page id) }
+{
+    let size = shape.size();
+    let mut words = Vec::with_capacity(alloc, size as usize)?;
+    words.extend_from_slice(&ready_header(shape, VERSION_MOVING, id))?;
     words.resize(size as usize, 0)?;
     Ok(Image { words })
 }

@@ -130,6 +130,15 @@ pub const HISTOGRAM_COUNTS: usize = 8;
 /// A histogram's single word.
 pub const HISTOGRAM_SINGLE: usize = 9;
 
+/// From this word on, a single word says that the counts are in use: it is disabled, or frozen.
+pub const DISABLED_BIT: u64 = 1 << 63;
+
+/// What the bucket counts in a single word that packs units of it: the units stand below this, and the bucket above.
+pub const BUCKET_WEIGHT: u64 = 1 << 32;
+
+/// What a disabled word of version 1 has in place of a bucket where none was packed.
+pub const NO_BUCKET: u64 = 65_535;
+
 /// A histogram's word with the mark of its packed bucket.
 pub const HISTOGRAM_SINGLE_MARK: usize = 10;
 

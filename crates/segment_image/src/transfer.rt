@@ -2,8 +2,8 @@
 
 ghost use Rattle.std.specs.Prelude.{◌≡◌, ◌≢◌, ◌↔◌, ◌+◌, ◌*◌, ◌<◌, ◌≤◌, ◌%◌, ◌++◌, ◌||◌, true, false, length, take, is_err, IfSome, IfOk, IfErr, OnOk, OnErr, IsErrOf, MatchResult, vec_len};
 ghost use Rattle.std.specs.Io.KnownBytes.{Appends, Consumes, IsAtEnd};
-ghost use Rattle.byteorder.specs.Endian.{little_bytes};
-ghost use Rattle.segment_image.specs.Words.{bytes_of_words};
+ghost use Rattle.byteorder.specs.Endian.{little_bytes, little_number};
+ghost use Rattle.segment_image.specs.Words.{bytes_of_words, words_in};
 ghost use Rattle.segment_image.specs.Watched.{has_failed, is_flushed, watched_inner};
 ghost use Rattle.segment_image.specs.Transfer.{IsCausedBy, IsByteFault, TakesAtMost};
 
@@ -17,8 +17,10 @@ const BLOCK_WORDS: usize = 1024;
 
 const BLOCK_BYTES: usize = 8192;
 
-// Reads until the block is full or the reader is at its end, and answers how many bytes came.
-fn fill<R: Read>(reader: &mut Watched<R>, block: &mut [u8]) -> Result<usize, ReadFault>
+/// Reads until a block is full or the reader is at its end, and returns how many bytes came.
+///
+/// The reader is one that has not failed before. `Device` where a read failed in this call; never another fault.
+pub fn fill<R: Read>(reader: &mut Watched<R>, block: &mut [u8]) -> Result<usize, ReadFault>
     requires { has_failed reader.old ≡ false }
     ensures within { IfOk result (λ n. n ≤ length block.new) }
     ensures bytes { IfOk result (λ n. Consumes (R.remaining (watched_inner reader.old)) (R.remaining (watched_inner reader.new)) (take n block.new)) }
@@ -84,16 +86,20 @@ pub fn read_bytes<R: Read>(
 // The word whose eight bytes these are, the least first.
 fn word(bytes: &[u8]) -> u64
     requires { length bytes.now ≡ 8 }
-    ensures { little_bytes 8 result ≡ bytes.now }
+    ensures number { result ≡ little_number 8 bytes.now }
+    ensures bytes { little_bytes 8 result ≡ bytes.now }
 {
     LittleEndian::read_u64(bytes)
 }
 
-// Puts the words that the bytes are at the end.
-fn push_words(words: &mut Vec<u64>, bytes: &[u8]) -> Result<(), AllocError>
-    requires { length bytes.now % 8 ≡ 0 }
-    ensures bytes { OnOk result (bytes_of_words words.new.items ≡ bytes_of_words words.old.items ++ bytes.now) }
-    ensures len { OnOk result (8 * length words.new.items ≡ 8 * length words.old.items + length bytes.now) }
+/// Puts the whole words of bytes at the end: eight bytes for each, the least first. Up to seven bytes behind them are none.
+///
+/// An error where there is no memory for a word; those before it stand at the end.
+pub fn push_words(words: &mut Vec<u64>, bytes: &[u8]) -> Result<(), AllocError>
+    ensures words { OnOk result (words.new.items ≡ words.old.items ++ words_in bytes.now) }
+    ensures bytes { length bytes.now % 8 ≡ 0 → OnOk result (bytes_of_words words.new.items ≡ bytes_of_words words.old.items ++ bytes.now) }
+    ensures len { OnOk result (8 * length words.new.items + length bytes.now % 8 ≡ 8 * length words.old.items + length bytes.now) }
+    ensures longer { length words.old.items ≤ length words.new.items }
 {
     for chunk in bytes.chunks_exact(8) {
         words.push(word(chunk))?;

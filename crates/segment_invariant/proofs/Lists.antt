@@ -1,10 +1,10 @@
+pub use Rattle.list_lemmas.proofs.Elements
+pub use Rattle.list_lemmas.proofs.Firsts
+pub use Rattle.list_lemmas.proofs.Maps
+pub use Rattle.list_lemmas.proofs.Pairs
+pub use Rattle.list_lemmas.proofs.Sums
 pub mod Countings
-pub mod Elements
 pub mod Ends
 pub mod FewTerms
-pub mod Firsts
-pub mod Maps
-pub mod Pairs
 pub mod Portions
-pub mod Sums
 pub mod Tallies

@@ -1,5 +1,6 @@
 -- What holds of the words, the shared cursors and all actors at every moment, whatever happened and in whatever order: eight
 -- parts. `opened` are the words with which the segment was opened: those of a new segment, or an adopted image.
+pub use Rattle.image_rules.specs.Records.{HasName, IsHistogram, IsSampleOf, IsSample, counts_word}
 use Rattle.std.specs.Prelude.{◌≡◌, ◌≢◌, ◌⊎◌, ◌↔◌, true, false, ◌==◌, max, ℕ, ◌+◌, ◌*◌, ◌/◌, ◌%◌, ◌<◌, ◌≤◌, ℤ, pos, ◌-ℤ◌, unsigned_abs, List, ◌∷◌, ◌++◌, map, length, take, sum_by, slice_index, bit_and, if◌then◌else◌, Some, None, IsPermutation, []}
 use mathlib.Core.Option.{some}
 use lib.ListN.{get_elem?}
@@ -27,32 +28,13 @@ use Rattle.segment_machine.specs.declared.actor.Made.TheVariants.{Histogram, Sam
 use Rattle.segment_machine.specs.declared.actor.Published.{Published}
 use Rattle.segment_machine.specs.declared.seen.Sighting.{Sighting}
 use Rattle.segment_machine.specs.Entry.{has_ended, tally_units, tally_sum, tally_noted}
-use Rattle.segment_machine.specs.Firsts.{IsFirstThat}
-use Rattle.segment_machine.specs.Form.{is_off, Leads}
+use Rattle.segment_calls.specs.Form.{is_off, Leads}
+use Rattle.image_rules.specs.Records.{IsHistogram, IsSampleOf, IsSample, counts_word}
 use Rattle.segment_machine.specs.Actor.{Each, all_counted, all_summed, all_noted, all_taken, all_published, all_given, all_costs, taken_units, taken_sum, transit_of, units_of}
 use Rattle.segment_machine.specs.Made.{AreNameWords}
 use Rattle.segment_machine.specs.State.{State}
 use Rattle.segment_image.specs.Shape.{Dimensions}
 use Rattle.alloc_core.specs.Layout.{render, fresh}
-
--- ---- the records of a chain
-
--- a record is one of a histogram of a name
-abbrev pub HasName : List ℕ → List ℕ → ℕ → Type 0
-HasName words name at = (field_at words at BLOCK_TYPE ≡ TYPE_HISTOGRAM) × (name_of words at ≡ name)
-
--- the histogram of a name is the first record of it on the chain
-abbrev pub IsHistogram : (words chain name : List ℕ) → ℕ → Type 0
-IsHistogram words chain name = IsFirstThat (HasName words name) chain
-
--- a record is a sample of a value of a histogram
-abbrev pub IsSampleOf : List ℕ → ℕ → ℤ → ℕ → Type 0
-IsSampleOf words histogram value at =
-    (field_at words at BLOCK_TYPE ≡ TYPE_SAMPLE) × (field_at words at SAMPLE_HISTOGRAM ≡ histogram) × (sample_value words at ≡ value)
-
--- the sample of a value is the first record of it on the chain
-abbrev pub IsSample : (words chain : List ℕ) → ℕ → ℤ → ℕ → Type 0
-IsSample words chain histogram value = IsFirstThat (IsSampleOf words histogram value) chain
 
 -- ---- the keys of buckets
 
@@ -158,10 +140,7 @@ pub record HasForm (version : ℕ) (words : List ℕ) (at : ℕ) : Type 0 where
   pub packed : is_sparse words at ≡ false → field_at words at HISTOGRAM_COUNTS ≢ 0 → (i : ℕ) → packed_bucket (record_single version words at) ≡ Some i
       → field_at words (field_at words at HISTOGRAM_COUNTS) (BLOCK_HEADER + record_buckets words at + i) ≡ 0
 
--- the words of its counts block, counts and marks, and how many they are
-abbrev pub counts_word : List ℕ → ℕ → ℕ → ℕ
-counts_word words at i = field_at words (field_at words at HISTOGRAM_COUNTS) (BLOCK_HEADER + i)
-
+-- how many words its counts block has for counts and marks
 abbrev pub counts_words : List ℕ → ℕ → ℕ
 counts_words words at = if field_at words at HISTOGRAM_COUNTS == 0 then 0 else 2 * record_buckets words at
 

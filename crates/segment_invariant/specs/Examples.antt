@@ -6,7 +6,7 @@ use Rattle.bucket_ranges.specs.Reading.{sum_of, sum_mark_of, total_of, mark_of}
 use Rattle.segment_machine.specs.declared.actor.Actor.{Actor}
 use Rattle.segment_machine.specs.declared.actor.Taken.{Taken}
 use Rattle.segment_machine.specs.Entry.{sample_entry, tally_units, tally_sum}
-use Rattle.segment_machine.specs.Form.{off_word, packed_word}
+use Rattle.segment_calls.specs.Form.{off_word, packed_word}
 use Rattle.segment_machine.specs.Actor.{log_of, counted_of, taken_units, taken_sum, transit_of, units_of, IsFinal, portion_of}
 use Rattle.segment_machine.specs.Packing.{disable, add_moved}
 use Rattle.segment_machine.specs.Event.{packing_event, counting_event, after}

@@ -15,7 +15,7 @@ use Rattle.segment_machine.specs.declared.actor.Known.{Known}
 use Rattle.segment_machine.specs.declared.place.Place.{Place}
 use Rattle.segment_machine.specs.declared.place.Place.TheVariants.{Moving}
 use Rattle.segment_machine.specs.Entry.{tally_units, tally_sum, tally_noted}
-use Rattle.segment_machine.specs.Form.{units_in}
+use Rattle.segment_calls.specs.Form.{units_in}
 use Rattle.segment_machine.specs.Actor.{known_at, bucket_key, all_counted, all_summed, all_noted, all_taken, taken_units, taken_sum}
 use Rattle.segment_invariant.specs.Body.{Record, Body, histogram, counts, sample, Piece}
 

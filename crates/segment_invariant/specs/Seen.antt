@@ -17,8 +17,8 @@ use Rattle.segment_machine.specs.declared.actor.Made.TheVariants as made
 use Rattle.segment_machine.specs.declared.actor.Own.{Own}
 use Rattle.segment_machine.specs.declared.seen.Sighting.{Sighting}
 use Rattle.bucket_ranges.specs.Single.{single_of}
-use Rattle.segment_machine.specs.Firsts.{IsFirstThat}
-use Rattle.segment_machine.specs.Form.{is_off, Leads}
+use Rattle.list_lemmas.specs.Firsts.{IsFirstThat}
+use Rattle.segment_calls.specs.Form.{is_off, Leads}
 use Rattle.segment_machine.specs.Made.{SawSample}
 use Rattle.segment_invariant.specs.Body.{Record, Counts, Sample, Body, plain, held, histogram, counts, sample, other, words_of, Piece, Listed, Anatomy, order_of, free_of}
 

@@ -1,14 +1,15 @@
 -- What an actor has done and seen, read off its record; and the same of all actors together.
+pub use Rattle.segment_calls.specs.Blocks.{has_buckets}
 use Rattle.std.specs.Prelude.{◌≡◌, ◌≢◌, Bool, true, false, ◌&&◌, ◌==◌, ℕ, ◌+◌, ℤ, pos, ◌+ℤ◌, if◌then◌else◌, List, [], ◌∷◌, ◌++◌, map, fold, sum_by, drop, length, slice_index, Option, Some, None}
 use mathlib.Core.Option.{some}
 use lib.ListN.{get_elem?}
 use Rattle.std.specs.List.{filter, flat_map, Contains, All}
 use Rattle.std.specs.Str.{bytes_eq}
 use Rattle.std.specs.Ordering.{int_eq}
-use Rattle.bucket_ranges.specs.declared.spec.Spec.{Spec}
 use Rattle.bucket_ranges.specs.declared.spec.Spec.TheVariants as spec
 use Rattle.bucket_ranges.specs.Spec.{buckets_of}
 use Rattle.bucket_ranges.specs.Ranges.{boundaries_of}
+use Rattle.segment_calls.specs.Blocks.{has_buckets}
 use Rattle.segment_machine.specs.declared.entry.Entry.{Entry}
 use Rattle.segment_machine.specs.declared.place.Place.{Place}
 use Rattle.segment_machine.specs.declared.place.Place.TheVariants.{Spent, Raised, Sized, Marked, Beaten, Linked, Losing, Moving}
@@ -154,13 +155,6 @@ units_of a = a.units.share + cost_total a.units.costs + cost_total a.units.held
 abbrev pub known_at : List Known → ℕ → Option Known
 known_at [] reference = None
 known_at (known ∷ rest) reference = if known.reference == reference then Some known else known_at rest reference
-
--- whether a spec has buckets
-abbrev pub has_buckets : Spec → Bool
-has_buckets (spec.Linear min max n) = true
-has_buckets spec.Boolean = true
-has_buckets (spec.Custom values) = true
-has_buckets spec.Sparse = false
 
 -- the actor knows a histogram with buckets at a reference
 abbrev pub Buckets : Actor → ℕ → Known → Type 0

@@ -2,9 +2,9 @@ pub use Rattle.segment_image.specs.Words
 pub use Rattle.segment_image.specs.Head
 pub use Rattle.bucket_ranges.specs.Reading
 pub use Rattle.list_core.specs.Chain
-pub mod Firsts
+pub use Rattle.list_lemmas.specs.Firsts
+pub use Rattle.segment_calls.specs.Form
 pub mod Entry
-pub mod Form
 pub mod Actor
 pub mod Made
 pub mod Operation

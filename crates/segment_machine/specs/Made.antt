@@ -1,4 +1,5 @@
 -- What a record holds that was given to its maker, in the words of a payload and in what an actor has seen of it.
+pub use Rattle.segment_calls.specs.Asked.{AreNameWords}
 use Rattle.std.specs.Prelude.{◌≡◌, ◌≢◌, ◌⊎◌, true, ℕ, ◌+◌, ◌<◌, ℤ, List, [], ◌∷◌, ◌++◌, length, replicate, slice_index, Some}
 use Rattle.std.specs.Int.{w64, cast_unsigned}
 use Rattle.segment_image.specs.declared.layout.TheConstants.{BLOCK_TYPE, HISTOGRAM_KIND, HISTOGRAM_NAME, HISTOGRAM_NAME_LENGTH, SAMPLE_HISTOGRAM, SAMPLE_VALUE, TYPE_HISTOGRAM, TYPE_SAMPLE}
@@ -10,13 +11,10 @@ use Rattle.segment_machine.specs.declared.seen.Seen.{Seen}
 use Rattle.segment_machine.specs.declared.actor.Made.{Made}
 use Rattle.segment_machine.specs.declared.actor.Made.TheVariants.{Histogram, Sample}
 use Rattle.segment_machine.specs.Actor.{word_seen}
-use Rattle.segment_machine.specs.Firsts.{ComesFirst}
+use Rattle.list_lemmas.specs.Firsts.{ComesFirst}
+use Rattle.segment_calls.specs.Asked.{AreNameWords}
 
 -- ---- in words
-
--- words that have the bytes of a name, and zeros behind them up to a whole word
-abbrev pub AreNameWords : List ℕ → List ℕ → Type 0
-AreNameWords name words = (k : ℕ) × (k < 8) × (bytes_of_words words ≡ name ++ replicate k 0)
 
 -- The front of a payload with which a record is published. That of a histogram has no counts yet, an empty single word, and marks, sums
 -- and a redundant count of 0.

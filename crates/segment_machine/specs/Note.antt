@@ -22,7 +22,7 @@ use Rattle.segment_machine.specs.Entry.{AreWithin, fresh, has_ended, tally_noted
 use Rattle.bucket_ranges.specs.Spec.{buckets_of}
 use Rattle.bucket_ranges.specs.declared.spec.Spec.TheVariants as spec
 use Rattle.bucket_ranges.specs.Single.{single_of, units_packed, packed_bucket}
-use Rattle.segment_machine.specs.Form.{is_off}
+use Rattle.segment_calls.specs.Form.{is_off}
 use Rattle.segment_machine.specs.Actor.{log_of, is_bound, looking, cost_total, bucket_key, has_buckets, word_seen, SawSingle, SawCount, is_opener, made_of, outstanding_of}
 use Rattle.segment_machine.specs.Made.{IsFirstNamed, IsFirstSample, SawSample, SawSpec, AreNameWords, SawOtherSpec}
 use Rattle.segment_machine.specs.Calls.{change_last, change_own}

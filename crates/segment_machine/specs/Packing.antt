@@ -13,7 +13,7 @@ use Rattle.segment_machine.specs.declared.actor.Actor.{Actor}
 use Rattle.segment_machine.specs.declared.actor.Known.{Known}
 use Rattle.segment_machine.specs.declared.actor.Own.{Own}
 use Rattle.segment_machine.specs.Entry.{is_counted}
-use Rattle.segment_machine.specs.Form.{units_in, IsPacking, off_word, Leads}
+use Rattle.segment_calls.specs.Form.{units_in, IsPacking, off_word, Leads}
 use Rattle.segment_machine.specs.Actor.{Buckets}
 use Rattle.bucket_ranges.specs.declared.single.SingleWord.{SingleWord}
 use Rattle.alloc_core.specs.Event as atomic

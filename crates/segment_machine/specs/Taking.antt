@@ -11,7 +11,7 @@ use Rattle.segment_machine.specs.declared.place.Place.TheVariants.{Looking, Coun
 use Rattle.segment_machine.specs.declared.actor.Actor.{Actor}
 use Rattle.segment_machine.specs.declared.actor.Known.{Known}
 use Rattle.segment_machine.specs.declared.actor.Taken.{Taken}
-use Rattle.segment_machine.specs.Form.{units_in}
+use Rattle.segment_calls.specs.Form.{units_in}
 use Rattle.segment_machine.specs.Actor.{Buckets, Sparse, bucket_key, word_seen, SawSingle, known_at}
 use Rattle.segment_machine.specs.Made.{SawSample, IsFirstSample}
 use Rattle.std.specs.Int.{w64, cast_signed, cast_unsigned}

@@ -22,7 +22,7 @@ use Rattle.segment_machine.specs.declared.entry.Entry.{Entry}
 use Rattle.segment_machine.specs.Entry.{key_of, sample_entry, is_of, tally_units, tally_noted}
 use Rattle.segment_machine.specs.Actor.{units_listed}
 use Rattle.segment_machine.proofs.Keys.{keys_are_least}
-use Rattle.segment_invariant.proofs.Lists.Sums.{numbers}
+use Rattle.list_lemmas.proofs.Sums.{numbers}
 use Rattle.segment_promises.specs.Tallies.{TalliesAreCounts}
 use Rattle.segment_promises.proofs.Parts.{total, total_same, total_both, total_nothing, alone, is_alone, not_alone, in_row, zero_left, total_of_numbers}
 

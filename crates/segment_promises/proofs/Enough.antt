@@ -28,8 +28,8 @@ use Rattle.segment_machine.specs.State.{State}
 use Rattle.segment_invariant.specs.Body.{Anatomy}
 use Rattle.segment_invariant.specs.Seen.{IsFirst, IsFirstOf, Knows, WasMet}
 use Rattle.segment_invariant.specs.Invariant.{Invariant, Fits, LooksBack, StandsRight}
-use Rattle.segment_invariant.proofs.Lists.Elements.{none_in, contains_filter}
-use Rattle.segment_invariant.proofs.Lists.Maps.{contains_mapped, contains_map, contains_take}
+use Rattle.list_lemmas.proofs.Elements.{none_in, contains_filter}
+use Rattle.list_lemmas.proofs.Maps.{contains_mapped, contains_map, contains_take}
 use Rattle.segment_invariant.proofs.Lists.Tallies.{tally_at}
 use Rattle.segment_invariant.proofs.Consistency.Firsts.{sample_of_first}
 use Rattle.segment_promises.specs.Deltas.{HadSample, HasBuckets, HasValues}

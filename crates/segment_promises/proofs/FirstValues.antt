@@ -12,7 +12,7 @@ use Rattle.segment_machine.specs.declared.actor.Actor.{Actor}
 use Rattle.segment_machine.specs.declared.actor.Known.{Known}
 use Rattle.segment_machine.specs.declared.seen.Seen.{Seen}
 use Rattle.segment_machine.specs.Actor.{Sparse}
-use Rattle.segment_machine.specs.Firsts.{ComesFirst}
+use Rattle.list_lemmas.specs.Firsts.{ComesFirst}
 use Rattle.segment_machine.specs.Made.{SawOther, SawSample}
 use Rattle.segment_machine.specs.Taking.{IsLaterSample}
 use Rattle.segment_machine.proofs.Values.{value_word}

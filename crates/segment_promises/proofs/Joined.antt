@@ -22,8 +22,8 @@ use Rattle.segment_machine.specs.Reached.{IsJoined}
 use Rattle.segment_invariant.specs.Body.{Anatomy}
 use Rattle.segment_invariant.specs.Consistent.{IsWithinCounts}
 use Rattle.segment_invariant.specs.Invariant.{Invariant, is_living, ended_deltas, Fits, StandsRight, IsQuiet}
-use Rattle.segment_invariant.proofs.Lists.Elements.{all_of, sum_at_least}
-use Rattle.segment_invariant.proofs.Lists.Maps.{one_at}
+use Rattle.list_lemmas.proofs.Elements.{all_of, sum_at_least}
+use Rattle.list_lemmas.proofs.Maps.{one_at}
 use Rattle.segment_invariant.proofs.Frames.OneActor.{lives_on}
 use Rattle.segment_invariant.proofs.Frames.Spending.{spent_or_not}
 use Rattle.segment_promises.proofs.Filters.{all_kept}

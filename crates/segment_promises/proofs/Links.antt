@@ -34,7 +34,7 @@ use Rattle.segment_invariant.specs.Body.{Anatomy, Listed, listed, order_of}
 use Rattle.segment_invariant.specs.Invariant.{StandsRight, Invariant}
 use Rattle.segment_invariant.specs.Keeps.{found_at, happened}
 use Rattle.segment_invariant.proofs.Events.{events_keep}
-use Rattle.segment_invariant.proofs.Lists.Elements.{sum_beside, below_length}
+use Rattle.list_lemmas.proofs.Elements.{sum_beside, below_length}
 use Rattle.segment_invariant.proofs.Frames.Ahead.{reached_stop}
 use Rattle.segment_invariant.proofs.Frames.GoesOn.{not_opener, found_word}
 use Rattle.segment_invariant.proofs.Frames.Growth.{stop_at}

@@ -23,7 +23,7 @@ use Rattle.segment_invariant.specs.Body.{Anatomy, order_of}
 use Rattle.segment_invariant.specs.Seen.{IsNoLater}
 use Rattle.segment_invariant.specs.Invariant.{Invariant, StandsRight}
 use Rattle.segment_invariant.proofs.Consistency.OneChain.{one_chain}
-use Rattle.segment_invariant.proofs.Lists.Elements.{from_map}
+use Rattle.list_lemmas.proofs.Elements.{from_map}
 use Rattle.segment_invariant.proofs.Frames.Growth.{stop_at}
 use Rattle.segment_invariant.proofs.Walking.Learned.{whole_front, met_listed}
 use Rattle.segment_promises.specs.Lists.{HasMet, WalksGiveAll, CursorsKeepOrder, CursorsGiveFronts, CursorsGiveAll}

@@ -14,7 +14,7 @@ use Rattle.segment_machine.specs.declared.actor.Actor.{Actor}
 use Rattle.segment_machine.specs.declared.actor.Known.{Known}
 use Rattle.segment_machine.specs.declared.place.Place.TheVariants.{Spent}
 use Rattle.segment_machine.specs.Entry.{tally_units}
-use Rattle.segment_machine.specs.Form.{is_off, units_in, Leads}
+use Rattle.segment_calls.specs.Form.{is_off, units_in, Leads}
 use Rattle.segment_image.specs.Blocks.{field_at}
 use Rattle.segment_machine.specs.Actor.{word_seen, accepted_by, bucket_key, SawSingle, SawCount, is_opener}
 use Rattle.segment_machine.specs.Note.{SawBucket}

@@ -6,7 +6,7 @@ use Rattle.std.specs.Prelude.{if◌then◌else◌, fold, sum_by}
 use Rattle.std.specs.List.{range_with_len, enumerate_from, filter}
 use Rattle.std.proofs.Math.IntN.{+ℤ_idl}
 use Rattle.std.proofs.lemmas.List.Sums.{sum_by-cons}
-use Rattle.segment_invariant.proofs.Lists.Sums.{IsAddition, numbers, amounts, amounts_total}
+use Rattle.list_lemmas.proofs.Sums.{IsAddition, numbers, amounts, amounts_total}
 use Rattle.segment_machine.specs.declared.entry.Entry.{Entry}
 use Rattle.segment_machine.specs.Entry.{is_of}
 use Rattle.std.specs.Ordering.{int_eq}

@@ -5,7 +5,7 @@ use Rattle.std.specs.List.{Contains}
 use Rattle.bucket_ranges.specs.declared.single.SingleWord.TheVariants.{Empty, Packed, Disabled, FrozenEmpty, Frozen}
 use Rattle.bucket_ranges.specs.Single.{single_of, is_packed_word, packed_of, disabled_of, frozen_of, packed_bucket}
 use Rattle.segment_machine.specs.declared.seen.Sighting.{Sighting}
-use Rattle.segment_machine.specs.Form.{is_off, units_in, Leads}
+use Rattle.segment_calls.specs.Form.{is_off, units_in, Leads}
 use Rattle.segment_invariant.proofs.Packing.OffForms.{on_form}
 
 -- ---- words

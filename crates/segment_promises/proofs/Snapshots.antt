@@ -27,8 +27,8 @@ use Rattle.segment_invariant.specs.Body.{Anatomy}
 use Rattle.segment_invariant.specs.Seen.{IsFirstOf}
 use Rattle.segment_invariant.specs.Invariant.{Invariant}
 use Rattle.segment_invariant.proofs.Counting.AddSample.{one_sample}
-use Rattle.segment_invariant.proofs.Lists.Elements.{at_from, there_below, sum_at_least}
-use Rattle.segment_invariant.proofs.Lists.Maps.{contains_mapped, one_at}
+use Rattle.list_lemmas.proofs.Elements.{at_from, there_below, sum_at_least}
+use Rattle.list_lemmas.proofs.Maps.{contains_mapped, one_at}
 use Rattle.segment_invariant.proofs.Counting.Samples.{first_met}
 use Rattle.segment_promises.specs.Deltas.{SnapshotsSeeAccepted}
 use Rattle.segment_promises.proofs.Enough.{CoversBucket, CoversValue, knower_lives, buckets_enough, values_enough}

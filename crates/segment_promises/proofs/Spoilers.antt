@@ -30,7 +30,7 @@ use Rattle.segment_invariant.specs.Body.{Anatomy}
 use Rattle.segment_invariant.specs.Invariant.{Invariant}
 use Rattle.segment_invariant.specs.Keeps.{found_at}
 use Rattle.segment_image.specs.Shape.{Dimensions}
-use Rattle.segment_invariant.proofs.Lists.Elements.{all_at, below_length}
+use Rattle.list_lemmas.proofs.Elements.{all_at, below_length}
 use Rattle.std.proofs.lemmas.List.Elements.{All-cons, All-nil, All-push, All-set}
 use Rattle.std.specs.List.{All}
 use Rattle.segment_promises.specs.Spoilers.{SpoilersClaimNothing}

@@ -19,7 +19,7 @@ use Rattle.segment_invariant.specs.Body.{Anatomy, order_of}
 use Rattle.segment_invariant.specs.Ledger.{moving_at}
 use Rattle.segment_invariant.specs.Seen.{Sees, WasMet}
 use Rattle.segment_invariant.specs.Invariant.{is_living, summed_cost, RolesAreKept, StandsRight, FinalsAreExact, Fits, Invariant}
-use Rattle.segment_invariant.proofs.Lists.Elements.{rows, column, sum_same, below_length}
+use Rattle.list_lemmas.proofs.Elements.{rows, column, sum_same, below_length}
 use Rattle.segment_invariant.proofs.Frames.Books.{books_of, books_by, kept_by, GivenInOrder}
 use Rattle.segment_invariant.proofs.Frames.Deeds.{Deeds, sums_of}
 use Rattle.segment_invariant.proofs.Frames.Roles.{Stood, AllStood, opens_nothing, still_younger, still_apart, still_eldest, still_heirs, fits_beside}

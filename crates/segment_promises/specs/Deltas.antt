@@ -14,7 +14,7 @@ use Rattle.segment_machine.specs.declared.actor.Answered.{Answered}
 use Rattle.segment_machine.specs.declared.actor.Known.{Known}
 use Rattle.segment_machine.specs.declared.actor.Taken.{Taken}
 use Rattle.segment_machine.specs.Entry.{tally_units, tally_sum, tally_noted}
-use Rattle.segment_machine.specs.Form.{is_off}
+use Rattle.segment_calls.specs.Form.{is_off}
 use Rattle.segment_machine.specs.Actor.{has_buckets, bucket_key, log_of, units_listed, portion_of, taken_of, taken_units, taken_sum, IsFinal, SawSingle, accepted_by, accepted_since, is_opener, made_of}
 use Rattle.segment_machine.specs.Note.{TookAll, SawAll}
 use Rattle.segment_machine.specs.State.{State}

@@ -1,6 +1,7 @@
 -- What the words of a segment read as, by the definition of a reading: whenever everything stops, and after the joins. For both
 -- versions, all four kinds of histograms, and every opening.
-use Rattle.std.specs.Prelude.{◌≡◌, ◌↔◌, ℕ, ◌+◌, ◌<◌, ◌≤◌, ◌||◌, ℤ, List, [], ◌++◌, map, Some, None}
+pub use Rattle.image_rules.specs.Adoption.{HasNoFault}
+use Rattle.std.specs.Prelude.{◌≡◌, ◌↔◌, ℕ, ◌+◌, ◌<◌, ◌≤◌, ◌||◌, ℤ, List, ◌++◌, map, Some}
 use Rattle.std.specs.List.{zip, flat_map, Contains}
 use mathlib.Core.Option.{some}
 use lib.ListN.{get_elem?}
@@ -10,6 +11,7 @@ use Rattle.bucket_ranges.specs.declared.spec.Spec.{Spec}
 use Rattle.bucket_ranges.specs.Spec.{SameSpec}
 use Rattle.bucket_ranges.specs.Single.{packed_bucket}
 use Rattle.bucket_ranges.specs.Reading.{Histogram, Reading, IsReading, record_single}
+use Rattle.image_rules.specs.Adoption.{HasNoFault}
 use Rattle.segment_machine.specs.declared.entry.Entry.{Entry}
 use Rattle.segment_machine.specs.declared.actor.Actor.{Actor}
 use Rattle.segment_machine.specs.declared.actor.Known.{Known}
@@ -41,10 +43,6 @@ abbrev pub begun_of : Actor → List Entry
 begun_of a = log_of a ++ map (λ c. c.entry) a.entries.running
 
 -- ---- whenever everything stops
-
--- nothing is bad, and the list does not stop
-abbrev pub HasNoFault : Reading → Type 0
-HasNoFault reading = (reading.bad ≡ []) × (reading.stopped ≡ None)
 
 -- of each name that is on the list exactly one histogram is read: the first record of the name, with the spec that its maker was given
 pub record ReadsNames (records : List Listed) (reading : Reading) : Type 0 where

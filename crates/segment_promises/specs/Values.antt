@@ -1,14 +1,14 @@
 -- The samples of a sparse histogram along the list, and which values a call lists of them.
-use Rattle.std.specs.Prelude.{◌≡◌, ◌≢◌, ◌⊎◌, true, ℕ, ◌+◌, ◌*◌, ◌<◌, ◌≤◌, ℤ, List, [], ◌∷◌, ◌++◌, length, map, slice_index, sum_by, if◌then◌else◌, Option, Some, None}
+pub use Rattle.segment_calls.specs.Keys.{NoKeyRepeats, AreSorted}
+use Rattle.std.specs.Prelude.{◌≡◌, ◌≢◌, ◌⊎◌, true, ℕ, ◌+◌, ◌*◌, ◌<◌, ◌≤◌, ℤ, List, [], ◌∷◌, ◌++◌, length, slice_index, Option, Some, None}
 use Rattle.std.specs.List.{All, AllByRecursion}
-use Rattle.std.specs.List.Sorted.{IsPermutation, IsStrictlySortedBy}
-use Rattle.std.specs.Ordering.{int_cmp, int_eq}
 use Rattle.segment_image.specs.declared.layout.TheConstants.{BLOCK_LEAST, HEADER_WORDS, QUEUE}
 use Rattle.bucket_ranges.specs.Reading.{is_i32}
 use Rattle.list_core.specs.Chain.{stops}
 use Rattle.segment_machine.specs.declared.actor.Actor.{Actor}
 use Rattle.segment_machine.specs.declared.seen.Seen.{Seen}
-use Rattle.segment_machine.specs.Firsts.{ComesFirst}
+use Rattle.list_lemmas.specs.Firsts.{ComesFirst}
+use Rattle.segment_calls.specs.Keys.{NoKeyRepeats}
 use Rattle.segment_machine.specs.Made.{SawOther, SawSample}
 use Rattle.segment_machine.specs.Taking.{IsLaterSample}
 
@@ -39,10 +39,6 @@ abbrev pub Passes : (ℤ → ℕ → Type 0) → Seen → ℕ → ℕ → Type 0
 Passes Does seen histogram at =
     ((value : ℤ) × SawSample seen histogram value at × Does value at) ⊎ ((value : ℤ) → is_i32 value ≡ true → SawOther seen histogram value at)
 
--- no key stands twice
-abbrev pub NoKeyRepeats : List (ℤ × ℕ) → Type 0
-NoKeyRepeats counts = (key : ℤ) → sum_by (λ count. if int_eq count.0 key then 1 else 0) counts ≤ 1
-
 -- Of each record that it passed it saw which sample it is, and did something with each sample. What it listed are values, each once, with units
 -- that the first sample of the value has.
 pub record ListsValues (Does : ℤ → ℕ → Type 0) (Has : ℕ → ℕ → Type 0) (histogram : ℕ) (passed : List ℕ) (listed : List (ℤ × ℕ)) (seen : Seen) : Type 0 where
@@ -50,11 +46,6 @@ pub record ListsValues (Does : ℤ → ℕ → Type 0) (Has : ℕ → ℕ → Ty
   pub firsts : All (λ count. (sample : ℕ) × ComesFirst (SawOther seen histogram count.0) (SawSample seen histogram count.0) passed sample × Has sample count.1) listed
   pub once : NoKeyRepeats listed
   pub few : length listed ≤ length passed
-
--- these keys with units in ascending order
-pub record AreSorted (old new : List (ℤ × ℕ)) : Type 0 where
-  pub moved : IsPermutation old new
-  pub ascending : NoKeyRepeats old → IsStrictlySortedBy int_cmp (map (λ count. count.0) new)
 
 -- What it listed of a record that is a sample, which is not a later one of its value; or it listed nothing of it.
 abbrev pub ListsOf : (ℤ → ℕ → Type 0) → (ℕ → ℕ → Type 0) → ℕ → ℕ → Option (ℤ × ℕ) → Actor → Type 0

@@ -8,7 +8,7 @@ use Rattle.std.proofs.lemmas.List.Elements.{filter-append}
 use Rattle.std.specs.Io.KnownBytes.{IsAtEnd, Keeps}
 use Rattle.segment_image.specs.Head.{header_of}
 use Rattle.segment_search.specs.Places.{words_in, said_words, is_segment_at, segments_before, IsNth, ahead}
-use Rattle.segment_search.proofs.Words.{length-words_in}
+use Rattle.segment_image.proofs.WordsOfBytes.{length-words_in}
 use Rattle.segment_search.proofs.Headers.{none-from_short, said_words-from_header}
 
 -- The words ahead are those from a word on, of the bytes at the start. So many segments more are wanted than stood before it.

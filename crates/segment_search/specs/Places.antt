@@ -1,22 +1,13 @@
--- The words of any bytes, and where among them segments stand.
-use Rattle.std.specs.Prelude.{◌≡◌, Bool, true, is_ok, ℕ, zero, suc, ◌+◌, ◌*◌, ◌/◌, ◌^◌, ◌<◌, ◌≤◌, List, [], ◌∷◌, ◌++◌, length, take, drop, filter, Option, None, Some, ⊤}
+-- Where among the words of any bytes segments stand.
+pub use Rattle.segment_image.specs.Words.{words_in}
+use Rattle.std.specs.Prelude.{◌≡◌, Bool, true, is_ok, ℕ, ◌+◌, ◌*◌, ◌^◌, ◌<◌, ◌≤◌, List, ◌++◌, length, take, drop, filter, Option, None, Some, ⊤}
 use Rattle.std.specs.List.{range_with_len}
-use Rattle.byteorder.specs.Endian.{little_number}
 use Rattle.std.specs.Io.KnownBytes.{Appends}
-use Rattle.segment_image.specs.Words.{word_at, bytes_of_words}
+use Rattle.segment_image.specs.Words.{word_at, bytes_of_words, words_in}
 use Rattle.segment_image.specs.Head.{header_of}
 use Rattle.segment_image.specs.declared.layout.TheConstants.{SIZE_WORD}
 use Rattle.segment_search.specs.declared.fault.SearchFault.{SearchFault}
 use Rattle.segment_search.specs.declared.fault.SearchFault.TheVariants.{NoMemory, Device, NoSegment, TooLong, Write}
-
--- the first words of bytes
-abbrev pub words_from : ℕ → List ℕ → List ℕ
-words_from zero bytes = []
-words_from (suc n) bytes = little_number 8 bytes ∷ words_from n (drop 8 bytes)
-
--- the whole words of bytes: eight bytes for each, the least first; up to seven bytes at the end are none
-abbrev pub words_in : List ℕ → List ℕ
-words_in bytes = words_from (length bytes / 8) bytes
 
 -- the words that a segment has which begins here: as many as its word of the size says, if there are so many
 abbrev pub said_words : List ℕ → List ℕ

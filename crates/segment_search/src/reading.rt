@@ -6,47 +6,13 @@ ghost use Rattle.segment_image.specs.Watched.{has_failed, watched_inner};
 ghost use Rattle.segment_search.specs.Places.{ahead, words_in};
 
 use crate::fault::SearchFault;
-use byteorder::{ByteOrder, LittleEndian};
-use segment_image::Watched;
 use segment_image::layout::MAX_SIZE;
-use std::alloc::AllocError;
+use segment_image::{Watched, fill, push_words};
 use std::io::Read;
 
 const BLOCK_WORDS: usize = 8192;
 
 const BLOCK_BYTES: usize = 65_536;
-
-// Reads until the block is full or the reader is at its end, and answers how many bytes came.
-fn fill<R: Read>(reader: &mut Watched<R>, block: &mut [u8]) -> Result<usize, SearchFault>
-    requires { has_failed reader.old ≡ false }
-    ensures within { IfOk result (λ n. n ≤ length block.new) }
-    ensures bytes { IfOk result (λ n. Consumes (R.remaining (watched_inner reader.old)) (R.remaining (watched_inner reader.new)) (take n block.new)) }
-    ensures end { IfOk result (λ n. n < length block.new → IsAtEnd (R.remaining (watched_inner reader.new))) }
-    ensures device { IfErr result (λ fault. fault ≡ SearchFault.Device) }
-    ensures failed { OnErr result (has_failed reader.new ≡ true) }
-    ensures went { OnOk result (has_failed reader.new ≡ false) }
-{
-    let mut filled = 0;
-    while filled < block.len() {
-        match reader.read(&mut block[filled..]) {
-            Ok(0) => break,
-            Ok(count) => filled += count,
-            Err(_) => return Err(SearchFault::Device),
-        }
-    }
-    Ok(filled)
-}
-
-// Puts the whole words of bytes at the end.
-fn push_words(words: &mut Vec<u64>, bytes: &[u8]) -> Result<(), AllocError>
-    ensures words { OnOk result (words.new.items ≡ words.old.items ++ words_in bytes.now) }
-    ensures longer { length words.old.items ≤ length words.new.items }
-{
-    for chunk in bytes.chunks_exact(8) {
-        words.push(LittleEndian::read_u64(chunk))?;
-    }
-    Ok(())
-}
 
 /// Reads words until there are `count` of them, or the reader is at its end. There are fewer before, and they stay in front.
 ///
@@ -76,7 +42,7 @@ pub fn read_on<R: Read>(
         .map_err(|_| SearchFault::NoMemory)?;
     let mut block = [0u8; BLOCK_BYTES];
     while words.len() < count {
-        let came = fill(reader, &mut block)?;
+        let came = fill(reader, &mut block).map_err(|_| SearchFault::Device)?;
         push_words(words, &block[..came]).map_err(|_| SearchFault::NoMemory)?;
         if came < BLOCK_BYTES {
             break;

@@ -2,8 +2,8 @@
 use Rattle.std.specs.Prelude.{ℕ, zero, suc, List, [], ◌++◌, codes}
 use Rattle.std.specs.Fmt.{decimal, signed_decimal}
 use Rattle.hist_core.specs.declared.call.Answer.{Answer}
-use Rattle.hist_core.specs.declared.call.Call.{Call}
-use Rattle.hist_core.specs.declared.call.Call.TheVariants.{Hist, Add, Delta, Snapshot, Batch, SetCorrupt}
+use Rattle.segment_calls.specs.declared.call.Call.{Call}
+use Rattle.segment_calls.specs.declared.call.Call.TheVariants.{Hist, Add, Delta, Snapshot, Batch, SetCorrupt}
 use Rattle.stepped.specs.declared.lines.Effect.{Effect}
 use Rattle.stepped.specs.declared.lines.Effect.TheVariants.{Quiet, Changed, Missed}
 use Rattle.stepped.specs.Lines.{answer_fields, behind}

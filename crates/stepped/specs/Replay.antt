@@ -2,7 +2,7 @@
 use Rattle.std.specs.Prelude.{◌≡◌, ◌≢◌, ◌⊎◌, ◌<◌, ◌≤◌, ◌+◌, ℕ, zero, suc, List, [], ◌∷◌, ◌++◌, ◌==◌, if◌then◌else◌, map, length, slice_index, slice_set, Option, Some, None}
 use Rattle.hist_core.specs.declared.world_state.WorldState.{WorldState}
 use Rattle.hist_core.specs.declared.call.Answer.{Answer}
-use Rattle.hist_core.specs.declared.call.Call.{Call}
+use Rattle.segment_calls.specs.declared.call.Call.{Call}
 use Rattle.hist_core.specs.declared.call.Begun.{Begun}
 use Rattle.hist_core.specs.declared.call.Begun.TheVariants.{Going, Ended}
 use Rattle.hist_core.specs.declared.call.Move.{Move}

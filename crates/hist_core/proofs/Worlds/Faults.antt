@@ -12,7 +12,7 @@ use Rattle.hist_core.specs.World.{runs, rests, lacks, lacks_name, named_by, of_a
 use Rattle.hist_core.proofs.HistCall.Asking.{place_below}
 use Rattle.hist_core.specs.ActorRun.{NoneHasName}
 use Rattle.hist_core.specs.declared.hist.Known.{Known}
-use Rattle.hist_core.specs.declared.call.Call.{Call}
+use Rattle.segment_calls.specs.declared.call.Call.{Call}
 use Rattle.std.specs.List.{list_any}
 use Rattle.std.specs.Str.{bytes_eq}
 use Rattle.std.proofs.lemmas.Slice.Eq.{bytes_eq-Decides}

@@ -6,8 +6,8 @@ use Rattle.hist_core.specs.declared.world_state.WorldState.{WorldState}
 use Rattle.hist_core.specs.declared.call.Move.{Move}
 use Rattle.hist_core.specs.declared.fault.WorldFault.{WorldFault}
 use Rattle.image_adoption.specs.Checking.{IsFaultOf}
-use Rattle.image_adoption.specs.declared.fault.AdoptFault.{AdoptFault}
-use Rattle.image_adoption.specs.declared.fault.AdoptFault.TheVariants as adopt
+use Rattle.segment_calls.specs.declared.adopt_fault.AdoptFault.{AdoptFault}
+use Rattle.segment_calls.specs.declared.adopt_fault.AdoptFault.TheVariants as adopt
 use Rattle.hist_core.specs.WorldFault.{fault_of_adoption}
 use Rattle.hist_core.specs.World.{IsAdoptFault}
 use Rattle.hist_core.specs.Moves.{FaultsAt, Makes, MakesAll, StopsAt}

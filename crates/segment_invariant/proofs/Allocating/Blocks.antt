@@ -21,7 +21,7 @@ use Rattle.segment_machine.specs.State.{State}
 use Rattle.segment_invariant.proofs.Frames.Ahead.{KeepsUp}
 use Rattle.segment_invariant.specs.Body.{held, is_claimed, Piece, extent_of, Anatomy, layout_of, order_of, free_of, claims_of}
 use Rattle.segment_invariant.specs.Invariant.{StandsRight, HoldsOwn, IsSetBy, ClaimedRight, Invariant}
-use Rattle.segment_invariant.proofs.Lists.Elements.{rows, rows_more, column}
+use Rattle.list_lemmas.proofs.Elements.{rows, rows_more, column}
 use Rattle.segment_invariant.proofs.Blocks.Pieces.{stands_beside, stands_longer, claims_same, claims_grown, with_piece, free_with, raw_piece, grown_by, layout_grown, free_more}
 use Rattle.segment_invariant.proofs.Blocks.Stops.{linked_beside_head}
 use Rattle.segment_invariant.proofs.Frames.OneActor.{Doing, doing, doing_of, TurnsTo}

@@ -29,7 +29,7 @@ use Rattle.segment_invariant.proofs.Frames.Anew.{looks_anew_at}
 use Rattle.segment_invariant.proofs.Frames.SeesMore.{later_itself, near_on, given_on, calls_more, sees_more}
 use Rattle.segment_invariant.specs.Body.{Anatomy, layout_of, order_of, free_of}
 use Rattle.segment_invariant.specs.Invariant.{StandsRight, IsSetBy, Invariant, is_beaten}
-use Rattle.segment_invariant.proofs.Lists.Elements.{any_there, column}
+use Rattle.list_lemmas.proofs.Elements.{any_there, column}
 use Rattle.segment_invariant.proofs.Blocks.Pieces.{raw_piece, stands_last, free_least, free_within}
 use Rattle.segment_invariant.proofs.Frames.OneActor.{is_plain, turns_plain, turns_unbound}
 use Rattle.segment_invariant.proofs.Frames.GoesOn.{after_word}

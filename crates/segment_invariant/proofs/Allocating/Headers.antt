@@ -22,7 +22,7 @@ use Rattle.segment_machine.specs.Event.{allocating_event, Ready}
 use Rattle.segment_invariant.specs.Body.{plain, held, own_words, is_claimed, Piece, block_of, Anatomy, layout_of, claims_of}
 use Rattle.segment_invariant.specs.Seen.{Stands, HasPlain}
 use Rattle.segment_invariant.specs.Invariant.{StandsRight, HoldsOwn, Invariant, is_beaten}
-use Rattle.segment_invariant.proofs.Lists.Elements.{all_at, at_snoc_index}
+use Rattle.list_lemmas.proofs.Elements.{all_at, at_snoc_index}
 use Rattle.segment_invariant.proofs.Blocks.Pieces.{shown_with, stands_here, one_stands, claims_more}
 use Rattle.segment_invariant.proofs.Blocks.Stops.{linked_beside_own}
 use Rattle.segment_invariant.proofs.Frames.OneActor.{Doing, doing_of, is_plain, turns_plain}

@@ -11,7 +11,7 @@ use Rattle.segment_machine.specs.Allocating.{load_flags, load_free, exchange_fre
 use Rattle.segment_invariant.specs.Body.{Anatomy}
 use Rattle.segment_invariant.specs.Invariant.{StandsRight, HoldsOwn, Invariant}
 use Rattle.segment_invariant.specs.Keeps.{found_at, happened, AllocatingKeeps}
-use Rattle.segment_invariant.proofs.Lists.Elements.{at_from, all_at}
+use Rattle.list_lemmas.proofs.Elements.{at_from, all_at}
 use Rattle.segment_invariant.proofs.Blocks.Pieces.{free_least, free_within}
 use Rattle.segment_invariant.proofs.Frames.GoesOn.{happens}
 use Rattle.segment_invariant.proofs.Allocating.Events.{Keeps, words_long, flags_loaded, free_loaded, free_exchanged, corrupt_set, full_set}

@@ -21,7 +21,7 @@ use Rattle.segment_machine.specs.Event.{allocating_event, Ready}
 use Rattle.segment_machine.specs.Calls.{change_first, change_own}
 use Rattle.segment_invariant.specs.Body.{plain, held, own_words, is_claimed, Piece, Anatomy}
 use Rattle.segment_invariant.specs.Invariant.{StandsRight, HoldsOwn, Invariant}
-use Rattle.segment_invariant.proofs.Lists.Elements.{at_from, contains_at, all_at, all_from}
+use Rattle.list_lemmas.proofs.Elements.{at_from, contains_at, all_at, all_from}
 use Rattle.segment_invariant.proofs.Blocks.Pieces.{stands_here, stands_beside, not_first, piece_stored, claims_same, with_piece}
 use Rattle.segment_invariant.proofs.Blocks.Stops.{linked_beside_own}
 use Rattle.segment_invariant.proofs.Frames.OneActor.{Doing, doing_of, TurnsTo, turns_not, doing}

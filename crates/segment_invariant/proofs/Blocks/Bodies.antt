@@ -17,7 +17,7 @@ use Rattle.bucket_ranges.specs.Spec.{buckets_of, spec_fault, spec_fields, spec_r
 use Rattle.bucket_ranges.specs.Reading.{is_name, is_i32}
 use Rattle.bucket_ranges.specs.Single.{single_of, packed_bucket}
 use Rattle.segment_machine.specs.declared.actor.Own.{Own}
-use Rattle.segment_machine.specs.Form.{units_in}
+use Rattle.segment_calls.specs.Form.{units_in}
 use Rattle.segment_machine.specs.Made.{AreNameWords}
 use Rattle.segment_invariant.specs.Body.{Record, Counts, Sample, own_words, record_words, counts_words, sample_words, spec_field}
 use Rattle.segment_invariant.specs.Ledger.{form_at}

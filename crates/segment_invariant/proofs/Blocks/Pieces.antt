@@ -20,7 +20,7 @@ use Rattle.segment_machine.specs.declared.actor.Claim.{Claim}
 use Rattle.segment_invariant.specs.Body.{Body, queue, plain, words_of, is_claimed, Piece, extent_of, block_of, Anatomy, layout_of, free_of, claims_of}
 use Rattle.segment_invariant.specs.Ledger.{all_held, all_amounts}
 use Rattle.segment_invariant.specs.Seen.{Stands}
-use Rattle.segment_invariant.proofs.Lists.Elements.{column, sum_beside, sum_same, from_map}
+use Rattle.list_lemmas.proofs.Elements.{column, sum_beside, sum_same, from_map}
 
 -- ---- one block among others
 

@@ -14,7 +14,7 @@ use Rattle.segment_machine.specs.declared.actor.Made.{Made}
 use Rattle.segment_machine.specs.declared.actor.Made.TheVariants as made
 use Rattle.segment_invariant.specs.Body.{Piece, extent_of, Listed, Anatomy, layout_of, order_of}
 use Rattle.segment_invariant.specs.Invariant.{StandsAs}
-use Rattle.segment_invariant.proofs.Lists.Elements.{there_below, index_at, all_at}
+use Rattle.list_lemmas.proofs.Elements.{there_below, index_at, all_at}
 use Rattle.segment_invariant.proofs.Blocks.Pieces.{first_piece, some_first, piece_from, one_index}
 
 -- a block without owner, of four words or more, begins at a word

@@ -24,7 +24,7 @@ use Rattle.segment_invariant.specs.Body.{Record, Body, plain, held, histogram, P
 use Rattle.segment_invariant.specs.Ledger.{IsBalanced}
 use Rattle.segment_invariant.specs.Seen.{Stands, Sees}
 use Rattle.segment_invariant.specs.Invariant.{StandsAs, IsListed, RecordsAreKept, StandsRight, HoldsOwn, CallsRight, HasKey, SumsAreNear, LooksBack, FinalsAreExact, Fits, IsSetBy, ClaimedRight, StandStill, is_living, Invariant}
-use Rattle.segment_invariant.proofs.Lists.Elements.{rows, column, row_from, sum_same}
+use Rattle.list_lemmas.proofs.Elements.{rows, column, row_from, sum_same}
 use Rattle.segment_invariant.proofs.Lists.Countings.{units_total}
 use Rattle.segment_invariant.proofs.Frames.Answers.{answered_set}
 use Rattle.segment_invariant.proofs.Frames.Anatomies.{calls_same}

@@ -9,7 +9,7 @@ use Rattle.std.proofs.lemmas.List.Sums.{sum_by-cons}
 use mathlib.Core.Logic.{dite}
 use native.Mathlib.Decide.{ℕ_discrete}
 use Rattle.bucket_ranges.specs.declared.spec.Spec.{Spec}
-use Rattle.segment_machine.specs.Form.{is_off}
+use Rattle.segment_calls.specs.Form.{is_off}
 use Rattle.segment_invariant.specs.Body.{Record, Counts, counts, counts_words}
 use Rattle.segment_invariant.specs.Ledger.{key_of_bucket, keyed}
 use Rattle.segment_invariant.specs.Invariant.{IsCountsOf}

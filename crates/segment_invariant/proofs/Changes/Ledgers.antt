@@ -11,8 +11,8 @@ use Rattle.segment_machine.specs.Actor.{counted_of, summed_of, noted_of, taken_u
 use Rattle.segment_invariant.specs.Body.{Body, Piece}
 use Rattle.segment_invariant.specs.Ledger.{units_held, marks_held, sum_held, sum_mark_held, noted_held, all_amounts, moving_at, IsBalanced}
 use Rattle.segment_invariant.proofs.Lists.Countings.{units_total, sum_total, noted_total}
-use Rattle.segment_invariant.proofs.Lists.Elements.{split_at, sum_beside, rows}
-use Rattle.segment_invariant.proofs.Lists.Sums.{IsTotal, amounts_total}
+use Rattle.list_lemmas.proofs.Elements.{split_at, sum_beside, rows}
+use Rattle.list_lemmas.proofs.Sums.{IsTotal, amounts_total}
 use Rattle.segment_invariant.proofs.Blocks.Pieces.{held_beside}
 use Rattle.segment_invariant.proofs.Lists.Portions.{taken_total, taken_sum_total}
 

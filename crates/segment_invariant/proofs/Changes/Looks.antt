@@ -9,14 +9,14 @@ use Rattle.segment_machine.specs.declared.actor.Actor.{Actor}
 use Rattle.segment_machine.specs.declared.actor.Known.{Known}
 use Rattle.segment_machine.specs.declared.seen.Seen.{Seen}
 use Rattle.segment_machine.specs.declared.seen.Sighting.{Sighting}
-use Rattle.segment_machine.specs.Form.{is_off}
+use Rattle.segment_calls.specs.Form.{is_off}
 use Rattle.segment_machine.specs.Entry.{tally_units, tally_noted}
 use Rattle.segment_machine.specs.Actor.{accepted_by, accepted_since, all_counted, bucket_key, cost_of, word_seen, SawSingle}
 use Rattle.segment_invariant.specs.Body.{Record, Anatomy}
 use Rattle.segment_invariant.specs.Ledger.{form_at}
 use Rattle.segment_invariant.specs.Seen.{HasRecord, IsFirstOf, WasCounter, WasInUse, WasMet, Sees}
 use Rattle.segment_invariant.specs.Invariant.{IsSettled, LooksBack}
-use Rattle.segment_invariant.proofs.Lists.Elements.{one_in}
+use Rattle.list_lemmas.proofs.Elements.{one_in}
 use Rattle.segment_invariant.proofs.Changes.Others.{Deed, changed, sees_no_more}
 
 -- with that counter

@@ -23,14 +23,14 @@ use Rattle.segment_machine.specs.declared.actor.Own.{Own}
 use Rattle.segment_machine.specs.declared.actor.Taken.{Taken}
 use Rattle.segment_machine.specs.declared.seen.Seen.{Seen}
 use Rattle.segment_machine.specs.declared.seen.Sighting.{Sighting}
-use Rattle.segment_machine.specs.Form.{is_off, Leads}
+use Rattle.segment_calls.specs.Form.{is_off, Leads}
 use Rattle.segment_machine.specs.Entry.{tally_units}
 use Rattle.segment_machine.specs.Actor.{accepted_by, all_counted, bucket_key, SawCount, made_of, outstanding_of}
 use Rattle.segment_invariant.specs.Body.{Record, Counts, Body, histogram, counts, Listed, Anatomy, layout_of}
 use Rattle.segment_invariant.specs.Ledger.{form_at}
 use Rattle.segment_invariant.specs.Seen.{HasRecord, HasCounts, IsFirstOf, WasCounter, WasInUse}
 use Rattle.segment_invariant.specs.Invariant.{is_living, RolesAreKept, RecordsAreKept, IsMoment, IsAlone, IsSettled, LooksBack, FinalsAreExact}
-use Rattle.segment_invariant.proofs.Lists.Maps.{one_at, contains_take}
+use Rattle.list_lemmas.proofs.Maps.{one_at, contains_take}
 use Rattle.segment_invariant.proofs.Blocks.Pieces.{one_stands, piece_from}
 use Rattle.segment_invariant.proofs.Blocks.Places.{counter_within}
 use Rattle.segment_invariant.proofs.Frames.Leads.{off_leads}

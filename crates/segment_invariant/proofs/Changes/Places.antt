@@ -13,7 +13,7 @@ use Rattle.segment_machine.specs.State.{State}
 use Rattle.segment_invariant.specs.Body.{Body, Anatomy}
 use Rattle.segment_invariant.specs.Seen.{Stands}
 use Rattle.segment_invariant.specs.Invariant.{RecordsAreKept, StandsRight, FinalsAreExact, summed_cost, Invariant}
-use Rattle.segment_invariant.proofs.Lists.Elements.{rows, row_in, sum_same}
+use Rattle.list_lemmas.proofs.Elements.{rows, row_in, sum_same}
 use Rattle.segment_invariant.proofs.Frames.Ahead.{KeepsUp}
 use Rattle.segment_invariant.proofs.Frames.Anatomies.{calls_same}
 use Rattle.segment_invariant.proofs.Frames.GoesOn.{not_opener}

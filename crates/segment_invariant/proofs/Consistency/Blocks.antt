@@ -20,10 +20,10 @@ use Rattle.segment_machine.specs.declared.actor.Claim.{Claim}
 use Rattle.segment_invariant.specs.Consistent.{run_of}
 use Rattle.segment_invariant.specs.Body.{Body, queue, plain, held, histogram, counts, sample, other, words_of, is_claimed, Piece, extent_of, block_of, Anatomy, layout_of, claims_of}
 use Rattle.segment_invariant.specs.Invariant.{ClaimedRight}
-use Rattle.segment_invariant.proofs.Lists.Elements.{from_map, all_from, contains_at, contains_filter, below_length}
-use Rattle.segment_invariant.proofs.Lists.Maps.{contains_map}
+use Rattle.list_lemmas.proofs.Elements.{from_map, all_from, contains_at, contains_filter, below_length}
+use Rattle.list_lemmas.proofs.Maps.{contains_map}
 use Rattle.segment_invariant.proofs.Blocks.Pieces.{claim_of, piece_word, first_piece, some_first, one_piece, pieces_apart, piece_from, piece_ends}
-use Rattle.segment_invariant.proofs.Lists.Pairs.{AnyTwo, element_at}
+use Rattle.list_lemmas.proofs.Pairs.{AnyTwo, element_at}
 
 -- a claimed block has the cookie behind its size
 pub cookie_of : (body : Body) → is_claimed body ≡ true → slice_index (words_of body) 1 ≡ 0xC8799269

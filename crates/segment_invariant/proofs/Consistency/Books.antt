@@ -15,13 +15,13 @@ use Rattle.bucket_ranges.specs.Spec.{buckets_of, spec_fault}
 use Rattle.bucket_ranges.specs.Single.{packed_bucket}
 use Rattle.segment_machine.specs.declared.actor.Made.TheVariants as made
 use Rattle.segment_machine.specs.State.{State}
-use Rattle.segment_machine.specs.Form.{units_in}
+use Rattle.segment_calls.specs.Form.{units_in}
 use Rattle.segment_invariant.specs.Body.{Record, Counts, Sample, Body, queue, plain, held, histogram, counts, sample, other, Piece, Listed, Anatomy}
 use Rattle.segment_invariant.specs.Ledger.{form_at, of_name, at_bucket, keyed, key_of_bucket, units_held, marks_held, all_held}
 use Rattle.segment_invariant.specs.Seen.{HasRecord, HasCounts, HasSample, IsNamed, IsFirst, IsFirstOf}
 use Rattle.segment_invariant.specs.Invariant.{Invariant, CountsNothing}
-use Rattle.segment_invariant.proofs.Lists.Elements.{at_from, split_at}
-use Rattle.segment_invariant.proofs.Lists.Firsts.{first_longer, first_unique}
+use Rattle.list_lemmas.proofs.Elements.{at_from, split_at}
+use Rattle.list_lemmas.proofs.Firsts.{first_longer, first_unique}
 use Rattle.segment_invariant.proofs.Blocks.Pieces.{one_piece, one_stands}
 use Rattle.segment_invariant.proofs.Lists.FewTerms.{sum_one, sum_pair}
 use Rattle.segment_invariant.proofs.Consistency.Blocks.{claimed_piece}

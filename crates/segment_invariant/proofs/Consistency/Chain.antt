@@ -29,7 +29,7 @@ use Rattle.segment_invariant.specs.Keeps.{KeptIsChain, opening_of}
 use Rattle.segment_invariant.proofs.Consistency.Chained.{shape_is, tail_is, free_is, chained, claims_are, all_of_claims, claimed}
 use Rattle.segment_invariant.proofs.Consistency.Opened.{Opens, opens_as}
 use Rattle.segment_invariant.proofs.Blocks.Pieces.{piece_word, some_first, first_piece}
-use Rattle.segment_invariant.proofs.Lists.Pairs.{any_two_permuted}
+use Rattle.list_lemmas.proofs.Pairs.{any_two_permuted}
 use Rattle.segment_machine.proofs.SmallNumbers.{below_three}
 use Rattle.segment_invariant.proofs.Consistency.Blocks.{claimed_piece, claims_apart, claims_few}
 

@@ -22,7 +22,7 @@ use Rattle.segment_machine.specs.State.{State}
 use Rattle.segment_invariant.specs.Consistent.{all_claims, places_of}
 use Rattle.segment_invariant.specs.Body.{is_claimed, Piece, Listed, Anatomy, layout_of, order_of, free_of, claims_of}
 use Rattle.segment_invariant.specs.Invariant.{StandsAs, Invariant}
-use Rattle.segment_invariant.proofs.Lists.Elements.{at_from, contains_at}
+use Rattle.list_lemmas.proofs.Elements.{at_from, contains_at}
 use Rattle.segment_invariant.proofs.Blocks.Pieces.{claim_of}
 use Rattle.segment_invariant.proofs.Consistency.Records.{listed_there}
 use Rattle.segment_invariant.proofs.Consistency.Blocks.{all_claims_of, claim_there, lawful_piece}

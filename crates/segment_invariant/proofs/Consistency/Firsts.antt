@@ -13,16 +13,16 @@ use Rattle.bucket_ranges.specs.Reading.{name_of}
 use Rattle.segment_machine.proofs.Values.{value_word}
 use Rattle.segment_machine.specs.declared.actor.Made.{Made}
 use Rattle.segment_machine.specs.declared.actor.Made.TheVariants as made
-use Rattle.segment_machine.specs.Firsts.{IsFirstThat}
+use Rattle.list_lemmas.specs.Firsts.{IsFirstThat}
 use Rattle.segment_machine.specs.State.{State}
 use Rattle.segment_invariant.specs.Consistent.{IsHistogram, IsSample, IsSampleOf}
 use Rattle.segment_invariant.specs.Consistent as consistent
 use Rattle.segment_invariant.specs.Body.{Record, Sample, Listed, Anatomy, order_of}
 use Rattle.segment_invariant.specs.Seen.{HasRecord, HasSample, IsNamed, IsValued, IsFirst, IsFirstOf}
 use Rattle.segment_invariant.specs.Invariant.{StandsAs, Invariant}
-use Rattle.segment_invariant.proofs.Lists.Elements.{split_at, at_from, from_map}
-use Rattle.segment_invariant.proofs.Lists.Firsts as lists
-use Rattle.segment_invariant.proofs.Lists.Firsts.{OrBefore, split_among, first_image, first_from}
+use Rattle.list_lemmas.proofs.Elements.{split_at, at_from, from_map}
+use Rattle.list_lemmas.proofs.Firsts as lists
+use Rattle.list_lemmas.proofs.Firsts.{OrBefore, split_among, first_image, first_from}
 use Rattle.segment_invariant.proofs.Blocks.Pieces.{piece_word}
 use Rattle.segment_invariant.proofs.Consistency.Records.{record_word, sample_type, record_name}
 use Rattle.segment_invariant.proofs.Frames.PassedOver.{none_given, PassedOver}

@@ -9,7 +9,7 @@ use Rattle.alloc_core.proofs.Layouts.{flags_word}
 use Rattle.segment_invariant.specs.Body.{layout_of}
 use Rattle.segment_invariant.specs.Invariant.{IsSetBy}
 use Rattle.segment_invariant.specs.Keeps.{KeptFlagsAreSet}
-use Rattle.segment_invariant.proofs.Lists.Elements.{at_from, any_there}
+use Rattle.list_lemmas.proofs.Elements.{at_from, any_there}
 use Rattle.segment_invariant.proofs.Frames.Books.{noticed_there}
 
 -- one of a list of truth values is true where all of them together are

@@ -9,7 +9,7 @@ use Rattle.bucket_ranges.specs.Spec.{buckets_of}
 use Rattle.bucket_ranges.specs.Reading.{has_counts, record_buckets, record_single}
 use Rattle.bucket_ranges.specs.Single.{packed_bucket}
 use Rattle.segment_machine.specs.State.{State}
-use Rattle.segment_machine.specs.Form.{is_off, units_in}
+use Rattle.segment_calls.specs.Form.{is_off, units_in}
 use Rattle.segment_invariant.specs.Consistent.{HasForm}
 use Rattle.segment_invariant.specs.Body.{Record, Counts, record_words, counts_words, histogram, counts, Listed, Anatomy, order_of}
 use Rattle.segment_invariant.specs.Ledger.{form_at}

@@ -15,7 +15,7 @@ use Rattle.segment_machine.specs.declared.seen.Sighting.{Sighting}
 use Rattle.segment_machine.specs.declared.actor.Made.{Made}
 use Rattle.segment_machine.specs.declared.actor.Made.TheVariants as made
 use Rattle.segment_machine.specs.State.{State}
-use Rattle.segment_machine.specs.Form.{Leads}
+use Rattle.segment_calls.specs.Form.{Leads}
 use Rattle.segment_invariant.specs.Consistent.{IsHistogram, IsSample, HoldsNothing}
 use Rattle.segment_invariant.specs.Body.{Record, record_words, Counts, Body, histogram, counts, sample, other, Listed, Anatomy, layout_of, order_of, is_claimed}
 use Rattle.segment_invariant.specs.Seen.{Stands, HasRecord, HasCounts, IsFirst, IsFirstOf, WasSingle, HoldsAs}

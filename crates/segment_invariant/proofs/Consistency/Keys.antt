@@ -13,7 +13,7 @@ use Rattle.bucket_ranges.specs.Ranges.{boundaries_of, IsAscending}
 use Rattle.bucket_ranges.specs.Single.{single_of, is_packed_word, packed_of, disabled_of, frozen_of, packed_bucket, is_packed_bucket, units_packed}
 use Rattle.bucket_ranges.proofs.Ascent.{boundaries_of-split}
 use Rattle.bucket_ranges.proofs.Buckets.{ascends}
-use Rattle.segment_machine.specs.Form.{units_in}
+use Rattle.segment_calls.specs.Form.{units_in}
 use Rattle.segment_invariant.specs.Ledger.{key_of_bucket, at_bucket}
 use Rattle.segment_invariant.proofs.Lists.FewTerms.{if_nothing}
 use Rattle.segment_invariant.proofs.Consistency.Specs.{spelled, field_named, named_by, buckets_spelled, boundaries_spelled}

@@ -31,12 +31,12 @@ use Rattle.segment_invariant.specs.Body.{Record, Listed, listed, Anatomy, order_
 use Rattle.segment_invariant.specs.Seen.{HasRecord, IsFirst, WasSingle}
 use Rattle.segment_invariant.specs.Invariant.{StandsAs, Invariant, IsLawfulRecord}
 use Rattle.segment_invariant.specs.Keeps.{KeptRecordsHold, opening_of}
-use Rattle.segment_invariant.proofs.Lists.Elements.{at_from, contains_at, split_at}
+use Rattle.list_lemmas.proofs.Elements.{at_from, contains_at, split_at}
 use Rattle.segment_invariant.proofs.Blocks.Pieces.{piece_word}
 use Rattle.segment_invariant.proofs.Consistency.Chained.{claimed_at}
 use Rattle.segment_invariant.proofs.Consistency.Opened.{Opens, opens_as, front_is}
 use Rattle.segment_invariant.proofs.Consistency.Since.{holds_still, later_still, passed_still}
-use Rattle.segment_invariant.proofs.Lists.Maps.{contains_map}
+use Rattle.list_lemmas.proofs.Maps.{contains_map}
 use Rattle.segment_invariant.proofs.Consistency.Records.{record_word, name_long, letters_part, record_name}
 use Rattle.segment_invariant.proofs.Consistency.Specs.{same_spelled, record_spec, ranges_part, ranges_fewer, buckets_are}
 use Rattle.segment_invariant.proofs.Consistency.Firsts.{standing_of, is_sample_of, record_on_list, first_of_name, name_of_first}

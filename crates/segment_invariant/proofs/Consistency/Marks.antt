@@ -17,7 +17,7 @@ use Rattle.bucket_ranges.specs.Single.{packed_bucket, is_packed_bucket, units_pa
 use Rattle.segment_machine.specs.declared.seen.Sighting.{Sighting}
 use Rattle.segment_machine.specs.State.{State}
 use Rattle.segment_machine.specs.Entry.{tally_units}
-use Rattle.segment_machine.specs.Form.{units_in}
+use Rattle.segment_calls.specs.Form.{units_in}
 use Rattle.segment_machine.specs.Actor.{all_counted}
 use Rattle.segment_invariant.specs.Consistent.{key_at, units_taken}
 use Rattle.segment_invariant.specs.Body.{Record, Anatomy}

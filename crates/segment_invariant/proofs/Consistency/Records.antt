@@ -18,7 +18,7 @@ use Rattle.segment_machine.specs.declared.actor.Actor.{Actor}
 use Rattle.segment_invariant.specs.Body.{Record, Sample, histogram, Piece, words_of, record_words, Listed, Anatomy, layout_of, order_of}
 use Rattle.segment_invariant.specs.Seen.{HasRecord, HasSample}
 use Rattle.segment_invariant.specs.Invariant.{StandsAs, ListIsKept, IsLawfulRecord}
-use Rattle.segment_invariant.proofs.Lists.Elements.{from_map, at_from, contains_at, all_at}
+use Rattle.list_lemmas.proofs.Elements.{from_map, at_from, contains_at, all_at}
 use Rattle.segment_invariant.proofs.Blocks.Pieces.{piece_word, piece_ends, free_within}
 
 -- ---- which ones the list has

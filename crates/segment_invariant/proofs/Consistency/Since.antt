@@ -24,10 +24,10 @@ use Rattle.segment_invariant.specs.Invariant.{StandsAs, IsPassedOver, IsLawfulRe
 use Rattle.segment_invariant.proofs.Blocks.Pieces.{claim_of, piece_word, one_stands}
 use Rattle.segment_invariant.proofs.Blocks.Places.{fixed_within}
 use Rattle.segment_invariant.proofs.Frames.PassedOver.{PassedOver}
-use Rattle.segment_invariant.proofs.Lists.Elements.{at_from, split_at}
+use Rattle.list_lemmas.proofs.Elements.{at_from, split_at}
 use Rattle.segment_invariant.proofs.Lists.FewTerms.{sum_none}
-use Rattle.segment_invariant.proofs.Lists.Firsts.{first_longer, split_among}
-use Rattle.segment_invariant.proofs.Lists.Maps.{contains_map, contains_mapped}
+use Rattle.list_lemmas.proofs.Firsts.{first_longer, split_among}
+use Rattle.list_lemmas.proofs.Maps.{contains_map, contains_mapped}
 use Rattle.segment_invariant.proofs.Consistency.Blocks.{claim_there, claimed_piece}
 use Rattle.segment_invariant.proofs.Consistency.Books.{one_first}
 use Rattle.segment_invariant.proofs.Consistency.Chained.{all_of_claims}

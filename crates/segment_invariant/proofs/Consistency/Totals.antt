@@ -22,11 +22,11 @@ use Rattle.segment_machine.specs.declared.place.Place.{Place}
 use Rattle.segment_machine.specs.declared.place.Look.{Look}
 use Rattle.segment_machine.specs.declared.place.Place.TheVariants.{Moving}
 use Rattle.segment_machine.specs.State.{State}
-use Rattle.segment_machine.specs.Form.{is_off, units_in}
+use Rattle.segment_calls.specs.Form.{is_off, units_in}
 use Rattle.segment_machine.specs.Actor.{transit_at, transit_of, known_at, all_counted}
 use Rattle.segment_machine.specs.Entry.{tally_units}
 use Rattle.segment_invariant.proofs.Frames.OneActor.{moves_or_not}
-use Rattle.segment_invariant.proofs.Lists.Elements.{at_from}
+use Rattle.list_lemmas.proofs.Elements.{at_from}
 use Rattle.segment_invariant.proofs.Lists.FewTerms.{sum_none}
 use Rattle.segment_invariant.specs.Consistent.{HasPlace}
 use Rattle.segment_invariant.specs.Body.{Record, Counts, histogram, counts, words_of, Anatomy, order_of}

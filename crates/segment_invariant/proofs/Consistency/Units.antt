@@ -10,7 +10,7 @@ use Rattle.segment_invariant.specs.Body.{Record, Anatomy, order_of}
 use Rattle.segment_invariant.specs.Seen.{HasRecord}
 use Rattle.segment_invariant.specs.Invariant.{IsSumOf, Invariant}
 use Rattle.segment_invariant.specs.Keeps.{KeptUnitsAreKept}
-use Rattle.segment_invariant.proofs.Lists.Elements.{at_from}
+use Rattle.list_lemmas.proofs.Elements.{at_from}
 use Rattle.segment_invariant.proofs.Consistency.Firsts.{first_of_name}
 use Rattle.segment_invariant.proofs.Consistency.Records.{record_word}
 use Rattle.segment_invariant.proofs.Consistency.Sums.{noted_is}

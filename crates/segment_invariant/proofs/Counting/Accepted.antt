@@ -18,7 +18,7 @@ use Rattle.segment_machine.specs.State.{State}
 use Rattle.segment_invariant.specs.Body.{Anatomy}
 use Rattle.segment_invariant.specs.Invariant.{Invariant}
 use Rattle.segment_invariant.proofs.Lists.Countings.{units_total, noted_total}
-use Rattle.segment_invariant.proofs.Lists.Sums.{IsTotal}
+use Rattle.list_lemmas.proofs.Sums.{IsTotal}
 use Rattle.segment_invariant.proofs.Frames.GoesOn.{not_opener}
 use Rattle.segment_invariant.proofs.Frames.GrowthOfStates.{among_all, ended_counted}
 use Rattle.segment_invariant.proofs.Frames.OneActor.{lives_on}

@@ -25,7 +25,7 @@ use Rattle.segment_machine.specs.Actor.{is_bound, is_opener}
 use Rattle.segment_machine.specs.Calls.{CountsNext, IsKeyOfBucket, LooksOff}
 use Rattle.segment_machine.specs.Counting.{add_count}
 use Rattle.segment_machine.specs.Event.{counting_event}
-use Rattle.segment_machine.specs.Form.{is_off}
+use Rattle.segment_calls.specs.Form.{is_off}
 use Rattle.segment_machine.specs.State.{State}
 use Rattle.segment_invariant.specs.Body.{Record, Counts, histogram, counts, Anatomy}
 use Rattle.segment_invariant.specs.Ledger.{of_name, key_of_bucket, keyed, units_held}

@@ -28,7 +28,7 @@ use Rattle.segment_invariant.specs.Ledger.{of_name}
 use Rattle.segment_invariant.specs.Seen.{HasRecord, HasCounts, HasSample, WasCounter}
 use Rattle.segment_invariant.specs.Invariant.{LooksBack, summed_cost, Invariant}
 use Rattle.segment_invariant.specs.Keeps.{EventKeeps}
-use Rattle.segment_invariant.proofs.Lists.Elements.{at_from, not_empty, sum_at_least, sum_same}
+use Rattle.list_lemmas.proofs.Elements.{at_from, not_empty, sum_at_least, sum_same}
 use Rattle.segment_invariant.proofs.Lists.Countings.{noted_total}
 use Rattle.segment_invariant.proofs.Blocks.Pieces.{piece_word}
 use Rattle.segment_invariant.proofs.Frames.GoesOn.{happens}
@@ -42,7 +42,7 @@ use Rattle.segment_invariant.proofs.Counting.Looks.{same_block, one_record, body
 use Rattle.segment_invariant.proofs.Counting.Sights.{word_within}
 use Rattle.segment_invariant.proofs.Counting.Whole.{whole_noted}
 use Rattle.segment_invariant.proofs.Consistency.Firsts.{sample_of_first}
-use Rattle.segment_invariant.proofs.Lists.Maps.{contains_map}
+use Rattle.list_lemmas.proofs.Maps.{contains_map}
 use Rattle.alloc_core.proofs.Owners.{set_at}
 use Rattle.segment_invariant.proofs.Changes.Others.{Deed}
 use Rattle.segment_invariant.proofs.Changes.Looks as changes

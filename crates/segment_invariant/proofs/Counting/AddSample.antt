@@ -27,7 +27,7 @@ use Rattle.segment_invariant.specs.Body.{Sample, sample, histogram, Listed, Anat
 use Rattle.segment_invariant.specs.Ledger.{units_held}
 use Rattle.segment_invariant.specs.Seen.{HasSample, IsValued, IsFirst, IsFirstOf}
 use Rattle.segment_invariant.specs.Invariant.{Invariant}
-use Rattle.segment_invariant.proofs.Lists.Firsts.{first_unique, split_among}
+use Rattle.list_lemmas.proofs.Firsts.{first_unique, split_among}
 use Rattle.segment_invariant.proofs.Consistency.Books.{one_name, sample_first}
 use Rattle.segment_invariant.proofs.Consistency.Firsts.{sample_of_first}
 use Rattle.segment_invariant.proofs.Frames.Answers.{first_one}

@@ -19,8 +19,8 @@ use Rattle.segment_machine.specs.declared.entry.EntryProgress.{EntryProgress}
 use Rattle.segment_machine.specs.declared.entry.Entry.{Entry}
 use Rattle.segment_machine.specs.declared.actor.Actor.{Actor}
 use Rattle.segment_machine.specs.Entry.{is_counted, is_summed, is_noted, is_of, tally_sum, tally_noted, summed_among, noted_among}
-use Rattle.segment_invariant.proofs.Lists.Elements.{all_of, not_empty, one_in, sum_beside, sum_same}
-use Rattle.segment_invariant.proofs.Lists.Maps.{contains_map}
+use Rattle.list_lemmas.proofs.Elements.{all_of, not_empty, one_in, sum_beside, sum_same}
+use Rattle.list_lemmas.proofs.Maps.{contains_map}
 use Rattle.segment_invariant.proofs.Lists.Countings.{sum_total}
 use Rattle.segment_invariant.proofs.Notes.Amounts.{zeros}
 use Rattle.segment_invariant.proofs.Counting.Running.{Next, next_of, passes_same, passes_moved}

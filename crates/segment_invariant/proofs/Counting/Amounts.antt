@@ -22,7 +22,7 @@ use Rattle.segment_invariant.specs.Ledger.{of_name, amount_of_name, moving_at}
 use Rattle.segment_invariant.specs.Seen.{HasRecord, IsFirst, Knows, Sees}
 use Rattle.segment_invariant.specs.Invariant.{IsLawfulRecord, SumsAreNear, LooksBack, Invariant}
 use Rattle.segment_invariant.proofs.Lists.Countings.{sum_total, noted_total}
-use Rattle.segment_invariant.proofs.Lists.Elements.{rows, rows_total, row_in}
+use Rattle.list_lemmas.proofs.Elements.{rows, rows_total, row_in}
 use Rattle.segment_invariant.proofs.Frames.Ahead.{unbound_unbeaten}
 use Rattle.segment_invariant.proofs.Frames.Answers.{first_one}
 use Rattle.segment_invariant.proofs.Frames.GoesOn.{not_opener}

@@ -19,7 +19,7 @@ use Rattle.segment_invariant.specs.Body.{Record, Anatomy}
 use Rattle.segment_invariant.specs.Seen.{HasRecord}
 use Rattle.segment_invariant.specs.Invariant.{summed_cost, IsSumOf, StandsRight, CallsRight, Invariant}
 use Rattle.segment_invariant.proofs.Lists.Countings.{noted_total}
-use Rattle.segment_invariant.proofs.Lists.Elements.{at_from, sum_at_least}
+use Rattle.list_lemmas.proofs.Elements.{at_from, sum_at_least}
 use Rattle.segment_invariant.proofs.Frames.OneActor.{summed_most}
 use Rattle.segment_invariant.proofs.Frames.Spending.{counted_spent, spent_or_not, all_spent, noted_within}
 

@@ -12,7 +12,7 @@ use Rattle.segment_machine.specs.declared.place.Look.{Look}
 use Rattle.segment_machine.specs.declared.place.Place.{Place}
 use Rattle.segment_machine.specs.declared.place.Place.TheVariants.{Spent, SumLoaded, Moving}
 use Rattle.segment_machine.specs.declared.seen.Sighting.{Sighting}
-use Rattle.segment_machine.specs.Form.{is_off}
+use Rattle.segment_calls.specs.Form.{is_off}
 use Rattle.segment_machine.specs.Actor.{is_bound, is_opener}
 use Rattle.segment_machine.specs.State.{State}
 use Rattle.segment_invariant.specs.Body.{Record, Counts, Sample, counts, sample, Anatomy}

@@ -23,7 +23,7 @@ use Rattle.segment_invariant.specs.Ledger.{units_held, marks_held, sum_held, sum
 use Rattle.segment_invariant.specs.Seen.{Stands, IsFirst, IsFirstOf}
 use Rattle.segment_invariant.specs.Invariant.{RecordsAreKept, HasKey, summed_cost, Invariant}
 use Rattle.segment_invariant.proofs.Lists.Countings.{units_total}
-use Rattle.segment_invariant.proofs.Lists.Elements.{rows, row_in, sum_same}
+use Rattle.list_lemmas.proofs.Elements.{rows, row_in, sum_same}
 use Rattle.segment_invariant.proofs.Frames.Ahead.{unbound_unbeaten}
 use Rattle.segment_invariant.proofs.Frames.GoesOn.{not_opener}
 use Rattle.segment_invariant.proofs.Frames.OneActor.{rests_at, lives_on}

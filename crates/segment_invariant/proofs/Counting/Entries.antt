@@ -14,7 +14,7 @@ use Rattle.segment_machine.specs.Note.{is_untouched}
 use Rattle.segment_invariant.specs.Body.{Anatomy}
 use Rattle.segment_invariant.specs.Seen.{IsFirst, IsFirstOf}
 use Rattle.segment_invariant.specs.Invariant.{CallsRight, IsQuiet, RolesAreKept, FinalsAreExact}
-use Rattle.segment_invariant.proofs.Lists.Elements.{not_empty}
+use Rattle.list_lemmas.proofs.Elements.{not_empty}
 use Rattle.segment_invariant.proofs.Frames.Roles.{AllStood}
 use Rattle.segment_invariant.proofs.Frames.Together.{moment}
 use Rattle.segment_invariant.proofs.Changes.Others.{Deed, changed, is_later}

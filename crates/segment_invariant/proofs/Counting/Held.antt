@@ -18,7 +18,7 @@ use Rattle.segment_invariant.specs.Body.{Record, Counts, Sample, Body, plain, hi
 use Rattle.segment_invariant.specs.Ledger.{form_at, key_of_bucket, keyed, units_held, all_held}
 use Rattle.segment_invariant.specs.Seen.{HasRecord, HasCounts, HasSample}
 use Rattle.segment_invariant.specs.Invariant.{IsCountsOf, Invariant}
-use Rattle.segment_invariant.proofs.Lists.Elements.{sum_at_least, sum_beside}
+use Rattle.list_lemmas.proofs.Elements.{sum_at_least, sum_beside}
 use Rattle.segment_invariant.proofs.Consistency.Keys.{packed_within, packed_units}
 use Rattle.segment_invariant.proofs.Consistency.Sums.{of_mine}
 use Rattle.segment_invariant.proofs.Consistency.Books.{keyed_one}

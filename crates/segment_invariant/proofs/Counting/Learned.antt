@@ -17,7 +17,7 @@ use Rattle.segment_machine.specs.declared.actor.Known.{Known}
 use Rattle.segment_machine.specs.declared.place.Place.TheVariants.{Spent, SumLoaded}
 use Rattle.segment_machine.specs.Actor.{Buckets, cost_of, cost_total, units_of}
 use Rattle.segment_machine.specs.Calls.{CountsStay}
-use Rattle.segment_machine.specs.Form.{is_off}
+use Rattle.segment_calls.specs.Form.{is_off}
 use Rattle.segment_machine.specs.State.{State}
 use Rattle.segment_invariant.specs.Body.{Record, histogram, record_words, Anatomy}
 use Rattle.segment_invariant.specs.Seen.{HasRecord, WasSingle}

@@ -20,7 +20,7 @@ use Rattle.segment_machine.specs.declared.place.Place.TheVariants.{Spent, SumLoa
 use Rattle.segment_machine.specs.declared.seen.Seen.{Seen}
 use Rattle.segment_machine.specs.declared.seen.Sighting.{Sighting}
 use Rattle.segment_machine.specs.Entry.{tally_units}
-use Rattle.segment_machine.specs.Form.{is_off, Leads}
+use Rattle.segment_calls.specs.Form.{is_off, Leads}
 use Rattle.segment_machine.specs.Actor.{word_seen, all_counted, bucket_key, transit_of, SawCount, is_opener, made_of}
 use Rattle.segment_machine.specs.Note.{SawBucket}
 use Rattle.segment_machine.specs.State.{State}
@@ -28,9 +28,9 @@ use Rattle.segment_invariant.specs.Body.{Record, Counts, Body, histogram, counts
 use Rattle.segment_invariant.specs.Ledger.{form_at, key_of_bucket}
 use Rattle.segment_invariant.specs.Seen.{Stands, HasRecord, HasCounts, IsFirst, IsFixedIn, WasFixed, WasCounter, WasInUse, WasSingle, Knows}
 use Rattle.segment_invariant.specs.Invariant.{StandsRight, IsAlone, IsSettled, LooksBack, Invariant}
-use Rattle.segment_invariant.proofs.Lists.Elements.{one_in}
+use Rattle.list_lemmas.proofs.Elements.{one_in}
 use Rattle.segment_invariant.proofs.Lists.FewTerms.{zero_index}
-use Rattle.segment_invariant.proofs.Lists.Maps.{one_at}
+use Rattle.list_lemmas.proofs.Maps.{one_at}
 use Rattle.segment_invariant.proofs.Blocks.Pieces.{one_index, one_stands, piece_word, piece_from}
 use Rattle.segment_invariant.proofs.Blocks.Places.{fixed_within, counter_within}
 use Rattle.segment_invariant.proofs.Frames.OneActor.{lives_on}

@@ -13,7 +13,7 @@ use Rattle.bucket_ranges.specs.Single.{single_of, packed_bucket, units_packed}
 use Rattle.segment_machine.specs.declared.actor.Actor.{Actor}
 use Rattle.segment_machine.specs.declared.actor.Known.{Known}
 use Rattle.segment_machine.specs.declared.place.Place.TheVariants.{Spent}
-use Rattle.segment_machine.specs.Form.{Leads}
+use Rattle.segment_calls.specs.Form.{Leads}
 use Rattle.segment_machine.specs.Entry.{tally_units}
 use Rattle.segment_machine.specs.Actor.{word_seen, bucket_key, accepted_by, all_counted, SawCount, is_opener}
 use Rattle.segment_machine.specs.Note.{SawBucket, IsMarkOf}
@@ -23,7 +23,7 @@ use Rattle.segment_invariant.specs.Body.{Record, Sample, Body, histogram, counts
 use Rattle.segment_invariant.specs.Ledger.{form_at, key_of_bucket, at_bucket, keyed, marks_held}
 use Rattle.segment_invariant.specs.Seen.{HasRecord, HasSample, IsFirstOf, IsFixedIn, WasFixed, Knows}
 use Rattle.segment_invariant.specs.Invariant.{IsAlone, Invariant}
-use Rattle.segment_invariant.proofs.Lists.Elements.{sum_at_least}
+use Rattle.list_lemmas.proofs.Elements.{sum_at_least}
 use Rattle.segment_invariant.proofs.Blocks.Places.{fixed_within}
 use Rattle.segment_invariant.proofs.Blocks.Pieces.{one_index}
 use Rattle.segment_invariant.proofs.Walking.Words.{word_contains}

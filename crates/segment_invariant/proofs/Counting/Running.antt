@@ -10,9 +10,9 @@ use Rattle.segment_machine.specs.Entry.{is_counted, is_summed, has_ended}
 use Rattle.segment_machine.specs.Calls.{change_next}
 use Rattle.segment_machine.specs.Note.{is_untouched}
 use Rattle.segment_invariant.specs.Invariant.{AreInOrder}
-use Rattle.segment_invariant.proofs.Lists.Sums.{IsTotal}
+use Rattle.list_lemmas.proofs.Sums.{IsTotal}
 use Rattle.segment_invariant.proofs.Lists.Countings.{one_of}
-use Rattle.segment_invariant.proofs.Lists.Elements.{one_in}
+use Rattle.list_lemmas.proofs.Elements.{one_in}
 
 -- ---- the entry that is next
 

@@ -27,7 +27,7 @@ use Rattle.segment_machine.proofs.Values.{value_word}
 use Rattle.segment_invariant.specs.Body.{Sample, histogram, sample, sample_words, other, Listed, Anatomy, order_of}
 use Rattle.segment_invariant.specs.Seen.{HasSample, IsFirstOf}
 use Rattle.segment_invariant.specs.Invariant.{StandsAs, Invariant}
-use Rattle.segment_invariant.proofs.Lists.Elements.{at_from, all_of, split_at, split_map}
+use Rattle.list_lemmas.proofs.Elements.{at_from, all_of, split_at, split_map}
 use Rattle.segment_invariant.proofs.Blocks.Pieces.{piece_word}
 use Rattle.segment_invariant.proofs.Consistency.Records.{listed_there}
 use Rattle.segment_invariant.proofs.Walking.Words.{sighted}

@@ -12,7 +12,7 @@ use Rattle.bucket_ranges.specs.Single.{single_of, units_packed}
 use Rattle.segment_machine.specs.declared.actor.Actor.{Actor}
 use Rattle.segment_machine.specs.declared.actor.Known.{Known}
 use Rattle.segment_machine.specs.declared.place.Place.TheVariants.{Spent}
-use Rattle.segment_machine.specs.Form.{is_off, Leads}
+use Rattle.segment_calls.specs.Form.{is_off, Leads}
 use Rattle.segment_machine.specs.Actor.{all_counted, bucket_key, SawSingle, SawCount}
 use Rattle.segment_machine.specs.Entry.{tally_units}
 use Rattle.segment_machine.specs.State.{State}
@@ -20,7 +20,7 @@ use Rattle.segment_invariant.specs.Body.{Record, Counts, Body, histogram, counts
 use Rattle.segment_invariant.specs.Ledger.{form_at}
 use Rattle.segment_invariant.specs.Seen.{Stands, HasRecord, HasCounts, WasCounter, WasSingle, Knows}
 use Rattle.segment_invariant.specs.Invariant.{StandsAs, Invariant}
-use Rattle.segment_invariant.proofs.Lists.Firsts.{split_among}
+use Rattle.list_lemmas.proofs.Firsts.{split_among}
 use Rattle.segment_invariant.proofs.Blocks.Places.{counter_within}
 use Rattle.segment_invariant.proofs.Blocks.Pieces.{one_index}
 use Rattle.segment_invariant.proofs.Consistency.Keys.{same_boundaries, same_buckets}

@@ -19,7 +19,7 @@ use Rattle.segment_machine.specs.declared.place.Place.TheVariants.{Moving}
 use Rattle.segment_machine.specs.Actor.{transit_at, transit_of, bucket_key, all_counted, all_noted, cost_of}
 use Rattle.segment_machine.specs.Entry.{tally_units, tally_noted}
 use Rattle.segment_machine.specs.State.{State}
-use Rattle.segment_machine.specs.Form.{units_in}
+use Rattle.segment_calls.specs.Form.{units_in}
 use Rattle.segment_invariant.specs.Body.{Record, Counts, Sample, Anatomy, sample}
 use Rattle.segment_invariant.specs.Ledger.{form_at, key_of_bucket, keyed, at_bucket, units_held, all_held}
 use Rattle.segment_invariant.specs.Seen.{HasRecord, HasCounts, HasSample, IsFirst, IsFirstOf, Knows}

@@ -30,14 +30,14 @@ use Rattle.segment_invariant.proofs.Frames.Ahead.{ahead_at}
 use Rattle.segment_invariant.specs.Body.{Anatomy, order_of}
 use Rattle.segment_invariant.specs.Seen.{IsNoLater, IsReachedAt}
 use Rattle.segment_invariant.specs.Invariant.{StandsRight, CursorsAreKept, Invariant, is_beaten, IsAhead}
-use Rattle.segment_invariant.proofs.Lists.Elements.{rows, rows_more, row_in, contains_at, at_snoc_index, at_from, index_at, below_length, there_below, contains_filter}
+use Rattle.list_lemmas.proofs.Elements.{rows, rows_more, row_in, contains_at, at_snoc_index, at_from, index_at, below_length, there_below, contains_filter}
 use Rattle.segment_invariant.proofs.Frames.OneActor.{is_plain, turns_plain}
 use Rattle.segment_invariant.proofs.Frames.SeesMore.{seer, calls_more, AreLater, later_itself, near_on, given_on, sees_more, sees_later, happens_there, ahead_behind}
 use Rattle.segment_invariant.proofs.Frames.Shown.{Goes}
 use Rattle.segment_invariant.proofs.Walking.Walks.{reference_is}
 use Rattle.segment_invariant.proofs.Walking.Nexts.{no_later_itself}
 use Rattle.segment_invariant.proofs.Cursors.Loads.{looks_past, sees_cursor, cursor_stop}
-use Rattle.segment_invariant.proofs.Lists.Maps.{contains_map}
+use Rattle.list_lemmas.proofs.Maps.{contains_map}
 use Rattle.segment_invariant.proofs.Frames.Books.{GivenInOrder, noticed_there}
 
 -- what a cursor gave, with one more behind

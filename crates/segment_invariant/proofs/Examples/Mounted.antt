@@ -17,7 +17,7 @@ use Rattle.segment_machine.specs.declared.entry.Entry.{Entry}
 use Rattle.segment_machine.specs.declared.entry.EntryProgress.{EntryProgress}
 use Rattle.segment_machine.specs.declared.seen.Sighting.{Sighting}
 use Rattle.segment_machine.specs.declared.actor.Answered.{Answered}
-use Rattle.segment_machine.specs.Form.{Leads}
+use Rattle.segment_calls.specs.Form.{Leads}
 use Rattle.segment_machine.specs.declared.place.Place.TheVariants.{Idle, SumLoaded}
 use Rattle.segment_machine.specs.declared.actor.Actor.{Actor}
 use Rattle.segment_machine.specs.declared.actor.Claim.{Claim}
@@ -27,7 +27,7 @@ use Rattle.segment_machine.specs.Actor.{Each, all_counted, all_summed, all_noted
 use Rattle.segment_invariant.specs.Consistent.{IsHistogram, HasForm, HasPlace, HoldsMade, key_at, units_taken, run_of, places_of, SawBefore, IsSum, IsLoaded, ListIsChain, RecordsHold, TotalsAreCounted, MarksAreTaken, SumsAreAmounts, TransitIsLocal, FlagsAreSet, UnitsAreKept}
 use Rattle.segment_machine.specs.Examples.{letter_a, mounted, mounter, one, whole}
 use Rattle.segment_invariant.specs.Examples.{opening, MountedIsConsistent}
-use Rattle.segment_invariant.proofs.Lists.Elements.{none_in, none_at, one_in, each_of_one}
+use Rattle.list_lemmas.proofs.Elements.{none_in, none_at, one_in, each_of_one}
 use Rattle.segment_machine.proofs.SmallNumbers.{below_three}
 use Rattle.segment_invariant.proofs.Examples.OneRecord.{the_one, of_the_one}
 use Rattle.segment_invariant.proofs.Frames.Spending.{by_name}

@@ -13,7 +13,7 @@ use Rattle.segment_machine.specs.declared.actor.Actor.{Actor}
 use Rattle.segment_machine.specs.declared.actor.Role.{Role}
 use Rattle.segment_machine.specs.declared.seen.Seen.{Seen}
 use Rattle.segment_machine.specs.Actor.{counted_of, is_opener}
-use Rattle.segment_machine.specs.Form.{is_off}
+use Rattle.segment_calls.specs.Form.{is_off}
 use Rattle.segment_machine.specs.Made.{SawSample}
 use Rattle.segment_invariant.specs.Body.{Record, Counts, Anatomy}
 use Rattle.segment_invariant.specs.Consistent.{IsWithinCounts}

@@ -23,8 +23,8 @@ use Rattle.segment_machine.specs.Publishing.{owed_for, published_as}
 use Rattle.segment_invariant.specs.Body.{Listed}
 use Rattle.segment_invariant.specs.Seen.{IsNamed, IsFirst}
 use Rattle.segment_invariant.specs.Invariant.{IsAnswered, AreAnswered, HasPublished, OwesPublished}
-use Rattle.segment_invariant.proofs.Lists.Elements.{rows, row_in, row_from, contains_filter}
-use Rattle.segment_invariant.proofs.Lists.Firsts.{first_unique}
+use Rattle.list_lemmas.proofs.Elements.{rows, row_in, row_from, contains_filter}
+use Rattle.list_lemmas.proofs.Firsts.{first_unique}
 
 -- ---- lists
 

@@ -20,7 +20,7 @@ use Rattle.segment_machine.specs.State.{State}
 use Rattle.segment_invariant.specs.Body.{Piece, Anatomy, layout_of, order_of, claims_of, listed}
 use Rattle.segment_invariant.specs.Ledger.{noted_held, all_held, IsBalanced}
 use Rattle.segment_invariant.specs.Invariant.{ClaimedRight, HasKey, ListIsKept, RecordsAreKept, ArePassedOver, SumsAreNear, IsSetBy, IsSetWhereSeen, StandStill, RolesAreKept, CursorsAreKept, StandsRight, Fits, Invariant, AreAnswered}
-use Rattle.segment_invariant.proofs.Lists.Elements.{rows, any_there, any_from}
+use Rattle.list_lemmas.proofs.Elements.{rows, any_there, any_from}
 use Rattle.segment_invariant.proofs.Frames.Deeds.{Deeds, sums_of}
 use Rattle.segment_invariant.proofs.Frames.Together.{LoadedBefore, balanced, sums_near, taken_keys}
 

@@ -14,8 +14,8 @@ use Rattle.segment_machine.specs.Entry.{is_of, tally_units, tally_sum, tally_not
 use Rattle.segment_machine.specs.Actor.{counted_of, summed_of, noted_of, given_by, taken_units, taken_sum, units_of, all_counted, all_summed, all_noted, all_taken, all_published, all_given, all_names, all_owed, taken_of}
 use Rattle.segment_invariant.specs.Ledger.{all_moving, moving_at}
 use Rattle.segment_invariant.specs.Invariant.{summed_cost, summed_costs}
-use Rattle.segment_invariant.proofs.Lists.Elements.{split_at}
-use Rattle.segment_invariant.proofs.Lists.Sums.{IsTotal, exchanged, added, numbers, amounts, flags, lists, amounts_total, flags_total}
+use Rattle.list_lemmas.proofs.Elements.{split_at}
+use Rattle.list_lemmas.proofs.Sums.{IsTotal, exchanged, added, numbers, amounts, flags, lists, amounts_total, flags_total}
 use Rattle.segment_invariant.proofs.Lists.Portions.{taken_sum_total}
 
 -- what some actors did together others did

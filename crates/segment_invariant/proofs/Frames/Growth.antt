@@ -19,7 +19,7 @@ use Rattle.segment_invariant.specs.Body.{Record, Counts, Sample, Body, queue, pl
 use Rattle.segment_invariant.specs.Ledger.{all_held, all_amounts}
 use Rattle.segment_invariant.specs.Seen.{Stands, HasPlain, HasRecord, HasCounts, HasSample, IsNamed, IsValued, IsFirst, IsFirstOf, IsReachedAt, IsNoLater, AreNoLater, Knows, Sees}
 use Rattle.segment_invariant.specs.Invariant.{StandsAs}
-use Rattle.segment_invariant.proofs.Lists.Firsts.{first_longer}
+use Rattle.list_lemmas.proofs.Firsts.{first_longer}
 use Rattle.segment_invariant.proofs.Frames.Standing.{Grounds}
 use Rattle.segment_invariant.proofs.Frames.Onward.{GoesAs, goes_itself, Onward, stands_as_on, sees_on}
 

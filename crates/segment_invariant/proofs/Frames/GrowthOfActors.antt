@@ -23,11 +23,11 @@ use Rattle.segment_invariant.specs.Body.{Record, Body, histogram, sample, words_
 use Rattle.segment_invariant.specs.Ledger.{form_at}
 use Rattle.segment_invariant.specs.Seen.{HasRecord, IsNamed, IsValued, IsFirstOf, WasCounter, Sees, WasSingle, HasCounts}
 use Rattle.segment_invariant.specs.Invariant.{HoldsOwn, CallsRight, HasKey, IsSettled, LooksBack, OwesPublished, Fits, IsAhead}
-use Rattle.segment_invariant.proofs.Lists.Firsts.{first_longer, split_among}
+use Rattle.list_lemmas.proofs.Firsts.{first_longer, split_among}
 use Rattle.segment_invariant.proofs.Blocks.Places.{counter_within}
 use Rattle.segment_invariant.proofs.Frames.OneActor.{Doing, doing, doing_of}
 use Rattle.segment_invariant.proofs.Frames.Growth.{Grows, names_grow, record_stays, record_came, counts_came}
-use Rattle.segment_machine.specs.Form.{Leads}
+use Rattle.segment_calls.specs.Form.{Leads}
 use Rattle.segment_invariant.proofs.Frames.Anew.{calls_anew}
 
 -- ---- what holds of one actor

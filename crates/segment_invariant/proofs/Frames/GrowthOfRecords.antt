@@ -10,12 +10,12 @@ use Rattle.bucket_ranges.specs.declared.spec.Spec.TheVariants as spec
 use Rattle.segment_machine.specs.declared.actor.Actor.{Actor}
 use Rattle.segment_machine.specs.declared.actor.Made.TheVariants as made
 use Rattle.segment_machine.specs.declared.place.Place.TheVariants.{SumLoaded}
-use Rattle.segment_machine.specs.Form.{units_in}
+use Rattle.segment_calls.specs.Form.{units_in}
 use Rattle.segment_invariant.specs.Body.{Record, Counts, Sample, Body, histogram, sample, Listed, Anatomy}
 use Rattle.segment_invariant.specs.Ledger.{form_at}
 use Rattle.segment_invariant.specs.Seen.{Stands, HasRecord, HasCounts, HasSample, IsNamed, IsValued, IsFirst, IsFirstOf}
 use Rattle.segment_invariant.specs.Invariant.{StandsAs, IsListed, IsLawfulRecord, IsCountsOf, IsLawfulSample, CountsNothing, RecordsAreKept, HasKey, SumsAreNear, IsSumOf, summed_costs}
-use Rattle.segment_invariant.proofs.Lists.Firsts.{first_longer}
+use Rattle.list_lemmas.proofs.Firsts.{first_longer}
 use Rattle.segment_invariant.proofs.Frames.Growth.{Grows, first_grows, record_stays, record_came, counts_stay, counts_came, sample_came}
 
 -- ---- what was added

@@ -21,8 +21,8 @@ use Rattle.segment_invariant.specs.Body.{Record, Body, Anatomy, order_of}
 use Rattle.segment_invariant.specs.Seen.{HasRecord, Knows, Sees}
 use Rattle.segment_machine.specs.State.{State}
 use Rattle.segment_invariant.specs.Invariant.{StandsAs, HasKey, StandsRight, HoldsOwn, Fits, Invariant, OwesPublished, IsAhead}
-use Rattle.segment_invariant.proofs.Lists.Firsts.{split_among}
-use Rattle.segment_invariant.proofs.Lists.Elements.{row_in}
+use Rattle.list_lemmas.proofs.Firsts.{split_among}
+use Rattle.list_lemmas.proofs.Elements.{row_in}
 use Rattle.segment_invariant.proofs.Frames.OneActor.{Doing, doing, lives_on}
 use Rattle.segment_invariant.proofs.Frames.Growth.{Grows}
 use Rattle.segment_invariant.proofs.Frames.GrowthOfActors.{SawMore, fits_grow}

@@ -4,7 +4,7 @@ use Rattle.std.proofs.lemmas.Bool.{eqb-true, leb-false, lt-ltb}
 use Rattle.bucket_ranges.specs.declared.single.SingleWord.{SingleWord}
 use Rattle.bucket_ranges.specs.declared.single.SingleWord.TheVariants.{Empty, Packed}
 use Rattle.bucket_ranges.specs.Single.{single_of, is_packed_word, packed_of, packed_bucket}
-use Rattle.segment_machine.specs.Form.{is_off, units_in, Leads}
+use Rattle.segment_calls.specs.Form.{is_off, units_in, Leads}
 
 -- a word that is off leads to itself alone
 pub off_leads : (version n old new : ℕ) → is_off old ≡ true → Leads version n old new → old ≡ new

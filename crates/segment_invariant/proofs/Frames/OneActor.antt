@@ -21,7 +21,7 @@ use Rattle.segment_machine.specs.Actor.{is_bound, cost_of, counted_of, summed_of
 use Rattle.segment_invariant.specs.Ledger.{moving_at, all_moving}
 use Rattle.segment_invariant.specs.Invariant.{summed_cost, summed_costs, is_living, Fits}
 use Rattle.segment_invariant.specs.Body.{Anatomy}
-use Rattle.segment_invariant.proofs.Lists.Elements.{rows, sum_same}
+use Rattle.list_lemmas.proofs.Elements.{rows, sum_same}
 use Rattle.segment_invariant.proofs.Frames.Deeds.{SameSums}
 use Rattle.segment_invariant.proofs.Frames.Together.{LoadedBefore, loaded_set}
 use Rattle.segment_invariant.proofs.Frames.Roles.{AllStood, SameRole, stood_set, fits_beside}

@@ -14,13 +14,13 @@ use Rattle.segment_machine.specs.declared.seen.Seen.{Seen}
 use Rattle.segment_machine.specs.declared.seen.Sighting.{Sighting}
 use Rattle.alloc_core.specs.Laws.{Behind}
 use Rattle.list_core.specs.Walk.{IsPrefix}
-use Rattle.segment_machine.specs.Form.{is_off, Leads}
+use Rattle.segment_calls.specs.Form.{is_off, Leads}
 use Rattle.segment_machine.specs.Made.{SawSample}
 use Rattle.segment_invariant.specs.Body.{Record, Counts, Sample, Body, queue, plain, held, histogram, counts, sample, other, spec_field, words_of, is_claimed, Listed, Anatomy, order_of, free_of}
 use Rattle.segment_invariant.specs.Seen.{Stands, HasRecord, HasCounts, HasSample, IsFixedIn, IsCounterIn, WasFixed, WasCounter, WasInUse, WasSingle, IsNoLater, AreNoLater, Sees, WasMet}
 use Rattle.segment_invariant.specs.Invariant.{StandsAs, IsListed}
 use Rattle.segment_invariant.proofs.Blocks.Places.{counter_within}
-use Rattle.segment_invariant.proofs.Lists.Elements.{all_of}
+use Rattle.list_lemmas.proofs.Elements.{all_of}
 use Rattle.segment_invariant.proofs.Frames.Leads.{off_leads, leads_on}
 use Rattle.segment_image.specs.declared.layout.TheConstants.{CLAIMED_COOKIE}
 

@@ -12,7 +12,7 @@ use Rattle.segment_machine.specs.declared.seen.Sighting.{Sighting}
 use Rattle.segment_invariant.specs.Body.{Record, Counts, Body, histogram, counts, other, Piece, Listed, listed, Anatomy}
 use Rattle.segment_invariant.specs.Seen.{Stands, HasStill, HoldsAs, WasFixed}
 use Rattle.segment_invariant.specs.Invariant.{IsPassedOver, IsOfOtherType, ArePassedOver, Invariant, HasPassedOver}
-use Rattle.segment_invariant.proofs.Lists.Maps.{contains_mapped}
+use Rattle.list_lemmas.proofs.Maps.{contains_mapped}
 use Rattle.segment_invariant.proofs.Frames.Growth.{Stays}
 use Rattle.segment_invariant.proofs.Frames.Onward.{Onward, fixed_on}
 

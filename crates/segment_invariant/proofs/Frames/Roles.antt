@@ -11,10 +11,10 @@ use Rattle.segment_machine.specs.declared.actor.Actor.{Actor}
 use Rattle.segment_machine.specs.Actor.{log_of, is_opener, made_of, offered_of, outstanding_of}
 use Rattle.segment_invariant.specs.Body.{Anatomy}
 use Rattle.segment_invariant.specs.Invariant.{is_living, RolesAreKept, IsAlone, Fits}
-use Rattle.segment_invariant.proofs.Lists.Elements.{sum_same}
+use Rattle.list_lemmas.proofs.Elements.{sum_same}
 use Rattle.segment_invariant.proofs.Frames.Deeds.{SameSums}
 use Rattle.segment_invariant.proofs.Frames.Together.{fits}
-use Rattle.segment_invariant.proofs.Lists.Maps.{one_at}
+use Rattle.list_lemmas.proofs.Maps.{one_at}
 use Rattle.segment_machine.specs.declared.actor.Role.TheVariants.{Opener, Recorder}
 use Rattle.segment_machine.specs.declared.actor.Role.{Role}
 

@@ -26,7 +26,7 @@ use Rattle.segment_invariant.specs.Body.{Anatomy, order_of, claims_of}
 use Rattle.segment_invariant.specs.Ledger.{moving_at}
 use Rattle.segment_invariant.specs.Seen.{IsNoLater, Sees}
 use Rattle.segment_invariant.specs.Invariant.{CursorsAreKept, SumsAreNear, CallsRight, LooksBack, IsSetBy, StandsRight, IsAhead, Fits, Invariant, summed_cost}
-use Rattle.segment_invariant.proofs.Lists.Elements.{rows, column, sum_same}
+use Rattle.list_lemmas.proofs.Elements.{rows, column, sum_same}
 use Rattle.segment_invariant.proofs.Frames.Ahead.{reached_later}
 use Rattle.segment_invariant.proofs.Frames.Answers.{answered_set}
 use Rattle.segment_invariant.proofs.Frames.Books.{cursors_set, listed_set, noticed_set}

@@ -14,7 +14,7 @@ use Rattle.segment_machine.specs.declared.actor.Known.{Known}
 use Rattle.segment_machine.specs.declared.actor.Own.{Own}
 use Rattle.segment_machine.specs.declared.seen.Sighting.{Sighting}
 use Rattle.segment_machine.specs.Actor.{word_seen}
-use Rattle.segment_machine.specs.Form.{is_off}
+use Rattle.segment_calls.specs.Form.{is_off}
 use Rattle.segment_invariant.specs.Body.{Record, Anatomy, order_of, Piece}
 use Rattle.segment_machine.specs.Seats.{purse}
 use Rattle.segment_invariant.specs.Seen.{IsReachedAt, HasPlain, HasOwn, HasRecord, WasMet}

@@ -5,7 +5,7 @@ use Rattle.std.specs.Prelude.{if◌then◌else◌}
 use mathlib.Core.Option.{some}
 use lib.ListN.{get_elem?}
 use Rattle.std.proofs.lemmas.List.Elements.{All-weaker}
-use Rattle.segment_invariant.proofs.Lists.Elements.{contains_at}
+use Rattle.list_lemmas.proofs.Elements.{contains_at}
 use Rattle.std.proofs.lemmas.List.Sorted.{Contains-permutation}
 use Rattle.atomic_table.proofs.Lists.{at_set}
 use Rattle.segment_image.specs.Shape.{Dimensions}
@@ -24,7 +24,7 @@ use Rattle.segment_invariant.specs.Consistent.{IsWithinCounts}
 use Rattle.segment_invariant.specs.Body.{Record, Anatomy, Piece, Listed}
 use Rattle.segment_invariant.specs.Ledger.{IsBalanced}
 use Rattle.segment_invariant.specs.Invariant.{ended_deltas, is_living, IsMoment, IsMomentOf, IsAlone, IsSumOf, LooksBack, FinalsAreExact, Fits, HasKey, SumsAreNear}
-use Rattle.segment_invariant.proofs.Lists.Maps.{contains_take}
+use Rattle.list_lemmas.proofs.Maps.{contains_take}
 use Rattle.segment_invariant.proofs.Frames.Deeds.{Deeds, SameSums}
 use Rattle.segment_invariant.proofs.Frames.Anew.{fits_anew}
 

@@ -12,7 +12,7 @@ use Rattle.segment_machine.specs.declared.entry.EntryProgress.{EntryProgress}
 use Rattle.segment_machine.specs.Entry.{is_counted, is_summed, is_noted, is_of, tally_units, tally_sum, tally_noted, counted_among, summed_among, noted_among}
 use Rattle.segment_machine.specs.Note.{is_untouched}
 use Rattle.segment_invariant.proofs.Lists.FewTerms.{if_nothing}
-use Rattle.segment_invariant.proofs.Lists.Sums.{IsTotal, amounts_total}
+use Rattle.list_lemmas.proofs.Sums.{IsTotal, amounts_total}
 
 module _ {M : Type 0} (add : M → M → M) (total : List Entry → M) (sums : IsTotal add total) (test : EntryProgress → Bool) where
   abbrev pub among : List EntryProgress → List Entry

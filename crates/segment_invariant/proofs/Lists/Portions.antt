@@ -9,8 +9,8 @@ use Rattle.segment_machine.specs.declared.actor.Actor.{Actor}
 use Rattle.segment_machine.specs.declared.actor.Portion.{Portion}
 use Rattle.segment_machine.specs.declared.actor.Taken.{Taken}
 use Rattle.segment_machine.specs.Actor.{units_listed, portion_of, taken_of, taken_units, taken_sum}
-use Rattle.segment_invariant.proofs.Lists.Maps.{contains_map, contains_mapped}
-use Rattle.segment_invariant.proofs.Lists.Sums.{IsTotal, amounts_total}
+use Rattle.list_lemmas.proofs.Maps.{contains_map, contains_mapped}
+use Rattle.list_lemmas.proofs.Sums.{IsTotal, amounts_total}
 
 -- ---- what it comes to
 

@@ -10,7 +10,7 @@ use Rattle.std.proofs.lemmas.List.Elements.{Contains-append_right}
 use Rattle.std.proofs.lemmas.List.Sums.{sum_by-cons}
 use Rattle.segment_machine.specs.declared.entry.Entry.{Entry}
 use Rattle.segment_machine.specs.Entry.{is_of, tally_units}
-use Rattle.segment_invariant.proofs.Lists.Elements.{at_from, sum_at_least}
+use Rattle.list_lemmas.proofs.Elements.{at_from, sum_at_least}
 
 -- the units of an entry in a tally of a name and a key
 abbrev part : List ℕ → ℤ → Entry → ℕ

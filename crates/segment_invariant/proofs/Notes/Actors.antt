@@ -15,7 +15,7 @@ use Rattle.segment_invariant.specs.Consistent.{IsWithinCounts}
 use Rattle.segment_invariant.specs.Body.{Anatomy}
 use Rattle.segment_invariant.specs.Seen.{Knows, IsFirst, IsFirstOf}
 use Rattle.segment_invariant.specs.Invariant.{AreInOrder, CallsRight, LooksBack, IsQuiet, IsMoment, TookAllOf, FinalsAreExact, OwesPublished, Fits}
-use Rattle.segment_invariant.proofs.Lists.Elements.{none_in}
+use Rattle.list_lemmas.proofs.Elements.{none_in}
 use Rattle.std.proofs.lemmas.List.{drop_all}
 use Rattle.segment_invariant.proofs.Frames.Together.{ended_began, each_began}
 use Rattle.segment_invariant.proofs.Notes.Notes.{Noting, noting, SameCounts, counted_before}

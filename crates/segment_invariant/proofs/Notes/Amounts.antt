@@ -21,8 +21,8 @@ use Rattle.segment_machine.specs.Calls.{change_last}
 use Rattle.segment_machine.specs.Note.{amounts, is_untouched}
 use Rattle.segment_invariant.specs.Invariant.{AreInOrder, StandsRight, summed_cost, IsQuiet, Invariant}
 use Rattle.segment_invariant.specs.Keeps.{NoteKeeps}
-use Rattle.segment_invariant.proofs.Lists.Elements.{not_empty, one_in, below_length, at_snoc_index}
-use Rattle.segment_invariant.proofs.Lists.Maps.{contains_mapped, all_left}
+use Rattle.list_lemmas.proofs.Elements.{not_empty, one_in, below_length, at_snoc_index}
+use Rattle.list_lemmas.proofs.Maps.{contains_mapped, all_left}
 use Rattle.segment_invariant.proofs.Lists.Countings.{among, beside_same, nothing_among, units_total, sum_total, noted_total, no_amount, or_false}
 use Rattle.segment_invariant.proofs.Notes.Notes.{Noting, noting, noting_of, SameCounts, notes_on}
 use Rattle.segment_invariant.proofs.Notes.Actors.{noting_fits, finals_on, calls_by}

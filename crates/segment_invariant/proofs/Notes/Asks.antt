@@ -11,7 +11,7 @@ use Rattle.segment_machine.specs.Note.{asks}
 use Rattle.segment_invariant.specs.Body.{held}
 use Rattle.segment_invariant.specs.Invariant.{HoldsOwn, Invariant}
 use Rattle.segment_invariant.specs.Keeps.{NoteKeeps}
-use Rattle.segment_invariant.proofs.Lists.Elements.{at_from, all_at}
+use Rattle.list_lemmas.proofs.Elements.{at_from, all_at}
 use Rattle.segment_invariant.proofs.Blocks.Pieces.{piece_word}
 use Rattle.segment_invariant.proofs.Allocating.Payloads.{change_one, has_lived, fills}
 

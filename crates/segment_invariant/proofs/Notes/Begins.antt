@@ -14,8 +14,8 @@ use Rattle.segment_machine.specs.Actor.{cost_of, cost_total}
 use Rattle.segment_machine.specs.Note.{begins, looks, is_untouched, noted}
 use Rattle.segment_invariant.specs.Invariant.{AreInOrder, summed_cost, IsQuiet}
 use Rattle.segment_invariant.specs.Keeps.{NoteKeeps}
-use Rattle.segment_invariant.proofs.Lists.Elements.{from_map, all_of}
-use Rattle.segment_invariant.proofs.Lists.Maps.{contains_mapped}
+use Rattle.list_lemmas.proofs.Elements.{from_map, all_of}
+use Rattle.list_lemmas.proofs.Maps.{contains_mapped}
 use Rattle.segment_invariant.proofs.Lists.Countings.{untouched_counts, untouched_sums, untouched_notes}
 use Rattle.segment_invariant.proofs.Notes.Notes.{Noting, noting, noting_of, SameCounts, SameTakes, notes_on}
 use Rattle.segment_invariant.proofs.Notes.Actors.{noting_fits, looks_anew, finals_on, calls_by}

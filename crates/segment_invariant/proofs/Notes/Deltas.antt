@@ -19,7 +19,7 @@ use Rattle.segment_machine.specs.Actor.{units_listed, taken_sum, taken_of, porti
 use Rattle.segment_machine.specs.Note.{takes, moment_of, nothing_taken}
 use Rattle.segment_invariant.specs.Invariant.{is_living, ended_deltas, accepted_at, IsMoment, FinalsAreExact}
 use Rattle.segment_invariant.specs.Keeps.{NoteKeeps}
-use Rattle.segment_invariant.proofs.Lists.Elements.{one_in, below_length}
+use Rattle.list_lemmas.proofs.Elements.{one_in, below_length}
 use Rattle.segment_invariant.proofs.Lists.FewTerms.{if_nothing}
 use Rattle.segment_invariant.proofs.Frames.OneActor.{lives_on}
 use Rattle.segment_invariant.proofs.Frames.GoesOn.{not_opener}

@@ -23,9 +23,9 @@ use Rattle.segment_machine.specs.State.{State}
 use Rattle.segment_invariant.specs.Body.{Anatomy}
 use Rattle.segment_invariant.specs.Invariant.{AreInOrder, CallsRight, summed_cost, IsQuiet, Invariant}
 use Rattle.segment_invariant.specs.Keeps.{NoteKeeps}
-use Rattle.segment_invariant.proofs.Lists.Elements.{none_at, all_of}
+use Rattle.list_lemmas.proofs.Elements.{none_at, all_of}
 use Rattle.segment_invariant.proofs.Frames.OneActor.{summed_most}
-use Rattle.segment_invariant.proofs.Lists.Maps.{all_left, contains_map}
+use Rattle.list_lemmas.proofs.Maps.{all_left, contains_map}
 use Rattle.segment_invariant.proofs.Lists.Countings.{noted_total, untouched_counts, untouched_sums, untouched_notes, untouched_summed}
 use Rattle.segment_invariant.proofs.Notes.Notes.{Noting, noting, noting_of, SameCounts, notes_on}
 use Rattle.segment_invariant.proofs.Notes.Actors.{noting_fits, looks_anew, finals_on, calls_by}

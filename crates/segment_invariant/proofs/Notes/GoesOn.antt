@@ -16,8 +16,8 @@ use Rattle.segment_machine.specs.Actor.{cost_of, cost_total}
 use Rattle.segment_machine.specs.Note.{goes_on, is_untouched}
 use Rattle.segment_invariant.specs.Invariant.{AreInOrder, StandsRight, summed_cost, IsQuiet}
 use Rattle.segment_invariant.specs.Keeps.{NoteKeeps}
-use Rattle.segment_invariant.proofs.Lists.Elements.{one_in, below_length, all_at, at_snoc_index}
-use Rattle.segment_invariant.proofs.Lists.Maps.{all_left}
+use Rattle.list_lemmas.proofs.Elements.{one_in, below_length, all_at, at_snoc_index}
+use Rattle.list_lemmas.proofs.Maps.{all_left}
 use Rattle.segment_invariant.proofs.Lists.Countings.{untouched_counts, untouched_sums, untouched_notes}
 use Rattle.segment_invariant.proofs.Notes.Notes.{Noting, noting, noting_of, SameCounts, notes_on}
 use Rattle.segment_invariant.proofs.Notes.Actors.{noting_fits, finals_on, calls_by}

@@ -18,7 +18,7 @@ use Rattle.bucket_ranges.specs.declared.spec.Spec.{Spec}
 use Rattle.bucket_ranges.specs.declared.spec.Spec.TheVariants.{Linear, Boolean, Custom, Sparse}
 use Rattle.std.specs.Str.{bytes_eq}
 use Rattle.std.specs.List.{filter}
-use Rattle.segment_invariant.proofs.Lists.Firsts.{split_among}
+use Rattle.list_lemmas.proofs.Firsts.{split_among}
 use Rattle.segment_invariant.proofs.Frames.Answers.{answered_declines}
 use Rattle.segment_invariant.proofs.Notes.Begins.{takes_nothing}
 use Rattle.segment_invariant.proofs.Notes.Actors.{noting_fits, finals_on, calls_by}
@@ -32,8 +32,8 @@ use Rattle.segment_machine.specs.declared.actor.Made.TheVariants as made
 use Rattle.segment_machine.specs.Actor.{word_seen, all_published}
 use Rattle.segment_machine.specs.State.{State}
 use Rattle.segment_machine.specs.Seats.{purse}
-use Rattle.segment_invariant.proofs.Lists.Elements.{all_of, split_map, row_in}
-use Rattle.segment_invariant.proofs.Lists.Maps.{contains_map}
+use Rattle.list_lemmas.proofs.Elements.{all_of, split_map, row_in}
+use Rattle.list_lemmas.proofs.Maps.{contains_map}
 use Rattle.segment_machine.specs.Made.{AreNameWords, SawName, SawOtherName, SawSpec, SawOtherSpec, IsFirstNamed}
 use Rattle.segment_machine.specs.Note.{knows, MayNote, declines}
 use Rattle.segment_invariant.specs.Body.{Record, Listed, spec_field, record_words, histogram, sample, other, Anatomy, order_of, listed, Body, words_of}

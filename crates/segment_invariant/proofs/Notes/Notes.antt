@@ -22,7 +22,7 @@ use Rattle.segment_machine.specs.State.{State}
 use Rattle.segment_invariant.specs.Body.{Anatomy, order_of, claims_of}
 use Rattle.segment_invariant.specs.Ledger.{moving_at}
 use Rattle.segment_invariant.specs.Invariant.{summed_cost, StandsRight, Fits, HasKey, Invariant, AreAnswered}
-use Rattle.segment_invariant.proofs.Lists.Elements.{none_in, rows_total, rows, row_in, row_from, column, sum_same, sum_beside}
+use Rattle.list_lemmas.proofs.Elements.{none_in, rows_total, rows, row_in, row_from, column, sum_same, sum_beside}
 use Rattle.segment_invariant.proofs.Lists.Countings.{units_total, sum_total, noted_total}
 use Rattle.segment_invariant.proofs.Lists.Tallies.{HasUnits, tally_from, tally_at}
 use Rattle.segment_invariant.proofs.Frames.GoesOn.{not_opener}

@@ -26,9 +26,9 @@ use Rattle.segment_invariant.specs.Body.{Record, histogram, Anatomy}
 use Rattle.segment_invariant.specs.Seen.{Knows, HasRecord, IsFirstOf}
 use Rattle.segment_invariant.specs.Invariant.{IsAlone, IsMoment, FinalsAreExact, Invariant}
 use Rattle.segment_invariant.specs.Keeps.{NoteKeeps}
-use Rattle.segment_invariant.proofs.Lists.Elements.{one_in, all_at, all_from, at_from, from_map}
+use Rattle.list_lemmas.proofs.Elements.{one_in, all_at, all_from, at_from, from_map}
 use Rattle.segment_invariant.proofs.Lists.FewTerms.{sum_none, sum_one}
-use Rattle.segment_invariant.proofs.Lists.Maps.{contains_mapped}
+use Rattle.list_lemmas.proofs.Maps.{contains_mapped}
 use Rattle.segment_invariant.proofs.Consistency.Keys.{one_key}
 use Rattle.segment_invariant.proofs.Consistency.Firsts.{record_of_first}
 use Rattle.segment_invariant.proofs.Consistency.Books.{range_at, range_there}

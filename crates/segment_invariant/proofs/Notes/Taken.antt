@@ -20,8 +20,8 @@ use Rattle.segment_invariant.specs.Consistent.{units_taken}
 use Rattle.segment_invariant.specs.Body.{Anatomy}
 use Rattle.segment_invariant.specs.Invariant.{IsAlone, StandsRight, ended_deltas, accepted_at, TookAllOf, FinalsAreExact, Invariant}
 use Rattle.segment_invariant.specs.Keeps.{NoteKeeps}
-use Rattle.segment_invariant.proofs.Lists.Elements.{one_in, contains_at}
-use Rattle.segment_invariant.proofs.Lists.Maps.{at_either}
+use Rattle.list_lemmas.proofs.Elements.{one_in, contains_at}
+use Rattle.list_lemmas.proofs.Maps.{at_either}
 use Rattle.segment_invariant.proofs.Taking.Lasts.{ended_before}
 use Rattle.segment_invariant.proofs.Counting.Owed.{bucket_owed, mark_taken, sample_taken}
 use Rattle.segment_invariant.proofs.Recorders.Alone.{counted_accepted, summed_accepted}

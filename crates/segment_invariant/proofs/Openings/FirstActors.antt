@@ -26,7 +26,7 @@ use Rattle.segment_invariant.specs.Body.{Anatomy, order_of}
 use Rattle.segment_invariant.specs.Seen.{IsFirst, IsFirstOf, Sees, Knows}
 use Rattle.segment_invariant.specs.Invariant.{is_living, RolesAreKept, CursorsAreKept, CallsRight, IsMomentOf, FinalsAreExact, Fits}
 use Rattle.segment_invariant.proofs.Frames.Ahead.{ahead_anew}
-use Rattle.segment_invariant.proofs.Lists.Elements.{none_in, none_at, each_of_one}
+use Rattle.list_lemmas.proofs.Elements.{none_in, none_at, each_of_one}
 
 -- there are no two of a list of one
 pub no_two : {X : Type 0} (one : X) (i j : ℕ) (x y : X) → get_elem? (one ∷ []) i ≡ some x → get_elem? (one ∷ []) j ≡ some y → i ≢ j → ⊥

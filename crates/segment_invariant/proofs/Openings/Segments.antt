@@ -18,7 +18,7 @@ use Rattle.segment_invariant.specs.Seen.{Stands, HasRecord, HasCounts, HasSample
 use Rattle.segment_invariant.specs.Invariant.{ListIsKept, IsListed, RecordsAreKept, ArePassedOver, Fits, Invariant, ClaimedRight, StandsRight}
 use Rattle.segment_invariant.specs.Keeps.{OpeningIsKept, NewIsOpening}
 use Rattle.segment_invariant.proofs.Openings.FirstActors.{first_roles, first_cursors, first_fits}
-use Rattle.segment_invariant.proofs.Lists.Elements.{none_in, not_empty, each_of_one}
+use Rattle.list_lemmas.proofs.Elements.{none_in, not_empty, each_of_one}
 
 -- ---- the queue block alone
 

@@ -15,7 +15,7 @@ use Rattle.segment_machine.specs.declared.seen.Sighting.{Sighting}
 use Rattle.segment_machine.specs.Actor.{is_bound, Buckets, is_opener}
 use Rattle.segment_machine.specs.Event.{packing_event, Ready}
 use Rattle.segment_machine.specs.Calls.{look_of}
-use Rattle.segment_machine.specs.Form.{off_word}
+use Rattle.segment_calls.specs.Form.{off_word}
 use Rattle.segment_machine.specs.Packing.{pack, disable, after_pack, after_disable}
 use Rattle.segment_machine.specs.State.{State}
 use Rattle.segment_invariant.specs.Body.{Record, histogram, Anatomy, order_of}

@@ -24,7 +24,7 @@ use Rattle.segment_machine.specs.declared.place.Place.TheVariants.{Spent, Lookin
 use Rattle.segment_machine.specs.Actor.{taken_units, known_at, known_buckets, bucket_key, Buckets, taken_of, is_opener}
 use Rattle.segment_machine.specs.Calls.{look_of, nothing_of, form_seen}
 use Rattle.segment_machine.specs.Event.{packing_event, Ready}
-use Rattle.segment_machine.specs.Form.{is_off, units_in, off_word}
+use Rattle.segment_calls.specs.Form.{is_off, units_in, off_word}
 use Rattle.segment_machine.specs.Packing.{disable, after_disabling, after_disable}
 use Rattle.segment_machine.specs.State.{State}
 use Rattle.segment_invariant.specs.Body.{Record, Counts, histogram, Anatomy}
@@ -32,7 +32,7 @@ use Rattle.segment_invariant.specs.Keeps.{EventKeeps}
 use Rattle.segment_invariant.specs.Ledger.{form_at, of_name, at_bucket, key_of_bucket, units_held, moving_at, moving_of}
 use Rattle.segment_invariant.specs.Seen.{HasRecord, IsFirst, WasFixed, WasInUse}
 use Rattle.segment_invariant.specs.Invariant.{is_beaten, LooksRight, IsLawfulRecord, IsCountsOf, StandsRight, Invariant}
-use Rattle.segment_invariant.proofs.Lists.Elements.{at_from}
+use Rattle.list_lemmas.proofs.Elements.{at_from}
 use Rattle.segment_invariant.proofs.Lists.FewTerms.{if_nothing, zero_index}
 use Rattle.segment_invariant.proofs.Consistency.Keys.{packed_within, no_units, at_no_bucket}
 use Rattle.segment_invariant.proofs.Consistency.Totals.{find_known}

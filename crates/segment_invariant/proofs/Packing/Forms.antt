@@ -4,7 +4,7 @@ use Rattle.std.proofs.lemmas.Bool.{lt-ltb, lt-leb, le-leb, ne_eqb}
 use Rattle.bucket_ranges.specs.declared.single.SingleWord.{SingleWord}
 use Rattle.bucket_ranges.specs.declared.single.SingleWord.TheVariants.{Empty, Packed, Disabled, FrozenEmpty, Frozen}
 use Rattle.bucket_ranges.specs.Single.{single_of, is_packed_word, packed_bucket, units_packed}
-use Rattle.segment_machine.specs.Form.{is_off, units_in, packed_word, IsPacking, Leads}
+use Rattle.segment_calls.specs.Form.{is_off, units_in, packed_word, IsPacking, Leads}
 
 -- of a bucket a word holds no more than it holds
 pub units_most : (form : Option SingleWord) (i : ℕ) → units_packed form i ≤ units_in form

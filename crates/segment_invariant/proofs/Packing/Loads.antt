@@ -13,7 +13,7 @@ use Rattle.segment_machine.specs.declared.place.Place.{Place}
 use Rattle.segment_machine.specs.declared.place.Place.TheVariants.{Spent, Looking}
 use Rattle.segment_machine.specs.declared.seen.Sighting.{Sighting}
 use Rattle.segment_machine.specs.Calls.{look_of, nothing_of}
-use Rattle.segment_machine.specs.Form.{Leads}
+use Rattle.segment_calls.specs.Form.{Leads}
 use Rattle.segment_machine.specs.State.{State}
 use Rattle.segment_machine.specs.Packing.{load_single, IsSingleOf}
 use Rattle.segment_machine.specs.Event.{packing_event, Ready, next}

@@ -35,7 +35,7 @@ use Rattle.segment_invariant.proofs.Frames.OneActor.{Doing, doing_of, SameDeeds,
 use Rattle.segment_invariant.proofs.Frames.Onward.{sees_on}
 use Rattle.segment_invariant.proofs.Frames.Shown.{Goes}
 use Rattle.segment_invariant.proofs.Frames.Together.{balanced, finals}
-use Rattle.segment_invariant.proofs.Lists.Elements.{row_in}
+use Rattle.list_lemmas.proofs.Elements.{row_in}
 use Rattle.segment_invariant.proofs.Lists.Ends.{all_without, distinct_filter}
 use Rattle.segment_invariant.proofs.Counting.Learned.{counts_stay}
 use Rattle.segment_invariant.proofs.Counting.Loaded.{counts_found, counts_within, counts_fixed}

@@ -8,7 +8,7 @@ use Rattle.std.proofs.lemmas.List.{length-replicate}
 use Rattle.bucket_ranges.specs.declared.single.SingleWord.{SingleWord}
 use Rattle.bucket_ranges.specs.declared.single.SingleWord.TheVariants.{Empty, Packed, Disabled, FrozenEmpty, Frozen}
 use Rattle.bucket_ranges.specs.Single.{packed_bucket, units_packed}
-use Rattle.segment_machine.specs.Form.{units_in}
+use Rattle.segment_calls.specs.Form.{units_in}
 use Rattle.segment_invariant.specs.Ledger.{form_at}
 use Rattle.segment_invariant.specs.Invariant.{IsCountsOf}
 use Rattle.segment_invariant.proofs.Lists.FewTerms.{zero_index}

@@ -24,14 +24,14 @@ use Rattle.segment_machine.specs.declared.seen.Seen.{Seen}
 use Rattle.segment_machine.specs.Actor.{bucket_key, is_opener}
 use Rattle.segment_machine.specs.Calls.{back}
 use Rattle.segment_machine.specs.Event.{packing_event, Ready}
-use Rattle.segment_machine.specs.Form.{is_off}
+use Rattle.segment_calls.specs.Form.{is_off}
 use Rattle.segment_machine.specs.Packing.{add_moved}
 use Rattle.segment_machine.specs.State.{State}
 use Rattle.segment_invariant.specs.Body.{Record, Counts, histogram, counts, Anatomy}
 use Rattle.segment_invariant.specs.Ledger.{of_name, key_of_bucket, keyed, units_held, moving_at, moving_of}
 use Rattle.segment_invariant.specs.Seen.{HasRecord, HasCounts, WasFixed}
 use Rattle.segment_invariant.specs.Invariant.{is_beaten, LooksRight, IsCountsOf, StandsRight, Invariant}
-use Rattle.segment_invariant.proofs.Lists.Elements.{at_from}
+use Rattle.list_lemmas.proofs.Elements.{at_from}
 use Rattle.segment_invariant.proofs.Consistency.Keys.{packed_within}
 use Rattle.segment_invariant.proofs.Consistency.Totals.{find_known}
 use Rattle.segment_invariant.proofs.Frames.GoesOn.{happens}

@@ -9,7 +9,7 @@ use Rattle.bucket_ranges.specs.Spec.{spec_fault, buckets_of}
 use Rattle.bucket_ranges.specs.Single.{single_of, is_packed_word, packed_of, disabled_of, frozen_of, packed_bucket}
 use Rattle.bucket_ranges.proofs.Ascent.{is_linear-from_checks}
 use Rattle.bucket_ranges.proofs.Customs.{is_custom-from_checks, length-distinct}
-use Rattle.segment_machine.specs.Form.{is_off, units_in, off_word, Leads}
+use Rattle.segment_calls.specs.Form.{is_off, units_in, off_word, Leads}
 
 -- a lawful spec has at most 1,000 buckets
 pub few_buckets : (spec : Spec) → spec_fault spec ≡ None → buckets_of spec ≤ 1000

@@ -20,7 +20,7 @@ use Rattle.segment_machine.specs.Actor.{is_bound, Buckets, is_opener}
 use Rattle.segment_machine.specs.Calls.{IsKeyOfBucket}
 use Rattle.segment_machine.specs.Entry.{is_counted}
 use Rattle.segment_machine.specs.Event.{packing_event, Ready}
-use Rattle.segment_machine.specs.Form.{is_off, units_in, IsPacking}
+use Rattle.segment_calls.specs.Form.{is_off, units_in, IsPacking}
 use Rattle.segment_machine.specs.Packing.{pack, after_pack}
 use Rattle.segment_machine.specs.State.{State}
 use Rattle.segment_invariant.specs.Body.{Record, Counts, histogram, Anatomy}

@@ -14,7 +14,7 @@ use Rattle.segment_machine.specs.Event.{packing_event, Ready}
 use Rattle.segment_machine.specs.Calls.{back, change_own}
 use Rattle.segment_invariant.specs.Body.{Anatomy, layout_of}
 use Rattle.segment_invariant.specs.Invariant.{StandsRight, HoldsOwn, is_beaten, Invariant}
-use Rattle.segment_invariant.proofs.Lists.Elements.{at_from, all_at}
+use Rattle.list_lemmas.proofs.Elements.{at_from, all_at}
 use Rattle.segment_invariant.proofs.Frames.GoesOn.{happens}
 use Rattle.segment_invariant.proofs.Frames.OneActor.{is_plain, turns_plain}
 use Rattle.segment_invariant.proofs.Frames.Shown.{Goes}

@@ -19,7 +19,7 @@ use Rattle.segment_machine.specs.Event.{publishing_event, Ready}
 use Rattle.segment_invariant.specs.Keeps.{PublishingKeeps}
 use Rattle.segment_invariant.specs.Body.{Anatomy}
 use Rattle.segment_invariant.specs.Invariant.{Invariant}
-use Rattle.segment_invariant.proofs.Lists.Elements.{at_from}
+use Rattle.list_lemmas.proofs.Elements.{at_from}
 use Rattle.segment_invariant.proofs.Frames.GoesOn.{happens}
 use Rattle.segment_invariant.proofs.Publishing.Linkable.{Onward, histogram_linked, sample_linked}
 use Rattle.segment_invariant.proofs.Frames.Shown.{Goes}

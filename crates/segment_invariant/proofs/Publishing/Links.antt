@@ -38,7 +38,7 @@ use Rattle.segment_machine.specs.Publishing.{own_at, published_as, owed_for}
 use Rattle.segment_invariant.specs.Body.{Record, Counts, Sample, Body, queue, plain, held, histogram, counts, sample, other, words_of, is_claimed, Piece, extent_of, Listed, listed, Anatomy, layout_of, order_of, free_of, claims_of}
 use Rattle.segment_invariant.specs.Seen.{Stands, Sees, IsNamed, IsValued, IsNoLater}
 use Rattle.segment_invariant.specs.Invariant.{StandsAs, IsListed, ListIsKept, StandsRight, HoldsOwn, Fits, CursorsAreKept, IsSetBy, ClaimedRight, Invariant, AreAnswered, IsAhead, is_beaten}
-use Rattle.segment_invariant.proofs.Lists.Elements.{rows, rows_more, column, at_from, below_length, index_at, all_at, row_in}
+use Rattle.list_lemmas.proofs.Elements.{rows, rows_more, column, at_from, below_length, index_at, all_at, row_in}
 use Rattle.segment_invariant.proofs.Blocks.Pieces.{piece_word, first_piece, some_first, one_index, one_piece, with_piece, piece_stored, free_with, queue_piece, queue_stored, claims_same}
 use Rattle.segment_invariant.proofs.Blocks.Stops.{stop_open}
 use Rattle.segment_invariant.proofs.Frames.OneActor.{Doing, doing, doing_of, TurnsTo, turns_plain, is_plain, SameDeeds, same_deeds, same_role, same_sums, fits_same}

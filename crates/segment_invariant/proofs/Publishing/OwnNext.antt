@@ -12,7 +12,7 @@ use Rattle.segment_machine.specs.Event.{publishing_event, Ready}
 use Rattle.segment_machine.specs.Calls.{change_own}
 use Rattle.segment_invariant.specs.Body.{Anatomy, layout_of}
 use Rattle.segment_invariant.specs.Invariant.{HoldsOwn, Invariant}
-use Rattle.segment_invariant.proofs.Lists.Elements.{at_from, all_at}
+use Rattle.list_lemmas.proofs.Elements.{at_from, all_at}
 use Rattle.segment_invariant.proofs.Frames.GoesOn.{happens}
 use Rattle.segment_invariant.proofs.Allocating.Payloads.{change_one, has_lived, fills}
 use Rattle.segment_invariant.proofs.Frames.Shown.{Goes}

@@ -22,9 +22,9 @@ use Rattle.segment_machine.specs.Seats.{purse}
 use Rattle.segment_machine.specs.State.{State}
 use Rattle.segment_invariant.specs.Body.{Anatomy}
 use Rattle.segment_invariant.specs.Invariant.{IsAlone, StandsRight, Invariant}
-use Rattle.segment_invariant.proofs.Lists.Sums.{IsTotal}
+use Rattle.list_lemmas.proofs.Sums.{IsTotal}
 use Rattle.segment_invariant.proofs.Lists.FewTerms.{sum_pair, flat_two}
-use Rattle.segment_invariant.proofs.Lists.Maps.{one_at}
+use Rattle.list_lemmas.proofs.Maps.{one_at}
 use Rattle.segment_invariant.proofs.Lists.Countings.{nothing_among, units_total, noted_total, no_units, no_noted, counted_none, noted_none}
 use Rattle.segment_invariant.proofs.Frames.OneActor.{lives_on}
 use Rattle.segment_invariant.proofs.Frames.GoesOn.{not_opener}

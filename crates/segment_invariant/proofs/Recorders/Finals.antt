@@ -25,9 +25,9 @@ use Rattle.segment_machine.specs.Seats.{joined, shifted, shifted_taken, shifted_
 use Rattle.segment_invariant.specs.Body.{Anatomy, held, layout_of}
 use Rattle.segment_invariant.specs.Seen.{Stands}
 use Rattle.segment_invariant.specs.Invariant.{is_living, ended_deltas, accepted_at, TookAllOf, IsQuiet, IsMoment, IsMomentOf, FinalsAreExact, HoldsOwn}
-use Rattle.segment_invariant.proofs.Lists.Elements.{all_at, contains_at, from_map}
+use Rattle.list_lemmas.proofs.Elements.{all_at, contains_at, from_map}
 use Rattle.segment_invariant.proofs.Blocks.Pieces.{one_stands}
-use Rattle.segment_invariant.proofs.Lists.Maps.{map_after, contains_mapped, all_left, drop_left, at_either}
+use Rattle.list_lemmas.proofs.Maps.{map_after, contains_mapped, all_left, drop_left, at_either}
 use Rattle.segment_invariant.proofs.Frames.Together.{ended_among}
 use Rattle.segment_invariant.proofs.Recorders.PassedBlocks.{handed, stands_given, stands_left}
 use Rattle.segment_invariant.proofs.Recorders.Joined.{Joins}

@@ -36,7 +36,7 @@ use Rattle.segment_invariant.specs.Seen.{WasSingle, WasCounter, WasInUse, WasFix
 use Rattle.segment_invariant.proofs.Frames.OneActor.{rests_at}
 use Rattle.segment_invariant.proofs.Blocks.Places.{fixed_within}
 use Rattle.segment_invariant.proofs.Blocks.Pieces.{one_index}
-use Rattle.segment_invariant.proofs.Lists.Maps.{map_after, front_of_front}
+use Rattle.list_lemmas.proofs.Maps.{map_after, front_of_front}
 use Rattle.segment_invariant.proofs.Frames.Deeds.{Deeds}
 use Rattle.segment_invariant.proofs.Lists.Countings.{noted_total}
 use Rattle.segment_invariant.proofs.Frames.Standing.{met_more}

@@ -26,8 +26,8 @@ use Rattle.segment_invariant.specs.Invariant.{is_living, IsMomentOf, RolesAreKep
 use Rattle.segment_invariant.proofs.Frames.OneActor.{lives_on}
 use Rattle.segment_invariant.proofs.Frames.Anatomies.{grounds_along}
 use Rattle.segment_invariant.proofs.Frames.Standing.{follows_itself, stands_on}
-use Rattle.segment_invariant.proofs.Lists.Elements.{none_at, sum_beside, below_length}
-use Rattle.segment_invariant.proofs.Lists.Maps.{each_of_two}
+use Rattle.list_lemmas.proofs.Elements.{none_at, sum_beside, below_length}
+use Rattle.list_lemmas.proofs.Maps.{each_of_two}
 use Rattle.segment_invariant.proofs.Frames.Deeds.{Deeds, deeds_set, sums_of}
 use Rattle.segment_invariant.proofs.Frames.Together.{LoadedBefore}
 use Rattle.segment_invariant.proofs.Frames.Books.{GivenInOrder, books_of, books_by, kept_by}

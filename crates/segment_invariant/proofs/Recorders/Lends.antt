@@ -19,8 +19,8 @@ use Rattle.segment_invariant.specs.Keeps.{OffersKeep, LendsKeep, ReturnsKeep, Po
 use Rattle.segment_invariant.specs.Body.{Anatomy, order_of}
 use Rattle.segment_invariant.specs.Ledger.{moving_at}
 use Rattle.segment_invariant.specs.Invariant.{is_living, summed_cost, RolesAreKept, StandsRight, Fits, Invariant}
-use Rattle.segment_invariant.proofs.Lists.Elements.{sum_beside, below_length}
-use Rattle.segment_invariant.proofs.Lists.Maps.{each_of_two}
+use Rattle.list_lemmas.proofs.Elements.{sum_beside, below_length}
+use Rattle.list_lemmas.proofs.Maps.{each_of_two}
 use Rattle.segment_invariant.proofs.Frames.Deeds.{Deeds, sums_of}
 use Rattle.segment_invariant.proofs.Frames.GoesOn.{not_opener}
 use Rattle.segment_invariant.proofs.Frames.Together.{LoadedBefore}

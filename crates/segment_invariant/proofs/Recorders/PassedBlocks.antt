@@ -16,9 +16,9 @@ use Rattle.segment_machine.specs.declared.actor.Claim.{Claim}
 use Rattle.segment_invariant.specs.Body.{Body, words_of, Piece, extent_of, block_of, Anatomy, layout_of, free_of, is_claimed, claims_of}
 use Rattle.segment_invariant.specs.Seen.{Stands, Knows, Sees}
 use Rattle.segment_invariant.specs.Invariant.{StandStill, ClaimedRight, CallsRight, Fits}
-use Rattle.segment_invariant.proofs.Lists.Elements.{from_map}
+use Rattle.list_lemmas.proofs.Elements.{from_map}
 use Rattle.segment_invariant.proofs.Frames.Anatomies.{balanced_along, list_along, records_along, sums_along, sees_along, names_along, calls_along, fits_along}
-use Rattle.segment_invariant.proofs.Lists.Maps.{map_after}
+use Rattle.list_lemmas.proofs.Maps.{map_after}
 use Rattle.segment_invariant.proofs.Frames.Books.{Books}
 use Rattle.segment_invariant.proofs.Frames.Growth.{reshaped, Stays}
 use Rattle.segment_invariant.proofs.Frames.PassedOver.{passed_on, still_there}

@@ -19,8 +19,8 @@ use Rattle.segment_machine.specs.Seats.{MayFill, lender, purse}
 use Rattle.segment_invariant.specs.Keeps.{FillsKeep}
 use Rattle.segment_invariant.specs.Body.{Anatomy, order_of}
 use Rattle.segment_invariant.specs.Invariant.{is_living, RolesAreKept, StandsRight, Fits, Invariant}
-use Rattle.segment_invariant.proofs.Lists.Elements.{none_at, sum_beside, below_length}
-use Rattle.segment_invariant.proofs.Lists.Maps.{each_of_more}
+use Rattle.list_lemmas.proofs.Elements.{none_at, sum_beside, below_length}
+use Rattle.list_lemmas.proofs.Maps.{each_of_more}
 use Rattle.segment_invariant.proofs.Frames.Deeds.{Deeds, deeds_more, sums_of}
 use Rattle.segment_invariant.proofs.Frames.Together.{LoadedBefore}
 use Rattle.segment_invariant.proofs.Frames.Books.{GivenInOrder, books_of, books_by, kept_by}

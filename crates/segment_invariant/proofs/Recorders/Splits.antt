@@ -29,9 +29,9 @@ use Rattle.segment_invariant.specs.Keeps.{SplitsKeep}
 use Rattle.segment_invariant.specs.Body.{Anatomy, order_of}
 use Rattle.segment_invariant.specs.Seen.{Knows}
 use Rattle.segment_invariant.specs.Invariant.{is_living, HoldsOwn, CallsRight, IsAlone, LooksBack, FinalsAreExact, RolesAreKept, StandsRight, Fits, Invariant}
-use Rattle.segment_invariant.proofs.Lists.Elements.{none_in, none_at, contains_filter, sum_at_least, sum_beside, below_length}
+use Rattle.list_lemmas.proofs.Elements.{none_in, none_at, contains_filter, sum_at_least, sum_beside, below_length}
 use Rattle.segment_invariant.proofs.Frames.OneActor.{lives_on}
-use Rattle.segment_invariant.proofs.Lists.Maps.{each_of_more, contains_map, contains_mapped, one_at}
+use Rattle.list_lemmas.proofs.Maps.{each_of_more, contains_map, contains_mapped, one_at}
 use Rattle.segment_invariant.proofs.Frames.Deeds.{Deeds, deeds_more, sums_of}
 use Rattle.segment_invariant.proofs.Frames.Together.{LoadedBefore, IsLater, fits}
 use Rattle.segment_invariant.proofs.Frames.Books.{GivenInOrder, books_of, books_by, kept_by}

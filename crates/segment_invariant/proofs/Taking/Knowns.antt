@@ -16,7 +16,7 @@ use Rattle.segment_invariant.specs.Body.{Record, Anatomy}
 use Rattle.segment_invariant.specs.Ledger.{key_of_bucket}
 use Rattle.segment_invariant.specs.Seen.{HasRecord, IsFirst}
 use Rattle.segment_invariant.specs.Invariant.{Invariant}
-use Rattle.segment_invariant.proofs.Lists.Elements.{at_from}
+use Rattle.list_lemmas.proofs.Elements.{at_from}
 use Rattle.segment_invariant.proofs.Consistency.Totals.{find_known}
 use Rattle.segment_invariant.proofs.Counting.Looks.{knows_of, one_record}
 

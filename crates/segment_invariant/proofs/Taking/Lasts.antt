@@ -25,7 +25,7 @@ use Rattle.segment_invariant.specs.Body.{Listed, Anatomy}
 use Rattle.segment_invariant.specs.Seen.{IsFirst, IsFirstOf}
 use Rattle.segment_invariant.specs.Ledger.{of_name, amount_of_name}
 use Rattle.segment_invariant.specs.Invariant.{ended_deltas, accepted_at, IsAlone, IsMoment, IsMomentOf, CallsRight, RolesAreKept, FinalsAreExact}
-use Rattle.segment_invariant.proofs.Lists.Elements.{one_in, below_length}
+use Rattle.list_lemmas.proofs.Elements.{one_in, below_length}
 use Rattle.segment_invariant.proofs.Lists.FewTerms.{if_nothing}
 use Rattle.segment_invariant.proofs.Notes.Amounts.{last_changed}
 use Rattle.segment_invariant.proofs.Frames.Roles.{AllStood}

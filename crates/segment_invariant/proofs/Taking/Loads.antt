@@ -19,7 +19,7 @@ use Rattle.segment_machine.specs.Event.{taking_event, Ready, next}
 use Rattle.segment_invariant.specs.Body.{Record, histogram, Anatomy, Sample, sample}
 use Rattle.segment_invariant.specs.Seen.{HasRecord, IsCounterIn, WasCounter, WasInUse, WasMet, HasSample}
 use Rattle.segment_invariant.specs.Invariant.{StandsRight, SumsAreNear, IsSumOf, summed_cost, Invariant}
-use Rattle.segment_invariant.proofs.Lists.Elements.{sum_same}
+use Rattle.list_lemmas.proofs.Elements.{sum_same}
 use Rattle.segment_invariant.proofs.Blocks.Places.{counter_within}
 use Rattle.segment_invariant.proofs.Frames.GoesOn.{happens}
 use Rattle.segment_invariant.proofs.Frames.OneActor.{rests_at}

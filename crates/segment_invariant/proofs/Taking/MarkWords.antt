@@ -17,7 +17,7 @@ use Rattle.segment_machine.specs.declared.place.Place.TheVariants.{Spent, Lookin
 use Rattle.segment_machine.specs.declared.seen.Seen.{Seen}
 use Rattle.segment_machine.specs.declared.seen.Sighting.{Sighting}
 use Rattle.segment_machine.specs.Actor.{is_bound, is_opener}
-use Rattle.segment_machine.specs.Form.{is_off}
+use Rattle.segment_calls.specs.Form.{is_off}
 use Rattle.segment_machine.specs.State.{State}
 use Rattle.segment_invariant.specs.Body.{Record, Counts, Sample, counts, sample, counts_words, Anatomy}
 use Rattle.segment_invariant.specs.Ledger.{form_at}

@@ -24,7 +24,7 @@ use Rattle.segment_machine.specs.Actor.{is_bound, bucket_key, known_at, all_coun
 use Rattle.segment_machine.specs.Calls.{back, change_last, form_seen}
 use Rattle.segment_machine.specs.Entry.{tally_units}
 use Rattle.segment_machine.specs.Event.{taking_event}
-use Rattle.segment_machine.specs.Form.{is_off}
+use Rattle.segment_calls.specs.Form.{is_off}
 use Rattle.segment_machine.specs.State.{State}
 use Rattle.segment_machine.specs.Taking.{raise_mark, take_units, taken_key, Takes}
 use Rattle.segment_invariant.specs.Body.{Record, Counts, histogram, counts, Anatomy}

@@ -26,7 +26,7 @@ use Rattle.segment_machine.specs.Actor.{is_bound, all_counted, all_taken, taken_
 use Rattle.segment_machine.specs.Calls.{back, change_last}
 use Rattle.segment_machine.specs.Entry.{tally_units}
 use Rattle.segment_machine.specs.Event.{taking_event}
-use Rattle.segment_machine.specs.Form.{units_in}
+use Rattle.segment_calls.specs.Form.{units_in}
 use Rattle.segment_machine.specs.State.{State}
 use Rattle.segment_machine.specs.Taking.{raise_single_mark, take_units, single_key, Takes}
 use Rattle.segment_invariant.specs.Body.{Record, Counts, histogram, Anatomy}

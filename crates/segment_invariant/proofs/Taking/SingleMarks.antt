@@ -16,7 +16,7 @@ use Rattle.segment_machine.specs.Actor.{is_bound, bucket_key, known_at, all_coun
 use Rattle.segment_machine.specs.Calls.{back, form_seen}
 use Rattle.segment_machine.specs.Entry.{tally_units}
 use Rattle.segment_machine.specs.Event.{taking_event}
-use Rattle.segment_machine.specs.Form.{is_off, units_in, Leads}
+use Rattle.segment_calls.specs.Form.{is_off, units_in, Leads}
 use Rattle.segment_machine.specs.State.{State}
 use Rattle.segment_machine.specs.Taking.{raise_single_mark, single_key, packed_key, Takes}
 use Rattle.segment_invariant.specs.Body.{Record, Counts, Anatomy}

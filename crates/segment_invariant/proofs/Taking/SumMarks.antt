@@ -34,7 +34,7 @@ use Rattle.segment_invariant.specs.Ledger.{amount_of_name}
 use Rattle.segment_invariant.specs.Seen.{HasRecord, IsFirst, Knows}
 use Rattle.segment_invariant.specs.Invariant.{IsLawfulRecord, IsAlone, IsSumOf, SumsAreNear, summed_cost, ended_deltas, accepted_at, IsMomentOf, FinalsAreExact, Invariant, summed_costs, HasKey, is_beaten}
 use Rattle.segment_invariant.specs.Keeps.{EventKeeps}
-use Rattle.segment_invariant.proofs.Lists.Elements.{rows, row_in, one_in, below_length, sum_same}
+use Rattle.list_lemmas.proofs.Elements.{rows, row_in, one_in, below_length, sum_same}
 use Rattle.segment_invariant.proofs.Lists.Ends.{snoc_split}
 use Rattle.segment_invariant.proofs.Frames.Anatomies.{calls_same}
 use Rattle.segment_invariant.proofs.Frames.Answers.{first_one}

@@ -27,7 +27,7 @@ use Rattle.segment_invariant.specs.Body.{Body, Anatomy}
 use Rattle.segment_invariant.specs.Ledger.{of_name, amount_of_name, units_held, marks_held, sum_held, sum_mark_held, noted_held}
 use Rattle.segment_invariant.specs.Seen.{Stands}
 use Rattle.segment_invariant.specs.Invariant.{RecordsAreKept, StandsRight, summed_cost, HasKey, Invariant}
-use Rattle.segment_invariant.proofs.Lists.Elements.{rows, row_in, one_in, none_in, sum_same}
+use Rattle.list_lemmas.proofs.Elements.{rows, row_in, one_in, none_in, sum_same}
 use Rattle.segment_invariant.proofs.Frames.Ahead.{KeepsUp}
 use Rattle.segment_invariant.proofs.Frames.GoesOn.{not_opener}
 use Rattle.segment_invariant.proofs.Frames.OneActor.{lives_on, rests_at}

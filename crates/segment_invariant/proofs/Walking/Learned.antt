@@ -24,8 +24,8 @@ use Rattle.segment_machine.specs.Walking.{extended, records_met, IsNextOf}
 use Rattle.segment_invariant.specs.Body.{Listed, listed, Anatomy, order_of}
 use Rattle.segment_invariant.specs.Seen.{IsNoLater}
 use Rattle.segment_invariant.specs.Invariant.{Invariant}
-use Rattle.segment_invariant.proofs.Lists.Elements.{row_in}
-use Rattle.segment_invariant.proofs.Lists.Maps.{contains_map}
+use Rattle.list_lemmas.proofs.Elements.{row_in}
+use Rattle.list_lemmas.proofs.Maps.{contains_map}
 use Rattle.segment_invariant.proofs.Frames.Growth.{stop_at}
 use Rattle.segment_invariant.proofs.Walking.Room.{list_fits}
 

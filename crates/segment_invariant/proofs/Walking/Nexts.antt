@@ -27,7 +27,7 @@ use Rattle.segment_invariant.proofs.Frames.Ahead.{ahead_at, unbound_unbeaten, re
 use Rattle.segment_invariant.specs.Body.{Anatomy, order_of}
 use Rattle.segment_invariant.specs.Seen.{IsNoLater}
 use Rattle.segment_invariant.specs.Invariant.{StandsRight, Invariant}
-use Rattle.segment_invariant.proofs.Lists.Elements.{at_from, below_length, index_at}
+use Rattle.list_lemmas.proofs.Elements.{at_from, below_length, index_at}
 use Rattle.segment_invariant.proofs.Frames.OneActor.{Doing, doing, TurnsTo, is_plain, turns_plain, turns_not}
 use Rattle.segment_invariant.proofs.Frames.GoesOn.{happens}
 use Rattle.segment_invariant.proofs.Frames.Shown.{Goes, loaded}

@@ -14,8 +14,8 @@ use Rattle.list_core.specs.Chain.{IsLinked}
 use Rattle.segment_machine.specs.declared.actor.Claim.{Claim}
 use Rattle.segment_invariant.specs.Body.{Piece, Listed, Anatomy, layout_of, order_of, claims_of}
 use Rattle.segment_invariant.specs.Invariant.{StandsAs, ClaimedRight}
-use Rattle.segment_invariant.proofs.Lists.Elements.{at_from, from_map, all_at}
-use Rattle.segment_invariant.proofs.Lists.Maps.{contains_map}
+use Rattle.list_lemmas.proofs.Elements.{at_from, from_map, all_at}
+use Rattle.list_lemmas.proofs.Maps.{contains_map}
 use Rattle.segment_invariant.proofs.Blocks.Pieces.{claim_of, free_within}
 use Rattle.segment_invariant.proofs.Consistency.Blocks.{claim_there, claims_few}
 use Rattle.segment_invariant.proofs.Walking.Walks.{listed_stands}

@@ -28,7 +28,7 @@ use Rattle.segment_machine.specs.Calls.{IsReference}
 use Rattle.segment_invariant.specs.Body.{Body, histogram, sample, other, words_of, is_claimed, Piece, Listed, Anatomy, layout_of, order_of, free_of, claims_of}
 use Rattle.segment_invariant.specs.Seen.{Stands, WasFixed, IsNoLater, AreNoLater, Sees, WasMet}
 use Rattle.segment_invariant.specs.Invariant.{StandsAs, StandsRight, HoldsOwn, IsSetBy, StandStill, Invariant, IsAhead}
-use Rattle.segment_invariant.proofs.Lists.Elements.{rows, column, there_below, index_at, all_at}
+use Rattle.list_lemmas.proofs.Elements.{rows, column, there_below, index_at, all_at}
 use Rattle.segment_invariant.proofs.Blocks.Pieces.{piece_from, piece_ends, free_within}
 use Rattle.segment_invariant.proofs.Frames.OneActor.{Doing, doing, doing_of, TurnsTo}
 use Rattle.segment_invariant.proofs.Frames.Anatomies.{sees_along}

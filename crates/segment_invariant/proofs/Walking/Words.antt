@@ -1,8 +1,8 @@
 -- A word of a published record that never changes is loaded: its type, its spec, its name, or what a sample is of.
-use Rattle.std.proofs.Common.{◌≡◌, ◌≢◌, ℕ, suc, ◌+◌, ◌-◌, ◌%◌, ◌<◌, ◌==◌, Bool, true, false, List, [], ◌∷◌, ◌++◌, length, replicate, Contains, inl, inr, refl, sym, ap, ◌∙◌, subst, arith, length-append, eq-eqb, ne_eqb, div-add-mod', mod-lt}
+pub use Rattle.segment_calls.proofs.Letters.{letters_long}
+use Rattle.std.proofs.Common.{◌≡◌, ◌≢◌, ℕ, suc, ◌+◌, ◌-◌, ◌<◌, ◌==◌, Bool, true, false, List, [], ◌∷◌, ◌++◌, length, Contains, inl, inr, refl, sym, ap, ◌∙◌, subst, arith, length-append, eq-eqb, ne_eqb}
 use Rattle.std.specs.Prelude.{slice_index, if◌then◌else◌, Some, None}
 use Rattle.std.specs.Prelude as std
-use Rattle.std.proofs.lemmas.List.{length-replicate}
 use Rattle.std.proofs.lemmas.List.Elements.{All-contains, All-push, Contains-append_left}
 use mathlib.Core.Option.{some, none, some-injective}
 use mathlib.Core.Logic.{dite}
@@ -11,7 +11,6 @@ use lib.ListN.{get_elem?}
 use Rattle.atomic_table.proofs.Lists.{at_longer}
 use Rattle.segment_image.specs.Shape.{Dimensions}
 use Rattle.segment_image.specs.Words.{word_at}
-use Rattle.segment_image.proofs.ReadWords.{length-bytes_of_words}
 use Rattle.alloc_core.proofs.Layouts.{length_shown}
 use Rattle.bucket_ranges.specs.Spec.{spec_ranges}
 use Rattle.bucket_ranges.specs.declared.spec.Spec.{Spec}
@@ -27,11 +26,10 @@ use Rattle.segment_machine.specs.State.{State}
 use Rattle.segment_machine.specs.Walking.{load_published, IsFixed, EndsWithin}
 use Rattle.segment_machine.specs.Event.{walking_event, next}
 use Rattle.segment_machine.specs.Calls.{sight}
-use Rattle.segment_machine.specs.Made.{AreNameWords}
 use Rattle.segment_invariant.specs.Body.{Record, Sample, Body, histogram, sample, other, record_words, spec_field, words_of, is_claimed, Piece, Listed, Anatomy, layout_of, order_of}
 use Rattle.segment_invariant.specs.Seen.{Stands, HasRecord, HasSample, IsFixedIn, WasFixed}
 use Rattle.segment_invariant.specs.Invariant.{StandsAs, Invariant, IsLawfulRecord, IsPassedOver}
-use Rattle.segment_invariant.proofs.Lists.Elements.{at_from, all_at, from_map, split_at}
+use Rattle.list_lemmas.proofs.Elements.{at_from, all_at, from_map, split_at}
 use Rattle.segment_invariant.proofs.Blocks.Places.{fixed_within}
 use Rattle.segment_invariant.proofs.Blocks.Pieces.{piece_word, one_index, one_stands}
 use Rattle.segment_invariant.proofs.Frames.OneActor.{Doing, turns_not, doing}
@@ -44,18 +42,6 @@ use Rattle.segment_invariant.proofs.Frames.Shown.{Goes, loaded}
 use Rattle.segment_invariant.proofs.Frames.PassedOver.{none_given}
 
 -- ---- the words of a record
-
--- the words of a name are as many as its length says
-pub letters_long : (name letters : List ℕ) → AreNameWords name letters → name_words (length name) ≡ length letters
-letters_long name letters (k, few, are) =
-    let n : ℕ = length name in
-    let bytes = length-bytes_of_words letters in
-    let all = ap length are in
-    let e = length-append name (replicate {A = ℕ} k 0) in
-    let f = length-replicate {A = ℕ} k 0 in
-    let d = div-add-mod' (n + 7) 8 in
-    let m : (n + 7) % 8 < 8 = mod-lt (n + 7) (omega arith) in
-    omega (arith, few, bytes, all, e, f, d, m)
 
 -- a record has its header and its fields, its name, its ranges and what stands behind them
 pub record_long : (r : Record) → length (record_words r) ≡ 15 + (length r.letters + (length (spec_ranges r.spec) + length r.rest))

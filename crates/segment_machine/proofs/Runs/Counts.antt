@@ -16,7 +16,7 @@ use Rattle.segment_machine.specs.declared.place.Place.TheVariants.{Looking, Losi
 use Rattle.segment_machine.specs.declared.seen.Seen.{Seen}
 use Rattle.segment_machine.specs.declared.seen.Sighting.{Sighting}
 use Rattle.segment_machine.specs.Entry.{is_counted, is_summed, has_ended}
-use Rattle.segment_machine.specs.Form.{is_off, units_in, packed_word, IsPacking}
+use Rattle.segment_calls.specs.Form.{is_off, units_in, packed_word, IsPacking}
 use Rattle.segment_machine.specs.Actor.{is_bound, Buckets, has_buckets, bucket_key, word_seen}
 use Rattle.segment_machine.specs.Made.{SawSample, SawOther, IsFirstSample}
 use Rattle.segment_machine.specs.Calls.{IsNext, IsKeyOfBucket, LooksOpen, LooksOff, form_seen}

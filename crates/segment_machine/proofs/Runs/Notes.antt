@@ -27,7 +27,7 @@ use Rattle.segment_machine.specs.declared.place.Place.TheVariants.{Spent}
 use Rattle.segment_machine.specs.declared.seen.Seen.{Seen}
 use Rattle.segment_machine.specs.declared.seen.Sighting.{Sighting}
 use Rattle.segment_machine.specs.Entry.{AreWithin, has_ended, tally_noted, tally_sum}
-use Rattle.segment_machine.specs.Form.{is_off}
+use Rattle.segment_calls.specs.Form.{is_off}
 use Rattle.segment_machine.specs.Actor.{is_bound, bucket_key, has_buckets, word_seen, is_opener}
 use Rattle.segment_machine.specs.Made.{AreNameWords, SawSample, SawName, SawOtherName, SawSpec}
 use Rattle.segment_machine.specs.Note.{Note, begins, goes_on, asks, knows, takes, has_taken, looks, answers, moment_of, ends, MayNote, SawBucket, IsMarkOf, TookBucket, TookSample, TookAll, SawAll, Notes, noted}

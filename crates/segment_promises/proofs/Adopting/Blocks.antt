@@ -14,7 +14,7 @@ use Rattle.list_core.proofs.Chains.{one_place}
 use Rattle.segment_machine.specs.State.{State}
 use Rattle.segment_invariant.specs.Body.{is_claimed, Piece, extent_of, Anatomy, order_of}
 use Rattle.segment_invariant.specs.Invariant.{Invariant}
-use Rattle.segment_invariant.proofs.Lists.Elements.{none_in, one_in, contains_at, below_length, index_at}
+use Rattle.list_lemmas.proofs.Elements.{none_in, one_in, contains_at, below_length, index_at}
 use Rattle.segment_invariant.proofs.Blocks.Pieces.{pieces_apart}
 use Rattle.segment_invariant.proofs.Consistency.Blocks.{claimed_piece}
 use Rattle.segment_invariant.proofs.Consistency.Held.{own_counts, counts_named}

@@ -3,7 +3,7 @@ use Rattle.std.proofs.Common.{◌≡◌, ℕ, zero, suc, List, [], ◌∷◌, �
 use mathlib.Core.Option.{some, some-ne-none}
 use lib.ListN.{get_elem?}
 use Rattle.std.proofs.lemmas.List.Elements.{Contains-append_cases}
-use Rattle.segment_invariant.proofs.Lists.Elements.{at_from, contains_at, none_in}
+use Rattle.list_lemmas.proofs.Elements.{at_from, contains_at, none_in}
 
 -- nothing stands at two places
 abbrev pub IsOnce : {X : Type 0} → List X → Type 0

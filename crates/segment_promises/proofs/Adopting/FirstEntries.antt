@@ -16,9 +16,9 @@ use Rattle.segment_machine.specs.declared.actor.Portion.{Portion}
 use Rattle.segment_machine.specs.declared.entry.Entry.{Entry}
 use Rattle.segment_machine.specs.Entry.{is_of, sum_entry, tally_units, tally_sum, tally_noted}
 use Rattle.segment_machine.specs.Actor.{units_listed, taken_units, taken_sum, cost_of}
-use Rattle.segment_invariant.proofs.Lists.Elements.{at_from, contains_at}
+use Rattle.list_lemmas.proofs.Elements.{at_from, contains_at}
 use Rattle.segment_invariant.proofs.Lists.FewTerms.{if_nothing, sum_none, sum_one}
-use Rattle.segment_invariant.proofs.Lists.Sums.{IsTotal, amounts_total}
+use Rattle.list_lemmas.proofs.Sums.{IsTotal, amounts_total}
 use Rattle.segment_invariant.proofs.Lists.Countings.{units_total, sum_total, noted_total, no_units, no_amount}
 use Rattle.segment_promises.specs.Adoption.{used_by, first_entries, first_portion}
 use Rattle.segment_promises.specs.Reads.{units_read, mark_read}

@@ -20,8 +20,8 @@ use Rattle.bucket_ranges.proofs.Walks.{is_block-within, IsWalk-push}
 use Rattle.alloc_core.specs.Layout.{IsShape}
 use Rattle.list_core.specs.Chain.{IsChain, IsLinked}
 use Rattle.list_core.proofs.Chains.{linked_of}
-use Rattle.segment_invariant.proofs.Lists.Pairs.{element_at}
-use Rattle.segment_invariant.proofs.Lists.Elements.{at_from, index_at, below_length}
+use Rattle.list_lemmas.proofs.Pairs.{element_at}
+use Rattle.list_lemmas.proofs.Elements.{at_from, index_at, below_length}
 use Rattle.segment_promises.specs.Adoption.{IsAdoptable}
 
 -- ---- checks

@@ -20,7 +20,7 @@ use Rattle.segment_machine.specs.State.{State}
 use Rattle.segment_invariant.specs.Body.{Listed, Anatomy, sample, order_of}
 use Rattle.segment_invariant.specs.Invariant.{Invariant}
 use Rattle.segment_invariant.proofs.Counting.Samples.{sample_met}
-use Rattle.segment_invariant.proofs.Lists.Elements.{at_from, split_at}
+use Rattle.list_lemmas.proofs.Elements.{at_from, split_at}
 use Rattle.segment_promises.specs.Values.{NoRepeats}
 use Rattle.segment_promises.specs.Calls.{SamplesStandBehind}
 

@@ -9,7 +9,7 @@ use Rattle.segment_machine.specs.declared.seen.Seen.{Seen}
 use Rattle.segment_machine.specs.Actor.{Sparse}
 use Rattle.segment_machine.specs.Made.{SawOther, SawSample}
 use Rattle.segment_machine.specs.Taking.{IsLaterSample}
-use Rattle.segment_invariant.proofs.Lists.Elements.{at_from, split_at}
+use Rattle.list_lemmas.proofs.Elements.{at_from, split_at}
 use Rattle.segment_promises.specs.Values.{NoRepeats, ComesTo, Passes, first_of}
 use Rattle.segment_promises.proofs.FirstValues.{Shows, later_sample, not_both}
 

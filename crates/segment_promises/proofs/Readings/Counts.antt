@@ -14,7 +14,7 @@ use Rattle.bucket_ranges.specs.Reading.{is_sparse, record_buckets, total_of, tot
 use Rattle.segment_invariant.specs.Body.{Record, record_words, Anatomy, layout_of}
 use Rattle.segment_invariant.specs.Seen.{HasRecord}
 use Rattle.segment_invariant.specs.Invariant.{IsLawfulRecord}
-use Rattle.segment_invariant.proofs.Lists.Elements.{all_from}
+use Rattle.list_lemmas.proofs.Elements.{all_from}
 use Rattle.segment_invariant.proofs.Consistency.Books.{range_at}
 use Rattle.segment_invariant.proofs.Consistency.Records.{record_word}
 use Rattle.segment_invariant.proofs.Consistency.Specs.{buckets_are}

@@ -15,7 +15,7 @@ use Rattle.bucket_ranges.specs.Reading.{is_of_type, record_fault, is_bad_sample,
 use Rattle.segment_machine.specs.State.{State}
 use Rattle.segment_invariant.specs.Body.{Anatomy, order_of}
 use Rattle.segment_invariant.specs.Invariant.{Invariant}
-use Rattle.segment_invariant.proofs.Lists.Elements.{contains_at}
+use Rattle.list_lemmas.proofs.Elements.{contains_at}
 use Rattle.segment_promises.specs.Reads.{HasNoFault}
 use Rattle.segment_promises.proofs.Readings.Lists.{no_stop, read_along}
 use Rattle.segment_promises.proofs.Readings.Names.{no_listed_fault}

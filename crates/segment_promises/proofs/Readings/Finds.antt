@@ -4,7 +4,7 @@ use Rattle.std.specs.List.{filter, find, All}
 use Rattle.std.proofs.lemmas.List.Elements.{All-nil, All-cons, All-head, All-tail}
 use mathlib.Core.Option.{some, some-injective}
 use lib.ListN.{get_elem?}
-use Rattle.segment_invariant.proofs.Lists.Elements.{none_at}
+use Rattle.list_lemmas.proofs.Elements.{none_at}
 
 module _ {X : Type 0} (test : X → Bool) where
   -- it is found where none before it passes

@@ -12,7 +12,7 @@ use Rattle.segment_image.specs.Blocks.{field_at}
 use Rattle.segment_image.specs.declared.head.SegmentHead.{SegmentHead}
 use Rattle.bucket_ranges.specs.Reading.{is_of_type, name_of, same_name, first_of_each, record_fault, histogram_records, lawful_records, read_records}
 use Rattle.segment_invariant.specs.Consistent.{HasName, IsHistogram}
-use Rattle.segment_invariant.proofs.Lists.Elements.{none_in, all_of, below_length, index_at, contains_filter}
+use Rattle.list_lemmas.proofs.Elements.{none_in, all_of, below_length, index_at, contains_filter}
 use Rattle.segment_promises.proofs.Filters.{filtered, all_kept}
 
 -- ---- lists

@@ -7,7 +7,7 @@ use Rattle.std.proofs.lemmas.Bool.Decides.{Decides-int_eq}
 use mathlib.Core.Option.{some, some-injective}
 use lib.ListN.{get_elem?}
 use Rattle.segment_machine.specs.Actor.{units_listed}
-use Rattle.segment_invariant.proofs.Lists.Elements.{none_at}
+use Rattle.list_lemmas.proofs.Elements.{none_at}
 use Rattle.segment_invariant.proofs.Lists.FewTerms.{sum_none, sum_one}
 use Rattle.segment_promises.proofs.Counts.{sum_of_map}
 

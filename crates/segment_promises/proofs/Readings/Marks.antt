@@ -13,7 +13,7 @@ use Rattle.bucket_ranges.specs.Reading.{record_buckets, record_single, total_of,
 use Rattle.segment_invariant.specs.Body.{Record, Anatomy, layout_of}
 use Rattle.segment_invariant.specs.Seen.{HasRecord}
 use Rattle.segment_invariant.specs.Invariant.{IsLawfulRecord}
-use Rattle.segment_invariant.proofs.Lists.Elements.{all_from}
+use Rattle.list_lemmas.proofs.Elements.{all_from}
 use Rattle.segment_invariant.proofs.Consistency.Books.{range_at}
 use Rattle.segment_invariant.proofs.Consistency.Records.{record_word}
 use Rattle.segment_invariant.proofs.Consistency.Specs.{buckets_are, form_is}

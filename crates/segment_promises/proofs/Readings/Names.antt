@@ -13,8 +13,8 @@ use Rattle.segment_machine.specs.State.{State}
 use Rattle.segment_invariant.specs.Body.{Anatomy, order_of}
 use Rattle.segment_invariant.specs.Seen.{IsFirst}
 use Rattle.segment_invariant.specs.Invariant.{Invariant}
-use Rattle.segment_invariant.proofs.Lists.Elements.{from_map}
-use Rattle.segment_invariant.proofs.Lists.Maps.{contains_map, contains_mapped}
+use Rattle.list_lemmas.proofs.Elements.{from_map}
+use Rattle.list_lemmas.proofs.Maps.{contains_map, contains_mapped}
 use Rattle.segment_invariant.proofs.Consistency.Firsts.{record_on_list, first_of_name, name_of_first}
 use Rattle.segment_invariant.proofs.Consistency.Specs.{record_spec, same_spelled}
 use Rattle.segment_promises.specs.Reads.{ReadsNames}

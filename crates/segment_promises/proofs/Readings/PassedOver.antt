@@ -10,7 +10,7 @@ use Rattle.bucket_ranges.specs.declared.single.SingleWord.{SingleWord}
 use Rattle.bucket_ranges.specs.Single.{units_packed, packed_bucket, is_packed_bucket}
 use Rattle.bucket_ranges.specs.Reading.{count_at, total_of, mark_of, is_bad_sum, is_bad_record_sum}
 use Rattle.segment_machine.specs.State.{State}
-use Rattle.segment_machine.specs.Form.{is_off}
+use Rattle.segment_calls.specs.Form.{is_off}
 use Rattle.segment_invariant.specs.Body.{Record, Listed, Anatomy}
 use Rattle.segment_invariant.specs.Ledger.{form_at}
 use Rattle.segment_invariant.specs.Invariant.{IsPassedOver, Invariant, total_in, mark_in}

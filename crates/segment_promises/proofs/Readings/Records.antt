@@ -14,7 +14,7 @@ use Rattle.bucket_ranges.specs.Single.{single_of, is_packed_word, packed_of, fro
 use Rattle.bucket_ranges.specs.Spec.{buckets_of}
 use Rattle.bucket_ranges.specs.Reading.{is_bad_kind, has_name, is_bad_spec, record_buckets, is_bad_single, is_bad_record_single, is_beyond, is_bad_sum, is_bad_record_sum}
 use Rattle.segment_machine.specs.State.{State}
-use Rattle.segment_machine.specs.Form.{is_off}
+use Rattle.segment_calls.specs.Form.{is_off}
 use Rattle.segment_machine.specs.Actor.{units_of}
 use Rattle.segment_invariant.specs.Body.{Record, record_words, Anatomy, layout_of}
 use Rattle.segment_invariant.specs.Ledger.{form_at}

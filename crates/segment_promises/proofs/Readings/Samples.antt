@@ -28,14 +28,14 @@ use Rattle.segment_invariant.specs.Body.{Sample, sample, Listed, Anatomy, order_
 use Rattle.segment_invariant.specs.Ledger.{units_held, all_held}
 use Rattle.segment_invariant.specs.Seen.{HasSample, IsNamed, IsValued, IsFirst, IsFirstOf}
 use Rattle.segment_invariant.specs.Invariant.{Invariant}
-use Rattle.segment_invariant.proofs.Lists.Elements.{contains_at, from_map}
-use Rattle.segment_invariant.proofs.Lists.Maps.{contains_take}
-use Rattle.segment_invariant.proofs.Lists.Pairs.{element_at}
+use Rattle.list_lemmas.proofs.Elements.{contains_at, from_map}
+use Rattle.list_lemmas.proofs.Maps.{contains_take}
+use Rattle.list_lemmas.proofs.Pairs.{element_at}
 use Rattle.segment_invariant.proofs.Blocks.Pieces.{piece_word}
 use Rattle.segment_invariant.proofs.Counting.Bounds.{counted_fits}
 use Rattle.segment_invariant.proofs.Consistency.Books.{range_at, sample_first, units_book, value_held}
 use Rattle.segment_invariant.proofs.Consistency.Firsts.{Valued, is_sample_of, record_of_first, name_given, name_or_before, given_value, first_valued}
-use Rattle.segment_invariant.proofs.Lists.Firsts.{first_image, first_longer, first_there, split_among}
+use Rattle.list_lemmas.proofs.Firsts.{first_image, first_longer, first_there, split_among}
 use Rattle.segment_invariant.proofs.Consistency.Totals.{kind_word}
 use Rattle.segment_promises.proofs.Readings.Firsts.{read_to}
 use Rattle.segment_promises.proofs.Readings.Names.{no_listed_fault}

@@ -24,7 +24,7 @@ use Rattle.segment_invariant.specs.Consistent.{IsSample, IsSampleOf}
 use Rattle.segment_invariant.specs.Body.{Record, Sample, Anatomy, order_of}
 use Rattle.segment_invariant.specs.Seen.{HasRecord, HasSample, IsFirst, IsFirstOf}
 use Rattle.segment_invariant.specs.Invariant.{HasKey, Invariant}
-use Rattle.segment_invariant.proofs.Lists.Elements.{none_at}
+use Rattle.list_lemmas.proofs.Elements.{none_at}
 use Rattle.segment_invariant.proofs.Blocks.Pieces.{piece_word}
 use Rattle.segment_invariant.proofs.Consistency.Books.{one_first, units_book, marks_book, value_held}
 use Rattle.segment_invariant.proofs.Consistency.Firsts.{first_of_value, value_of_first}

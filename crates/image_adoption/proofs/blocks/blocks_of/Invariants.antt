@@ -1,6 +1,6 @@
 use Rattle.std.proofs.Common.{◌≡◌, true, ◌++◌, take, flat_map, All}
 use Rattle.segment_image.specs.Blocks.{is_block}
-use Rattle.segment_promises.specs.Adoption.{named_counts}
+use Rattle.image_rules.specs.Adoption.{named_counts}
 use Rattle.image_adoption.proofs.blocks.blocks_of.Given as goal
 
 -- Behind the records stand the counts that those so far name.

@@ -1,10 +1,9 @@
 -- Each record names a block or none, and the blocks say the rest.
-use Rattle.std.proofs.Common.{◌≡◌, Bool, ℕ, List, All, true, sym, subst, ◌∙◌, true≢false}
+use Rattle.std.proofs.Common.{◌≡◌, ℕ, List, All, true, sym, subst, ◌∙◌, true≢false}
 use Rattle.std.specs.Prelude.{Decides}
 use Rattle.std.proofs.lemmas.Bool.Decides.{Decides-like}
 use Rattle.std.proofs.lemmas.Result.{IfOk-weaker}
 use Rattle.segment_image.specs.Blocks.{is_block}
-use Rattle.segment_promises.specs.Adoption.{blocks_of}
 use Rattle.image_adoption.specs.Conditions.{AreApart}
 use Rattle.image_adoption.specs.Records.{HasApartBlocks}
 use Rattle.image_adoption.proofs.blocks.has_apart_blocks.Goals as goal

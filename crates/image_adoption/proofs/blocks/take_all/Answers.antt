@@ -4,7 +4,7 @@ use Rattle.std.proofs.lemmas.Bool.Decides.{when_true}
 use Rattle.std.proofs.lemmas.List.{take_all, take_more}
 use Rattle.std.proofs.lemmas.List.Folds.{list_any_more}
 use Rattle.segment_image.specs.Blocks.{field_at}
-use Rattle.segment_invariant.proofs.Lists.Elements.{none_at}
+use Rattle.list_lemmas.proofs.Elements.{none_at}
 use Rattle.image_reader.proofs.Headers.{block_in_words}
 use Rattle.image_adoption.specs.Conditions.{AreApart}
 use Rattle.image_adoption.specs.Runs.{is_in}

@@ -2,7 +2,7 @@
 use Rattle.std.proofs.Common.{◌≡◌, ◌≤◌, ℕ, List, refl, arith}
 use Rattle.std.proofs.lemmas.Result.{err_from_is_err_and}
 use Rattle.bucket_ranges.specs.Reading.{Reading, reading_along}
-use Rattle.segment_promises.specs.Adoption.{used_of}
+use Rattle.image_rules.specs.Adoption.{used_of}
 use Rattle.image_adoption.proofs.Heads.{adoptable_of, adoption_is, corrupt, damage_is, intact, old_version, reads}
 use Rattle.image_adoption.proofs.checking.check_behind_header.Goals as goal
 

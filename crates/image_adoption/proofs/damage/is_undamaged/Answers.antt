@@ -1,9 +1,9 @@
 -- No record is bad, and the rest is looked at.
-use Rattle.std.proofs.Common.{◌≡◌, ℕ, List, [], ◌∷◌, map, refl, sym, ap, ◌∙◌, true≢false}
+use Rattle.std.proofs.Common.{◌≡◌, List, [], ◌∷◌, map, refl, sym, ap, ◌∙◌, true≢false}
 use Rattle.bucket_ranges.specs.Reading.{reading_along}
 use Rattle.image_reader.specs.Views.{bad_view}
 use Rattle.image_reader.specs.declared.reading.BadRecord.{BadRecord}
-use Rattle.segment_promises.specs.Adoption.{IsUndamaged}
+use Rattle.image_rules.specs.Adoption.{IsUndamaged}
 use Rattle.image_adoption.proofs.Heads.{undamaged_decides}
 use Rattle.image_adoption.proofs.damage.is_undamaged.Goals as goal
 

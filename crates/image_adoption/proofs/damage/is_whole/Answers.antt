@@ -1,5 +1,5 @@
 -- All tests passed, and the later samples say the rest.
-use Rattle.std.proofs.Common.{◌≡◌, ℕ, List, sym, subst, ◌∙◌, arith, true≢false}
+use Rattle.std.proofs.Common.{ℕ, List, sym, subst, ◌∙◌, arith, true≢false}
 use Rattle.list_core.specs.Chain.{IsStop}
 use Rattle.image_reader.proofs.Headers.{IsHeaded-from_header}
 use Rattle.image_adoption.specs.Conditions.{AreSettled, IsWhole}

@@ -1,8 +1,8 @@
 -- The blocks are apart, and the rest is looked at.
-use Rattle.std.proofs.Common.{◌≡◌, ℕ, List, All, true, sym, subst, ◌∙◌, true≢false}
+use Rattle.std.proofs.Common.{◌≡◌, ℕ, List, All, true, sym, subst, ◌∙◌}
 use Rattle.std.proofs.lemmas.Bool.Decides.{not_from_Decides}
 use Rattle.segment_image.specs.Blocks.{is_block}
-use Rattle.segment_promises.specs.Adoption.{blocks_of}
+use Rattle.image_rules.specs.Adoption.{blocks_of}
 use Rattle.image_adoption.specs.Conditions.{AreApart}
 use Rattle.image_adoption.specs.Records.{HasApartBlocks}
 use Rattle.image_adoption.proofs.NamedBlocks.{apart_of, blocks_listed}

@@ -1,10 +1,10 @@
 -- One histogram more.
-use Rattle.std.proofs.Common.{◌≡◌, ℕ, ◌+◌, ◌<◌, ◌≤◌, List, get_or, length, map, min, sum_by, take, ap, subst, ◌∙◌}
+use Rattle.std.proofs.Common.{◌≡◌, ℕ, ◌+◌, ◌<◌, ◌≤◌, List, get_or, length, map, min, sum_by, ap, subst, ◌∙◌}
 use Rattle.std.proofs.lemmas.List.{take_all}
 use Rattle.bucket_ranges.specs.Reading.{Histogram}
 use Rattle.image_reader.specs.Survey.{hist_at}
 use Rattle.image_reader.specs.Views.{histogram_view}
-use Rattle.segment_promises.specs.Adoption.{used_by}
+use Rattle.image_rules.specs.Adoption.{used_by}
 use Rattle.image_adoption.proofs.Used.{used_more}
 use Rattle.image_adoption.proofs.units.used_of.Goals as goal
 

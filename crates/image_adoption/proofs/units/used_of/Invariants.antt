@@ -1,6 +1,6 @@
 use Rattle.std.proofs.Common.{◌≡◌, min, map, sum_by, take}
 use Rattle.image_reader.specs.Survey.{hist_at}
-use Rattle.segment_promises.specs.Adoption.{used_by}
+use Rattle.image_rules.specs.Adoption.{used_by}
 use Rattle.image_adoption.proofs.units.used_of.Given as goal
 
 -- what the histograms so far have used

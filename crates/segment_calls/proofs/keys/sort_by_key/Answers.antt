@@ -1,6 +1,6 @@
 use Rattle.std.proofs.Common.{rules}
 use Rattle.std.proofs.lemmas.List.Sorted.{answers_always}
-use Rattle.segment_promises.proofs.SortedKeys.{once_still, strictly_sorted}
+use Rattle.segment_calls.proofs.SortedKeys.{once_still, strictly_sorted}
 use Rattle.segment_calls.proofs.keys.sort_by_key.Goals as goal
 
 pub returns : goal.returns

@@ -15,7 +15,7 @@ use Rattle.segment_machine.specs.declared.actor.Made.{Made}
 use Rattle.segment_machine.specs.declared.actor.Made.TheVariants as made
 use Rattle.segment_invariant.specs.Body.{Body, histogram, sample, words_of, Piece, block_of, Listed, Anatomy, layout_of, order_of}
 use Rattle.segment_invariant.proofs.Blocks.Pieces.{queue_piece}
-use Rattle.segment_invariant.proofs.Lists.Elements.{at_from}
+use Rattle.list_lemmas.proofs.Elements.{at_from}
 use Rattle.segment_promises.specs.Adoption.{IsAdoptable, blocks_of}
 use Rattle.segment_promises.proofs.Adopting.Slices.{fields_run, run_long}
 use Rattle.segment_promises.proofs.Adopting.Bodies.{size_at}

@@ -10,7 +10,7 @@ use Rattle.segment_image.specs.Head.{head_of}
 use Rattle.bucket_ranges.specs.Reading.{is_of_type, is_sparse, read_records, record_fault, record_buckets, IsListed, Reading, reading_along}
 use Rattle.segment_invariant.specs.Body.{Body, histogram, counts, sample, words_of}
 use Rattle.segment_promises.specs.Adoption.{IsAdoptable, named_counts, blocks_of}
-use Rattle.segment_invariant.proofs.Lists.Elements.{contains_filter, contains_at, at_from}
+use Rattle.list_lemmas.proofs.Elements.{contains_filter, contains_at, at_from}
 use Rattle.segment_promises.proofs.Filters.{filtered}
 use Rattle.segment_promises.proofs.Adopting.Opened.Records.{kind_found, spec_found, named_found}
 use Rattle.segment_promises.proofs.Adopting.Distinct.{among_rows}

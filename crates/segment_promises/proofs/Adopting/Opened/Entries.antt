@@ -18,9 +18,9 @@ use Rattle.segment_machine.specs.Made.{SawSample}
 use Rattle.segment_invariant.specs.Body.{Anatomy}
 use Rattle.segment_invariant.specs.Seen.{IsFirst, IsFirstOf}
 use Rattle.segment_invariant.specs.Invariant.{HasKey, Fits}
-use Rattle.segment_invariant.proofs.Lists.Firsts.{split_among}
-use Rattle.segment_invariant.proofs.Lists.Elements.{none_in, one_in, contains_at, at_from}
-use Rattle.segment_invariant.proofs.Lists.Maps.{contains_mapped}
+use Rattle.list_lemmas.proofs.Firsts.{split_among}
+use Rattle.list_lemmas.proofs.Elements.{none_in, one_in, contains_at, at_from}
+use Rattle.list_lemmas.proofs.Maps.{contains_mapped}
 use Rattle.list_core.specs.Chain.{IsStop}
 use Rattle.segment_promises.specs.Adoption.{IsAdoptable, first_entries, first_portion}
 use Rattle.segment_promises.proofs.Filters.{filtered}

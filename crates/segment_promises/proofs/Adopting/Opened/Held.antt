@@ -15,12 +15,12 @@ use Rattle.segment_invariant.specs.Body.{Record, Counts, Sample, Body, histogram
 use Rattle.segment_invariant.specs.Consistent.{IsSample, IsSampleOf}
 use Rattle.segment_invariant.specs.Ledger.{at_bucket, keyed, form_at, all_held}
 use Rattle.segment_invariant.specs.Seen.{Stands, HasRecord, HasSample}
-use Rattle.segment_invariant.proofs.Lists.Firsts.{split_among}
+use Rattle.list_lemmas.proofs.Firsts.{split_among}
 use Rattle.segment_invariant.proofs.Blocks.Pieces.{one_piece}
 use Rattle.segment_invariant.proofs.Consistency.Books.{IsBook, nothing_held}
 use Rattle.segment_invariant.proofs.Consistency.Keys.{no_packed}
 use Rattle.segment_invariant.proofs.Consistency.Sums.{of_mine}
-use Rattle.segment_invariant.proofs.Lists.Elements.{at_from}
+use Rattle.list_lemmas.proofs.Elements.{at_from}
 use Rattle.segment_invariant.proofs.Lists.FewTerms.{sum_none, sum_one, sum_pair}
 use Rattle.segment_promises.specs.Adoption.{IsAdoptable}
 use Rattle.segment_promises.proofs.Adopting.Bodies.{record_at, sample_at, counts_at}

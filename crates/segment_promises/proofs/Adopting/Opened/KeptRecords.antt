@@ -10,12 +10,12 @@ use Rattle.bucket_ranges.specs.declared.spec.Spec.{Spec}
 use Rattle.bucket_ranges.specs.declared.spec.Spec.TheVariants as spec
 use Rattle.bucket_ranges.specs.Reading.{name_of, sample_value, IsListed, Reading, reading_along}
 use Rattle.segment_machine.specs.declared.actor.Made.TheVariants as made
-use Rattle.segment_machine.specs.Form.{units_in}
+use Rattle.segment_calls.specs.Form.{units_in}
 use Rattle.segment_invariant.specs.Body.{Record, Counts, Sample, counts, Listed, Anatomy}
 use Rattle.segment_invariant.specs.Ledger.{form_at}
 use Rattle.segment_invariant.specs.Seen.{Stands, HasRecord, HasCounts, HasSample, IsFirst, IsFirstOf}
 use Rattle.segment_invariant.specs.Invariant.{IsLawfulRecord, IsCountsOf, IsLawfulSample, CountsNothing, RecordsAreKept}
-use Rattle.segment_invariant.proofs.Lists.Elements.{at_from, split_map}
+use Rattle.list_lemmas.proofs.Elements.{at_from, split_map}
 use Rattle.segment_promises.specs.Adoption.{IsAdoptable}
 use Rattle.segment_promises.proofs.Adopting.Bodies.{record_at, counts_at, other_at}
 use Rattle.segment_promises.proofs.Adopting.Opened.Anatomy.{listed_at, opened}

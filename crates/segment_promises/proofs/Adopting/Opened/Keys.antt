@@ -28,8 +28,8 @@ use Rattle.segment_invariant.specs.Seen.{Stands, WasFixed, Sees, IsFirstOf}
 use Rattle.segment_invariant.specs.Invariant.{HasKey, IsLawfulSample}
 use Rattle.atomic_table.proofs.Lists.{at_map}
 use Rattle.segment_invariant.proofs.Consistency.Books.{range_at}
-use Rattle.segment_invariant.proofs.Lists.Elements.{none_in, row_in, all_of, at_from, contains_at, contains_filter}
-use Rattle.segment_invariant.proofs.Lists.Maps.{contains_mapped}
+use Rattle.list_lemmas.proofs.Elements.{none_in, row_in, all_of, at_from, contains_at, contains_filter}
+use Rattle.list_lemmas.proofs.Maps.{contains_mapped}
 use Rattle.segment_promises.specs.Adoption.{IsAdoptable, seen_sample}
 use Rattle.segment_promises.proofs.Filters.{filtered}
 use Rattle.segment_promises.proofs.Readings.Finds.{find_one, find_both, found_at}

@@ -14,7 +14,7 @@ use Rattle.bucket_ranges.specs.Spec.{spec_fields, spec_ranges}
 use Rattle.bucket_ranges.specs.Single.{single_of, is_disabled, packed_bucket, is_packed_bucket, units_packed, is_packed_word, frozen_of, packed_of}
 use Rattle.bucket_ranges.specs.Reading.{is_bad_record_sum, inner_ranges, name_of, name_words, name_length, spec_of, is_sparse, record_single, record_buckets, record_fault, total_of, mark_of, is_bad_single, is_bad_mark, is_large_mark_at, has_large, totals_of, IsListed, Reading, reading_along}
 use Rattle.bucket_ranges.proofs.Named.{named-lawful}
-use Rattle.segment_machine.specs.Form.{is_off, units_in}
+use Rattle.segment_calls.specs.Form.{is_off, units_in}
 use Rattle.segment_machine.specs.Made.{AreNameWords}
 use Rattle.segment_invariant.specs.Body.{Record, Counts, histogram, counts, words_of}
 use Rattle.segment_invariant.specs.Invariant.{IsLawfulRecord, IsCountsOf, total_in, mark_in}
@@ -24,8 +24,8 @@ use Rattle.segment_invariant.proofs.Consistency.Books.{range_there}
 use Rattle.segment_invariant.specs.Consistent.{counts_word}
 use Rattle.segment_image.specs.Words.{word_at}
 use Rattle.std.proofs.lemmas.List.{get_or_default}
-use Rattle.segment_invariant.proofs.Lists.Elements.{contains_at}
-use Rattle.segment_invariant.proofs.Lists.Maps.{contains_map}
+use Rattle.list_lemmas.proofs.Elements.{contains_at}
+use Rattle.list_lemmas.proofs.Maps.{contains_map}
 use Rattle.segment_promises.specs.Adoption.{IsAdoptable}
 use Rattle.segment_promises.proofs.Adopting.Slices.{run_long}
 use Rattle.segment_promises.proofs.Adopting.Bodies.{record_at, counts_at, size_at, other_at, fields_named, name_long, record_words_are, other_words, counts_words}

@@ -16,14 +16,14 @@ use Rattle.segment_machine.specs.declared.entry.Entry.{Entry}
 use Rattle.segment_machine.specs.declared.actor.Portion.{Portion}
 use Rattle.segment_machine.specs.Entry.{tally_units, tally_sum}
 use Rattle.segment_machine.specs.Actor.{taken_units, taken_sum, cost_of}
-use Rattle.segment_machine.specs.Firsts.{IsFirstThat}
-use Rattle.segment_invariant.proofs.Lists.Firsts.{first_or_none, split_among}
+use Rattle.list_lemmas.specs.Firsts.{IsFirstThat}
+use Rattle.list_lemmas.proofs.Firsts.{first_or_none, split_among}
 use Rattle.segment_invariant.specs.Body.{Record, histogram, Anatomy, Piece}
 use Rattle.segment_invariant.specs.Ledger.{units_held, marks_held, sum_held, sum_mark_held, noted_held, all_held, all_amounts, IsBalanced}
 use Rattle.segment_invariant.specs.Seen.{HasRecord}
 use Rattle.segment_invariant.proofs.Consistency.Books.{units_book, marks_book}
 use Rattle.segment_invariant.proofs.Consistency.Sums.{no_sum, no_sum_mark, no_noted, of_mine, amount_of_mine}
-use Rattle.segment_invariant.proofs.Lists.Elements.{from_map, contains_at, at_from}
+use Rattle.list_lemmas.proofs.Elements.{from_map, contains_at, at_from}
 use Rattle.segment_invariant.proofs.Lists.FewTerms.{sum_none, sum_one, amounts_none, amounts_one}
 use Rattle.segment_promises.specs.Adoption.{IsAdoptable, first_entries, first_portion}
 use Rattle.segment_promises.specs.Reads.{units_read, mark_read}

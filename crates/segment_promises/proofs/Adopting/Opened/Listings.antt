@@ -14,11 +14,11 @@ use Rattle.bucket_ranges.specs.declared.single.SingleWord.{SingleWord}
 use Rattle.bucket_ranges.specs.Spec.{buckets_of, spec_fault, spec_fields}
 use Rattle.bucket_ranges.specs.Single.{packed_bucket, units_packed, is_packed_bucket}
 use Rattle.bucket_ranges.specs.Reading.{is_sparse, name_of, spec_of, record_buckets, record_single, total_of, mark_of, sample_value, sample_count, sample_mark, IsListed, Reading, reading_along}
-use Rattle.segment_machine.specs.Form.{units_in}
+use Rattle.segment_calls.specs.Form.{units_in}
 use Rattle.segment_invariant.specs.Body.{Record, Counts, Sample, Body, Anatomy}
 use Rattle.segment_invariant.specs.Consistent.{IsSample, IsSampleOf}
 use Rattle.segment_invariant.specs.Ledger.{key_of_bucket, at_bucket, keyed, all_held, units_held, marks_held}
-use Rattle.segment_invariant.proofs.Lists.Firsts.{first_or_none, split_among}
+use Rattle.list_lemmas.proofs.Firsts.{first_or_none, split_among}
 use Rattle.segment_invariant.proofs.Consistency.Books.{IsBook, units_book, marks_book, keyed_one, range_at, range_there}
 use Rattle.segment_invariant.proofs.Consistency.Keys.{one_key, packed_within, packed_units, packed_mark}
 use Rattle.segment_invariant.proofs.Consistency.Marks.{packed_is}
@@ -33,7 +33,7 @@ use Rattle.segment_promises.proofs.Readings.Keys.{under_or_not, units_are_held, 
 use Rattle.segment_promises.proofs.Adopting.Opened.Names.{read_as}
 use Rattle.segment_promises.proofs.Adopting.Opened.Values.{lawful_sample}
 use Rattle.segment_promises.proofs.Adopting.Opened.Lawful.{marks_small}
-use Rattle.segment_invariant.proofs.Lists.Elements.{at_from}
+use Rattle.list_lemmas.proofs.Elements.{at_from}
 use Rattle.segment_promises.proofs.Readings.Keys.{IsUnder, IsListing, int_test}
 use Rattle.segment_promises.proofs.Readings.Sparse.{one_of_value}
 use Rattle.segment_promises.proofs.Adopting.Bodies.{record_at, counts_at}

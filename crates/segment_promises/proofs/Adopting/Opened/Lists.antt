@@ -13,8 +13,8 @@ use Rattle.segment_invariant.specs.Body.{Body, queue, plain, held, histogram, co
 use Rattle.segment_invariant.specs.Seen.{Stands}
 use Rattle.segment_invariant.specs.Invariant.{StandsAs, ListIsKept, ClaimedRight}
 use Rattle.segment_invariant.specs.Invariant as invariant
-use Rattle.segment_invariant.proofs.Lists.Elements.{all_of}
-use Rattle.segment_invariant.proofs.Lists.Maps.{contains_map, contains_mapped}
+use Rattle.list_lemmas.proofs.Elements.{all_of}
+use Rattle.list_lemmas.proofs.Maps.{contains_map, contains_mapped}
 use Rattle.segment_promises.specs.Adoption.{IsAdoptable}
 use Rattle.segment_promises.proofs.Adopting.Slices.{run_long}
 use Rattle.segment_promises.proofs.Adopting.Bodies.{size_at}

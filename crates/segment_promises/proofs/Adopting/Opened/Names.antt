@@ -11,14 +11,14 @@ use Rattle.bucket_ranges.specs.declared.spec.Spec.{Spec}
 use Rattle.bucket_ranges.specs.Reading.{is_of_type, name_of, spec_of, read_records, record_fault, lawful_samples, Histogram, histogram_of, IsListed, Reading, reading_along}
 use Rattle.segment_machine.specs.declared.actor.Known.{Known}
 use Rattle.segment_machine.specs.declared.actor.Made.TheVariants as made
-use Rattle.segment_machine.specs.Firsts.{IsFirstThat}
-use Rattle.segment_invariant.proofs.Lists.Firsts.{first_image, split_among}
+use Rattle.list_lemmas.specs.Firsts.{IsFirstThat}
+use Rattle.list_lemmas.proofs.Firsts.{first_image, split_among}
 use Rattle.segment_invariant.specs.Body.{Body, histogram, sample, Listed, Anatomy}
 use Rattle.segment_invariant.specs.Consistent.{HasName, IsHistogram}
 use Rattle.segment_invariant.specs.Seen.{IsNamed, IsFirst, Knows}
 use Rattle.segment_invariant.specs.Invariant.{AreAnswered}
-use Rattle.segment_invariant.proofs.Lists.Elements.{all_of, at_from, split_map}
-use Rattle.segment_invariant.proofs.Lists.Maps.{contains_map, contains_mapped}
+use Rattle.list_lemmas.proofs.Elements.{all_of, at_from, split_map}
+use Rattle.list_lemmas.proofs.Maps.{contains_map, contains_mapped}
 use Rattle.segment_promises.specs.Adoption.{IsAdoptable}
 use Rattle.segment_promises.proofs.Readings.Firsts.{read_from, read_once}
 use Rattle.segment_promises.proofs.Adopting.Bodies.{record_at, sample_at, other_at}

@@ -7,7 +7,7 @@ use Rattle.bucket_ranges.specs.Reading.{name_of, Histogram, IsListed, Reading, r
 use Rattle.segment_machine.specs.declared.place.Place.TheVariants.{SumLoaded}
 use Rattle.segment_invariant.specs.Body.{Record, Anatomy}
 use Rattle.segment_invariant.specs.Invariant.{IsSumOf, SumsAreNear, summed_costs}
-use Rattle.segment_invariant.proofs.Lists.Elements.{each_of_one}
+use Rattle.list_lemmas.proofs.Elements.{each_of_one}
 use Rattle.segment_promises.specs.Adoption.{IsAdoptable, units_for, used_by}
 use Rattle.segment_promises.proofs.Adopting.FirstEntries.{costs_are, of_its_name}
 use Rattle.segment_promises.proofs.Adopting.Bodies.{record_at}

@@ -9,7 +9,7 @@ use Rattle.atomic_table.proofs.Lists.{at_longer}
 use Rattle.segment_image.specs.Blocks.{field_at}
 use Rattle.segment_image.specs.Head.{head_of}
 use Rattle.bucket_ranges.specs.Reading.{is_of_type, IsListed, Reading, reading_along}
-use Rattle.segment_invariant.proofs.Lists.Elements.{at_from, contains_at, row_in, below_length, none_at}
+use Rattle.list_lemmas.proofs.Elements.{at_from, contains_at, row_in, below_length, none_at}
 use Rattle.segment_promises.specs.Adoption.{IsAdoptable, named_counts, blocks_of}
 use Rattle.segment_promises.proofs.Adopting.Distinct.{IsOnce}
 use Rattle.segment_promises.proofs.Adopting.Opened.Anatomy.{placed}

@@ -9,7 +9,7 @@ use Rattle.segment_machine.specs.declared.place.Place.TheVariants.{Spent}
 use Rattle.segment_invariant.specs.Body.{Anatomy, claims_of, order_of}
 use Rattle.segment_invariant.specs.Invariant.{Invariant, StandsRight, Fits}
 use Rattle.segment_invariant.specs.Keeps.{IsOpening}
-use Rattle.segment_invariant.proofs.Lists.Elements.{each_of_one}
+use Rattle.list_lemmas.proofs.Elements.{each_of_one}
 use Rattle.segment_promises.specs.Adoption.{IsAdoptable, adopted, AdoptionOpens}
 use Rattle.segment_promises.proofs.Adopting.Openers.{opener, actors, all_units, opener_roles, cursors_stand, flags_stand}
 use Rattle.segment_promises.proofs.Adopting.Opened.Anatomy.{opened, shown, order_is}

@@ -16,9 +16,9 @@ use Rattle.segment_invariant.specs.Body.{Body, Record, Counts, counts, other, wo
 use Rattle.segment_invariant.specs.Consistent.{HasName, IsHistogram}
 use Rattle.segment_invariant.specs.Seen.{Stands, HoldsAs, IsFirst}
 use Rattle.segment_invariant.specs.Invariant.{IsCountsOf, IsPassedOver, IsOfOtherType, HasPassedOver, ArePassedOver, total_in, mark_in}
-use Rattle.segment_invariant.proofs.Lists.Elements.{split_map, contains_at}
-use Rattle.segment_invariant.proofs.Lists.Firsts.{first_longer, first_or_none}
-use Rattle.segment_invariant.proofs.Lists.Maps.{contains_mapped}
+use Rattle.list_lemmas.proofs.Elements.{split_map, contains_at}
+use Rattle.list_lemmas.proofs.Firsts.{first_longer, first_or_none}
+use Rattle.list_lemmas.proofs.Maps.{contains_mapped}
 use Rattle.segment_promises.specs.Adoption.{IsAdoptable}
 use Rattle.segment_promises.proofs.Readings.Firsts.{read_to}
 use Rattle.segment_promises.proofs.Adopting.Bodies.{record_at, counts_at, other_at, size_at}

@@ -17,9 +17,9 @@ use Rattle.segment_invariant.specs.Consistent.{HasName, IsHistogram, IsSample, I
 use Rattle.segment_invariant.specs.Seen.{IsValued, IsFirst, IsFirstOf}
 use Rattle.segment_invariant.specs.Invariant.{IsLawfulSample}
 use Rattle.segment_invariant.proofs.Consistency.Firsts.{first_valued}
-use Rattle.segment_invariant.proofs.Lists.Firsts.{first_from, first_image, first_longer}
-use Rattle.segment_invariant.proofs.Lists.Elements.{contains_at}
-use Rattle.segment_invariant.proofs.Lists.Maps.{contains_take}
+use Rattle.list_lemmas.proofs.Firsts.{first_from, first_image, first_longer}
+use Rattle.list_lemmas.proofs.Elements.{contains_at}
+use Rattle.list_lemmas.proofs.Maps.{contains_take}
 use Rattle.segment_promises.specs.Adoption.{IsAdoptable}
 use Rattle.segment_promises.proofs.Readings.Firsts.{read_from, read_to}
 use Rattle.segment_promises.proofs.Adopting.Slices.{run_long}

@@ -1,5 +1,5 @@
 use Rattle.std.proofs.Common.{zero, suc, inl, inr, refl, sym, ap, arith}
-use Rattle.segment_machine.specs.Form.{is_off}
+use Rattle.segment_calls.specs.Form.{is_off}
 use Rattle.segment_promises.specs.Deltas.{SawOpen}
 use Rattle.segment_machine.specs.declared.seen.Sighting.{Sighting}
 use Rattle.segment_machine.specs.Examples.{known_a}

@@ -1,15 +1,13 @@
 //! Two ways to read a script, and their times.
 
 use anyhow::{Result, bail};
+use bucket_ranges::limits::MAX_UNITS;
 use csv::{ByteRecord, ReaderBuilder};
 use persist_report_core::{Script, read_script};
 use segment_image::Watched;
 use std::alloc::Global;
 use std::rt::Clock;
 use std::time::Instant;
-
-// The units of a segment.
-const UNITS: u64 = 4_294_967_295;
 
 // How many records the bytes have: all of them, read into one record by the CSV reader alone.
 fn count_records(alloc: Global, bytes: &[u8]) -> Result<u64> {
@@ -30,7 +28,7 @@ fn count_records(alloc: Global, bytes: &[u8]) -> Result<u64> {
 }
 
 fn read(alloc: Global, bytes: &[u8]) -> Result<Script> {
-    match read_script(alloc, &mut Watched::new(bytes), UNITS) {
+    match read_script(alloc, &mut Watched::new(bytes), MAX_UNITS) {
         Ok(script) => Ok(script),
         Err(fault) => bail!("{fault}"),
     }

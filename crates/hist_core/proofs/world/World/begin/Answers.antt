@@ -3,7 +3,7 @@ use Rattle.std.specs.Prelude.{Ok, IfErr}
 use Rattle.hist_core.specs.WorldState.{HistBegins, AddBegins, DeltaBegins, SnapshotBegins, BatchBegins}
 use mathlib.Core.Option.{some}
 use Rattle.hist_core.specs.World.{TakesMemory, BeginSays, named_by}
-use Rattle.hist_core.specs.declared.call.Call.{Call}
+use Rattle.segment_calls.specs.declared.call.Call.{Call}
 use Rattle.hist_core.specs.declared.fault.WorldFault.TheVariants.{NoMemory}
 use Rattle.std.proofs.lemmas.Bool.{lt-leb}
 use Rattle.std.proofs.Props.{props}

@@ -11,9 +11,9 @@ use Rattle.std.proofs.lemmas.List.Sums.{sum_by-append}
 use Rattle.std.proofs.lemmas.Map.Lookups.{exact_signed}
 use mathlib.Core.Option.{some, some-injective, some-ne-none}
 use lib.ListN.{get_elem?}
-use Rattle.segment_invariant.proofs.Lists.Elements.{below_length, sum_at_least}
-use Rattle.segment_invariant.proofs.Lists.Pairs.{element_at}
-use Rattle.segment_promises.specs.Values.{NoKeyRepeats}
+use Rattle.list_lemmas.proofs.Elements.{below_length, sum_at_least}
+use Rattle.list_lemmas.proofs.Pairs.{element_at}
+use Rattle.segment_calls.specs.Keys.{NoKeyRepeats}
 
 -- whether a count stands before another
 abbrev sooner : ℤ × ℕ → ℤ × ℕ → Bool

@@ -7,7 +7,7 @@ use mathlib.Core.Option.{some, some-injective, some-ne-none}
 use lib.ListN.{get_elem?}
 use lib.Seq.{map-set}
 use Rattle.atomic_table.proofs.Lists.{set_again, at_map}
-use Rattle.segment_invariant.proofs.Lists.Sums.{IsTotal}
+use Rattle.list_lemmas.proofs.Sums.{IsTotal}
 
 -- ---- lists of none and of one
 

@@ -6,7 +6,7 @@ use Rattle.std.proofs.lemmas.List.Elements.{All-contains, All-map, Contains-appe
 use mathlib.Core.Option.{some, some-injective}
 use lib.ListN.{get_elem?}
 use Rattle.atomic_table.proofs.Lists.{at_set}
-use Rattle.segment_invariant.proofs.Lists.Elements.{below_length, at_snoc_index, all_of}
+use Rattle.list_lemmas.proofs.Elements.{below_length, at_snoc_index, all_of}
 
 module _ {X Y : Type 0} (f : X → Y) where
   pub contains_map : (xs : List X) (x : X) → Contains xs x → Contains (map f xs) (f x)

@@ -3,9 +3,9 @@
 use Rattle.std.proofs.Common.{◌≡◌, List, [], ◌∷◌, ◌++◌, map, All, Contains, append_assoc, inl, inr, ◌⊎◌, ⊎_elim, refl, sym, ap, ◌∙◌, subst, arith}
 use Rattle.std.proofs.lemmas.List.{map-append}
 use Rattle.std.proofs.lemmas.List.Elements.{All-nil, All-cons, All-head, All-tail, All-map, All-contains, Contains-append_left, Contains-append_right}
-use Rattle.segment_machine.specs.Firsts.{ComesFirst, IsFirstThat}
-use Rattle.segment_invariant.proofs.Lists.Elements.{all_of, at_from, split_at, split_map}
-use Rattle.segment_invariant.proofs.Lists.Maps.{contains_map}
+use Rattle.list_lemmas.specs.Firsts.{ComesFirst, IsFirstThat}
+use Rattle.list_lemmas.proofs.Elements.{all_of, at_from, split_at, split_map}
+use Rattle.list_lemmas.proofs.Maps.{contains_map}
 
 -- where an element stands in a list, it is on it
 pub split_among : {X : Type 0} {l : List X} {x : X} (front behind : List X) → l ≡ front ++ x ∷ behind → Contains l x

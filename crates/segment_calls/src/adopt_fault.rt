@@ -35,7 +35,7 @@ pub enum AdoptFault {
 
 impl AdoptFault {
     ghost use Rattle.std.specs.Prelude.{◌≡◌};
-    ghost use Rattle.image_adoption.specs.Fault.{adopt_fault_number};
+    ghost use Rattle.segment_calls.specs.Faults.{adopt_fault_number};
 
     /// Returns the fault's number, from 1.
     pub fn number(&self) -> u32
@@ -55,7 +55,7 @@ impl AdoptFault {
 
 impl From<AllocError> for AdoptFault {
     ghost use Rattle.std.specs.Prelude.{◌≡◌};
-    ghost use Rattle.image_adoption.specs.declared.fault.AdoptFault.TheVariants.{NoMemory};
+    ghost use Rattle.segment_calls.specs.declared.adopt_fault.AdoptFault.TheVariants.{NoMemory};
 
     ghost from_gives = { λ _ fault. fault ≡ NoMemory };
 

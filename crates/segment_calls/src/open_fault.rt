@@ -18,7 +18,7 @@ pub enum OpenFault {
 
 impl OpenFault {
     ghost use Rattle.std.specs.Prelude.{◌≡◌};
-    ghost use Rattle.live_segment.specs.Fault.{open_fault_number};
+    ghost use Rattle.segment_calls.specs.Faults.{open_fault_number};
 
     /// The fault's number, from 1.
     pub fn number(&self) -> u32

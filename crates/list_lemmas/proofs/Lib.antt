@@ -1,0 +1,5 @@
+pub mod Elements
+pub mod Sums
+pub mod Maps
+pub mod Pairs
+pub mod Firsts

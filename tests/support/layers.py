@@ -1,0 +1,78 @@
+#!/usr/bin/env python3
+"""Holds the crates that read free of the machine, by crates.txt.
+
+    tests/support/layers.py
+
+It prints each crate with its depth: 1 for one that stands on no other crate of the workspace, and one more for each on the longest way
+down. Where a crate that reads stands on the machine it says by which way, and the status is 1.
+"""
+
+import functools
+import pathlib
+import sys
+
+sys.path.insert(0, str(pathlib.Path(__file__).resolve().parents[1]))
+from support.made import ROOT
+
+LIST = ROOT / "crates.txt"
+# What a change of the machine must not prove again: nothing of it says what actors do.
+READING = ["image_reader", "reading_texts", "reading_shows", "persist_report_core", "segment_search", "fault_texts", "schedule"]
+MACHINE = ["segment_machine", "segment_invariant", "segment_promises"]
+
+
+def parsed(text):
+    """The crates of a list, each with those of the list that it stands on."""
+    lines = [line.split("#")[0] for line in text.splitlines()]
+    pairs = [line.split(":", 1) for line in lines if line.strip()]
+    needs = {head.split()[0]: rest.split() for head, rest in pairs}
+    return {name: [need for need in found if need in needs] for name, found in needs.items()}
+
+
+def way(needs, crate, below):
+    """The crates from one down to another, or None where it does not stand on that."""
+    if crate == below:
+        return [crate]
+    down = (way(needs, need, below) for need in needs[crate])
+    return next(([crate, *rest] for rest in down if rest), None)
+
+
+def depths(needs):
+    """How deep each crate stands."""
+    @functools.cache
+    def depth(crate):
+        return 1 + max(map(depth, needs[crate]), default=0)
+
+    return {crate: depth(crate) for crate in needs}
+
+
+def difference(text=None):
+    """Which crates that read stand on the machine, each with the way down, or are not there; or None."""
+    needs = parsed(LIST.read_text() if text is None else text)
+    came = [f"{LIST.name} has no crate {crate}" for crate in READING + MACHINE if crate not in needs]
+    ways = [] if came else [way(needs, crate, below) for crate in READING for below in MACHINE]
+    came += [" stands on ".join(found) for found in ways if found]
+    return "\n".join(came) or None
+
+
+def let_through():
+    """The lists that have to be refused and are not, or None: of each crate that reads, where it stands on the machine itself or by a
+    crate below it; and where the list lacks one."""
+    text = LIST.read_text()
+    wrong = [f"{text}between: {below}\n".replace(f"\n{crate}: ", f"\n{crate}: {by} ")
+             for crate in READING for below in MACHINE for by in (below, "between")]
+    wrong += [text.replace(f"\n{crate}", f"\nno_{crate}") for crate in READING + MACHINE]
+    came = [text for text in wrong if not difference(text)]
+    return f"{len(came)} of {len(wrong)} wrong lists are let through" if came else None
+
+
+def main():
+    deep = depths(parsed(LIST.read_text()))
+    for crate in sorted(deep, key=lambda crate: (deep[crate], crate)):
+        print(deep[crate], crate)
+    wrong = difference() or let_through()
+    print(wrong or "no crate that reads stands on the machine")
+    return 1 if wrong else 0
+
+
+if __name__ == "__main__":
+    sys.exit(main())

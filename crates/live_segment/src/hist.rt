@@ -3,6 +3,5 @@
 pub(crate) mod answer;
 pub(crate) mod comparison;
 pub(crate) mod known_names;
-pub(crate) mod list_search;
 pub(crate) mod new_record;
 pub(crate) mod search;

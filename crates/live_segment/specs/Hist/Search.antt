@@ -12,8 +12,8 @@ use Rattle.segment_machine.specs.Calls.{MayTurn}
 use Rattle.segment_machine.specs.Made.{AreNameWords, IsFirstNamed, SawOtherName, SawOtherSpec}
 use Rattle.segment_machine.specs.Note.{MayNote, knows}
 use Rattle.segment_calls.specs.declared.asked.Asked.{Asked}
-use Rattle.live_segment.specs.declared.hist.list_search.Search.{Search}
-use Rattle.live_segment.specs.declared.hist.list_search.Search.TheVariants.{Met, OtherSpec, End}
+use Rattle.live_segment.specs.declared.hist.search.Search.{Search}
+use Rattle.live_segment.specs.declared.hist.search.Search.TheVariants.{Met, OtherSpec, End}
 use Rattle.segment_promises.specs.Onward.{Grows, StaysApart}
 use Rattle.live_segment.specs.List.Ends.{SawAllOfList}
 

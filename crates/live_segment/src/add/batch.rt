@@ -108,7 +108,7 @@ impl Segment {
                 why,
             });
         }
-        self.add_last(seat, histogram.reference, u64::from(last.1));
+        self.finish_entry(seat, histogram.reference, u64::from(last.1));
         Ok(())
     }
 

@@ -85,7 +85,7 @@ impl Segment {
                 self.add_to_bucket_count(seat, counts, bucket, units);
             }
             PackAttempt::Passed => {
-                let counts = self.counts_of(seat, histogram)?;
+                let counts = self.find_or_mount_counts(seat, histogram)?;
                 self.disable_single(seat, histogram, counts);
                 self.add_to_bucket_count(seat, counts, bucket, units);
             }

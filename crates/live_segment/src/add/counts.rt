@@ -33,7 +33,7 @@ impl Segment {
     ghost use Rattle.live_segment.specs.Add.Progress.{CountsWithin};
 
     // Where the counts of a histogram stand: those that are there, or those of a block that it claims for them.
-    pub(crate) fn counts_of(
+    pub(crate) fn find_or_mount_counts(
         &self,
         seat: &mut Pass,
         histogram: &KnownHistogram,

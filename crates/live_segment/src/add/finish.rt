@@ -29,7 +29,7 @@ impl Segment {
         ensures ended { HasEnded (sample_of (known_view histogram.now) value units ∷ []) seat.old.me.0 seat.new.me.0 }
     {
         self.sum_sample(seat, histogram, value, units);
-        self.add_last(seat, histogram.reference, u64::from(units));
+        self.finish_entry(seat, histogram.reference, u64::from(units));
     }
 
     // Adds the amount of a sample that is counted to the sum, where it is not 0.

@@ -7,7 +7,7 @@ ghost use Rattle.live_segment.specs.Hist.ListSearch.{IsAsked};
 ghost use Rattle.live_segment.specs.Hist.NewRecord.{SaysAsked};
 ghost use Rattle.live_segment.specs.Hist.Outcome.{IsAnnouncedOf, LooksUp, MakesFor, Settles};
 
-use crate::hist::list_search::Search;
+use crate::hist::search::Search;
 use crate::list::index::RecordIndex;
 use crate::recorder::KnownHistogram;
 use crate::rule::{Announcement, Pass};

@@ -8,15 +8,24 @@ ghost use Rattle.segment_image.specs.Shape.{Dimensions};
 ghost use Rattle.segment_machine.specs.Calls.{MayTurn};
 ghost use Rattle.live_segment.specs.Hist.ListSearch.{IsAsked};
 ghost use Rattle.live_segment.specs.List.Keys.{IsNameKey};
-ghost use Rattle.live_segment.specs.Hist.Search.{FoundEnd, HasSearched, Searches};
+ghost use Rattle.live_segment.specs.Hist.Search.{FoundEnd, HasSearched, Searches, WalksAt};
 
-use crate::hist::list_search::Search;
 use crate::list::index::RecordIndex;
 use crate::rule::Pass;
 use crate::segment::Segment;
 use list_index::next_key;
 use segment_calls::Asked;
 use segment_image::layout::{BLOCK_HEADER, HISTOGRAM_NAME, QUEUE};
+
+// How a search ended.
+pub(crate) enum Search {
+    // At the first record of the name, which has the spec too.
+    Met(u64),
+    // At the first record of the name, which has another spec.
+    OtherSpec,
+    // At the end of the list, behind this block: no record has the name.
+    End(u64),
+}
 
 // The key of words.
 fn key_of_words(words: &[u64]) -> u64
@@ -44,6 +53,33 @@ impl Segment {
     ghost use Rattle.live_segment.specs.List.Index.{IsIndexed};
     ghost use Rattle.live_segment.specs.Seated.{IsSeated};
     ghost use Rattle.live_segment.specs.Steps.{IsSame};
+
+    // Walks along the list, on from where a walk stands, up to the first record of the name that is asked for.
+    pub(crate) fn find(&self, seat: &mut Pass, from: u64, asked: &Asked) -> Search
+        requires seat { IsSeated self.now seat.old }
+        requires asked { IsAsked self.now.setting.shape asked.now }
+        requires walks { WalksAt asked.now.name.items from seat.old.me.0 }
+        ensures same { IsSame seat.old seat.new }
+        ensures view { HasSearched seat.old.me.0 seat.new.me.0 }
+        ensures outcome { Searches asked.now result seat.new.me.0 }
+        ensures ended { FoundEnd result seat.old.me.0.seen seat.new.me.0.seen }
+    {
+        let mut at = from;
+        loop {
+            let next = self.load_next(seat, at);
+            if next == QUEUE {
+                return Search::End(at);
+            }
+            if self.shows_name(seat, next, asked) {
+                return if self.shows_spec(seat, next, asked) {
+                    Search::Met(next)
+                } else {
+                    Search::OtherSpec
+                };
+            }
+            at = next;
+        }
+    }
 
     // The first record of the name that is asked for, on from the first with the same key.
     fn search_at(&self, seat: &mut Pass, index: &RecordIndex, at: u64, asked: &Asked) -> Search

@@ -50,9 +50,9 @@ impl Play<Announcement, Actor> for AddRedundant {
     ghost then = { λ st. DoesAt (λ histogram. counting_event (add_redundant histogram st.first)) st.word };
 }
 
-pub(crate) struct AddLast;
+pub(crate) struct FinishEntry;
 
-impl Play<Announcement, Actor> for AddLast {
+impl Play<Announcement, Actor> for FinishEntry {
     ghost then = { λ st. AddsLast st.word st.first };
 }
 
@@ -139,13 +139,13 @@ impl Segment {
     }
 
     // The same, and the call ends.
-    pub(crate) fn add_last(&self, seat: &mut Pass, histogram: u64, units: u64) -> u64
+    pub(crate) fn finish_entry(&self, seat: &mut Pass, histogram: u64, units: u64) -> u64
         requires table { seat.old.table_id ≡ table_of self.now }
         requires room { histogram + 15 ≤ self.now.setting.shape.size }
         requires may { MayDo seat.old [] (counting_event (add_redundant histogram units)) (ends ∷ []) }
         ensures { Noted seat.old [] (counting_event (add_redundant histogram units)) (ends ∷ []) result seat.new }
     {
-        self.table.shared.fetch_add::<AddLast>(
+        self.table.shared.fetch_add::<FinishEntry>(
             seat,
             FIRST + histogram as usize + HISTOGRAM_REDUNDANT,
             units,

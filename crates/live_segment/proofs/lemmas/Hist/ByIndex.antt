@@ -11,8 +11,8 @@ use Rattle.segment_calls.specs.declared.asked.Asked.{Asked}
 use Rattle.list_index.specs.Firsts.{first_of}
 use Rattle.live_segment.specs.declared.list.index.RecordIndex.{RecordIndex}
 use Rattle.live_segment.specs.declared.segment.Segment.{Segment}
-use Rattle.live_segment.specs.declared.hist.list_search.Search.{Search}
-use Rattle.live_segment.specs.declared.hist.list_search.Search.TheVariants as search
+use Rattle.live_segment.specs.declared.hist.search.Search.{Search}
+use Rattle.live_segment.specs.declared.hist.search.Search.TheVariants as search
 use Rattle.live_segment.specs.Hist.ListSearch.{IsAsked, Meets, SeesWords, ShowsName, ShowsSpec}
 use Rattle.live_segment.specs.declared.list.index.KeyKind.TheVariants.{Name}
 use Rattle.live_segment.specs.List.Index.{IsIndexed}

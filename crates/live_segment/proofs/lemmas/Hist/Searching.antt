@@ -25,7 +25,7 @@ use Rattle.segment_machine.specs.Walking.{load_next, extended, records_met}
 use Rattle.segment_machine.proofs.Stages.Walks.{walks_agree}
 use Rattle.segment_invariant.proofs.Lists.Maps.{contains_map}
 use Rattle.segment_calls.specs.declared.asked.Asked.{Asked}
-use Rattle.live_segment.specs.declared.hist.list_search.Search.TheVariants as search
+use Rattle.live_segment.specs.declared.hist.search.Search.TheVariants as search
 use Rattle.live_segment.specs.declared.segment.Segment.{Segment}
 use Rattle.live_segment.specs.Steps.{Pass, IsSame, Stepped}
 use Rattle.live_segment.specs.Holders.{MayStep}

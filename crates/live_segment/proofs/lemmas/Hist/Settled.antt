@@ -22,7 +22,7 @@ use Rattle.segment_machine.specs.Made.{SawOtherName}
 use Rattle.segment_calls.specs.declared.asked.Asked.{Asked}
 use Rattle.segment_calls.specs.declared.refusal.Refusal.{Refusal}
 use Rattle.segment_calls.specs.declared.refusal.Refusal.TheVariants as why
-use Rattle.live_segment.specs.declared.hist.list_search.Search.TheVariants as search
+use Rattle.live_segment.specs.declared.hist.search.Search.TheVariants as search
 use Rattle.live_segment.specs.Add.Sample.{HasNoRoom}
 use Rattle.live_segment.specs.List.Ends.{SawAllOfList}
 use Rattle.live_segment.specs.Alloc.Allocation.{Allocates, filled, noticed, saw_free}

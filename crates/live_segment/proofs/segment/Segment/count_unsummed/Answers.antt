@@ -74,8 +74,8 @@ returns-in-Err-clause-rests c =
     c.in_ok-count_items.ensures.outcome one enough
     (subst (λ (v : ℤ). IsNotCounted c.in-Err.why known v item.1 c.count_items.new.seat.me.0 c.count_value.new.seat.me.0) trip c.in-Err.ensures.outcome) c.in_ok-count_items.ensures.claims).1
 
-pub add_last-requires-clause-may : goal.add_last-requires-clause-may
-add_last-requires-clause-may c =
+pub finish_entry-requires-clause-may : goal.finish_entry-requires-clause-may
+finish_entry-requires-clause-may c =
     let known = known_view c.args.histogram.now in
     let items = c.args.items.now in
     let k = length items - 1 in
@@ -95,11 +95,11 @@ returns-clause-same c =
     let trip : to_z w32 (of_z w32 item.0) ≡ item.0 = search rules in
     let (one, enough) = last_fits known items c.args.seat.now.me.0.units.share c.in-len1-up.len_at_least c.requires.units in
     let counted = subst (λ (v : ℤ). HasCounted (item_of known v item.1) c.count_items.new.seat.me.0 c.count_value.new.seat.me.0) trip c.in_default-count_value.ensures.outcome in
-    let noted = subst (λ (n : ℕ). Noted c.count_value.new.seat [] (counting_event (add_redundant known.reference n)) (ends ∷ []) c.add_last.result c.add_last.new.seat) c.from.ensures c.add_last.ensures in
+    let noted = subst (λ (n : ℕ). Noted c.count_value.new.seat [] (counting_event (add_redundant known.reference n)) (ends ∷ []) c.finish_entry.result c.finish_entry.new.seat) c.from.ensures c.finish_entry.ensures in
     let so_far = c.count_items.ensures.same in
     let then = c.count_value.ensures.same in
     same_ended known (take k items) item c.args.seat.now.me.0 c.count_items.new.seat.me.0 c.count_value.new.seat c.requires.rests c.requires.right.alone c.in_ok-count_items.ensures.outcome one enough counted
-    c.add_last.result c.add_last.new.seat noted c.args.seat.now (then.0 ∙ so_far.0, then.1 ∙ so_far.1, then.2 ∙ so_far.2)
+    c.finish_entry.result c.finish_entry.new.seat noted c.args.seat.now (then.0 ∙ so_far.0, then.1 ∙ so_far.1, then.2 ∙ so_far.2)
 
 pub returns-clause-rests : goal.returns-clause-rests
 returns-clause-rests c =
@@ -110,9 +110,9 @@ returns-clause-rests c =
     let trip : to_z w32 (of_z w32 item.0) ≡ item.0 = search rules in
     let (one, enough) = last_fits known items c.args.seat.now.me.0.units.share c.in-len1-up.len_at_least c.requires.units in
     let counted = subst (λ (v : ℤ). HasCounted (item_of known v item.1) c.count_items.new.seat.me.0 c.count_value.new.seat.me.0) trip c.in_default-count_value.ensures.outcome in
-    let noted = subst (λ (n : ℕ). Noted c.count_value.new.seat [] (counting_event (add_redundant known.reference n)) (ends ∷ []) c.add_last.result c.add_last.new.seat) c.from.ensures c.add_last.ensures in
+    let noted = subst (λ (n : ℕ). Noted c.count_value.new.seat [] (counting_event (add_redundant known.reference n)) (ends ∷ []) c.finish_entry.result c.finish_entry.new.seat) c.from.ensures c.finish_entry.ensures in
     last_rests known (take k items) item c.args.seat.now.me.0 c.count_items.new.seat.me.0 c.count_value.new.seat c.requires.rests c.requires.right.alone c.in_ok-count_items.ensures.outcome one enough counted
-    c.add_last.result c.add_last.new.seat noted
+    c.finish_entry.result c.finish_entry.new.seat noted
 
 pub returns-clause-outcome : goal.returns-clause-outcome
 returns-clause-outcome c =
@@ -123,10 +123,10 @@ returns-clause-outcome c =
     let trip : to_z w32 (of_z w32 item.0) ≡ item.0 = search rules in
     let (one, enough) = last_fits known items c.args.seat.now.me.0.units.share c.in-len1-up.len_at_least c.requires.units in
     let counted = subst (λ (v : ℤ). HasCounted (item_of known v item.1) c.count_items.new.seat.me.0 c.count_value.new.seat.me.0) trip c.in_default-count_value.ensures.outcome in
-    let noted = subst (λ (n : ℕ). Noted c.count_value.new.seat [] (counting_event (add_redundant known.reference n)) (ends ∷ []) c.add_last.result c.add_last.new.seat) c.from.ensures c.add_last.ensures in
-    subst (λ (l : List (ℤ × ℕ)). IsBatched known l (pos 0) c.args.seat.now.me.0 c.add_last.new.seat.me.0) (front_and_last items (pos 0, 0) c.in-len1-up.len_at_least)
+    let noted = subst (λ (n : ℕ). Noted c.count_value.new.seat [] (counting_event (add_redundant known.reference n)) (ends ∷ []) c.finish_entry.result c.finish_entry.new.seat) c.from.ensures c.finish_entry.ensures in
+    subst (λ (l : List (ℤ × ℕ)). IsBatched known l (pos 0) c.args.seat.now.me.0 c.finish_entry.new.seat.me.0) (front_and_last items (pos 0, 0) c.in-len1-up.len_at_least)
     (last_batched known (take k items) item c.args.seat.now.me.0 c.count_items.new.seat.me.0 c.count_value.new.seat c.requires.rests c.requires.right.alone c.in_ok-count_items.ensures.outcome one enough counted
-    c.add_last.result c.add_last.new.seat noted)
+    c.finish_entry.result c.finish_entry.new.seat noted)
 
 pub returns-clause-claims : goal.returns-clause-claims
 returns-clause-claims c =
@@ -137,12 +137,12 @@ returns-clause-claims c =
     let trip : to_z w32 (of_z w32 item.0) ≡ item.0 = search rules in
     let last = subst (λ (v : ℤ). ClaimsFor known v c.count_items.new.seat.me.0 c.count_value.new.seat.me.0) trip c.in_default-count_value.ensures.claims in
     let each = each_more known (take k items) item c.args.seat.now.me.0 c.count_items.new.seat.me.0 c.count_value.new.seat.me.0 c.in_ok-count_items.ensures.claims last in
-    subst (λ (l : List (ℤ × ℕ)). ClaimsForAll known l c.args.seat.now.me.0 c.add_last.new.seat.me.0) (front_and_last items (pos 0, 0) c.in-len1-up.len_at_least)
-    (claims_all known (take k items ++ item ∷ []) c.args.seat.now.me.0 c.count_value.new.seat.me.0 c.add_last.new.seat.me.0 each
-    (keeps_last known.reference _ c.add_last.result c.count_value.new.seat c.add_last.new.seat c.add_last.ensures))
+    subst (λ (l : List (ℤ × ℕ)). ClaimsForAll known l c.args.seat.now.me.0 c.finish_entry.new.seat.me.0) (front_and_last items (pos 0, 0) c.in-len1-up.len_at_least)
+    (claims_all known (take k items ++ item ∷ []) c.args.seat.now.me.0 c.count_value.new.seat.me.0 c.finish_entry.new.seat.me.0 each
+    (keeps_last known.reference _ c.finish_entry.result c.count_value.new.seat c.finish_entry.new.seat c.finish_entry.ensures))
 
 pub returns-clause-indexed : goal.returns-clause-indexed
 returns-clause-indexed c =
-    kept_on c.args.self.now.setting.shape.size c.count_value.new.samples c.count_value.new.seat.me.0 c.add_last.new.seat.me.0
-    (keeps_last c.args.histogram.now.reference _ c.add_last.result c.count_value.new.seat c.add_last.new.seat c.add_last.ensures)
+    kept_on c.args.self.now.setting.shape.size c.count_value.new.samples c.count_value.new.seat.me.0 c.finish_entry.new.seat.me.0
+    (keeps_last c.args.histogram.now.reference _ c.finish_entry.result c.count_value.new.seat c.finish_entry.new.seat c.finish_entry.ensures)
     c.in_default-count_value.ensures.indexed

@@ -19,6 +19,7 @@ pub mod Holders
 pub mod Lending
 pub mod Closing
 pub mod Seated
+pub mod Ready
 pub mod Hist
 pub mod Add
 pub mod Delta

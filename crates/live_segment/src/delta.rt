@@ -35,6 +35,7 @@ pub(crate) struct Mounted {
 
 impl Segment {
     ghost use Rattle.segment_machine.specs.declared.actor.Actor.{Actor};
+    ghost use Rattle.live_segment.specs.Ready.{IsReadyFor};
     ghost use Rattle.live_segment.specs.declared.rule.Setting.{Setting};
     ghost use Rattle.live_segment.specs.Seated.{IsSeated};
     ghost use Rattle.live_segment.specs.Steps.{IsAtRest, IsSame};
@@ -173,9 +174,7 @@ impl Segment {
         histogram: &KnownHistogram,
         taken: &mut Vec<(i32, u64)>,
     ) -> i64
-        requires seat { IsSeated self.now seat.old }
-        requires rests { IsAtRest seat.old.me.0 }
-        requires right { KnowsRight self.now.setting seat.old.me.0 histogram.now }
+        requires ready { IsReadyFor self.now histogram.now seat.old }
         requires bucketed { has_buckets histogram.now.spec ≡ true }
         requires room { (taken.old.items ≡ []) × (buckets_of histogram.now.spec ≤ vec_capacity taken.old) }
         ensures same { IsSame seat.old seat.new }
@@ -245,9 +244,7 @@ impl Segment {
         histogram: &KnownHistogram,
         taken: &mut Vec<(i32, u64)>,
     ) -> i64
-        requires seat { IsSeated self.now seat.old }
-        requires rests { IsAtRest seat.old.me.0 }
-        requires right { KnowsRight self.now.setting seat.old.me.0 histogram.now }
+        requires ready { IsReadyFor self.now histogram.now seat.old }
         requires sparse { histogram.now.spec ≡ Sparse }
         requires room { (taken.old.items ≡ []) × ((self.now.setting.shape.size - 16) / 5 ≤ vec_capacity taken.old) }
         ensures same { IsSame seat.old seat.new }
@@ -291,9 +288,7 @@ impl Segment {
         samples: &[u64],
         taken: &mut Vec<(i32, u64)>,
     ) -> i64
-        requires seat { IsSeated self.now seat.old }
-        requires rests { IsAtRest seat.old.me.0 }
-        requires right { KnowsRight self.now.setting seat.old.me.0 histogram.now }
+        requires ready { IsReadyFor self.now histogram.now seat.old }
         requires sparse { histogram.now.spec ≡ Sparse }
         requires own { AreOwn self.now.setting.shape.size seat.old.me.0.seen histogram.now.reference samples.now }
         requires room { (taken.old.items ≡ []) × (length samples.now ≤ vec_capacity taken.old) }

@@ -51,6 +51,7 @@ impl Segment {
     ghost use Rattle.segment_image.specs.declared.layout.TheConstants.{QUEUE};
     ghost use Rattle.bucket_ranges.specs.declared.spec.Spec.TheVariants.{Sparse};
     ghost use Rattle.segment_promises.specs.Values.{NoRepeats, ComesTo};
+    ghost use Rattle.live_segment.specs.Ready.{IsReadyFor};
     ghost use Rattle.live_segment.specs.List.SampleRecords.{SamplesStandBehind};
     ghost use Rattle.segment_machine.specs.declared.actor.Actor.{Actor};
     ghost use Rattle.live_segment.specs.declared.rule.Setting.{Setting};
@@ -78,9 +79,7 @@ impl Segment {
         histogram: &KnownHistogram,
         totals: &mut [(i32, u64)],
     )
-        requires seat { IsSeated self.now seat.old }
-        requires rests { IsAtRest seat.old.me.0 }
-        requires right { KnowsRight self.now.setting seat.old.me.0 histogram.now }
+        requires ready { IsReadyFor self.now histogram.now seat.old }
         requires bucketed { has_buckets histogram.now.spec ≡ true }
         requires buckets { (length totals.old ≡ buckets_of histogram.now.spec) × (length totals.old ≤ 65535) }
         requires blank { All (λ total. total.1 ≡ 0) totals.old }
@@ -142,9 +141,7 @@ impl Segment {
         histogram: &KnownHistogram,
         mut totals: Vec<(i32, u64)>,
     ) -> Snapshot
-        requires seat { IsSeated self.now seat.old }
-        requires rests { IsAtRest seat.old.me.0 }
-        requires right { KnowsRight self.now.setting seat.old.me.0 histogram.now }
+        requires ready { IsReadyFor self.now histogram.now seat.old }
         requires bucketed { has_buckets histogram.now.spec ≡ true }
         requires blank { totals.items ≡ blank_totals histogram.now.ranges }
         ensures same { IsSame seat.old seat.new }
@@ -192,9 +189,7 @@ impl Segment {
         histogram: &KnownHistogram,
         mut totals: Vec<(i32, u64)>,
     ) -> Snapshot
-        requires seat { IsSeated self.now seat.old }
-        requires rests { IsAtRest seat.old.me.0 }
-        requires right { KnowsRight self.now.setting seat.old.me.0 histogram.now }
+        requires ready { IsReadyFor self.now histogram.now seat.old }
         requires sparse { histogram.now.spec ≡ Sparse }
         requires room { (totals.items ≡ []) × ((self.now.setting.shape.size - 16) / 5 ≤ vec_capacity totals) }
         ensures same { IsSame seat.old seat.new }
@@ -245,9 +240,7 @@ impl Segment {
         samples: &[u64],
         mut totals: Vec<(i32, u64)>,
     ) -> Snapshot
-        requires seat { IsSeated self.now seat.old }
-        requires rests { IsAtRest seat.old.me.0 }
-        requires right { KnowsRight self.now.setting seat.old.me.0 histogram.now }
+        requires ready { IsReadyFor self.now histogram.now seat.old }
         requires sparse { histogram.now.spec ≡ Sparse }
         requires own { AreOwn self.now.setting.shape.size seat.old.me.0.seen histogram.now.reference samples.now }
         requires room { (totals.items ≡ []) × (length samples.now ≤ vec_capacity totals) }

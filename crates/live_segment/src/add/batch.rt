@@ -12,6 +12,7 @@ use crate::segment::Segment;
 use segment_calls::{BatchRefusal, Refusal};
 
 impl Segment {
+    ghost use Rattle.live_segment.specs.Ready.{CountsFor, IsReadyFor};
     ghost use Rattle.live_segment.specs.Add.Batch.{HasItems, HasNoted, IsBatched, IsCutShort, StopsAt};
     ghost use Rattle.live_segment.specs.Alloc.Claims.{ClaimsFor, ClaimsForAll, ClaimsForEach};
     ghost use Rattle.live_segment.specs.Add.Finish.{item_of};
@@ -62,10 +63,8 @@ impl Segment {
         items: &[(i32, u32)],
         sum: i64,
     ) -> Result<(), BatchRefusal>
-        requires seat { IsSeated self.now seat.old }
+        requires ready { IsReadyFor self.now histogram.now seat.old }
         requires indexed { IsIndexed OfSample self.now.setting.shape.size seat.old.me.0.seen samples.old }
-        requires right { KnowsRight self.now.setting seat.old.me.0 histogram.now }
-        requires rests { IsAtRest seat.old.me.0 }
         requires units { All (λ item. 1 ≤ item.1) items.now × (batch_cost items.now sum ≤ seat.old.me.0.units.share) }
         requires some { sum ≢ pos 0 }
         ensures same { IsSame seat.old seat.new }
@@ -87,10 +86,8 @@ impl Segment {
         histogram: &KnownHistogram,
         items: &[(i32, u32)],
     ) -> Result<(), BatchRefusal>
-        requires seat { IsSeated self.now seat.old }
+        requires ready { IsReadyFor self.now histogram.now seat.old }
         requires indexed { IsIndexed OfSample self.now.setting.shape.size seat.old.me.0.seen samples.old }
-        requires right { KnowsRight self.now.setting seat.old.me.0 histogram.now }
-        requires rests { IsAtRest seat.old.me.0 }
         requires units { All (λ item. 1 ≤ item.1) items.now × (units_of items.now ≤ seat.old.me.0.units.share) }
         ensures same { IsSame seat.old seat.new }
         ensures indexed { IsIndexed OfSample self.now.setting.shape.size seat.new.me.0.seen samples.new }
@@ -122,10 +119,8 @@ impl Segment {
         histogram: &KnownHistogram,
         items: &[(i32, u32)],
     ) -> Result<(), BatchRefusal>
-        requires seat { IsSeated self.now seat.old }
+        requires ready { IsReadyFor self.now histogram.now seat.old }
         requires indexed { IsIndexed OfSample self.now.setting.shape.size seat.old.me.0.seen samples.old }
-        requires right { KnowsRight self.now.setting seat.old.me.0 histogram.now }
-        requires rests { IsAtRest seat.old.me.0 }
         requires units { All (λ item. 1 ≤ item.1) items.now × (units_of items.now ≤ seat.old.me.0.units.share) }
         ensures same { IsSame seat.old seat.new }
         ensures indexed { IsIndexed OfSample self.now.setting.shape.size seat.new.me.0.seen samples.new }
@@ -149,9 +144,7 @@ impl Segment {
         value: i32,
         units: u32,
     ) -> Result<(), Refusal>
-        requires seat { IsSeated self.now seat.old }
-        requires indexed { IsIndexed OfSample self.now.setting.shape.size seat.old.me.0.seen samples.old }
-        requires right { KnowsRight self.now.setting seat.old.me.0 histogram.now }
+        requires ready { CountsFor self.now histogram.now samples.old seat.old }
         requires may { CountsAlone seat.old.me.0 (known_view histogram.now) (item_of (known_view histogram.now) value units) }
         ensures same { IsSame seat.old seat.new }
         ensures indexed { IsIndexed OfSample self.now.setting.shape.size seat.new.me.0.seen samples.new }

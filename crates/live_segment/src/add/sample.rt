@@ -17,6 +17,7 @@ impl Segment {
     ghost use Rattle.segment_machine.specs.declared.actor.Known.{Known};
     ghost use Rattle.segment_promises.specs.Onward.{GoesOn};
     ghost use Rattle.bucket_ranges.specs.declared.spec.Spec.TheVariants.{Sparse};
+    ghost use Rattle.live_segment.specs.Ready.{CountsFor};
     ghost use Rattle.live_segment.specs.Add.Sample.{add_checks, AnswersSample};
     ghost use Rattle.live_segment.specs.Alloc.Claims.{ClaimsFor};
     ghost use Rattle.live_segment.specs.Add.Finish.{item_of};
@@ -109,9 +110,7 @@ impl Segment {
         value: i32,
         units: u32,
     ) -> Result<(), Refusal>
-        requires seat { IsSeated self.now seat.old }
-        requires indexed { IsIndexed OfSample self.now.setting.shape.size seat.old.me.0.seen samples.old }
-        requires right { KnowsRight self.now.setting seat.old.me.0 histogram.now }
+        requires ready { CountsFor self.now histogram.now samples.old seat.old }
         requires may { CountsAlone seat.old.me.0 (known_view histogram.now) (item_of (known_view histogram.now) value units) }
         ensures same { IsSame seat.old seat.new }
         ensures indexed { IsIndexed OfSample self.now.setting.shape.size seat.new.me.0.seen samples.new }
@@ -134,9 +133,7 @@ impl Segment {
         value: i32,
         units: u32,
     ) -> Result<(), Refusal>
-        requires seat { IsSeated self.now seat.old }
-        requires indexed { IsIndexed OfSample self.now.setting.shape.size seat.old.me.0.seen samples.old }
-        requires right { KnowsRight self.now.setting seat.old.me.0 histogram.now }
+        requires ready { CountsFor self.now histogram.now samples.old seat.old }
         requires sparse { histogram.now.spec ≡ Sparse }
         requires may { CountsAlone seat.old.me.0 (known_view histogram.now) (item_of (known_view histogram.now) value units) }
         ensures same { IsSame seat.old seat.new }

@@ -46,10 +46,11 @@ fn start_behind(index: &RecordIndex, has_passed_all: bool, histogram: u64) -> u6
 
 impl Segment {
     ghost use Rattle.bucket_ranges.specs.declared.spec.Spec.TheVariants.{Sparse};
+    ghost use Rattle.live_segment.specs.Ready.{CountsFor};
     ghost use Rattle.live_segment.specs.declared.list.index.KeyKind.TheVariants.{Sample as OfSample};
     ghost use Rattle.live_segment.specs.List.Index.{IsIndexed};
     ghost use Rattle.live_segment.specs.Seated.{IsSeated};
-    ghost use Rattle.live_segment.specs.Known.{known_view, KnowsRight};
+    ghost use Rattle.live_segment.specs.Known.{known_view};
     ghost use Rattle.live_segment.specs.Add.Refusal.{MayGiveUp};
     ghost use Rattle.live_segment.specs.Steps.{IsSame};
 
@@ -63,10 +64,8 @@ impl Segment {
         histogram: &KnownHistogram,
         value: i32,
     ) -> Result<u64, Refusal>
-        requires seat { IsSeated self.now seat.old }
-        requires indexed { IsIndexed OfSample self.now.setting.shape.size seat.old.me.0.seen index.old }
+        requires ready { CountsFor self.now histogram.now index.old seat.old }
         requires free { is_bound seat.old.me.0.hand.place ≡ false }
-        requires right { KnowsRight self.now.setting seat.old.me.0 histogram.now }
         requires sparse { histogram.now.spec ≡ Sparse }
         requires closes { MayGiveUp seat.old.me.0 }
         ensures same { IsSame seat.old seat.new }
@@ -93,10 +92,8 @@ impl Segment {
         histogram: &KnownHistogram,
         value: i32,
     ) -> SampleSearch
-        requires seat { IsSeated self.now seat.old }
+        requires ready { CountsFor self.now histogram.now index.old seat.old }
         requires free { MayTurn seat.old.me.0 }
-        requires right { KnowsRight self.now.setting seat.old.me.0 histogram.now }
-        requires indexed { IsIndexed OfSample self.now.setting.shape.size seat.old.me.0.seen index.old }
         ensures same { IsSame seat.old seat.new }
         ensures view { HasSearched seat.old.me.0 seat.new.me.0 }
         ensures outcome { FindsSample histogram.now.reference value result seat.new.me.0 }
@@ -124,10 +121,8 @@ impl Segment {
         histogram: &KnownHistogram,
         value: i32,
     ) -> SampleSearch
-        requires seat { IsSeated self.now seat.old }
+        requires ready { CountsFor self.now histogram.now index.now seat.old }
         requires free { MayTurn seat.old.me.0 }
-        requires right { KnowsRight self.now.setting seat.old.me.0 histogram.now }
-        requires indexed { IsIndexed OfSample self.now.setting.shape.size seat.old.me.0.seen index.now }
         requires first { first_of index.now.firsts (sample_key histogram.now.reference (cast_unsigned w64 value)) ≡ Some at }
         ensures same { IsSame seat.old seat.new }
         ensures view { HasSearched seat.old.me.0 seat.new.me.0 }

@@ -56,7 +56,7 @@ add_to_sample-requires-clause-room c =
     let has = subst (λ (v : ℤ). HasSampleOf known v c.in_ok-sample.sample c.args.seat.now.me.0 c.sample_of.new.seat.me.0)
     (to_z-of_z w32 c.args.value c.ranges.value) c.in_ok-sample.ensures.outcome in
     sample_within known c.args.value c.args.units c.in_ok-sample.sample c.args.seat.now c.sample_of.new.seat c.requires.may c.requires.sparse has
-    c.args.self.now c.requires.seat.of
+    c.args.self.now c.requires.ready.seated.of
 
 pub returns-clause-claims : goal.returns-clause-claims
 returns-clause-claims c =

@@ -34,7 +34,7 @@ add_redundant-requires-clause-may c =
     let has = subst (λ (v : ℤ). HasCounted (item_of known v c.args.units) c.args.seat.now.me.0 c.count_value.new.seat.me.0)
     (to_z-of_z w32 c.args.value c.ranges.value) c.in_ok-count_value.ensures.outcome in
     subst (λ (n : ℕ). MayStep c.args.self.now c.count_value.new.seat (counting_event (add_redundant known.reference n))) (sym c.from.ensures)
-    (may_note known c.args.value c.args.units c.args.seat.now c.count_value.new.seat c.requires.may has c.args.self.now c.requires.seat.table c.count_value.ensures.same)
+    (may_note known c.args.value c.args.units c.args.seat.now c.count_value.new.seat c.requires.may has c.args.self.now c.requires.ready.seated.table c.count_value.ensures.same)
 
 pub returns-clause-outcome : goal.returns-clause-outcome
 returns-clause-outcome c =

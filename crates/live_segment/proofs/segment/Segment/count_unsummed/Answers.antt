@@ -43,7 +43,7 @@ count_value-requires-clause-may c =
     let trip : to_z w32 (of_z w32 item.0) ≡ item.0 = search rules in
     let (one, enough) = last_fits known items c.args.seat.now.me.0.units.share c.in-len1-up.len_at_least c.requires.units in
     subst (λ (v : ℤ). CountsAlone c.count_items.new.seat.me.0 known (item_of known v item.1)) (sym trip)
-    (may_next known item c.args.seat.now.me.0 c.count_items.new.seat.me.0 c.requires.rests (take k items) c.requires.right.alone
+    (may_next known item c.args.seat.now.me.0 c.count_items.new.seat.me.0 c.requires.ready.rests (take k items) c.requires.ready.right.alone
     c.in_ok-count_items.ensures.outcome one enough)
 
 pub returns-in-Err-clause-outcome : goal.returns-in-Err-clause-outcome
@@ -57,7 +57,7 @@ returns-in-Err-clause-outcome c =
     let (one, enough) = last_fits known items c.args.seat.now.me.0.units.share c.in-len1-up.len_at_least c.requires.units in
     let first : length (take k items) ≡ k = length-take-le k items (omega arith) in
     subst (λ (n : ℕ). IsCutShort known items (record { added = n; why = c.in-Err.why }) c.args.seat.now.me.0 c.count_value.new.seat.me.0) (sym first)
-    (stops_at known items k (pos 0, 0) c.args.seat.now.me.0 c.count_items.new.seat.me.0 c.count_value.new.seat.me.0 c.in-Err.why within c.requires.rests
+    (stops_at known items k (pos 0, 0) c.args.seat.now.me.0 c.count_items.new.seat.me.0 c.count_value.new.seat.me.0 c.in-Err.why within c.requires.ready.rests
     c.in_ok-count_items.ensures.outcome one enough
     (subst (λ (v : ℤ). IsNotCounted c.in-Err.why known v item.1 c.count_items.new.seat.me.0 c.count_value.new.seat.me.0) trip c.in-Err.ensures.outcome) c.in_ok-count_items.ensures.claims).0
 
@@ -70,7 +70,7 @@ returns-in-Err-clause-rests c =
     let within : k < length items = omega (arith, c.in-len1-up.len_at_least) in
     let trip : to_z w32 (of_z w32 item.0) ≡ item.0 = search rules in
     let (one, enough) = last_fits known items c.args.seat.now.me.0.units.share c.in-len1-up.len_at_least c.requires.units in
-    (stops_at known items k (pos 0, 0) c.args.seat.now.me.0 c.count_items.new.seat.me.0 c.count_value.new.seat.me.0 c.in-Err.why within c.requires.rests
+    (stops_at known items k (pos 0, 0) c.args.seat.now.me.0 c.count_items.new.seat.me.0 c.count_value.new.seat.me.0 c.in-Err.why within c.requires.ready.rests
     c.in_ok-count_items.ensures.outcome one enough
     (subst (λ (v : ℤ). IsNotCounted c.in-Err.why known v item.1 c.count_items.new.seat.me.0 c.count_value.new.seat.me.0) trip c.in-Err.ensures.outcome) c.in_ok-count_items.ensures.claims).1
 
@@ -84,7 +84,7 @@ finish_entry-requires-clause-may c =
     let (one, enough) = last_fits known items c.args.seat.now.me.0.units.share c.in-len1-up.len_at_least c.requires.units in
     let counted = subst (λ (v : ℤ). HasCounted (item_of known v item.1) c.count_items.new.seat.me.0 c.count_value.new.seat.me.0) trip c.in_default-count_value.ensures.outcome in
     subst (λ (n : ℕ). MayDo c.count_value.new.seat [] (counting_event (add_redundant known.reference n)) (ends ∷ [])) (sym c.from.ensures)
-    (may_end_batch known (take k items) item c.args.seat.now.me.0 c.count_items.new.seat.me.0 c.count_value.new.seat c.requires.rests c.requires.right.alone c.in_ok-count_items.ensures.outcome one enough counted)
+    (may_end_batch known (take k items) item c.args.seat.now.me.0 c.count_items.new.seat.me.0 c.count_value.new.seat c.requires.ready.rests c.requires.ready.right.alone c.in_ok-count_items.ensures.outcome one enough counted)
 
 pub returns-clause-same : goal.returns-clause-same
 returns-clause-same c =
@@ -98,7 +98,7 @@ returns-clause-same c =
     let noted = subst (λ (n : ℕ). Noted c.count_value.new.seat [] (counting_event (add_redundant known.reference n)) (ends ∷ []) c.finish_entry.result c.finish_entry.new.seat) c.from.ensures c.finish_entry.ensures in
     let so_far = c.count_items.ensures.same in
     let then = c.count_value.ensures.same in
-    same_ended known (take k items) item c.args.seat.now.me.0 c.count_items.new.seat.me.0 c.count_value.new.seat c.requires.rests c.requires.right.alone c.in_ok-count_items.ensures.outcome one enough counted
+    same_ended known (take k items) item c.args.seat.now.me.0 c.count_items.new.seat.me.0 c.count_value.new.seat c.requires.ready.rests c.requires.ready.right.alone c.in_ok-count_items.ensures.outcome one enough counted
     c.finish_entry.result c.finish_entry.new.seat noted c.args.seat.now (then.0 ∙ so_far.0, then.1 ∙ so_far.1, then.2 ∙ so_far.2)
 
 pub returns-clause-rests : goal.returns-clause-rests
@@ -111,7 +111,7 @@ returns-clause-rests c =
     let (one, enough) = last_fits known items c.args.seat.now.me.0.units.share c.in-len1-up.len_at_least c.requires.units in
     let counted = subst (λ (v : ℤ). HasCounted (item_of known v item.1) c.count_items.new.seat.me.0 c.count_value.new.seat.me.0) trip c.in_default-count_value.ensures.outcome in
     let noted = subst (λ (n : ℕ). Noted c.count_value.new.seat [] (counting_event (add_redundant known.reference n)) (ends ∷ []) c.finish_entry.result c.finish_entry.new.seat) c.from.ensures c.finish_entry.ensures in
-    last_rests known (take k items) item c.args.seat.now.me.0 c.count_items.new.seat.me.0 c.count_value.new.seat c.requires.rests c.requires.right.alone c.in_ok-count_items.ensures.outcome one enough counted
+    last_rests known (take k items) item c.args.seat.now.me.0 c.count_items.new.seat.me.0 c.count_value.new.seat c.requires.ready.rests c.requires.ready.right.alone c.in_ok-count_items.ensures.outcome one enough counted
     c.finish_entry.result c.finish_entry.new.seat noted
 
 pub returns-clause-outcome : goal.returns-clause-outcome
@@ -125,7 +125,7 @@ returns-clause-outcome c =
     let counted = subst (λ (v : ℤ). HasCounted (item_of known v item.1) c.count_items.new.seat.me.0 c.count_value.new.seat.me.0) trip c.in_default-count_value.ensures.outcome in
     let noted = subst (λ (n : ℕ). Noted c.count_value.new.seat [] (counting_event (add_redundant known.reference n)) (ends ∷ []) c.finish_entry.result c.finish_entry.new.seat) c.from.ensures c.finish_entry.ensures in
     subst (λ (l : List (ℤ × ℕ)). IsBatched known l (pos 0) c.args.seat.now.me.0 c.finish_entry.new.seat.me.0) (front_and_last items (pos 0, 0) c.in-len1-up.len_at_least)
-    (last_batched known (take k items) item c.args.seat.now.me.0 c.count_items.new.seat.me.0 c.count_value.new.seat c.requires.rests c.requires.right.alone c.in_ok-count_items.ensures.outcome one enough counted
+    (last_batched known (take k items) item c.args.seat.now.me.0 c.count_items.new.seat.me.0 c.count_value.new.seat c.requires.ready.rests c.requires.ready.right.alone c.in_ok-count_items.ensures.outcome one enough counted
     c.finish_entry.result c.finish_entry.new.seat noted)
 
 pub returns-clause-claims : goal.returns-clause-claims

@@ -19,7 +19,7 @@ returns-in-Met-clause-outcome c =
 
 pub make_sample-requires-clause-sparse : goal.make_sample-requires-clause-sparse
 make_sample-requires-clause-sparse c =
-    knows_still c.args.self.now.setting c.args.histogram.now c.args.seat.now.me.0 c.search_sample.new.seat.me.0 c.requires.right c.requires.sparse c.search_sample.ensures.view
+    knows_still c.args.self.now.setting c.args.histogram.now c.args.seat.now.me.0 c.search_sample.new.seat.me.0 c.requires.ready.right c.requires.sparse c.search_sample.ensures.view
 
 pub returns-in_err-make_sample-clause-outcome : goal.returns-in_err-make_sample-clause-outcome
 returns-in_err-make_sample-clause-outcome c =

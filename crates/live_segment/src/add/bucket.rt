@@ -20,6 +20,7 @@ pub(crate) enum PackAttempt {
 impl Segment {
     ghost use Rattle.std.specs.Prelude.{◌≡◌, ◌+◌, ◌<◌, ◌≤◌, Some, None, IfOk, MatchResult};
     ghost use Rattle.bucket_ranges.specs.Spec.{buckets_of};
+    ghost use Rattle.live_segment.specs.Ready.{IsSeatedAt};
     ghost use Rattle.live_segment.specs.Known.{known_view, KnowsRight};
     ghost use Rattle.live_segment.specs.Add.Counts.{MountsAtMostOne};
     ghost use Rattle.live_segment.specs.Add.Refusal.{IsTurnedAway};
@@ -38,8 +39,7 @@ impl Segment {
         bucket: usize,
         units: u32,
     ) -> PackAttempt
-        requires seat { IsSeated self.now seat.old }
-        requires room { histogram.now.reference + 15 ≤ self.now.setting.shape.size }
+        requires at { IsSeatedAt self.now histogram.now seat.old }
         requires bucket { (bucket < buckets_of histogram.now.spec) × (bucket ≤ 65535) }
         requires may { MayCount seat.old.me.0 (known_view histogram.now) bucket units }
         ensures same { IsSame seat.old seat.new }

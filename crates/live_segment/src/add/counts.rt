@@ -23,6 +23,7 @@ fn moves_units(version: u64, word: u64) -> bool
 impl Segment {
     ghost use Rattle.std.specs.Prelude.{◌≡◌, ◌+◌, ◌*◌, ◌≤◌, IfOk, MatchResult, None};
     ghost use Rattle.bucket_ranges.specs.Spec.{buckets_of, spec_fault};
+    ghost use Rattle.live_segment.specs.Ready.{IsSeatedAt};
     ghost use Rattle.live_segment.specs.Known.{known_view};
     ghost use Rattle.live_segment.specs.Add.Sample.{block_words};
     ghost use Rattle.bucket_ranges.specs.Ranges.{boundaries_of};
@@ -38,8 +39,7 @@ impl Segment {
         seat: &mut Pass,
         histogram: &KnownHistogram,
     ) -> Result<u64, Refusal>
-        requires seat { IsSeated self.now seat.old }
-        requires room { histogram.now.reference + 15 ≤ self.now.setting.shape.size }
+        requires at { IsSeatedAt self.now histogram.now seat.old }
         requires fits { block_words (known_view histogram.now) ≤ self.now.setting.shape.page }
         requires right { (spec_fault histogram.now.spec ≡ None) × (histogram.now.ranges ≡ boundaries_of histogram.now.spec) }
         requires may { MayMount seat.old.me.0 (known_view histogram.now) }
@@ -79,8 +79,7 @@ impl Segment {
     // Disables the single word of a histogram whose counts it looks at, and adds the units that this had to their count.
     // Where it is off, nothing is left to do.
     pub(crate) fn disable_single(&self, seat: &mut Pass, histogram: &KnownHistogram, counts: u64)
-        requires seat { IsSeated self.now seat.old }
-        requires room { histogram.now.reference + 15 ≤ self.now.setting.shape.size }
+        requires at { IsSeatedAt self.now histogram.now seat.old }
         requires may { MayMount seat.old.me.0 (known_view histogram.now) }
         requires stands { LooksAtCounts seat.old.me.0 (known_view histogram.now) counts }
         ensures same { IsSame seat.old seat.new }

@@ -8,8 +8,8 @@ use bucket_ranges::amount_of;
 impl Segment {
     ghost use Rattle.std.specs.Prelude.{◌≡◌, ◌≤◌, ◌+◌, [], ◌∷◌};
     ghost use Rattle.bucket_ranges.specs.Ranges.{boundaries_of};
+    ghost use Rattle.live_segment.specs.Ready.{MayReach};
     ghost use Rattle.live_segment.specs.Known.{known_view};
-    ghost use Rattle.live_segment.specs.Holders.{table_of};
     ghost use Rattle.live_segment.specs.Steps.{IsSame};
     ghost use Rattle.live_segment.specs.Add.Finish.{HasSample, HasEnded, IsSummed, sample_of};
 
@@ -21,8 +21,7 @@ impl Segment {
         value: i32,
         units: u32,
     )
-        requires table { seat.old.table_id ≡ table_of self.now }
-        requires room { histogram.now.reference + 15 ≤ self.now.setting.shape.size }
+        requires reach { MayReach self.now seat.old (histogram.now.reference + 15) }
         requires ranges { histogram.now.ranges ≡ boundaries_of histogram.now.spec }
         requires counted { HasSample (known_view histogram.now) value units seat.old.me.0 }
         ensures same { IsSame seat.old seat.new }
@@ -34,8 +33,7 @@ impl Segment {
 
     // Adds the amount of a sample that is counted to the sum, where it is not 0.
     fn sum_sample(&self, seat: &mut Pass, histogram: &KnownHistogram, value: i32, units: u32)
-        requires table { seat.old.table_id ≡ table_of self.now }
-        requires room { histogram.now.reference + 15 ≤ self.now.setting.shape.size }
+        requires reach { MayReach self.now seat.old (histogram.now.reference + 15) }
         requires ranges { histogram.now.ranges ≡ boundaries_of histogram.now.spec }
         requires counted { HasSample (known_view histogram.now) value units seat.old.me.0 }
         ensures same { IsSame seat.old seat.new }

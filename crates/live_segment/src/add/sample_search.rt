@@ -10,7 +10,7 @@ ghost use Rattle.segment_machine.specs.Actor.{is_bound};
 ghost use Rattle.segment_machine.specs.Actor.{Sparse as KnowsSparse};
 ghost use Rattle.segment_promises.specs.Calls.{SamplesStandBehind};
 ghost use Rattle.segment_promises.specs.Values.{NoRepeats};
-ghost use Rattle.live_segment.specs.Hist.ListSearch.{Meets, SeesWords};
+ghost use Rattle.live_segment.specs.Hist.ListSearch.{SeesWords};
 ghost use Rattle.live_segment.specs.Hist.Search.{HasSearched};
 ghost use Rattle.live_segment.specs.Add.SampleSearch.{ShowsValue, WalksBehind, FindsSample, FoundEnd, HasMadeSample, HasNotMadeSample, HasSampleOf, LacksSampleOf};
 
@@ -46,7 +46,7 @@ fn start_behind(index: &RecordIndex, has_passed_all: bool, histogram: u64) -> u6
 
 impl Segment {
     ghost use Rattle.bucket_ranges.specs.declared.spec.Spec.TheVariants.{Sparse};
-    ghost use Rattle.live_segment.specs.Ready.{CountsFor};
+    ghost use Rattle.live_segment.specs.Ready.{CountsFor, HasMetRecord};
     ghost use Rattle.live_segment.specs.declared.list.index.KeyKind.TheVariants.{Sample as OfSample};
     ghost use Rattle.live_segment.specs.List.Index.{IsIndexed};
     ghost use Rattle.live_segment.specs.Seated.{IsSeated};
@@ -188,9 +188,7 @@ impl Segment {
 
     // Whether a record that was met is a sample of the value.
     fn shows_value(&self, seat: &mut Pass, at: u64, histogram: u64, value: i32) -> bool
-        requires seat { IsSeated self.now seat.old }
-        requires met { Meets at seat.old.me.0 }
-        requires room { at + 5 ≤ self.now.setting.shape.size }
+        requires meets { HasMetRecord self.now at seat.old }
         ensures same { IsSame seat.old seat.new }
         ensures view { SeesWords seat.old.me.0 seat.new.me.0 }
         ensures shown { ShowsValue histogram value at result seat.new.me.0 }

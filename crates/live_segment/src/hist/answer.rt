@@ -15,6 +15,7 @@ use crate::segment::Segment;
 use segment_calls::{Asked, Refusal};
 
 impl Segment {
+    ghost use Rattle.live_segment.specs.Ready.{AsksFor};
     ghost use Rattle.live_segment.specs.declared.list.index.KeyKind.TheVariants.{Name};
     ghost use Rattle.live_segment.specs.List.Index.{IsIndexed};
     ghost use Rattle.live_segment.specs.Holders.{opened_with};
@@ -32,10 +33,7 @@ impl Segment {
         asked: &Asked,
         said: &Announcement,
     ) -> Result<u64, Refusal>
-        requires seat { IsSeated self.now seat.old }
-        requires indexed { IsIndexed Name self.now.setting.shape.size seat.old.me.0.seen index.old }
-        requires rests { MayTurn seat.old.me.0 × (seat.old.me.0.entries.running ≡ []) × (seat.old.me.0.answers.owed ≡ []) }
-        requires asked { IsAsked self.now.setting.shape asked.now }
+        requires asks { AsksFor self.now asked.now index.old seat.old }
         requires says { SaysAsked asked.now said.now }
         ensures same { IsSame seat.old seat.new }
         ensures indexed { IsIndexed Name self.now.setting.shape.size seat.new.me.0.seen index.new }
@@ -66,10 +64,7 @@ impl Segment {
         asked: &Asked,
         said: &Announcement,
     ) -> Result<u64, Refusal>
-        requires seat { IsSeated self.now seat.old }
-        requires indexed { IsIndexed Name self.now.setting.shape.size seat.old.me.0.seen index.old }
-        requires rests { MayTurn seat.old.me.0 × (seat.old.me.0.entries.running ≡ []) × (seat.old.me.0.answers.owed ≡ []) }
-        requires asked { IsAsked self.now.setting.shape asked.now }
+        requires asks { AsksFor self.now asked.now index.old seat.old }
         requires says { SaysAsked asked.now said.now }
         ensures same { IsSame seat.old seat.new }
         ensures indexed { IsIndexed Name self.now.setting.shape.size seat.new.me.0.seen index.new }

@@ -19,6 +19,7 @@ const NAME: usize = HISTOGRAM_NAME - BLOCK_HEADER;
 const BUCKETS: usize = HISTOGRAM_BUCKETS - BLOCK_HEADER;
 
 impl Segment {
+    ghost use Rattle.live_segment.specs.Ready.{HasMetRecord};
     ghost use Rattle.live_segment.specs.Holders.{table_of};
     ghost use Rattle.live_segment.specs.Seated.{IsSeated};
     ghost use Rattle.live_segment.specs.Steps.{IsSame};
@@ -43,10 +44,8 @@ impl Segment {
 
     // Whether it has the name that is asked for.
     pub(crate) fn shows_name(&self, seat: &mut Pass, at: u64, asked: &Asked) -> bool
-        requires seat { IsSeated self.now seat.old }
+        requires meets { HasMetRecord self.now at seat.old }
         requires asked { IsAsked self.now.setting.shape asked.now }
-        requires met { Meets at seat.old.me.0 }
-        requires room { at + 5 ≤ self.now.setting.shape.size }
         ensures same { IsSame seat.old seat.new }
         ensures view { SeesWords seat.old.me.0 seat.new.me.0 }
         ensures shown { ShowsName asked.now at result seat.new.me.0 }

@@ -49,6 +49,7 @@ fn key_of_name(asked: &Asked) -> u64
 }
 
 impl Segment {
+    ghost use Rattle.live_segment.specs.Ready.{WalksWith};
     ghost use Rattle.live_segment.specs.declared.list.index.KeyKind.TheVariants.{Name};
     ghost use Rattle.live_segment.specs.List.Index.{IsIndexed};
     ghost use Rattle.live_segment.specs.Seated.{IsSeated};
@@ -83,10 +84,8 @@ impl Segment {
 
     // The first record of the name that is asked for, on from the first with the same key.
     fn search_at(&self, seat: &mut Pass, index: &RecordIndex, at: u64, asked: &Asked) -> Search
-        requires seat { IsSeated self.now seat.old }
-        requires free { MayTurn seat.old.me.0 }
+        requires walks { WalksWith Name self.now index.now seat.old }
         requires asked { IsAsked self.now.setting.shape asked.now }
-        requires indexed { IsIndexed Name self.now.setting.shape.size seat.old.me.0.seen index.now }
         requires first { (key : ℕ) × IsNameKey asked.now.name.items key × (first_of index.now.firsts key ≡ Some at) }
         ensures same { IsSame seat.old seat.new }
         ensures view { HasSearched seat.old.me.0 seat.new.me.0 }
@@ -105,10 +104,8 @@ impl Segment {
 
     // The first record of the name that is asked for: by the index, and from its place on along the list.
     pub(crate) fn search(&self, seat: &mut Pass, index: &mut RecordIndex, asked: &Asked) -> Search
-        requires seat { IsSeated self.now seat.old }
-        requires free { MayTurn seat.old.me.0 }
+        requires walks { WalksWith Name self.now index.old seat.old }
         requires asked { IsAsked self.now.setting.shape asked.now }
-        requires indexed { IsIndexed Name self.now.setting.shape.size seat.old.me.0.seen index.old }
         ensures same { IsSame seat.old seat.new }
         ensures view { HasSearched seat.old.me.0 seat.new.me.0 }
         ensures outcome { Searches asked.now result seat.new.me.0 }

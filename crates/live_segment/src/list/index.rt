@@ -46,6 +46,7 @@ fn firsts_for(alloc: Global, kind: KeyKind) -> Firsts
 }
 
 impl RecordIndex {
+    ghost use Rattle.live_segment.specs.Ready.{WalksWith};
     ghost use Rattle.live_segment.specs.List.Index.{Enters, IsIndexed};
     ghost use Rattle.live_segment.specs.List.IndexedValues.{own_samples};
     ghost use Rattle.segment_machine.specs.declared.seen.Seen.{Seen};
@@ -93,15 +94,12 @@ impl RecordIndex {
 impl Segment {
     ghost use Rattle.live_segment.specs.declared.list.index.KeyKind.{KeyKind};
     ghost use Rattle.live_segment.specs.List.Index.{IsIndexed};
-    ghost use Rattle.live_segment.specs.Seated.{IsSeated};
     ghost use Rattle.live_segment.specs.Steps.{IsSame};
 
     // Walks along the list, on from where the index stands, and enters what it meets: to the end of the list, or to where the index
     // could not grow. True where it came to the end.
     pub(crate) fn look_on(&self, seat: &mut Pass, index: &mut RecordIndex) -> bool
-        requires seat { IsSeated self.now seat.old }
-        requires free { MayTurn seat.old.me.0 }
-        requires indexed { IsIndexed index.old.kind self.now.setting.shape.size seat.old.me.0.seen index.old }
+        requires walks { WalksWith index.old.kind self.now index.old seat.old }
         ensures same { IsSame seat.old seat.new }
         ensures view { HasSearched seat.old.me.0 seat.new.me.0 }
         ensures free { MayTurn seat.new.me.0 }
@@ -124,9 +122,7 @@ impl Segment {
 
     // Looks on along the list where the index has no record of a key. True where it came to the end.
     pub(crate) fn look_for(&self, seat: &mut Pass, index: &mut RecordIndex, key: u64) -> bool
-        requires seat { IsSeated self.now seat.old }
-        requires free { MayTurn seat.old.me.0 }
-        requires indexed { IsIndexed index.old.kind self.now.setting.shape.size seat.old.me.0.seen index.old }
+        requires walks { WalksWith index.old.kind self.now index.old seat.old }
         ensures same { IsSame seat.old seat.new }
         ensures view { HasSearched seat.old.me.0 seat.new.me.0 }
         ensures free { MayTurn seat.new.me.0 }

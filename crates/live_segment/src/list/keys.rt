@@ -36,6 +36,7 @@ pub(crate) fn value_key(histogram: u64, value: i32) -> u64
 }
 
 impl Segment {
+    ghost use Rattle.live_segment.specs.Ready.{HasMetRecord};
     ghost use Rattle.live_segment.specs.declared.list.index.KeyKind.TheVariants.{Name, Sample};
     ghost use Rattle.live_segment.specs.List.Keys.{HasLooked, seen_key};
     ghost use Rattle.live_segment.specs.Seated.{IsSeated};
@@ -62,9 +63,7 @@ impl Segment {
 
     // The key of a record that was met: that of its name, where it is one of a histogram.
     fn name_key_at(&self, seat: &mut Pass, at: u64) -> Option<u64>
-        requires seat { IsSeated self.now seat.old }
-        requires met { Meets at seat.old.me.0 }
-        requires room { at + 5 ≤ self.now.setting.shape.size }
+        requires meets { HasMetRecord self.now at seat.old }
         ensures same { IsSame seat.old seat.new }
         ensures view { SeesWords seat.old.me.0 seat.new.me.0 }
         ensures looked { HasLooked Name seat.new.me.0.seen at }
@@ -79,9 +78,7 @@ impl Segment {
 
     // The key of a record that was met: that of its histogram and its value, where it is a sample.
     fn sample_key_at(&self, seat: &mut Pass, at: u64) -> Option<u64>
-        requires seat { IsSeated self.now seat.old }
-        requires met { Meets at seat.old.me.0 }
-        requires room { at + 5 ≤ self.now.setting.shape.size }
+        requires meets { HasMetRecord self.now at seat.old }
         ensures same { IsSame seat.old seat.new }
         ensures view { SeesWords seat.old.me.0 seat.new.me.0 }
         ensures looked { HasLooked Sample seat.new.me.0.seen at }
@@ -97,9 +94,7 @@ impl Segment {
 
     // The key of a record that was met, where it is one of those that have a key.
     pub(crate) fn key_at(&self, seat: &mut Pass, kind: KeyKind, at: u64) -> Option<u64>
-        requires seat { IsSeated self.now seat.old }
-        requires met { Meets at seat.old.me.0 }
-        requires room { at + 5 ≤ self.now.setting.shape.size }
+        requires meets { HasMetRecord self.now at seat.old }
         ensures same { IsSame seat.old seat.new }
         ensures view { SeesWords seat.old.me.0 seat.new.me.0 }
         ensures looked { HasLooked kind seat.new.me.0.seen at }

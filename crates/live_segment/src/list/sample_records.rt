@@ -19,6 +19,7 @@ impl Segment {
     ghost use Rattle.segment_machine.specs.Actor.{has_buckets};
     ghost use Rattle.segment_machine.specs.Calls.{MayTurn};
     ghost use Rattle.segment_promises.specs.Onward.{is_holding};
+    ghost use Rattle.live_segment.specs.Ready.{HasMetRecord};
     ghost use Rattle.live_segment.specs.declared.list.index.KeyKind.TheVariants.{Sample as OfSample};
     ghost use Rattle.live_segment.specs.declared.rule.Setting.{Setting};
     ghost use Rattle.live_segment.specs.Known.{KnowsRight};
@@ -30,9 +31,7 @@ impl Segment {
 
     // The value of a record that was met, where it is a sample of a histogram.
     pub(crate) fn shows_sample(&self, seat: &mut Pass, at: u64, histogram: u64) -> Option<i32>
-        requires seat { IsSeated self.now seat.old }
-        requires met { Meets at seat.old.me.0 }
-        requires room { at + 5 ≤ self.now.setting.shape.size }
+        requires meets { HasMetRecord self.now at seat.old }
         ensures same { IsSame seat.old seat.new }
         ensures view { SeesWords seat.old.me.0 seat.new.me.0 }
         ensures shown { ShowsSample histogram at result seat.new.me.0 }

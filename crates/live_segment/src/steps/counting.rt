@@ -59,6 +59,7 @@ impl Play<Announcement, Actor> for FinishEntry {
 impl Segment {
     ghost use Rattle.std.specs.Prelude.{◌≡◌, [], ◌∷◌};
     ghost use Rattle.segment_machine.specs.Note.{ends};
+    ghost use Rattle.live_segment.specs.Ready.{MayReach};
     ghost use Rattle.live_segment.specs.Holders.{MayStep, table_of};
     ghost use Rattle.live_segment.specs.Steps.{Stepped};
     ghost use Rattle.live_segment.specs.Steps.GhostNotes.{MayAddTo, HasAddedTo, MaySample, HasSampled, MayAmount, HasAmount, MaySum, HasSum, MayDo, Noted};
@@ -88,8 +89,7 @@ impl Segment {
 
     // Units are added to the count of a sample.
     pub(crate) fn add_to_sample(&self, seat: &mut Pass, sample: u64, units: u64) -> u64
-        requires table { seat.old.table_id ≡ table_of self.now }
-        requires room { sample + 8 ≤ self.now.setting.shape.size }
+        requires reach { MayReach self.now seat.old (sample + 8) }
         requires may { MaySample seat.old sample units }
         ensures { HasSampled seat.old sample units result seat.new }
     {
@@ -100,8 +100,7 @@ impl Segment {
 
     // The amount of a sample is added to the sum.
     pub(crate) fn add_amount(&self, seat: &mut Pass, histogram: u64, amount: i64) -> u64
-        requires table { seat.old.table_id ≡ table_of self.now }
-        requires room { histogram + 15 ≤ self.now.setting.shape.size }
+        requires reach { MayReach self.now seat.old (histogram + 15) }
         requires may { MayAmount seat.old histogram amount }
         ensures { HasAmount seat.old histogram amount result seat.new }
     {
@@ -114,8 +113,7 @@ impl Segment {
 
     // The sum of a batch is added, and the batch ends.
     pub(crate) fn add_sum(&self, seat: &mut Pass, histogram: u64, sum: i64) -> u64
-        requires table { seat.old.table_id ≡ table_of self.now }
-        requires room { histogram + 15 ≤ self.now.setting.shape.size }
+        requires reach { MayReach self.now seat.old (histogram + 15) }
         requires may { MaySum seat.old histogram sum }
         ensures { HasSum seat.old histogram sum result seat.new }
     {
@@ -140,8 +138,7 @@ impl Segment {
 
     // The same, and the call ends.
     pub(crate) fn finish_entry(&self, seat: &mut Pass, histogram: u64, units: u64) -> u64
-        requires table { seat.old.table_id ≡ table_of self.now }
-        requires room { histogram + 15 ≤ self.now.setting.shape.size }
+        requires reach { MayReach self.now seat.old (histogram + 15) }
         requires may { MayDo seat.old [] (counting_event (add_redundant histogram units)) (ends ∷ []) }
         ensures { Noted seat.old [] (counting_event (add_redundant histogram units)) (ends ∷ []) result seat.new }
     {

@@ -54,7 +54,8 @@ impl Play<Announcement, Actor> for AddMoved {
 impl Segment {
     ghost use Rattle.segment_machine.specs.declared.place.Look.{Look};
     ghost use Rattle.segment_machine.specs.declared.place.Place.TheVariants.{Moving};
-    ghost use Rattle.live_segment.specs.Holders.{MayStep, table_of};
+    ghost use Rattle.live_segment.specs.Ready.{MayReach};
+    ghost use Rattle.live_segment.specs.Holders.{MayStep};
     ghost use Rattle.live_segment.specs.Steps.{Stepped};
     ghost use Rattle.live_segment.specs.Steps.GhostNotes.{MayPack, HasPacked};
 
@@ -69,8 +70,7 @@ impl Segment {
     }
 
     pub(crate) fn pack(&self, seat: &mut Pass, histogram: u64, old: u64, new: u64) -> u64
-        requires table { seat.old.table_id ≡ table_of self.now }
-        requires room { histogram + 15 ≤ self.now.setting.shape.size }
+        requires reach { MayReach self.now seat.old (histogram + 15) }
         requires may { MayPack seat.old histogram old new }
         ensures { HasPacked seat.old histogram old new result seat.new }
     {

@@ -49,7 +49,8 @@ impl Play<Announcement, Actor> for MoveTail {
 impl Segment {
     ghost use Rattle.std.specs.Prelude.{◌≡◌};
     ghost use Rattle.segment_machine.specs.Actor.{AreApart};
-    ghost use Rattle.live_segment.specs.Holders.{MayStep, table_of};
+    ghost use Rattle.live_segment.specs.Ready.{MayReach};
+    ghost use Rattle.live_segment.specs.Holders.{MayStep};
     ghost use Rattle.live_segment.specs.Steps.{Stepped};
     ghost use Rattle.live_segment.specs.Steps.Listing.{MayLink, HasLinked};
 
@@ -84,8 +85,7 @@ impl Segment {
 
     // The block at a word is to hold what is said, and is linked behind the tail, where no other record stands there.
     pub(crate) fn link(&self, seat: &mut Pass, tail: u64, at: u64, said: &Announcement) -> u64
-        requires table { seat.old.table_id ≡ table_of self.now }
-        requires room { tail + 5 ≤ self.now.setting.shape.size }
+        requires reach { MayReach self.now seat.old (tail + 5) }
         requires may { MayLink seat.old tail at said.now }
         ensures { HasLinked seat.old tail at said.now result seat.new }
     {

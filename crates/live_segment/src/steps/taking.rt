@@ -94,6 +94,7 @@ impl Play<Announcement, Actor> for Answering {
 impl Segment {
     ghost use Rattle.std.specs.Prelude.{[], ◌∷◌};
     ghost use Rattle.segment_machine.specs.Note.{has_taken, looks};
+    ghost use Rattle.live_segment.specs.Ready.{MayReach};
     ghost use Rattle.live_segment.specs.Holders.{MayStep, table_of};
     ghost use Rattle.live_segment.specs.Steps.{Stepped};
     ghost use Rattle.live_segment.specs.Steps.Taking.{MayAnswer, HasAnswered, MayBeginDelta, HasBegunDelta};
@@ -101,8 +102,7 @@ impl Segment {
 
     // A delta of a histogram with buckets begins: its single word is loaded.
     pub(crate) fn take_single(&self, seat: &mut Pass, histogram: u64) -> u64
-        requires table { seat.old.table_id ≡ table_of self.now }
-        requires room { histogram + 15 ≤ self.now.setting.shape.size }
+        requires reach { MayReach self.now seat.old (histogram + 15) }
         requires may { MayBeginDelta seat.old histogram (λ at. packing_event (load_single at)) }
         ensures { HasBegunDelta seat.old histogram (λ at. packing_event (load_single at)) result seat.new }
     {
@@ -113,8 +113,7 @@ impl Segment {
 
     // A delta of a sparse histogram begins: the next of its record is loaded.
     pub(crate) fn take_next(&self, seat: &mut Pass, histogram: u64) -> u64
-        requires table { seat.old.table_id ≡ table_of self.now }
-        requires room { histogram + 15 ≤ self.now.setting.shape.size }
+        requires reach { MayReach self.now seat.old (histogram + 15) }
         requires may { MayBeginDelta seat.old histogram (λ at. walking_event (load_next at)) }
         ensures { HasBegunDelta seat.old histogram (λ at. walking_event (load_next at)) result seat.new }
     {
@@ -126,8 +125,7 @@ impl Segment {
     // A delta of a sparse histogram begins whose samples were all met: the type of its record is loaded, which tells nothing new. So of the
     // list no more is seen.
     pub(crate) fn take_type(&self, seat: &mut Pass, histogram: u64)
-        requires table { seat.old.table_id ≡ table_of self.now }
-        requires room { histogram + 15 ≤ self.now.setting.shape.size }
+        requires reach { MayReach self.now seat.old (histogram + 15) }
         requires may { MayBeginDelta seat.old histogram (λ at. walking_event (load_published at BLOCK_TYPE)) }
         ensures { (found : ℕ) × HasBegunDelta seat.old histogram (λ at. walking_event (load_published at BLOCK_TYPE)) found seat.new }
     {
@@ -138,8 +136,7 @@ impl Segment {
 
     // The same of snapshots.
     pub(crate) fn look_type(&self, seat: &mut Pass, histogram: u64)
-        requires table { seat.old.table_id ≡ table_of self.now }
-        requires room { histogram + 15 ≤ self.now.setting.shape.size }
+        requires reach { MayReach self.now seat.old (histogram + 15) }
         requires may { MayDo seat.old (looks ∷ []) (walking_event (load_published histogram BLOCK_TYPE)) [] }
         ensures { (found : ℕ) × Noted seat.old (looks ∷ []) (walking_event (load_published histogram BLOCK_TYPE)) [] found seat.new }
     {
@@ -150,8 +147,7 @@ impl Segment {
 
     // A snapshot begins as a delta does.
     pub(crate) fn look_single(&self, seat: &mut Pass, histogram: u64) -> u64
-        requires table { seat.old.table_id ≡ table_of self.now }
-        requires room { histogram + 15 ≤ self.now.setting.shape.size }
+        requires reach { MayReach self.now seat.old (histogram + 15) }
         requires may { MayDo seat.old (looks ∷ []) (packing_event (load_single histogram)) [] }
         ensures { Noted seat.old (looks ∷ []) (packing_event (load_single histogram)) [] result seat.new }
     {
@@ -161,8 +157,7 @@ impl Segment {
     }
 
     pub(crate) fn look_next(&self, seat: &mut Pass, histogram: u64) -> u64
-        requires table { seat.old.table_id ≡ table_of self.now }
-        requires room { histogram + 15 ≤ self.now.setting.shape.size }
+        requires reach { MayReach self.now seat.old (histogram + 15) }
         requires may { MayDo seat.old (looks ∷ []) (walking_event (load_next histogram)) [] }
         ensures { Noted seat.old (looks ∷ []) (walking_event (load_next histogram)) [] result seat.new }
     {
@@ -208,8 +203,7 @@ impl Segment {
 
     // The sum that was loaded becomes the sum mark, and the delta ends.
     pub(crate) fn swap_sum_mark(&self, seat: &mut Pass, histogram: u64, sum: i64) -> u64
-        requires table { seat.old.table_id ≡ table_of self.now }
-        requires room { histogram + 15 ≤ self.now.setting.shape.size }
+        requires reach { MayReach self.now seat.old (histogram + 15) }
         requires may { MayDo seat.old [] (taking_event (swap_sum_mark histogram sum)) (has_taken ∷ []) }
         ensures { Noted seat.old [] (taking_event (swap_sum_mark histogram sum)) (has_taken ∷ []) result seat.new }
     {

@@ -41,20 +41,13 @@ returns-then-next-eq-QUEUE-clause-ended c =
     (searched was.seated walks _ _ c.load_next-next.ensures.step).ends (grows_not new.ends) refl
     (found_end was.seated walks _ _ c.load_next-next.ensures.step c.load_next-next.ensures.once c.if-next-eq-QUEUE.true)
 
-pub shows_value-requires-clause-met : goal.shows_value-requires-clause-met
-shows_value-requires-clause-met c =
-    let was = c.loop-from.invariant in
-    meets was.seated (was.walks c.args.value (sym (to_z-of_z w32 c.args.value c.ranges.value))) _ _ c.load_next-next.ensures.step c.if-next-eq-QUEUE.false
-
-pub shows_value-requires-clause-seat : goal.shows_value-requires-clause-seat
-shows_value-requires-clause-seat c =
-    let was = c.loop-from.invariant in
-    seat_on c.load_next-next.new.seat was.seated c.load_next-next.ensures.step.same (searched was.seated (was.walks c.args.value (sym (to_z-of_z w32 c.args.value c.ranges.value))) _ _ c.load_next-next.ensures.step)
-
-pub shows_value-requires-clause-room : goal.shows_value-requires-clause-room
-shows_value-requires-clause-room c =
-    let was = c.loop-from.invariant in
-    room_found was.seated (was.walks c.args.value (sym (to_z-of_z w32 c.args.value c.ranges.value))) _ _ c.load_next-next.ensures.step c.if-next-eq-QUEUE.false
+pub shows_value-requires-clause-meets : goal.shows_value-requires-clause-meets
+shows_value-requires-clause-meets c =
+    let was = c.loop-from.invariant in record {
+      seated = seat_on c.load_next-next.new.seat was.seated c.load_next-next.ensures.step.same (searched was.seated (was.walks c.args.value (sym (to_z-of_z w32 c.args.value c.ranges.value))) _ _ c.load_next-next.ensures.step);
+      met = meets was.seated (was.walks c.args.value (sym (to_z-of_z w32 c.args.value c.ranges.value))) _ _ c.load_next-next.ensures.step c.if-next-eq-QUEUE.false;
+      room = room_found was.seated (was.walks c.args.value (sym (to_z-of_z w32 c.args.value c.ranges.value))) _ _ c.load_next-next.ensures.step c.if-next-eq-QUEUE.false;
+    }
 
 pub returns-then-shows_value-clause-view : goal.returns-then-shows_value-clause-view
 returns-then-shows_value-clause-view c =

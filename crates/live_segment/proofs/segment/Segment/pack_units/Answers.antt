@@ -7,7 +7,7 @@ use Rattle.live_segment.proofs.segment.Segment.pack_units.Goals as goal
 
 pub loop-bucket-init : goal.loop-bucket-init
 loop-bucket-init c = record {
-  seated = c.requires.seat;
+  seated = c.requires.at.seated;
   may = c.requires.may;
   same = (refl, refl, refl);
   looks = begun_not (bucket_entry (known_view c.args.histogram.now) c.args.bucket c.args.units) c.args.seat.now.me.0 c.requires.may.counts.free;

@@ -12,8 +12,12 @@ use Rattle.live_segment.proofs.lemmas.List.Indexed.{of_own}
 use Rattle.live_segment.proofs.lemmas.List.IndexKept as kept
 use Rattle.live_segment.proofs.segment.Segment.search_sample.Goals as goal
 
-pub look_for-has_passed_all-requires-clause-indexed : goal.look_for-has_passed_all-requires-clause-indexed
-look_for-has_passed_all-requires-clause-indexed c = of_own _ _ _ _ c.requires.ready.indexed
+pub look_for-has_passed_all-requires-clause-walks : goal.look_for-has_passed_all-requires-clause-walks
+look_for-has_passed_all-requires-clause-walks c = record {
+  seated = c.requires.ready.seated;
+  free = c.requires.free;
+  indexed = of_own _ _ _ _ c.requires.ready.indexed;
+}
 
 pub find_sample-requires-clause-seat : goal.find_sample-requires-clause-seat
 find_sample-requires-clause-seat c = seat_on c.look_for-has_passed_all.new.seat c.requires.ready.seated c.look_for-has_passed_all.ensures.same c.look_for-has_passed_all.ensures.view

@@ -15,7 +15,7 @@ use Rattle.live_segment.proofs.segment.Segment.settle.Goals as goal
 pub know-requires-clause-may : goal.know-requires-clause-may
 know-requires-clause-may c =
     let (looks, owes, found, unfilled) = c.in-Ok.ensures.outcome in record {
-      recorder = ap (λ (a : Actor). is_opener a.role) looks.same ∙ c.requires.seat.recorder;
+      recorder = ap (λ (a : Actor). is_opener a.role) looks.same ∙ c.requires.asks.seated.recorder;
       free = looks.free;
       known = asked_at c.args.asked.now c.in-Ok.reference;
       says = (c.requires.says, refl);
@@ -25,7 +25,7 @@ know-requires-clause-may c =
 pub stand-requires : goal.stand-requires
 stand-requires c =
     let told = c.know.ensures (asked_at c.args.asked.now c.in-Ok.reference) (c.requires.says, refl) in
-    told.0.0 ∙ (c.in-Ok.ensures.same.0 ∙ c.requires.seat.table)
+    told.0.0 ∙ (c.in-Ok.ensures.same.0 ∙ c.requires.asks.seated.table)
 
 pub returns-in-Ok-clause-same : goal.returns-in-Ok-clause-same
 returns-in-Ok-clause-same c =

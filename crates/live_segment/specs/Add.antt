@@ -6,3 +6,4 @@ pub mod Progress
 pub mod Refusal
 pub mod Sample
 pub mod SampleSearch
+pub mod Prelude

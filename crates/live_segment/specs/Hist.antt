@@ -5,3 +5,4 @@ pub mod ListSearch
 pub mod NewRecord
 pub mod Outcome
 pub mod Search
+pub mod Prelude

@@ -10,3 +10,4 @@ pub mod SampleRecords
 pub mod SharedCursors
 pub mod Values
 pub mod Walk
+pub mod Prelude

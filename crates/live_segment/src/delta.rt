@@ -1,19 +1,7 @@
 //! How a recorder takes a delta of a histogram: of each bucket the units that no delta has taken yet, and of the sum what is new.
 
 ghost use Rattle.std.specs.Prelude.{◌≡◌, ◌⊎◌, ◌<◌, ◌+◌, ◌-◌, ◌/◌, ◌≤◌, true, false, ℕ, ℤ, List, [], Some, length, vec_capacity, IfSome, MatchOption};
-ghost use Rattle.std.specs.List.{Contains};
-ghost use Rattle.bucket_ranges.specs.declared.spec.Spec.TheVariants.{Sparse};
-ghost use Rattle.bucket_ranges.specs.Spec.{buckets_of};
-ghost use Rattle.segment_machine.specs.declared.actor.Known.{Known};
-ghost use Rattle.segment_machine.specs.Actor.{bucket_key, has_buckets};
-ghost use Rattle.segment_machine.specs.Form.{is_off, SaysPacked};
-ghost use Rattle.segment_machine.specs.Note.{TookBucket};
-ghost use Rattle.live_segment.specs.Delta.Outcome.{AreUnits, HasTaken, HasTakenBuckets, HasTakenSample, HasTakenSum, MayTakeSample, MayTakeSum, TakesAt, TakesOn, TakesValues, TakesWord, units_of_key};
-ghost use Rattle.live_segment.specs.Known.{known_view, KnowsRight};
-ghost use Rattle.segment_promises.specs.Values.{ComesTo, NoRepeats};
-ghost use Rattle.live_segment.specs.List.IndexedValues.{AreOwn, TakesListed};
-ghost use Rattle.live_segment.specs.List.SampleRecords.{SamplesStandBehind};
-ghost use Rattle.live_segment.specs.List.Values.{AreFewKeys, AreMostKeys, HasTakenValues, HoldsKeys, TakesAlong, TakesValue};
+ghost use Rattle.live_segment.specs.Delta.Prelude.{AreFewKeys, AreMostKeys, AreOwn, AreUnits, bucket_key, buckets_of, ComesTo, Contains, has_buckets, HasTaken, HasTakenBuckets, HasTakenSample, HasTakenSum, HasTakenValues, HoldsKeys, is_off, Known, known_view, KnowsRight, MayTakeSample, MayTakeSum, NoRepeats, SamplesStandBehind, SaysPacked, Sparse, TakesAlong, TakesAt, TakesListed, TakesOn, TakesValue, TakesValues, TakesWord, TookBucket, units_of_key};
 ghost use Rattle.segment_image.specs.declared.layout.TheConstants.{QUEUE};
 
 use crate::recorder::KnownHistogram;
@@ -34,13 +22,7 @@ pub(crate) struct Mounted {
 }
 
 impl Segment {
-    ghost use Rattle.segment_machine.specs.declared.actor.Actor.{Actor};
-    ghost use Rattle.live_segment.specs.Ready.{IsReadyFor};
-    ghost use Rattle.live_segment.specs.declared.rule.Setting.{Setting};
-    ghost use Rattle.live_segment.specs.Seated.{IsSeated};
-    ghost use Rattle.live_segment.specs.Steps.{IsAtRest, IsSame};
-    ghost use Rattle.live_segment.specs.Holders.{opened_with};
-    ghost use Rattle.live_segment.specs.Standing.{Standing};
+    ghost use Rattle.live_segment.specs.Delta.Prelude.{Actor, IsAtRest, IsReadyFor, IsSame, IsSeated, opened_with, Setting, Standing};
 
     // The units of a bucket that the delta takes: its count is loaded, and where that is not 0, the mark is raised to it. The packed bucket
     // has the single mark, and its total is the count with what the single word keeps.

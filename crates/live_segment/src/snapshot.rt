@@ -3,12 +3,7 @@
 mod counts;
 
 ghost use Rattle.std.specs.Prelude.{◌≡◌, ◌≤◌, ℕ, length, IfOk, IfSome, MatchOption};
-ghost use Rattle.segment_calls.specs.declared.answer.Snapshot.{Snapshot};
-ghost use Rattle.live_segment.specs.declared.rule.Announcement.TheVariants.{Answer};
-ghost use Rattle.std.specs.List.{All};
-ghost use Rattle.segment_machine.specs.Calls.{IsUnits};
-ghost use Rattle.segment_promises.specs.Totals.{blank_totals};
-ghost use Rattle.live_segment.specs.Snapshot.Outcome.{HavePacked};
+ghost use Rattle.live_segment.specs.Snapshot.Prelude.{All, Answer, blank_totals, HavePacked, IsUnits, Snapshot};
 
 use crate::recorder::KnownHistogram;
 use crate::rule::{Announcement, Pass};
@@ -48,29 +43,8 @@ fn snapshot_said(said: Announcement) -> Snapshot
 
 impl Segment {
     ghost use Rattle.std.specs.Prelude.{◌+◌, ◌-◌, ◌/◌, List, [], map, true, false, vec_capacity};
+    ghost use Rattle.live_segment.specs.Snapshot.Prelude.{Actor, answered_as, answers, AreFewKeys, AreOwn, AreUnits, buckets_of, ComesTo, has_buckets, HasSeenBuckets, HasSnapshot, is_opener, IsAtRest, IsReadyFor, IsSame, IsSeated, known_view, KnowsAlone, KnowsRight, load_sum, LooksAlong, LooksAtValues, LooksListed, MayNote, MayStep, NoRepeats, noted, opened_with, OpensWith, SamplesStandBehind, saw_sum, Setting, Sparse, Standing, table_of, taking_event};
     ghost use Rattle.segment_image.specs.declared.layout.TheConstants.{QUEUE};
-    ghost use Rattle.bucket_ranges.specs.declared.spec.Spec.TheVariants.{Sparse};
-    ghost use Rattle.segment_promises.specs.Values.{NoRepeats, ComesTo};
-    ghost use Rattle.live_segment.specs.Ready.{IsReadyFor};
-    ghost use Rattle.live_segment.specs.List.SampleRecords.{SamplesStandBehind};
-    ghost use Rattle.segment_machine.specs.declared.actor.Actor.{Actor};
-    ghost use Rattle.live_segment.specs.declared.rule.Setting.{Setting};
-    ghost use Rattle.live_segment.specs.Delta.Outcome.{AreUnits};
-    ghost use Rattle.live_segment.specs.List.Values.{AreFewKeys, LooksAlong, LooksAtValues, OpensWith};
-    ghost use Rattle.live_segment.specs.List.IndexedValues.{AreOwn, LooksListed};
-    ghost use Rattle.bucket_ranges.specs.Spec.{buckets_of};
-    ghost use Rattle.segment_machine.specs.Actor.{has_buckets, is_opener};
-    ghost use Rattle.segment_machine.specs.Event.{taking_event};
-    ghost use Rattle.segment_machine.specs.Note.{answers, MayNote, noted};
-    ghost use Rattle.segment_machine.specs.Taking.{load_sum};
-    ghost use Rattle.live_segment.specs.Holders.{MayStep, opened_with, table_of};
-    ghost use Rattle.live_segment.specs.Seated.{IsSeated};
-    ghost use Rattle.live_segment.specs.Known.{known_view, KnowsRight};
-    ghost use Rattle.live_segment.specs.Steps.{IsAtRest, IsSame};
-    ghost use Rattle.live_segment.specs.Snapshot.Outcome.{HasSeenBuckets, HasSnapshot, saw_sum};
-    ghost use Rattle.live_segment.specs.Steps.Taking.{answered_as};
-    ghost use Rattle.live_segment.specs.Steps.GhostNotes.{KnowsAlone};
-    ghost use Rattle.live_segment.specs.Standing.{Standing};
 
     // The units of all buckets of a histogram stand beside their keys.
     fn look_at_buckets(

@@ -1,9 +1,7 @@
 //! How the items of a batch are counted, one after the other.
 
 ghost use Rattle.std.specs.Prelude.{◌≢◌, ◌+◌, ◌≤◌, pos, IfOk, MatchResult};
-ghost use Rattle.std.specs.List.{All};
-ghost use Rattle.bucket_ranges.specs.Tally.{units_of};
-ghost use Rattle.segment_machine.specs.Entry.{batch_cost};
+ghost use Rattle.live_segment.specs.Add.Prelude.{All, batch_cost, units_of};
 
 use crate::list::index::RecordIndex;
 use crate::recorder::KnownHistogram;
@@ -12,17 +10,8 @@ use crate::segment::Segment;
 use segment_calls::{BatchRefusal, Refusal};
 
 impl Segment {
-    ghost use Rattle.live_segment.specs.Ready.{CountsFor, IsReadyFor};
-    ghost use Rattle.live_segment.specs.Add.Batch.{HasItems, HasNoted, IsBatched, IsCutShort, StopsAt};
-    ghost use Rattle.live_segment.specs.Alloc.Claims.{ClaimsFor, ClaimsForAll, ClaimsForEach};
-    ghost use Rattle.live_segment.specs.Add.Finish.{item_of};
+    ghost use Rattle.live_segment.specs.Add.Prelude.{ClaimsFor, ClaimsForAll, ClaimsForEach, CountsAlone, CountsFor, HasItems, HasNoted, IsAtRest, IsBatched, IsCutShort, IsIndexed, IsNotCounted, IsReadyFor, IsSame, IsSeated, item_of, known_view, KnowsRight, StopsAt};
     ghost use Rattle.live_segment.specs.declared.list.index.KeyKind.TheVariants.{Sample as OfSample};
-    ghost use Rattle.live_segment.specs.List.Index.{IsIndexed};
-    ghost use Rattle.live_segment.specs.Seated.{IsSeated};
-    ghost use Rattle.live_segment.specs.Known.{known_view, KnowsRight};
-    ghost use Rattle.live_segment.specs.Add.Refusal.{IsNotCounted};
-    ghost use Rattle.live_segment.specs.Steps.{IsAtRest, IsSame};
-    ghost use Rattle.live_segment.specs.Add.Progress.{CountsAlone};
 
     // Counts a batch: its items, and then its sum, where that is not 0.
     //

@@ -19,17 +19,8 @@ pub(crate) enum PackAttempt {
 
 impl Segment {
     ghost use Rattle.std.specs.Prelude.{◌≡◌, ◌+◌, ◌<◌, ◌≤◌, Some, None, IfOk, MatchResult};
-    ghost use Rattle.bucket_ranges.specs.Spec.{buckets_of};
-    ghost use Rattle.live_segment.specs.Ready.{IsSeatedAt};
-    ghost use Rattle.live_segment.specs.Known.{known_view, KnowsRight};
-    ghost use Rattle.live_segment.specs.Add.Counts.{MountsAtMostOne};
-    ghost use Rattle.live_segment.specs.Add.Refusal.{IsTurnedAway};
-    ghost use Rattle.live_segment.specs.Holders.{table_of};
-    ghost use Rattle.live_segment.specs.Seated.{IsSeated};
-    ghost use Rattle.live_segment.specs.Steps.{IsSame};
+    ghost use Rattle.live_segment.specs.Add.Prelude.{bucket_entry, buckets_of, HasAddedTo, HasCounted, IsSame, IsSeated, IsSeatedAt, IsTurnedAway, known_view, KnowsRight, MayAddTo, MayCount, MountsAtMostOne, table_of, Tries};
     ghost use Rattle.segment_image.specs.declared.layout.TheConstants.{BLOCK_HEADER};
-    ghost use Rattle.live_segment.specs.Steps.GhostNotes.{HasAddedTo, MayAddTo, bucket_entry};
-    ghost use Rattle.live_segment.specs.Add.Progress.{HasCounted, MayCount, Tries};
 
     // Packs units of a bucket of a histogram, where its single word can take them.
     fn pack_units(

@@ -1,12 +1,7 @@
 //! What a batch costs.
 
 ghost use Rattle.std.specs.Prelude.{◌≡◌, ◌==◌, min, None, Some, MatchResult};
-ghost use Rattle.std.specs.List.{list_any};
-ghost use Rattle.segment_image.specs.Checks.{first_fault};
-ghost use Rattle.bucket_ranges.specs.Tally.{units_of};
-ghost use Rattle.segment_machine.specs.declared.actor.Actor.{Actor};
-ghost use Rattle.segment_machine.specs.Entry.{batch_cost};
-ghost use Rattle.live_segment.specs.Add.Batch.{batch_checks};
+ghost use Rattle.live_segment.specs.Add.Prelude.{Actor, batch_checks, batch_cost, first_fault, list_any, units_of};
 
 use segment_calls::Refusal;
 

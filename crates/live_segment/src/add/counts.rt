@@ -22,16 +22,7 @@ fn moves_units(version: u64, word: u64) -> bool
 
 impl Segment {
     ghost use Rattle.std.specs.Prelude.{◌≡◌, ◌+◌, ◌*◌, ◌≤◌, IfOk, MatchResult, None};
-    ghost use Rattle.bucket_ranges.specs.Spec.{buckets_of, spec_fault};
-    ghost use Rattle.live_segment.specs.Ready.{IsSeatedAt};
-    ghost use Rattle.live_segment.specs.Known.{known_view};
-    ghost use Rattle.live_segment.specs.Add.Sample.{block_words};
-    ghost use Rattle.bucket_ranges.specs.Ranges.{boundaries_of};
-    ghost use Rattle.live_segment.specs.Seated.{IsSeated};
-    ghost use Rattle.live_segment.specs.Add.Counts.{MayMount, HasBlank, LooksAtCounts, HasMounted, HasNotMounted, HasDisabled, MountsAt, MountsAtMostOne};
-    ghost use Rattle.live_segment.specs.Add.Refusal.{MayGiveUp};
-    ghost use Rattle.live_segment.specs.Steps.{IsSame};
-    ghost use Rattle.live_segment.specs.Add.Progress.{CountsWithin};
+    ghost use Rattle.live_segment.specs.Add.Prelude.{block_words, boundaries_of, buckets_of, CountsWithin, HasBlank, HasDisabled, HasMounted, HasNotMounted, IsSame, IsSeated, IsSeatedAt, known_view, LooksAtCounts, MayGiveUp, MayMount, MountsAt, MountsAtMostOne, spec_fault};
 
     // Where the counts of a histogram stand: those that are there, or those of a block that it claims for them.
     pub(crate) fn find_or_mount_counts(

@@ -7,11 +7,7 @@ use bucket_ranges::amount_of;
 
 impl Segment {
     ghost use Rattle.std.specs.Prelude.{◌≡◌, ◌≤◌, ◌+◌, [], ◌∷◌};
-    ghost use Rattle.bucket_ranges.specs.Ranges.{boundaries_of};
-    ghost use Rattle.live_segment.specs.Ready.{MayReach};
-    ghost use Rattle.live_segment.specs.Known.{known_view};
-    ghost use Rattle.live_segment.specs.Steps.{IsSame};
-    ghost use Rattle.live_segment.specs.Add.Finish.{HasSample, HasEnded, IsSummed, sample_of};
+    ghost use Rattle.live_segment.specs.Add.Prelude.{boundaries_of, HasEnded, HasSample, IsSame, IsSummed, known_view, MayReach, sample_of};
 
     // Adds the amount of a sample that is counted to the sum, and its units to the redundant count. Its call ends.
     pub(crate) fn finish_sample(

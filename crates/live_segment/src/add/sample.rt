@@ -10,24 +10,10 @@ use segment_calls::Refusal;
 
 impl Segment {
     ghost use Rattle.std.specs.Prelude.{◌<◌, Err, MatchOption, length, map};
+    ghost use Rattle.live_segment.specs.Add.Prelude.{add_checks, All, AnswersSample, ClaimsFor, CountsAlone, CountsFor, first_fault, GoesOn, HasCounted, IsAtRest, IsIndexed, IsNotCounted, IsSame, IsSeated, item_of, Known, known_view, KnowsRight, Sparse};
     ghost use mathlib.Core.Option.{some};
     ghost use lib.ListN.{get_elem?};
-    ghost use Rattle.std.specs.List.{All};
-    ghost use Rattle.segment_image.specs.Checks.{first_fault};
-    ghost use Rattle.segment_machine.specs.declared.actor.Known.{Known};
-    ghost use Rattle.segment_promises.specs.Onward.{GoesOn};
-    ghost use Rattle.bucket_ranges.specs.declared.spec.Spec.TheVariants.{Sparse};
-    ghost use Rattle.live_segment.specs.Ready.{CountsFor};
-    ghost use Rattle.live_segment.specs.Add.Sample.{add_checks, AnswersSample};
-    ghost use Rattle.live_segment.specs.Alloc.Claims.{ClaimsFor};
-    ghost use Rattle.live_segment.specs.Add.Finish.{item_of};
     ghost use Rattle.live_segment.specs.declared.list.index.KeyKind.TheVariants.{Sample as OfSample};
-    ghost use Rattle.live_segment.specs.List.Index.{IsIndexed};
-    ghost use Rattle.live_segment.specs.Seated.{IsSeated};
-    ghost use Rattle.live_segment.specs.Known.{known_view, KnowsRight};
-    ghost use Rattle.live_segment.specs.Add.Refusal.{IsNotCounted};
-    ghost use Rattle.live_segment.specs.Steps.{IsAtRest, IsSame};
-    ghost use Rattle.live_segment.specs.Add.Progress.{CountsAlone, HasCounted};
 
     // Adds a sample of the histogram that a recorder knows at a place: this is the call of whoever has what the recorder has.
     //

@@ -1,18 +1,8 @@
 //! How a recorder finds the sample of a value of a sparse histogram, and makes one where there is none.
 
 ghost use Rattle.std.specs.Prelude.{◌≡◌, ◌+◌, ◌≤◌, false, if◌then◌else◌, MatchResult, Some};
-ghost use Rattle.std.specs.Int.{cast_unsigned, w64};
-ghost use Rattle.list_index.specs.Firsts.{first_of};
-ghost use Rattle.segment_machine.specs.Calls.{MayTurn};
-ghost use Rattle.live_segment.specs.List.Keys.{sample_key};
-ghost use Rattle.segment_machine.specs.declared.actor.Known.{Known};
-ghost use Rattle.segment_machine.specs.Actor.{is_bound};
+ghost use Rattle.live_segment.specs.Add.Prelude.{cast_unsigned, FindsSample, first_of, FoundEnd, HasMadeSample, HasNotMadeSample, HasSampleOf, HasSearched, is_bound, Known, LacksSampleOf, MayTurn, NoRepeats, sample_key, SamplesStandBehind, SeesWords, ShowsValue, w64, WalksBehind};
 ghost use Rattle.segment_machine.specs.Actor.{Sparse as KnowsSparse};
-ghost use Rattle.segment_promises.specs.Calls.{SamplesStandBehind};
-ghost use Rattle.segment_promises.specs.Values.{NoRepeats};
-ghost use Rattle.live_segment.specs.Hist.ListSearch.{SeesWords};
-ghost use Rattle.live_segment.specs.Hist.Search.{HasSearched};
-ghost use Rattle.live_segment.specs.Add.SampleSearch.{ShowsValue, WalksBehind, FindsSample, FoundEnd, HasMadeSample, HasNotMadeSample, HasSampleOf, LacksSampleOf};
 
 use crate::list::index::RecordIndex;
 use crate::list::keys::value_key;
@@ -45,14 +35,8 @@ fn start_behind(index: &RecordIndex, has_passed_all: bool, histogram: u64) -> u6
 }
 
 impl Segment {
-    ghost use Rattle.bucket_ranges.specs.declared.spec.Spec.TheVariants.{Sparse};
-    ghost use Rattle.live_segment.specs.Ready.{CountsFor, HasMetRecord};
+    ghost use Rattle.live_segment.specs.Add.Prelude.{CountsFor, HasMetRecord, IsIndexed, IsSame, IsSeated, known_view, MayGiveUp, Sparse};
     ghost use Rattle.live_segment.specs.declared.list.index.KeyKind.TheVariants.{Sample as OfSample};
-    ghost use Rattle.live_segment.specs.List.Index.{IsIndexed};
-    ghost use Rattle.live_segment.specs.Seated.{IsSeated};
-    ghost use Rattle.live_segment.specs.Known.{known_view};
-    ghost use Rattle.live_segment.specs.Add.Refusal.{MayGiveUp};
-    ghost use Rattle.live_segment.specs.Steps.{IsSame};
 
     /// The first sample of a value of a sparse histogram. Where the list has none, one is made and put on it.
     ///

@@ -1,11 +1,7 @@
 //! How a `hist` of a recorder is answered.
 
 ghost use Rattle.std.specs.Prelude.{◌≡◌, [], IfOk, MatchResult};
-ghost use Rattle.segment_calls.specs.declared.refusal.Refusal.TheVariants.{OtherSpec};
-ghost use Rattle.segment_machine.specs.Calls.{MayTurn};
-ghost use Rattle.live_segment.specs.Hist.ListSearch.{IsAsked};
-ghost use Rattle.live_segment.specs.Hist.NewRecord.{SaysAsked};
-ghost use Rattle.live_segment.specs.Hist.Outcome.{IsAnnouncedOf, LooksUp, MakesFor, Settles};
+ghost use Rattle.live_segment.specs.Hist.Prelude.{IsAnnouncedOf, IsAsked, LooksUp, MakesFor, MayTurn, OtherSpec, SaysAsked, Settles};
 
 use crate::hist::search::Search;
 use crate::list::index::RecordIndex;
@@ -15,13 +11,7 @@ use crate::segment::Segment;
 use segment_calls::{Asked, Refusal};
 
 impl Segment {
-    ghost use Rattle.live_segment.specs.Ready.{AsksFor};
-    ghost use Rattle.live_segment.specs.declared.list.index.KeyKind.TheVariants.{Name};
-    ghost use Rattle.live_segment.specs.List.Index.{IsIndexed};
-    ghost use Rattle.live_segment.specs.Holders.{opened_with};
-    ghost use Rattle.live_segment.specs.Seated.{IsSeated};
-    ghost use Rattle.live_segment.specs.Standing.{Standing};
-    ghost use Rattle.live_segment.specs.Steps.{IsSame};
+    ghost use Rattle.live_segment.specs.Hist.Prelude.{AsksFor, IsIndexed, IsSame, IsSeated, Name, opened_with, Standing};
 
     // The first record of the name that is asked for, which is made where there is none.
     //

@@ -1,9 +1,7 @@
 //! How a record is compared with what a `hist` asks for.
 
 ghost use Rattle.std.specs.Prelude.{◌≡◌, ◌+◌, ◌<◌, ◌≤◌, ℕ, length, true, false};
-ghost use Rattle.segment_machine.specs.Actor.{is_opener};
-ghost use Rattle.segment_machine.specs.Walking.{IsFixed};
-ghost use Rattle.live_segment.specs.Hist.ListSearch.{IsAsked, Meets, SeesWords, ShowsWords, ShowsName, ShowsSpec};
+ghost use Rattle.live_segment.specs.Hist.Prelude.{is_opener, IsAsked, IsFixed, Meets, SeesWords, ShowsName, ShowsSpec, ShowsWords};
 
 use crate::rule::Pass;
 use crate::segment::Segment;
@@ -19,10 +17,7 @@ const NAME: usize = HISTOGRAM_NAME - BLOCK_HEADER;
 const BUCKETS: usize = HISTOGRAM_BUCKETS - BLOCK_HEADER;
 
 impl Segment {
-    ghost use Rattle.live_segment.specs.Ready.{HasMetRecord};
-    ghost use Rattle.live_segment.specs.Holders.{table_of};
-    ghost use Rattle.live_segment.specs.Seated.{IsSeated};
-    ghost use Rattle.live_segment.specs.Steps.{IsSame};
+    ghost use Rattle.live_segment.specs.Hist.Prelude.{HasMetRecord, IsSame, IsSeated, table_of};
 
     // Whether a record that was met has these words from a place on. They are loaded up to the first that is another one.
     fn shows(&self, seat: &mut Pass, at: u64, first: usize, words: &[u64]) -> bool

@@ -1,8 +1,7 @@
 //! How a recorder finds a histogram that it knows by its name.
 
 ghost use Rattle.std.specs.Prelude.{◌≡◌, ◌++◌, ◌∷◌, [], List, length, None, MatchOption};
-ghost use Rattle.list_index.specs.Firsts.{first_of};
-ghost use Rattle.list_index.specs.Keys.{byte_key_of};
+ghost use Rattle.live_segment.specs.Hist.Prelude.{byte_key_of, first_of};
 
 use crate::recorder::KnownHistogram;
 use list_index::{Firsts, next_byte_key};
@@ -29,9 +28,7 @@ fn key_of_bytes(name: &[u8]) -> u64
 }
 
 impl KnownNames {
-    ghost use Rattle.live_segment.specs.declared.recorder.KnownHistogram.{KnownHistogram};
-    ghost use Rattle.live_segment.specs.Hist.Answer.{IsKnownAt, NoneHasName};
-    ghost use Rattle.live_segment.specs.Hist.KnownNames.{HasNames};
+    ghost use Rattle.live_segment.specs.Hist.Prelude.{HasNames, IsKnownAt, KnownHistogram, NoneHasName};
 
     // None is entered.
     pub(crate) fn new(alloc: Global) -> KnownNames
@@ -79,8 +76,7 @@ impl KnownNames {
     }
 }
 
-ghost use Rattle.live_segment.specs.declared.recorder.KnownHistogram.{KnownHistogram};
-ghost use Rattle.live_segment.specs.Hist.Answer.{IsKnownAt, NoneHasName};
+ghost use Rattle.live_segment.specs.Hist.Prelude.{IsKnownAt, KnownHistogram, NoneHasName};
 
 // The place of the histogram of a name, which may be this one.
 fn find_at(known: &[KnownHistogram], place: u64, name: &[u8]) -> Option<usize>

@@ -1,10 +1,7 @@
 //! How a recorder makes the record of a histogram.
 
 ghost use Rattle.std.specs.Prelude.{◌≡◌, ◌≢◌, ◌+◌, ◌-◌, ◌≤◌, [], false, length, slice_index};
-ghost use Rattle.segment_machine.specs.Actor.{is_opener};
-ghost use Rattle.segment_machine.specs.Calls.{MayTurn};
-ghost use Rattle.live_segment.specs.Hist.ListSearch.{IsAsked};
-ghost use Rattle.live_segment.specs.Hist.NewRecord.{HasBlock, HasFilled, Makes, SaysAsked};
+ghost use Rattle.live_segment.specs.Hist.Prelude.{HasBlock, HasFilled, is_opener, IsAsked, Makes, MayTurn, SaysAsked};
 
 use crate::rule::{Announcement, Pass};
 use crate::segment::Segment;
@@ -12,9 +9,7 @@ use segment_calls::{Asked, Refusal};
 use segment_image::layout::{BLOCK_HEADER, TYPE_HISTOGRAM};
 
 impl Segment {
-    ghost use Rattle.live_segment.specs.Holders.{table_of};
-    ghost use Rattle.live_segment.specs.Seated.{IsSeated};
-    ghost use Rattle.live_segment.specs.Steps.{IsSame};
+    ghost use Rattle.live_segment.specs.Hist.Prelude.{IsSame, IsSeated, table_of};
 
     // Stores the words of a payload, but for those that are 0, in the block at a word that it claimed last. The last is not 0.
     fn fill(&self, seat: &mut Pass, at: u64, payload: &[u64])

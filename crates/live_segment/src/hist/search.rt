@@ -1,14 +1,7 @@
 //! How a recorder looks for the first record of a name: by its index, and from there on along the list.
 
 ghost use Rattle.std.specs.Prelude.{◌≡◌, ◌<◌, ◌^◌, ℕ, Some};
-ghost use Rattle.std.specs.List.{All};
-ghost use Rattle.list_index.specs.Firsts.{first_of};
-ghost use Rattle.list_index.specs.Keys.{key_of};
-ghost use Rattle.segment_image.specs.Shape.{Dimensions};
-ghost use Rattle.segment_machine.specs.Calls.{MayTurn};
-ghost use Rattle.live_segment.specs.Hist.ListSearch.{IsAsked};
-ghost use Rattle.live_segment.specs.List.Keys.{IsNameKey};
-ghost use Rattle.live_segment.specs.Hist.Search.{FoundEnd, HasSearched, Searches, WalksAt};
+ghost use Rattle.live_segment.specs.Hist.Prelude.{All, Dimensions, first_of, FoundEnd, HasSearched, IsAsked, IsNameKey, key_of, MayTurn, Searches, WalksAt};
 
 use crate::list::index::RecordIndex;
 use crate::rule::Pass;
@@ -49,11 +42,7 @@ fn key_of_name(asked: &Asked) -> u64
 }
 
 impl Segment {
-    ghost use Rattle.live_segment.specs.Ready.{WalksWith};
-    ghost use Rattle.live_segment.specs.declared.list.index.KeyKind.TheVariants.{Name};
-    ghost use Rattle.live_segment.specs.List.Index.{IsIndexed};
-    ghost use Rattle.live_segment.specs.Seated.{IsSeated};
-    ghost use Rattle.live_segment.specs.Steps.{IsSame};
+    ghost use Rattle.live_segment.specs.Hist.Prelude.{IsIndexed, IsSame, IsSeated, Name, WalksWith};
 
     // Walks along the list, on from where a walk stands, up to the first record of the name that is asked for.
     pub(crate) fn find(&self, seat: &mut Pass, from: u64, asked: &Asked) -> Search

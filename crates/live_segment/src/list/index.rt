@@ -1,11 +1,8 @@
 //! What a recorder has of the records that it met along the list, so that it need not walk there again.
 
 ghost use Rattle.std.specs.Prelude.{◌≡◌, ◌+◌, ◌*◌, ◌<◌, ◌≤◌, ◌^◌, true, false, ℕ, [], length, MatchOption};
-ghost use Rattle.list_index.specs.Firsts.{Holds, is_grouping};
+ghost use Rattle.live_segment.specs.List.Prelude.{HasSearched, Holds, is_grouping, MayTurn, Sample};
 ghost use Rattle.segment_image.specs.declared.layout.TheConstants.{BLOCK_LEAST, HEADER_WORDS};
-ghost use Rattle.live_segment.specs.declared.list.index.KeyKind.TheVariants.{Sample};
-ghost use Rattle.segment_machine.specs.Calls.{MayTurn};
-ghost use Rattle.live_segment.specs.Hist.Search.{HasSearched};
 
 use crate::list::walk::WalkPlace;
 use crate::rule::Pass;
@@ -46,10 +43,7 @@ fn firsts_for(alloc: Global, kind: KeyKind) -> Firsts
 }
 
 impl RecordIndex {
-    ghost use Rattle.live_segment.specs.Ready.{WalksWith};
-    ghost use Rattle.live_segment.specs.List.Index.{Enters, IsIndexed};
-    ghost use Rattle.live_segment.specs.List.IndexedValues.{own_samples};
-    ghost use Rattle.segment_machine.specs.declared.seen.Seen.{Seen};
+    ghost use Rattle.live_segment.specs.List.Prelude.{Enters, IsIndexed, own_samples, Seen, WalksWith};
 
     // It has passed nothing.
     pub(crate) fn new(alloc: Global, kind: KeyKind) -> RecordIndex
@@ -92,9 +86,7 @@ impl RecordIndex {
 }
 
 impl Segment {
-    ghost use Rattle.live_segment.specs.declared.list.index.KeyKind.{KeyKind};
-    ghost use Rattle.live_segment.specs.List.Index.{IsIndexed};
-    ghost use Rattle.live_segment.specs.Steps.{IsSame};
+    ghost use Rattle.live_segment.specs.List.Prelude.{IsIndexed, IsSame, KeyKind};
 
     // Walks along the list, on from where the index stands, and enters what it meets: to the end of the list, or to where the index
     // could not grow. True where it came to the end.

@@ -1,12 +1,9 @@
 //! The keys by which a recorder finds the records that it met along the list.
 
 ghost use Rattle.std.specs.Prelude.{◌≡◌, ◌+◌, ◌≤◌, ℕ, Some};
-ghost use Rattle.std.specs.Int.{cast_unsigned, w64};
-ghost use Rattle.bucket_ranges.specs.Reading.{name_words};
+ghost use Rattle.live_segment.specs.List.Prelude.{cast_unsigned, Meets, name_words, SeesWords, w64, word_seen};
 ghost use Rattle.segment_image.specs.declared.layout.TheConstants.{BLOCK_TYPE, HISTOGRAM_NAME, HISTOGRAM_NAME_LENGTH, TYPE_HISTOGRAM};
-ghost use Rattle.segment_machine.specs.Actor.{word_seen};
 ghost use Rattle.live_segment.specs.List.Keys.{sample_key as key_of_sample};
-ghost use Rattle.live_segment.specs.Hist.ListSearch.{Meets, SeesWords};
 
 use crate::list::index::KeyKind;
 use crate::rule::Pass;
@@ -36,11 +33,7 @@ pub(crate) fn value_key(histogram: u64, value: i32) -> u64
 }
 
 impl Segment {
-    ghost use Rattle.live_segment.specs.Ready.{HasMetRecord};
-    ghost use Rattle.live_segment.specs.declared.list.index.KeyKind.TheVariants.{Name, Sample};
-    ghost use Rattle.live_segment.specs.List.Keys.{HasLooked, seen_key};
-    ghost use Rattle.live_segment.specs.Seated.{IsSeated};
-    ghost use Rattle.live_segment.specs.Steps.{IsSame};
+    ghost use Rattle.live_segment.specs.List.Prelude.{HasLooked, HasMetRecord, IsSame, IsSeated, Name, Sample, seen_key};
 
     // The key of the name of a histogram's record that was met.
     fn name_key_of(&self, seat: &mut Pass, at: u64, words: u64) -> u64

@@ -1,16 +1,14 @@
 //! How a recorder puts a record on the list.
 
 ghost use Rattle.std.specs.Prelude.{◌≡◌, ◌+◌, ◌≤◌, false};
-ghost use Rattle.segment_machine.specs.Actor.{is_bound};
-ghost use Rattle.live_segment.specs.List.Publish.{IsFilledFor, HasPublishedFor};
+ghost use Rattle.live_segment.specs.List.Prelude.{HasPublishedFor, is_bound, IsFilledFor};
 
 use crate::rule::{Announcement, Pass};
 use crate::segment::Segment;
 use segment_image::layout::QUEUE;
 
 impl Segment {
-    ghost use Rattle.live_segment.specs.Seated.{IsSeated};
-    ghost use Rattle.live_segment.specs.Steps.{IsSame};
+    ghost use Rattle.live_segment.specs.List.Prelude.{IsSame, IsSeated};
 
     /// Puts a block of its own that is filled at the end of the list: from then on it is the record that is said, and a walk
     /// that reaches the end has passed it.

@@ -1,12 +1,7 @@
 //! How a recorder meets the samples of a sparse histogram along the list.
 
 ghost use Rattle.std.specs.Prelude.{◌≡◌, ◌+◌, ◌≤◌, true, false, length, IfSome};
-ghost use Rattle.bucket_ranges.specs.declared.spec.Spec.TheVariants.{Sparse};
-ghost use Rattle.live_segment.specs.Hist.ListSearch.{Meets, SeesWords};
-ghost use Rattle.live_segment.specs.Known.{known_view};
-ghost use Rattle.live_segment.specs.List.SampleRecords.{CountsSample, SamplesAreFew, SamplesStandBehind, SeesSample, ShowsSample};
-ghost use Rattle.segment_promises.specs.Values.{NoRepeats};
-ghost use Rattle.live_segment.specs.Steps.GhostNotes.{KnowsAlone};
+ghost use Rattle.live_segment.specs.List.Prelude.{CountsSample, known_view, KnowsAlone, Meets, NoRepeats, SamplesAreFew, SamplesStandBehind, SeesSample, SeesWords, ShowsSample, Sparse};
 
 use crate::list::index::RecordIndex;
 use crate::recorder::KnownHistogram;
@@ -15,19 +10,8 @@ use crate::segment::Segment;
 use segment_image::layout::{SAMPLE_COUNT, SAMPLE_HISTOGRAM, SAMPLE_VALUE, TYPE_SAMPLE};
 
 impl Segment {
-    ghost use Rattle.segment_machine.specs.declared.actor.Actor.{Actor};
-    ghost use Rattle.segment_machine.specs.Actor.{has_buckets};
-    ghost use Rattle.segment_machine.specs.Calls.{MayTurn};
-    ghost use Rattle.segment_promises.specs.Onward.{is_holding};
-    ghost use Rattle.live_segment.specs.Ready.{HasMetRecord};
+    ghost use Rattle.live_segment.specs.List.Prelude.{Actor, has_buckets, HasMetRecord, HasPassedAll, HasSearched, is_holding, IsIndexed, IsSame, IsSeated, KnowsRight, MayTurn, Setting};
     ghost use Rattle.live_segment.specs.declared.list.index.KeyKind.TheVariants.{Sample as OfSample};
-    ghost use Rattle.live_segment.specs.declared.rule.Setting.{Setting};
-    ghost use Rattle.live_segment.specs.Known.{KnowsRight};
-    ghost use Rattle.live_segment.specs.List.Index.{IsIndexed};
-    ghost use Rattle.live_segment.specs.Hist.Search.{HasSearched};
-    ghost use Rattle.live_segment.specs.List.IndexedValues.{HasPassedAll};
-    ghost use Rattle.live_segment.specs.Seated.{IsSeated};
-    ghost use Rattle.live_segment.specs.Steps.{IsSame};
 
     // The value of a record that was met, where it is a sample of a histogram.
     pub(crate) fn shows_sample(&self, seat: &mut Pass, at: u64, histogram: u64) -> Option<i32>

@@ -1,18 +1,14 @@
 //! How recorders share a cursor along the list.
 
 ghost use Rattle.std.specs.Prelude.{◌≡◌, ◌<◌, ◌++◌, false};
-ghost use Rattle.segment_machine.specs.Actor.{is_bound};
-ghost use Rattle.live_segment.specs.List.SharedCursors.{AnswersNext, gift};
+ghost use Rattle.live_segment.specs.List.Prelude.{AnswersNext, gift, is_bound};
 
 use crate::rule::Pass;
 use crate::segment::Segment;
 use segment_image::layout::QUEUE;
 
 impl Segment {
-    ghost use Rattle.live_segment.specs.Holders.{opened_with};
-    ghost use Rattle.live_segment.specs.Seated.{IsSeated};
-    ghost use Rattle.live_segment.specs.Standing.{HasShared};
-    ghost use Rattle.live_segment.specs.Steps.{IsSame};
+    ghost use Rattle.live_segment.specs.List.Prelude.{HasShared, IsSame, IsSeated, opened_with};
 
     /// Moves a shared cursor on to the record behind it, and gives that; none where the list ends there.
     pub(crate) fn next_shared(&self, seat: &mut Pass, cursor: usize) -> Option<u64>

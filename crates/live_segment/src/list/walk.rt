@@ -1,8 +1,7 @@
 //! How a recorder walks along the list.
 
 ghost use Rattle.std.specs.Prelude.{◌≡◌, ◌-◌, ◌/◌, ◌≤◌, [], false, drop, length, vec_capacity};
-ghost use Rattle.segment_machine.specs.Actor.{is_bound};
-ghost use Rattle.live_segment.specs.List.Walk.{HasCome, WalksOn};
+ghost use Rattle.live_segment.specs.List.Prelude.{HasCome, is_bound, WalksOn};
 
 use crate::rule::Pass;
 use crate::segment::Segment;
@@ -32,10 +31,7 @@ impl WalkPlace {
 }
 
 impl Segment {
-    ghost use Rattle.live_segment.specs.Holders.{opened_with};
-    ghost use Rattle.live_segment.specs.Seated.{IsSeated};
-    ghost use Rattle.live_segment.specs.Standing.{HasList};
-    ghost use Rattle.live_segment.specs.Steps.{IsSame};
+    ghost use Rattle.live_segment.specs.List.Prelude.{HasList, IsSame, IsSeated, opened_with};
 
     // Walks along the list, on from a place to its end, and lists the records behind. There is room for as many as fit in a
     // segment.

@@ -1,11 +1,7 @@
 //! The steps that count: the counts reference of a histogram, a count, the sum and the redundant count.
 
 ghost use Rattle.std.specs.Prelude.{◌+◌, ◌<◌, ◌≤◌};
-ghost use Rattle.segment_machine.specs.Event.{counting_event};
-ghost use Rattle.segment_machine.specs.Counting.{load_counts, add_redundant};
-ghost use Rattle.live_segment.specs.Steps.{DoesAt};
-ghost use Rattle.live_segment.specs.Add.Counts.{LoadsCounts, SawNoNone};
-ghost use Rattle.live_segment.specs.Steps.GhostNotes.{AddsToCount, AddsToSample, AddsAmount, AddsSum, AddsLast};
+ghost use Rattle.live_segment.specs.Steps.Prelude.{add_redundant, AddsAmount, AddsLast, AddsSum, AddsToCount, AddsToSample, counting_event, DoesAt, load_counts, LoadsCounts, SawNoNone};
 
 use crate::rule::{Announcement, Pass};
 use crate::segment::Segment;
@@ -58,11 +54,7 @@ impl Play<Announcement, Actor> for FinishEntry {
 
 impl Segment {
     ghost use Rattle.std.specs.Prelude.{◌≡◌, [], ◌∷◌};
-    ghost use Rattle.segment_machine.specs.Note.{ends};
-    ghost use Rattle.live_segment.specs.Ready.{MayReach};
-    ghost use Rattle.live_segment.specs.Holders.{MayStep, table_of};
-    ghost use Rattle.live_segment.specs.Steps.{Stepped};
-    ghost use Rattle.live_segment.specs.Steps.GhostNotes.{MayAddTo, HasAddedTo, MaySample, HasSampled, MayAmount, HasAmount, MaySum, HasSum, MayDo, Noted};
+    ghost use Rattle.live_segment.specs.Steps.Prelude.{ends, HasAddedTo, HasAmount, HasSampled, HasSum, MayAddTo, MayAmount, MayDo, MayReach, MaySample, MayStep, MaySum, Noted, Stepped, table_of};
 
     pub(crate) fn load_counts(&self, seat: &mut Pass, histogram: u64) -> u64
         requires may { MayStep self.now seat.old (counting_event (load_counts histogram)) }

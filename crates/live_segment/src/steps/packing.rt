@@ -2,11 +2,7 @@
 //! their way.
 
 ghost use Rattle.std.specs.Prelude.{◌≡◌, ◌+◌, ◌<◌, ◌≤◌};
-ghost use Rattle.segment_machine.specs.Event.{packing_event};
-ghost use Rattle.segment_machine.specs.Form.{off_word};
-ghost use Rattle.segment_machine.specs.Packing.{load_single, mount_counts, purge_block, disable, add_moved};
-ghost use Rattle.live_segment.specs.Steps.{DoesAt};
-ghost use Rattle.live_segment.specs.Steps.GhostNotes.{Packs, AddsMoved};
+ghost use Rattle.live_segment.specs.Steps.Prelude.{add_moved, AddsMoved, disable, DoesAt, load_single, mount_counts, off_word, packing_event, Packs, purge_block};
 
 use crate::rule::{Announcement, Pass};
 use crate::segment::Segment;
@@ -52,12 +48,7 @@ impl Play<Announcement, Actor> for AddMoved {
 }
 
 impl Segment {
-    ghost use Rattle.segment_machine.specs.declared.place.Look.{Look};
-    ghost use Rattle.segment_machine.specs.declared.place.Place.TheVariants.{Moving};
-    ghost use Rattle.live_segment.specs.Ready.{MayReach};
-    ghost use Rattle.live_segment.specs.Holders.{MayStep};
-    ghost use Rattle.live_segment.specs.Steps.{Stepped};
-    ghost use Rattle.live_segment.specs.Steps.GhostNotes.{MayPack, HasPacked};
+    ghost use Rattle.live_segment.specs.Steps.Prelude.{HasPacked, Look, MayPack, MayReach, MayStep, Moving, Stepped};
 
     pub(crate) fn load_single(&self, seat: &mut Pass, histogram: u64) -> u64
         requires may { MayStep self.now seat.old (packing_event (load_single histogram)) }

@@ -1,13 +1,8 @@
 //! The steps that take: how a delta and a snapshot begin and end, counts and marks, the sum and its mark, and the redundant count.
 
 ghost use Rattle.std.specs.Prelude.{◌≡◌, ◌+◌, ◌<◌, ◌≤◌, ℕ};
+ghost use Rattle.live_segment.specs.Steps.Prelude.{Answers, BeginsDelta, BeginsSnapshot, DoesAt, EndsDelta, load_count, load_next, load_published, load_redundant, load_single, packing_event, raise_mark, raise_single_mark, swap_sum_mark, taking_event, walking_event};
 ghost use Rattle.segment_image.specs.declared.layout.TheConstants.{BLOCK_NEXT, BLOCK_TYPE, HISTOGRAM_SINGLE};
-ghost use Rattle.segment_machine.specs.Event.{packing_event, taking_event, walking_event};
-ghost use Rattle.segment_machine.specs.Packing.{load_single};
-ghost use Rattle.segment_machine.specs.Walking.{load_next, load_published};
-ghost use Rattle.segment_machine.specs.Taking.{load_count, raise_mark, raise_single_mark, swap_sum_mark, load_redundant};
-ghost use Rattle.live_segment.specs.Steps.{DoesAt};
-ghost use Rattle.live_segment.specs.Steps.Taking.{Answers, BeginsDelta, BeginsSnapshot, EndsDelta};
 
 use crate::rule::{Announcement, Pass};
 use crate::segment::Segment;
@@ -93,12 +88,7 @@ impl Play<Announcement, Actor> for Answering {
 
 impl Segment {
     ghost use Rattle.std.specs.Prelude.{[], ◌∷◌};
-    ghost use Rattle.segment_machine.specs.Note.{has_taken, looks};
-    ghost use Rattle.live_segment.specs.Ready.{MayReach};
-    ghost use Rattle.live_segment.specs.Holders.{MayStep, table_of};
-    ghost use Rattle.live_segment.specs.Steps.{Stepped};
-    ghost use Rattle.live_segment.specs.Steps.Taking.{MayAnswer, HasAnswered, MayBeginDelta, HasBegunDelta};
-    ghost use Rattle.live_segment.specs.Steps.GhostNotes.{MayDo, Noted};
+    ghost use Rattle.live_segment.specs.Steps.Prelude.{has_taken, HasAnswered, HasBegunDelta, looks, MayAnswer, MayBeginDelta, MayDo, MayReach, MayStep, Noted, Stepped, table_of};
 
     // A delta of a histogram with buckets begins: its single word is loaded.
     pub(crate) fn take_single(&self, seat: &mut Pass, histogram: u64) -> u64

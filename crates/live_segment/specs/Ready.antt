@@ -49,8 +49,8 @@ pub record WalksWith (kind : KeyKind) (segment : Segment) (index : RecordIndex) 
   pub indexed : IsIndexed kind segment.setting.shape.size seat.me.0.seen index
 
 -- a recorder's seat where no call goes on, its index of names, and what a `hist` asks for
-pub record AsksFor (segment : Segment) (asked : Asked) (names : RecordIndex) (seat : Pass) : Type 0 where
+pub record AsksFor (segment : Segment) (request : Asked) (names : RecordIndex) (seat : Pass) : Type 0 where
   pub seated : IsSeated segment seat
   pub indexed : IsIndexed Name segment.setting.shape.size seat.me.0.seen names
   pub rests : MayTurn seat.me.0 × (seat.me.0.entries.running ≡ []) × (seat.me.0.answers.owed ≡ [])
-  pub asked : IsAsked segment.setting.shape asked
+  pub asked : IsAsked segment.setting.shape request

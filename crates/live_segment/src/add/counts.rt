@@ -22,7 +22,7 @@ fn moves_units(version: u64, word: u64) -> bool
 
 impl Segment {
     ghost use Rattle.std.specs.Prelude.{◌≡◌, ◌+◌, ◌*◌, ◌≤◌, IfOk, MatchResult, None};
-    ghost use Rattle.live_segment.specs.Add.Prelude.{block_words, boundaries_of, buckets_of, CountsWithin, HasBlank, HasDisabled, HasMounted, HasNotMounted, IsSame, IsSeated, IsSeatedAt, known_view, LooksAtCounts, MayGiveUp, MayMount, MountsAt, MountsAtMostOne, spec_fault};
+    ghost use Rattle.live_segment.specs.Add.Prelude.{block_words, boundaries_of, CountsWithin, HasBlank, HasDisabled, HasMounted, HasNotMounted, IsSame, IsSeated, IsSeatedAt, known_view, LooksAtCounts, MayGiveUp, MayMount, MountsAt, MountsAtMostOne, spec_fault};
 
     // Where the counts of a histogram stand: those that are there, or those of a block that it claims for them.
     pub(crate) fn find_or_mount_counts(

@@ -1,7 +1,7 @@
 //! How a recorder looks for the first record of a name: by its index, and from there on along the list.
 
 ghost use Rattle.std.specs.Prelude.{◌≡◌, ◌<◌, ◌^◌, ℕ, Some};
-ghost use Rattle.live_segment.specs.Hist.Prelude.{All, Dimensions, first_of, FoundEnd, HasSearched, IsAsked, IsNameKey, key_of, MayTurn, Searches, WalksAt};
+ghost use Rattle.live_segment.specs.Hist.Prelude.{All, Dimensions, first_of, FoundEnd, HasSearched, IsAsked, IsNameKey, key_of, Searches, WalksAt};
 
 use crate::list::index::RecordIndex;
 use crate::rule::Pass;

@@ -43,7 +43,7 @@ fn firsts_for(alloc: Global, kind: KeyKind) -> Firsts
 }
 
 impl RecordIndex {
-    ghost use Rattle.live_segment.specs.List.Prelude.{Enters, IsIndexed, own_samples, Seen, WalksWith};
+    ghost use Rattle.live_segment.specs.List.Prelude.{Enters, IsIndexed, own_samples, Seen};
 
     // It has passed nothing.
     pub(crate) fn new(alloc: Global, kind: KeyKind) -> RecordIndex
@@ -86,7 +86,7 @@ impl RecordIndex {
 }
 
 impl Segment {
-    ghost use Rattle.live_segment.specs.List.Prelude.{IsIndexed, IsSame, KeyKind};
+    ghost use Rattle.live_segment.specs.List.Prelude.{IsIndexed, IsSame, WalksWith};
 
     // Walks along the list, on from where the index stands, and enters what it meets: to the end of the list, or to where the index
     // could not grow. True where it came to the end.

@@ -48,7 +48,7 @@ impl Play<Announcement, Actor> for AddMoved {
 }
 
 impl Segment {
-    ghost use Rattle.live_segment.specs.Steps.Prelude.{HasPacked, Look, MayPack, MayReach, MayStep, Moving, Stepped};
+    ghost use Rattle.live_segment.specs.Steps.Prelude.{HasPacked, MayPack, MayReach, MayStep, Stepped};
 
     pub(crate) fn load_single(&self, seat: &mut Pass, histogram: u64) -> u64
         requires may { MayStep self.now seat.old (packing_event (load_single histogram)) }

@@ -16,7 +16,7 @@ use Rattle.segment_machine.specs.Made.{SawSample}
 use Rattle.segment_machine.specs.Note.{TookAll, TookBucket, TookSample, moment_of}
 use Rattle.segment_machine.specs.Taking.{Takes}
 pub use Rattle.segment_promises.specs.Calls.{AreUnits}
-use Rattle.live_segment.specs.declared.delta.Mounted.{Mounted}
+use Rattle.live_segment.specs.declared.delta.buckets.Mounted.{Mounted}
 use Rattle.live_segment.specs.declared.segment.Segment.{Segment}
 use Rattle.live_segment.specs.Holders.{table_of}
 use Rattle.live_segment.specs.Snapshot.Counts.{StandsAt}

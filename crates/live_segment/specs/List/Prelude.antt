@@ -18,7 +18,6 @@ pub use Rattle.live_segment.specs.Seated.{IsSeated}
 pub use Rattle.live_segment.specs.Standing.{HasList, HasShared}
 pub use Rattle.live_segment.specs.Steps.{IsSame}
 pub use Rattle.live_segment.specs.Steps.GhostNotes.{KnowsAlone}
-pub use Rattle.live_segment.specs.declared.list.index.KeyKind.{KeyKind}
 pub use Rattle.live_segment.specs.declared.list.index.KeyKind.TheVariants.{Name, Sample}
 pub use Rattle.live_segment.specs.declared.rule.Setting.{Setting}
 pub use Rattle.segment_machine.specs.Actor.{has_buckets, is_bound, word_seen}

@@ -23,7 +23,5 @@ pub use Rattle.segment_machine.specs.Packing.{add_moved, disable, load_single, m
 pub use Rattle.segment_machine.specs.Publishing.{load_tail, move_tail, store_own_next}
 pub use Rattle.segment_machine.specs.Taking.{load_count, load_redundant, load_sum, raise_mark, raise_single_mark, swap_sum_mark}
 pub use Rattle.segment_machine.specs.Walking.{load_next, load_published}
-pub use Rattle.segment_machine.specs.declared.place.Look.{Look}
-pub use Rattle.segment_machine.specs.declared.place.Place.TheVariants.{Moving}
 pub use Rattle.segment_promises.specs.Follows.{MayNoteAll, noted_by}
 pub use Rattle.segment_promises.specs.Values.{NoRepeats}

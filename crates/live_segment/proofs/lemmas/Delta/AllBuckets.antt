@@ -14,7 +14,7 @@ use Rattle.segment_promises.specs.Calls.{AreBelow}
 use Rattle.segment_promises.proofs.Calls.BucketLists.{last_below, still_below, units_push}
 use Rattle.segment_promises.proofs.Calls.Sights.{took_bucket}
 use Rattle.segment_promises.proofs.Calls.SpecBuckets.{split}
-use Rattle.live_segment.specs.declared.delta.Mounted.{Mounted}
+use Rattle.live_segment.specs.declared.delta.buckets.Mounted.{Mounted}
 use Rattle.live_segment.specs.declared.segment.Segment.{Segment}
 use Rattle.live_segment.specs.declared.recorder.KnownHistogram.{KnownHistogram}
 use Rattle.live_segment.specs.declared.rule.Setting.{Setting}

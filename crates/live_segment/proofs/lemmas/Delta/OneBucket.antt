@@ -26,7 +26,7 @@ use Rattle.segment_machine.specs.Note.{IsMarkOf, SawBucket, TookBucket}
 use Rattle.segment_machine.specs.Taking.{Takes, load_count, raise_mark, raise_single_mark, take_units, taken_key, single_key, at_count}
 use Rattle.segment_invariant.proofs.Consistency.Marks.{packed_all}
 use Rattle.segment_invariant.proofs.Notes.Amounts.{last_changed}
-use Rattle.live_segment.specs.declared.delta.Mounted.{Mounted}
+use Rattle.live_segment.specs.declared.delta.buckets.Mounted.{Mounted}
 use Rattle.live_segment.specs.declared.segment.Segment.{Segment}
 use Rattle.live_segment.specs.Delta.Outcome.{TakesAt, TakesOn, units_of_key, with_units}
 use Rattle.live_segment.specs.Holders.{MayStep}

@@ -4,7 +4,7 @@ use Rattle.bucket_ranges.specs.declared.single.SingleWord.{SingleWord}
 use Rattle.bucket_ranges.specs.declared.single.SingleWord.TheVariants.{Packed, Frozen}
 use Rattle.bucket_ranges.specs.Single.{units_packed, IsForm, word_of}
 use Rattle.live_segment.proofs.lemmas.Snapshot.Packed.{packed_one}
-use Rattle.live_segment.proofs.snapshot.add_packed.Goals as goal
+use Rattle.live_segment.proofs.snapshot.buckets.add_packed.Goals as goal
 
 pub returns-in-Some-Packed : goal.returns-in-Some-Packed
 returns-in-Some-Packed c =

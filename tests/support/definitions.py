@@ -51,10 +51,11 @@ def crates():
     return sorted(every, key=lambda name: (listed.index(name) if name in listed else len(listed), name))
 
 
-def names_in(text):
-    """Which definitions a file brings in to name them: the crate, or None for its own, the module and the name."""
+def names_in(text, with_public):
+    """Which definitions a file brings in to name them, and those for others where that is wanted: the crate, or None for its own, the
+    module and the name."""
     for kind, crate, module, names in IMPORT.findall(text):
-        if not kind.startswith("pub"):
+        if with_public or not kind.startswith("pub"):
             for name in names.split(","):
                 yield crate or None, module, name.split(" as ")[0].strip()
 
@@ -64,8 +65,9 @@ def named():
     found = set()
     for folder in (ROOT / "crates").iterdir():
         for file in [*folder.glob("src/**/*.rt"), *folder.glob("specs/**/*.antt")]:
-            for crate, module, name in names_in(file.read_text()):
-                if file.suffix == ".rt" or crate not in (None, folder.name):
+            prelude = file.name == "Prelude.antt"  # the words that the contracts of a folder name
+            for crate, module, name in names_in(file.read_text(), prelude):
+                if file.suffix == ".rt" or prelude or crate not in (None, folder.name):
                     found.add((crate or folder.name, module, name))
     return found
 

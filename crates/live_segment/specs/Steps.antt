@@ -1,4 +1,9 @@
 -- What steps tell whoever makes them.
+pub mod Answering
+pub mod GhostNotes
+pub mod Listing
+pub mod Taking
+pub mod Prelude
 use Rattle.std.specs.Prelude.{◌≡◌, Bool, true, false, nat_lt, ◌==◌, ℕ, ◌+◌, ◌≤◌, List, [], ◌∷◌}
 use mathlib.Core.Option.{some}
 use Rattle.atomic_table.specs.Table.{Me, Step}

@@ -34,7 +34,7 @@ impl Opener {
     ghost use Rattle.segment_machine.specs.Seats.{offering, parent, newcomer, giver, getter, purse, joined};
     ghost use Rattle.live_segment.specs.Steps.{recorder_checks, IsSame};
     ghost use Rattle.live_segment.specs.Lending.{HasUnits};
-    ghost use Rattle.live_segment.specs.Lists.Fresh.{given_fresh};
+    ghost use Rattle.live_segment.specs.List.Fresh.{given_fresh};
     ghost use Rattle.live_segment.specs.declared.segment.Segment.{Segment};
     ghost use Rattle.live_segment.specs.Holders.{IsMadeWith, IsRecorderOf, IsSameOpener, IsSameRecorder, RecordsInto, view_of_opener, view_of_recorder};
     ghost use Rattle.live_segment.specs.Desk.{IsDeskAt, IsSameDesk, view_of_desk};

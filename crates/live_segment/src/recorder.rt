@@ -3,24 +3,24 @@
 ghost use Rattle.std.specs.Prelude.{◌≡◌, [], map};
 ghost use Rattle.segment_machine.specs.Seats.{newcomer, getter, purse};
 ghost use Rattle.segment_calls.specs.Blocks.{record_words};
-ghost use Rattle.live_segment.specs.Claims.{ClaimsFor, ClaimsForAll, NamesAtMostOne};
+ghost use Rattle.live_segment.specs.Alloc.Claims.{ClaimsFor, ClaimsForAll, NamesAtMostOne};
 ghost use Rattle.live_segment.specs.Rule.{IsOf};
 ghost use Rattle.live_segment.specs.Seated.{IsSeated};
 ghost use Rattle.live_segment.specs.Steps.{IsAtRest};
-ghost use Rattle.live_segment.specs.declared.indexing.KeyKind.TheVariants.{Name as OfName, Sample as OfSample};
-ghost use Rattle.live_segment.specs.Lists.Indexed.{IsIndexed};
+ghost use Rattle.live_segment.specs.declared.list.index.KeyKind.TheVariants.{Name as OfName, Sample as OfSample};
+ghost use Rattle.live_segment.specs.List.Index.{IsIndexed};
 ghost use Rattle.live_segment.specs.Known.{known_view, KnowsRight};
-ghost use Rattle.live_segment.specs.Names.Naming.{HasNames};
-ghost use Rattle.live_segment.specs.Lists.Walks.{HasCome};
+ghost use Rattle.live_segment.specs.Hist.KnownNames.{HasNames};
+ghost use Rattle.live_segment.specs.List.Walk.{HasCome};
 ghost use Rattle.std.specs.List.{All};
 ghost use Rattle.std.proofs.Props.{props};
 
 mod desk;
 
-use crate::costs::{price, units_of_items};
-use crate::indexing::{KeyKind, RecordIndex};
-use crate::naming::KnownNames;
-use crate::records::WalkPlace;
+use crate::add::cost::{price, units_of_items};
+use crate::hist::known_names::KnownNames;
+use crate::list::index::{KeyKind, RecordIndex};
+use crate::list::walk::WalkPlace;
 use crate::rule::Pass;
 use crate::segment::Segment;
 use bucket_ranges::limits::MAX_CUSTOM_VALUES;
@@ -55,7 +55,7 @@ pub(crate) struct KnownHistogram {
 }
 
 impl KnownHistogram {
-    ghost use Rattle.live_segment.specs.Names.Searching.{asked_at};
+    ghost use Rattle.live_segment.specs.Hist.Search.{asked_at};
 
     // What was asked for, with its record.
     pub(crate) fn of(asked: Asked, reference: u64) -> KnownHistogram
@@ -125,23 +125,23 @@ impl<'a> Recorder<'a> {
     ghost use Rattle.std.specs.Prelude.{slice_index_or};
     ghost use Rattle.live_segment.specs.declared.recorder.KnownHistogram.{KnownHistogram};
     ghost use Rattle.bucket_ranges.specs.declared.spec.Spec.TheVariants.{Sparse};
-    ghost use Rattle.live_segment.specs.Readings.Deltas.{AreUnits, HasTaken};
-    ghost use Rattle.live_segment.specs.Readings.Snapshots.{HasSnapshot};
-    ghost use Rattle.live_segment.specs.Readings.Owed.{HasEnough, TookEnough};
-    ghost use Rattle.live_segment.specs.Readings.Values.{AreFewKeys, AreMostKeys};
-    ghost use Rattle.live_segment.specs.Names.Searching.{HasSearched};
+    ghost use Rattle.live_segment.specs.Delta.Outcome.{AreUnits, HasTaken};
+    ghost use Rattle.live_segment.specs.Snapshot.Outcome.{HasSnapshot};
+    ghost use Rattle.live_segment.specs.Delta.Owed.{HasEnough, TookEnough};
+    ghost use Rattle.live_segment.specs.List.Values.{AreFewKeys, AreMostKeys};
+    ghost use Rattle.live_segment.specs.Hist.Search.{HasSearched};
     ghost use Rattle.std.specs.Prelude.{◌↔◌, IsTrue, Err, ◌<◌, ◌≤◌, ◌++◌, length, IfOk, MatchOption, MatchResult};
     ghost use Rattle.segment_image.specs.Checks.{first_fault};
     ghost use Rattle.segment_machine.specs.declared.actor.Known.{Known};
-    ghost use Rattle.live_segment.specs.Counts.Adding.{add_checks, AnswersSample};
-    ghost use Rattle.live_segment.specs.Lists.Allocation.{spoiled};
-    ghost use Rattle.live_segment.specs.Counts.Batching.{batch_checks, IsBatched, IsCutShort};
-    ghost use Rattle.live_segment.specs.Lists.Cursors.{AnswersNext, gift};
+    ghost use Rattle.live_segment.specs.Add.Sample.{add_checks, AnswersSample};
+    ghost use Rattle.live_segment.specs.Alloc.Allocation.{spoiled};
+    ghost use Rattle.live_segment.specs.Add.Batch.{batch_checks, IsBatched, IsCutShort};
+    ghost use Rattle.live_segment.specs.List.SharedCursors.{AnswersNext, gift};
     ghost use Rattle.live_segment.specs.Holders.{opened_with, view_of_recorder, IsSameIfBucketed, IsSameRecorder, Knows, Means};
-    ghost use Rattle.live_segment.specs.Lists.Records.{HasWalked};
-    ghost use Rattle.live_segment.specs.Lists.Fresh.{GivesFresh, given_fresh};
+    ghost use Rattle.live_segment.specs.List.Records.{HasWalked};
+    ghost use Rattle.live_segment.specs.List.Fresh.{GivesFresh, given_fresh};
     ghost use Rattle.live_segment.specs.Standing.{HasFirst, HasList, HasShared};
-    ghost use Rattle.live_segment.specs.Names.Hist.{IsAnsweredWith, IsKnownAt, IsNamed, IsRefusedWith, KnowsOn, NoneHasName};
+    ghost use Rattle.live_segment.specs.Hist.Answer.{IsAnsweredWith, IsKnownAt, IsNamed, IsRefusedWith, KnowsOn, NoneHasName};
     ghost use Rattle.segment_calls.specs.declared.refusal.Refusal.TheVariants.{NoMemory, OtherSpec};
 
     // A recorder that has done nothing.

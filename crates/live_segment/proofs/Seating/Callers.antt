@@ -8,7 +8,7 @@ use Rattle.segment_machine.specs.Seats.{giver, joined, offering, parent}
 use Rattle.live_segment.specs.declared.opener.Opener.{Opener}
 use Rattle.live_segment.specs.declared.recorder.Hist.{Hist}
 use Rattle.live_segment.specs.declared.recorder.Recorder.{Recorder}
-use Rattle.live_segment.specs.Names.Hist.{KnowsOn}
+use Rattle.live_segment.specs.Hist.Answer.{KnowsOn}
 use Rattle.live_segment.specs.declared.segment.Segment.{Segment}
 use Rattle.live_segment.specs.Holders.{IsMadeWith, IsSameOpener, IsSameRecorder, Knows, view_of_opener, view_of_recorder}
 use Rattle.live_segment.specs.Known.{known_view}

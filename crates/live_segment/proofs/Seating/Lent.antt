@@ -3,14 +3,14 @@ use Rattle.std.proofs.Common.{◌≡◌, ℕ, ◌+◌, refl, sym, ap, ◌∙◌,
 use Rattle.segment_machine.specs.declared.actor.Actor.{Actor}
 use Rattle.segment_machine.specs.Seats.{getter}
 use Rattle.segment_promises.specs.Onward.{GoesOn}
-use Rattle.live_segment.specs.declared.indexing.KeyKind.TheVariants.{Sample}
+use Rattle.live_segment.specs.declared.list.index.KeyKind.TheVariants.{Sample}
 use Rattle.live_segment.specs.declared.recorder.desk.Desk.{Desk}
 use Rattle.live_segment.specs.declared.segment.Segment.{Segment}
 use Rattle.live_segment.specs.Desk.{IsDeskAt}
-use Rattle.live_segment.specs.Lists.Indexed.{IsIndexed}
+use Rattle.live_segment.specs.List.Index.{IsIndexed}
 use Rattle.live_segment.specs.Steps.{IsAtRest, IsSame, Pass}
-use Rattle.live_segment.proofs.AddCall.Desks.{desk_still}
-use Rattle.live_segment.proofs.Seating.Proceeding.{does_not, sees_not}
+use Rattle.live_segment.proofs.lemmas.Add.Desks.{desk_still}
+use Rattle.live_segment.proofs.lemmas.Steps.Proceeding.{does_not, sees_not}
 
 goes_on : (a : Actor) (units : ℕ) → GoesOn a (getter a units)
 goes_on a units = record { same = refl; done = does_not a.done; seen = sees_not a.seen }

@@ -6,9 +6,9 @@ ghost use Rattle.live_segment.specs.Desk.{IsDeskAt, desk_of};
 ghost use Rattle.live_segment.specs.declared.segment.Segment.{Segment as SomeSegment};
 
 use super::{Hist, KnownHistogram, Recorder};
-use crate::indexing::RecordIndex;
-use crate::naming::KnownNames;
-use crate::records::WalkPlace;
+use crate::hist::known_names::KnownNames;
+use crate::list::index::RecordIndex;
+use crate::list::walk::WalkPlace;
 use crate::rule::Pass;
 use crate::segment::Segment;
 use segment_calls::Refusal;
@@ -31,10 +31,10 @@ pub struct Desk {
 impl Desk {
     ghost use Rattle.std.specs.Prelude.{◌↔◌, ◌≤◌, IsTrue, IfOk, Err, MatchOption, length};
     ghost use Rattle.segment_image.specs.Checks.{first_fault};
-    ghost use Rattle.live_segment.specs.Claims.{ClaimsFor};
-    ghost use Rattle.live_segment.specs.Counts.Adding.{add_checks, AnswersSample};
+    ghost use Rattle.live_segment.specs.Alloc.Claims.{ClaimsFor};
+    ghost use Rattle.live_segment.specs.Add.Sample.{add_checks, AnswersSample};
     ghost use Rattle.live_segment.specs.Desk.{IsSameDesk, Knows, Means, view_of_desk};
-    ghost use Rattle.live_segment.specs.Readings.Values.{AreMostKeys};
+    ghost use Rattle.live_segment.specs.List.Values.{AreMostKeys};
     ghost use Rattle.segment_machine.specs.declared.actor.Known.{Known};
 
     /// The units that its recorder may still spend. This and the calls below need no recorder: they are those of [`Recorder`].

@@ -1,10 +1,7 @@
 //! The steps that claim a block, store into it, and set flags.
 
 ghost use Rattle.std.specs.Prelude.{ℕ, ◌+◌, ◌≤◌};
-ghost use Rattle.segment_machine.specs.Event.{allocating_event};
-ghost use Rattle.segment_machine.specs.Allocating.{load_flags, load_free, exchange_free, store_size, store_cookie, store_type, set_corrupt, set_full};
-ghost use Rattle.live_segment.specs.Steps.{Does, DoesAt, Raises};
-ghost use Rattle.live_segment.specs.Counts.Refusing.{LoadsFlags, SetsFull};
+ghost use Rattle.live_segment.specs.Steps.Prelude.{allocating_event, Does, DoesAt, exchange_free, load_flags, load_free, LoadsFlags, Raises, set_corrupt, set_full, SetsFull, store_cookie, store_size, store_type};
 
 use crate::rule::{Announcement, Pass};
 use crate::segment::Segment;
@@ -64,11 +61,8 @@ impl Play<Announcement, Actor> for SetFull {
 }
 
 impl Segment {
-    ghost use Rattle.live_segment.specs.Holders.{MayStep};
     ghost use Rattle.std.specs.Prelude.{[]};
-    ghost use Rattle.live_segment.specs.Steps.{Stepped};
-    ghost use Rattle.live_segment.specs.Counts.Refusing.{MayGiveUp, flags_notes, refusing_notes};
-    ghost use Rattle.live_segment.specs.GhostNotes.{Noted};
+    ghost use Rattle.live_segment.specs.Steps.Prelude.{flags_notes, MayGiveUp, MayStep, Noted, refusing_notes, Stepped};
 
     // A call that counts is refused where the corrupt flag is among them.
     pub(crate) fn load_flags(&self, seat: &mut Pass) -> u64

@@ -1,10 +1,7 @@
 //! The steps that say what a `hist` was answered: that a histogram is known, or that the call was refused.
 
 ghost use Rattle.std.specs.Prelude.{◌≡◌, false, map};
-ghost use Rattle.segment_machine.specs.Actor.{is_opener};
-ghost use Rattle.segment_machine.specs.Note.{declines};
-ghost use Rattle.segment_promises.specs.Follows.{MayNoteAll, noted_by};
-ghost use Rattle.live_segment.specs.Names.Answering.{Declines, HasKnown, Knows, MayKnow};
+ghost use Rattle.live_segment.specs.Steps.Prelude.{Declines, declines, HasKnown, is_opener, Knows, MayKnow, MayNoteAll, noted_by};
 
 use crate::rule::{Announcement, Pass};
 use crate::segment::Segment;
@@ -24,8 +21,7 @@ impl Play<Announcement, Actor> for Declining {
 }
 
 impl Segment {
-    ghost use Rattle.live_segment.specs.Holders.{table_of};
-    ghost use Rattle.live_segment.specs.Steps.{IsSame};
+    ghost use Rattle.live_segment.specs.Steps.Prelude.{IsSame, table_of};
 
     // What is said is the histogram of the record at a word: the `hist` is answered with it.
     pub(crate) fn know(&self, seat: &mut Pass, reference: u64, said: &Announcement)

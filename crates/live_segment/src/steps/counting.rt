@@ -1,11 +1,7 @@
 //! The steps that count: the counts reference of a histogram, a count, the sum and the redundant count.
 
 ghost use Rattle.std.specs.Prelude.{◌+◌, ◌<◌, ◌≤◌};
-ghost use Rattle.segment_machine.specs.Event.{counting_event};
-ghost use Rattle.segment_machine.specs.Counting.{load_counts, add_redundant};
-ghost use Rattle.live_segment.specs.Steps.{DoesAt};
-ghost use Rattle.live_segment.specs.Counts.Mounting.{LoadsCounts, SawNoNone};
-ghost use Rattle.live_segment.specs.GhostNotes.{AddsToCount, AddsToSample, AddsAmount, AddsSum, AddsLast};
+ghost use Rattle.live_segment.specs.Steps.Prelude.{add_redundant, AddsAmount, AddsLast, AddsSum, AddsToCount, AddsToSample, counting_event, DoesAt, load_counts, LoadsCounts, SawNoNone};
 
 use crate::rule::{Announcement, Pass};
 use crate::segment::Segment;
@@ -50,18 +46,15 @@ impl Play<Announcement, Actor> for AddRedundant {
     ghost then = { λ st. DoesAt (λ histogram. counting_event (add_redundant histogram st.first)) st.word };
 }
 
-pub(crate) struct AddLast;
+pub(crate) struct FinishEntry;
 
-impl Play<Announcement, Actor> for AddLast {
+impl Play<Announcement, Actor> for FinishEntry {
     ghost then = { λ st. AddsLast st.word st.first };
 }
 
 impl Segment {
     ghost use Rattle.std.specs.Prelude.{◌≡◌, [], ◌∷◌};
-    ghost use Rattle.segment_machine.specs.Note.{ends};
-    ghost use Rattle.live_segment.specs.Holders.{MayStep, table_of};
-    ghost use Rattle.live_segment.specs.Steps.{Stepped};
-    ghost use Rattle.live_segment.specs.GhostNotes.{MayAddTo, HasAddedTo, MaySample, HasSampled, MayAmount, HasAmount, MaySum, HasSum, MayDo, Noted};
+    ghost use Rattle.live_segment.specs.Steps.Prelude.{ends, HasAddedTo, HasAmount, HasSampled, HasSum, MayAddTo, MayAmount, MayDo, MayReach, MaySample, MayStep, MaySum, Noted, Stepped, table_of};
 
     pub(crate) fn load_counts(&self, seat: &mut Pass, histogram: u64) -> u64
         requires may { MayStep self.now seat.old (counting_event (load_counts histogram)) }
@@ -88,8 +81,7 @@ impl Segment {
 
     // Units are added to the count of a sample.
     pub(crate) fn add_to_sample(&self, seat: &mut Pass, sample: u64, units: u64) -> u64
-        requires table { seat.old.table_id ≡ table_of self.now }
-        requires room { sample + 8 ≤ self.now.setting.shape.size }
+        requires reach { MayReach self.now seat.old (sample + 8) }
         requires may { MaySample seat.old sample units }
         ensures { HasSampled seat.old sample units result seat.new }
     {
@@ -100,8 +92,7 @@ impl Segment {
 
     // The amount of a sample is added to the sum.
     pub(crate) fn add_amount(&self, seat: &mut Pass, histogram: u64, amount: i64) -> u64
-        requires table { seat.old.table_id ≡ table_of self.now }
-        requires room { histogram + 15 ≤ self.now.setting.shape.size }
+        requires reach { MayReach self.now seat.old (histogram + 15) }
         requires may { MayAmount seat.old histogram amount }
         ensures { HasAmount seat.old histogram amount result seat.new }
     {
@@ -114,8 +105,7 @@ impl Segment {
 
     // The sum of a batch is added, and the batch ends.
     pub(crate) fn add_sum(&self, seat: &mut Pass, histogram: u64, sum: i64) -> u64
-        requires table { seat.old.table_id ≡ table_of self.now }
-        requires room { histogram + 15 ≤ self.now.setting.shape.size }
+        requires reach { MayReach self.now seat.old (histogram + 15) }
         requires may { MaySum seat.old histogram sum }
         ensures { HasSum seat.old histogram sum result seat.new }
     {
@@ -139,13 +129,12 @@ impl Segment {
     }
 
     // The same, and the call ends.
-    pub(crate) fn add_last(&self, seat: &mut Pass, histogram: u64, units: u64) -> u64
-        requires table { seat.old.table_id ≡ table_of self.now }
-        requires room { histogram + 15 ≤ self.now.setting.shape.size }
+    pub(crate) fn finish_entry(&self, seat: &mut Pass, histogram: u64, units: u64) -> u64
+        requires reach { MayReach self.now seat.old (histogram + 15) }
         requires may { MayDo seat.old [] (counting_event (add_redundant histogram units)) (ends ∷ []) }
         ensures { Noted seat.old [] (counting_event (add_redundant histogram units)) (ends ∷ []) result seat.new }
     {
-        self.table.shared.fetch_add::<AddLast>(
+        self.table.shared.fetch_add::<FinishEntry>(
             seat,
             FIRST + histogram as usize + HISTOGRAM_REDUNDANT,
             units,

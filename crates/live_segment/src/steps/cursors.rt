@@ -1,9 +1,7 @@
 //! The steps on a shared cursor. Their words stand behind those of the segment.
 
 ghost use Rattle.std.specs.Prelude.{◌≡◌, ◌<◌, length};
-ghost use Rattle.segment_machine.specs.Event.{cursor_event};
-ghost use Rattle.segment_machine.specs.Cursors.{load_cursor, move_cursor};
-ghost use Rattle.live_segment.specs.Lists.Cursors.{LoadsCursor, MovesCursor};
+ghost use Rattle.live_segment.specs.Steps.Prelude.{cursor_event, load_cursor, LoadsCursor, move_cursor, MovesCursor};
 
 use crate::rule::{Announcement, Pass};
 use crate::segment::Segment;
@@ -24,9 +22,7 @@ impl Play<Announcement, Actor> for MoveCursor {
 }
 
 impl Segment {
-    ghost use Rattle.live_segment.specs.Holders.{MayStep};
-    ghost use Rattle.live_segment.specs.Steps.{Stepped};
-    ghost use Rattle.live_segment.specs.Lists.Cursors.{StandsBehind};
+    ghost use Rattle.live_segment.specs.Steps.Prelude.{MayStep, StandsBehind, Stepped};
 
     pub(crate) fn load_cursor(&self, seat: &mut Pass, cursor: usize) -> u64
         requires may { MayStep self.now seat.old (cursor_event (load_cursor cursor)) }

@@ -2,11 +2,7 @@
 //! their way.
 
 ghost use Rattle.std.specs.Prelude.{◌≡◌, ◌+◌, ◌<◌, ◌≤◌};
-ghost use Rattle.segment_machine.specs.Event.{packing_event};
-ghost use Rattle.segment_machine.specs.Form.{off_word};
-ghost use Rattle.segment_machine.specs.Packing.{load_single, mount_counts, purge_block, disable, add_moved};
-ghost use Rattle.live_segment.specs.Steps.{DoesAt};
-ghost use Rattle.live_segment.specs.GhostNotes.{Packs, AddsMoved};
+ghost use Rattle.live_segment.specs.Steps.Prelude.{add_moved, AddsMoved, disable, DoesAt, load_single, mount_counts, off_word, packing_event, Packs, purge_block};
 
 use crate::rule::{Announcement, Pass};
 use crate::segment::Segment;
@@ -52,11 +48,7 @@ impl Play<Announcement, Actor> for AddMoved {
 }
 
 impl Segment {
-    ghost use Rattle.segment_machine.specs.declared.place.Look.{Look};
-    ghost use Rattle.segment_machine.specs.declared.place.Place.TheVariants.{Moving};
-    ghost use Rattle.live_segment.specs.Holders.{MayStep, table_of};
-    ghost use Rattle.live_segment.specs.Steps.{Stepped};
-    ghost use Rattle.live_segment.specs.GhostNotes.{MayPack, HasPacked};
+    ghost use Rattle.live_segment.specs.Steps.Prelude.{HasPacked, MayPack, MayReach, MayStep, Stepped};
 
     pub(crate) fn load_single(&self, seat: &mut Pass, histogram: u64) -> u64
         requires may { MayStep self.now seat.old (packing_event (load_single histogram)) }
@@ -69,8 +61,7 @@ impl Segment {
     }
 
     pub(crate) fn pack(&self, seat: &mut Pass, histogram: u64, old: u64, new: u64) -> u64
-        requires table { seat.old.table_id ≡ table_of self.now }
-        requires room { histogram + 15 ≤ self.now.setting.shape.size }
+        requires reach { MayReach self.now seat.old (histogram + 15) }
         requires may { MayPack seat.old histogram old new }
         ensures { HasPacked seat.old histogram old new result seat.new }
     {

@@ -2,12 +2,8 @@
 //! behind which it is linked.
 
 ghost use Rattle.std.specs.Prelude.{◌+◌, ◌<◌, ◌≤◌};
+ghost use Rattle.live_segment.specs.Steps.Prelude.{allocating_event, Does, DoesAt, Links, load_tail, move_tail, publishing_event, store_own_next, store_payload, StoresPayload};
 ghost use Rattle.segment_image.specs.declared.layout.TheConstants.{QUEUE};
-ghost use Rattle.segment_machine.specs.Event.{allocating_event, publishing_event};
-ghost use Rattle.segment_machine.specs.Allocating.{store_payload};
-ghost use Rattle.segment_machine.specs.Publishing.{store_own_next, load_tail, move_tail};
-ghost use Rattle.live_segment.specs.Steps.{Does, DoesAt};
-ghost use Rattle.live_segment.specs.Lists.Listing.{StoresPayload, Links};
 
 use crate::rule::{Announcement, Pass};
 use crate::segment::Segment;
@@ -48,10 +44,7 @@ impl Play<Announcement, Actor> for MoveTail {
 
 impl Segment {
     ghost use Rattle.std.specs.Prelude.{◌≡◌};
-    ghost use Rattle.segment_machine.specs.Actor.{AreApart};
-    ghost use Rattle.live_segment.specs.Holders.{MayStep, table_of};
-    ghost use Rattle.live_segment.specs.Steps.{Stepped};
-    ghost use Rattle.live_segment.specs.Lists.Listing.{MayLink, HasLinked};
+    ghost use Rattle.live_segment.specs.Steps.Prelude.{AreApart, HasLinked, MayLink, MayReach, MayStep, Stepped};
 
     // It says too that no two blocks of the recorder begin at one word.
     pub(crate) fn store_payload(&self, seat: &mut Pass, at: u64, index: usize, value: u64)
@@ -84,8 +77,7 @@ impl Segment {
 
     // The block at a word is to hold what is said, and is linked behind the tail, where no other record stands there.
     pub(crate) fn link(&self, seat: &mut Pass, tail: u64, at: u64, said: &Announcement) -> u64
-        requires table { seat.old.table_id ≡ table_of self.now }
-        requires room { tail + 5 ≤ self.now.setting.shape.size }
+        requires reach { MayReach self.now seat.old (tail + 5) }
         requires may { MayLink seat.old tail at said.now }
         ensures { HasLinked seat.old tail at said.now result seat.new }
     {

@@ -1,10 +1,8 @@
 //! The steps that load the count of a sample of a sparse histogram, and the sum of a histogram.
 
 ghost use Rattle.std.specs.Prelude.{◌+◌, ◌<◌, ◌≤◌};
-ghost use Rattle.segment_machine.specs.Event.{taking_event};
-ghost use Rattle.segment_machine.specs.Taking.{load_count, load_sum};
-ghost use Rattle.live_segment.specs.Readings.Samples.{LoadsCountOfSample, LoadsSum, SamplesAreFew, SamplesStandBehind};
-ghost use Rattle.segment_promises.specs.Values.{NoRepeats};
+ghost use Rattle.live_segment.specs.Steps.Prelude.{load_count, load_sum, LoadsCountOfSample, LoadsSum, NoRepeats, SamplesAreFew, taking_event};
+ghost use Rattle.live_segment.specs.List.SampleRecords.{SamplesStandBehind};
 
 use crate::rule::{Announcement, Pass};
 use crate::segment::Segment;
@@ -26,8 +24,7 @@ impl Play<Announcement, Actor> for LoadSum {
 }
 
 impl Segment {
-    ghost use Rattle.live_segment.specs.Holders.{MayStep};
-    ghost use Rattle.live_segment.specs.Steps.{Stepped};
+    ghost use Rattle.live_segment.specs.Steps.Prelude.{MayStep, Stepped};
 
     // The samples that were met have room in the segment.
     pub(crate) fn load_count_of_sample(&self, seat: &mut Pass, at: u64) -> u64

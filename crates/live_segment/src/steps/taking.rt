@@ -1,13 +1,8 @@
 //! The steps that take: how a delta and a snapshot begin and end, counts and marks, the sum and its mark, and the redundant count.
 
 ghost use Rattle.std.specs.Prelude.{◌≡◌, ◌+◌, ◌<◌, ◌≤◌, ℕ};
+ghost use Rattle.live_segment.specs.Steps.Prelude.{Answers, BeginsDelta, BeginsSnapshot, DoesAt, EndsDelta, load_count, load_next, load_published, load_redundant, load_single, packing_event, raise_mark, raise_single_mark, swap_sum_mark, taking_event, walking_event};
 ghost use Rattle.segment_image.specs.declared.layout.TheConstants.{BLOCK_NEXT, BLOCK_TYPE, HISTOGRAM_SINGLE};
-ghost use Rattle.segment_machine.specs.Event.{packing_event, taking_event, walking_event};
-ghost use Rattle.segment_machine.specs.Packing.{load_single};
-ghost use Rattle.segment_machine.specs.Walking.{load_next, load_published};
-ghost use Rattle.segment_machine.specs.Taking.{load_count, raise_mark, raise_single_mark, swap_sum_mark, load_redundant};
-ghost use Rattle.live_segment.specs.Steps.{DoesAt};
-ghost use Rattle.live_segment.specs.Readings.Taking.{Answers, BeginsDelta, BeginsSnapshot, EndsDelta};
 
 use crate::rule::{Announcement, Pass};
 use crate::segment::Segment;
@@ -93,16 +88,11 @@ impl Play<Announcement, Actor> for Answering {
 
 impl Segment {
     ghost use Rattle.std.specs.Prelude.{[], ◌∷◌};
-    ghost use Rattle.segment_machine.specs.Note.{has_taken, looks};
-    ghost use Rattle.live_segment.specs.Holders.{MayStep, table_of};
-    ghost use Rattle.live_segment.specs.Steps.{Stepped};
-    ghost use Rattle.live_segment.specs.Readings.Taking.{MayAnswer, HasAnswered, MayBeginDelta, HasBegunDelta};
-    ghost use Rattle.live_segment.specs.GhostNotes.{MayDo, Noted};
+    ghost use Rattle.live_segment.specs.Steps.Prelude.{has_taken, HasAnswered, HasBegunDelta, looks, MayAnswer, MayBeginDelta, MayDo, MayReach, MayStep, Noted, Stepped, table_of};
 
     // A delta of a histogram with buckets begins: its single word is loaded.
     pub(crate) fn take_single(&self, seat: &mut Pass, histogram: u64) -> u64
-        requires table { seat.old.table_id ≡ table_of self.now }
-        requires room { histogram + 15 ≤ self.now.setting.shape.size }
+        requires reach { MayReach self.now seat.old (histogram + 15) }
         requires may { MayBeginDelta seat.old histogram (λ at. packing_event (load_single at)) }
         ensures { HasBegunDelta seat.old histogram (λ at. packing_event (load_single at)) result seat.new }
     {
@@ -113,8 +103,7 @@ impl Segment {
 
     // A delta of a sparse histogram begins: the next of its record is loaded.
     pub(crate) fn take_next(&self, seat: &mut Pass, histogram: u64) -> u64
-        requires table { seat.old.table_id ≡ table_of self.now }
-        requires room { histogram + 15 ≤ self.now.setting.shape.size }
+        requires reach { MayReach self.now seat.old (histogram + 15) }
         requires may { MayBeginDelta seat.old histogram (λ at. walking_event (load_next at)) }
         ensures { HasBegunDelta seat.old histogram (λ at. walking_event (load_next at)) result seat.new }
     {
@@ -126,8 +115,7 @@ impl Segment {
     // A delta of a sparse histogram begins whose samples were all met: the type of its record is loaded, which tells nothing new. So of the
     // list no more is seen.
     pub(crate) fn take_type(&self, seat: &mut Pass, histogram: u64)
-        requires table { seat.old.table_id ≡ table_of self.now }
-        requires room { histogram + 15 ≤ self.now.setting.shape.size }
+        requires reach { MayReach self.now seat.old (histogram + 15) }
         requires may { MayBeginDelta seat.old histogram (λ at. walking_event (load_published at BLOCK_TYPE)) }
         ensures { (found : ℕ) × HasBegunDelta seat.old histogram (λ at. walking_event (load_published at BLOCK_TYPE)) found seat.new }
     {
@@ -138,8 +126,7 @@ impl Segment {
 
     // The same of snapshots.
     pub(crate) fn look_type(&self, seat: &mut Pass, histogram: u64)
-        requires table { seat.old.table_id ≡ table_of self.now }
-        requires room { histogram + 15 ≤ self.now.setting.shape.size }
+        requires reach { MayReach self.now seat.old (histogram + 15) }
         requires may { MayDo seat.old (looks ∷ []) (walking_event (load_published histogram BLOCK_TYPE)) [] }
         ensures { (found : ℕ) × Noted seat.old (looks ∷ []) (walking_event (load_published histogram BLOCK_TYPE)) [] found seat.new }
     {
@@ -150,8 +137,7 @@ impl Segment {
 
     // A snapshot begins as a delta does.
     pub(crate) fn look_single(&self, seat: &mut Pass, histogram: u64) -> u64
-        requires table { seat.old.table_id ≡ table_of self.now }
-        requires room { histogram + 15 ≤ self.now.setting.shape.size }
+        requires reach { MayReach self.now seat.old (histogram + 15) }
         requires may { MayDo seat.old (looks ∷ []) (packing_event (load_single histogram)) [] }
         ensures { Noted seat.old (looks ∷ []) (packing_event (load_single histogram)) [] result seat.new }
     {
@@ -161,8 +147,7 @@ impl Segment {
     }
 
     pub(crate) fn look_next(&self, seat: &mut Pass, histogram: u64) -> u64
-        requires table { seat.old.table_id ≡ table_of self.now }
-        requires room { histogram + 15 ≤ self.now.setting.shape.size }
+        requires reach { MayReach self.now seat.old (histogram + 15) }
         requires may { MayDo seat.old (looks ∷ []) (walking_event (load_next histogram)) [] }
         ensures { Noted seat.old (looks ∷ []) (walking_event (load_next histogram)) [] result seat.new }
     {
@@ -208,8 +193,7 @@ impl Segment {
 
     // The sum that was loaded becomes the sum mark, and the delta ends.
     pub(crate) fn swap_sum_mark(&self, seat: &mut Pass, histogram: u64, sum: i64) -> u64
-        requires table { seat.old.table_id ≡ table_of self.now }
-        requires room { histogram + 15 ≤ self.now.setting.shape.size }
+        requires reach { MayReach self.now seat.old (histogram + 15) }
         requires may { MayDo seat.old [] (taking_event (swap_sum_mark histogram sum)) (has_taken ∷ []) }
         ensures { Noted seat.old [] (taking_event (swap_sum_mark histogram sum)) (has_taken ∷ []) result seat.new }
     {

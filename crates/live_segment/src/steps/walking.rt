@@ -1,10 +1,7 @@
 //! The steps that walk along the list: the next of a block, and a word of a published record that never changes.
 
 ghost use Rattle.std.specs.Prelude.{◌≡◌, ◌+◌, ◌<◌, ◌≤◌};
-ghost use Rattle.segment_machine.specs.Event.{walking_event};
-ghost use Rattle.segment_machine.specs.Walking.{load_next, load_published};
-ghost use Rattle.live_segment.specs.Lists.Listing.{LoadsPublished};
-ghost use Rattle.live_segment.specs.Lists.Records.{LoadsNext, LoadsType};
+ghost use Rattle.live_segment.specs.Steps.Prelude.{load_next, load_published, LoadsNext, LoadsPublished, LoadsType, walking_event};
 ghost use Rattle.segment_image.specs.declared.layout.TheConstants.{BLOCK_TYPE};
 
 use crate::rule::{Announcement, Pass};
@@ -38,12 +35,8 @@ impl Play<Announcement, Actor> for LoadPublished {
 
 impl Segment {
     ghost use Rattle.std.specs.Prelude.{Some};
-    ghost use Rattle.live_segment.specs.Holders.{MayStep, opened_with};
-    ghost use Rattle.live_segment.specs.Standing.{SeesNext};
+    ghost use Rattle.live_segment.specs.Steps.Prelude.{KnowsOwnNames, KnowsOwnSamples, MayStep, NoRepeats, opened_with, SeesNext, Stepped};
     ghost use Rattle.segment_promises.specs.Calls.{SamplesStandBehind};
-    ghost use Rattle.segment_promises.specs.Values.{NoRepeats};
-    ghost use Rattle.live_segment.specs.Lists.Records.{KnowsOwnNames, KnowsOwnSamples};
-    ghost use Rattle.live_segment.specs.Steps.{Stepped};
 
     fn load_next_as<S: Stance>(&self, seat: &mut Pass, at: u64) -> u64
         requires may { MayStep self.now seat.old (walking_event (load_next at)) }

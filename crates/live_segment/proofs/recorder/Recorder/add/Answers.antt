@@ -1,10 +1,10 @@
 use Rattle.std.proofs.Common.{◌≡◌, ℤ, Err, refl, subst, w32}
 use Rattle.std.proofs.lemmas.Int.{to_z-of_z}
 use Rattle.segment_machine.specs.declared.actor.Known.{Known}
-use Rattle.live_segment.specs.Counts.Adding.{AnswersSample}
+use Rattle.live_segment.specs.Add.Sample.{AnswersSample}
 use Rattle.live_segment.specs.Desk.{desk_of}
 use Rattle.live_segment.specs.Holders.{Means}
-use Rattle.live_segment.proofs.AddCall.Desks.{answered, at_desk_of, desk_still, same_recorder}
+use Rattle.live_segment.proofs.lemmas.Add.Desks.{answered, at_desk_of, desk_still, same_recorder}
 use Rattle.live_segment.proofs.recorder.Recorder.add.Goals as goal
 
 pub invariant_of-self : goal.invariant_of-self

@@ -4,13 +4,13 @@ use Rattle.std.proofs.lemmas.List.{length-take-le}
 use Rattle.segment_image.specs.Checks.{first_fault}
 use Rattle.segment_invariant.proofs.Lists.Elements.{below_length}
 use Rattle.segment_machine.specs.declared.actor.Known.{Known}
-use Rattle.live_segment.specs.Counts.Batching.{batch_checks, IsBatched, IsCutShort}
-use Rattle.live_segment.specs.Claims.{ClaimsForAll}
+use Rattle.live_segment.specs.Add.Batch.{batch_checks, IsBatched, IsCutShort}
+use Rattle.live_segment.specs.Alloc.Claims.{ClaimsForAll}
 use Rattle.live_segment.specs.Known.{known_view}
-use Rattle.live_segment.proofs.AddCall.Adds.{meant, is_of_still, names_still}
-use Rattle.live_segment.proofs.BatchCall.Batches.{passed, passes_all, fails_one}
-use Rattle.live_segment.proofs.Walks.IndexKept.{seen_on}
-use Rattle.live_segment.proofs.Walks.Walked.{all_right, come_still}
+use Rattle.live_segment.proofs.lemmas.Add.Adds.{meant, is_of_still, names_still}
+use Rattle.live_segment.proofs.lemmas.Add.Batch.Batches.{passed, passes_all, fails_one}
+use Rattle.live_segment.proofs.lemmas.List.IndexKept.{seen_on}
+use Rattle.live_segment.proofs.lemmas.List.Walked.{all_right, come_still}
 use Rattle.live_segment.proofs.recorder.Recorder.batch.Goals as goal
 
 pub returns-in-Err-clause-answer : goal.returns-in-Err-clause-answer

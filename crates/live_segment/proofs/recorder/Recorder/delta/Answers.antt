@@ -6,17 +6,17 @@ use Rattle.segment_machine.specs.declared.actor.Known.{Known}
 use Rattle.segment_machine.specs.Actor.{has_buckets}
 use Rattle.live_segment.specs.Desk.{desk_of}
 use Rattle.live_segment.specs.Holders.{opened_with}
-use Rattle.live_segment.specs.Readings.Deltas.{HasTaken}
-use Rattle.live_segment.specs.Readings.Values.{AreFewKeys}
-use Rattle.live_segment.proofs.AddCall.Adds.{meant}
-use Rattle.live_segment.proofs.AddCall.Desks.{same_recorder}
+use Rattle.live_segment.specs.Delta.Outcome.{HasTaken}
+use Rattle.live_segment.specs.List.Values.{AreFewKeys}
+use Rattle.live_segment.proofs.lemmas.Add.Adds.{meant}
+use Rattle.live_segment.proofs.lemmas.Add.Desks.{same_recorder}
 use Rattle.segment_invariant.proofs.Lists.Elements.{contains_at}
-use Rattle.live_segment.proofs.DeltaCall.Behind.{rests_behind, sees_behind, taken_behind}
-use Rattle.live_segment.proofs.DeltaCall.Owed.{took_enough}
-use Rattle.live_segment.proofs.DeltaCall.Given.{taken_rests, taken_of, taken_names, taken_share}
-use Rattle.live_segment.proofs.HistCall.Searching.{seat_on}
-use Rattle.live_segment.proofs.Walks.IndexKept.{seen_on}
-use Rattle.live_segment.proofs.Walks.Walked.{all_right, come_still}
+use Rattle.live_segment.proofs.lemmas.Delta.Behind.{rests_behind, sees_behind, taken_behind}
+use Rattle.live_segment.proofs.lemmas.Delta.Owed.{took_enough}
+use Rattle.live_segment.proofs.lemmas.Delta.Given.{taken_rests, taken_of, taken_names, taken_share}
+use Rattle.live_segment.proofs.lemmas.Hist.Searching.{seat_on}
+use Rattle.live_segment.proofs.lemmas.List.IndexKept.{seen_on}
+use Rattle.live_segment.proofs.lemmas.List.Walked.{all_right, come_still}
 use Rattle.live_segment.proofs.recorder.Recorder.delta.Goals as goal
 
 pub returns-in_err-counts-clause-taken : goal.returns-in_err-counts-clause-taken

@@ -1,5 +1,5 @@
 use Rattle.live_segment.specs.Desk.{desk_of}
-use Rattle.live_segment.proofs.AddCall.Desks.{at_desk_of}
+use Rattle.live_segment.proofs.lemmas.Add.Desks.{at_desk_of}
 use Rattle.live_segment.proofs.Seating.Lent.{desk_lent}
 use Rattle.live_segment.proofs.recorder.Recorder.get.Goals as goal
 

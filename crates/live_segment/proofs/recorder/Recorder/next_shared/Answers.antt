@@ -1,6 +1,6 @@
-use Rattle.live_segment.proofs.Walks.IndexKept.{answered_on}
-use Rattle.live_segment.proofs.Walks.Sharing.{answer_grows, answer_names}
-use Rattle.live_segment.proofs.Walks.Walked.{all_right, come_still}
+use Rattle.live_segment.proofs.lemmas.List.IndexKept.{answered_on}
+use Rattle.live_segment.proofs.lemmas.List.Sharing.{answer_grows, answer_names}
+use Rattle.live_segment.proofs.lemmas.List.Walked.{all_right, come_still}
 use Rattle.live_segment.proofs.recorder.Recorder.next_shared.Goals as goal
 
 pub invariant_of-self-clause-right : goal.invariant_of-self-clause-right

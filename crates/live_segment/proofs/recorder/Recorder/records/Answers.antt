@@ -1,7 +1,7 @@
 use Rattle.std.proofs.Common.{ap}
 use Rattle.segment_machine.specs.declared.actor.Actor.{Actor}
-use Rattle.live_segment.proofs.Walks.IndexKept.{walked_on}
-use Rattle.live_segment.proofs.Walks.Walked.{all_right, come_still, walk_grows}
+use Rattle.live_segment.proofs.lemmas.List.IndexKept.{walked_on}
+use Rattle.live_segment.proofs.lemmas.List.Walked.{all_right, come_still, walk_grows}
 use Rattle.live_segment.proofs.recorder.Recorder.records.Goals as goal
 
 pub invariant_of-self-clause-right : goal.invariant_of-self-clause-right

@@ -5,17 +5,17 @@ use Rattle.segment_machine.specs.declared.actor.Known.{Known}
 use Rattle.segment_machine.specs.Actor.{has_buckets}
 use Rattle.live_segment.specs.Desk.{desk_of}
 use Rattle.live_segment.specs.Holders.{opened_with}
-use Rattle.live_segment.specs.Readings.Snapshots.{HasSnapshot}
-use Rattle.live_segment.specs.Readings.Values.{AreFewKeys}
-use Rattle.live_segment.proofs.AddCall.Adds.{meant}
-use Rattle.live_segment.proofs.AddCall.Desks.{same_recorder}
+use Rattle.live_segment.specs.Snapshot.Outcome.{HasSnapshot}
+use Rattle.live_segment.specs.List.Values.{AreFewKeys}
+use Rattle.live_segment.proofs.lemmas.Add.Adds.{meant}
+use Rattle.live_segment.proofs.lemmas.Add.Desks.{same_recorder}
 use Rattle.segment_invariant.proofs.Lists.Elements.{contains_at}
-use Rattle.live_segment.proofs.DeltaCall.Behind.{answered_behind, rests_behind, sees_behind}
-use Rattle.live_segment.proofs.DeltaCall.Owed.{has_enough}
-use Rattle.live_segment.proofs.DeltaCall.Given.{looked_rests, looked_of, looked_names, looked_share}
-use Rattle.live_segment.proofs.HistCall.Searching.{seat_on}
-use Rattle.live_segment.proofs.Walks.IndexKept.{seen_on}
-use Rattle.live_segment.proofs.Walks.Walked.{all_right, come_still}
+use Rattle.live_segment.proofs.lemmas.Delta.Behind.{answered_behind, rests_behind, sees_behind}
+use Rattle.live_segment.proofs.lemmas.Delta.Owed.{has_enough}
+use Rattle.live_segment.proofs.lemmas.Delta.Given.{looked_rests, looked_of, looked_names, looked_share}
+use Rattle.live_segment.proofs.lemmas.Hist.Searching.{seat_on}
+use Rattle.live_segment.proofs.lemmas.List.IndexKept.{seen_on}
+use Rattle.live_segment.proofs.lemmas.List.Walked.{all_right, come_still}
 use Rattle.live_segment.proofs.recorder.Recorder.snapshot.Goals as goal
 
 pub returns-in_err-totals-clause-answer : goal.returns-in_err-totals-clause-answer

@@ -2,10 +2,10 @@ use Rattle.std.proofs.Common.{◌≤◌, ℕ, ℤ, subst, w32}
 use Rattle.std.proofs.lemmas.Int.{to_z-of_z}
 use Rattle.std.proofs.lemmas.Result.{err_from_is_err_and}
 use Rattle.segment_machine.specs.declared.actor.Known.{Known}
-use Rattle.live_segment.specs.Counts.Adding.{IsAdded, IsRefused, LacksBlock}
-use Rattle.live_segment.specs.Claims.{ClaimsFor}
+use Rattle.live_segment.specs.Add.Sample.{IsAdded, IsRefused, LacksBlock}
+use Rattle.live_segment.specs.Alloc.Claims.{ClaimsFor}
 use Rattle.live_segment.specs.Known.{known_view}
-use Rattle.live_segment.proofs.AddCall.Adds.{passes, meant}
+use Rattle.live_segment.proofs.lemmas.Add.Adds.{passes, meant}
 use Rattle.live_segment.proofs.segment.Segment.add_known.Goals as goal
 
 pub returns-in_err-add_sample-clause-answer : goal.returns-in_err-add_sample-clause-answer

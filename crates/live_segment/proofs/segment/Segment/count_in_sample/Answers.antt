@@ -1,13 +1,13 @@
-use Rattle.std.proofs.Common.{ℕ, ℤ, sym, subst, w32}
+use Rattle.std.proofs.Common.{◌∙◌, ℕ, ℤ, sym, subst, w32}
 use Rattle.std.proofs.lemmas.Int.{to_z-of_z}
 use Rattle.std.proofs.lemmas.Result.{err_from_is_err_and}
-use Rattle.live_segment.specs.Counts.Finishing.{item_of}
+use Rattle.live_segment.specs.Add.Finish.{item_of}
 use Rattle.live_segment.specs.Known.{known_view}
-use Rattle.live_segment.specs.Counts.Sampling.{HasSampleOf, LacksSampleOf}
-use Rattle.live_segment.specs.GhostNotes.{HasSampled, MaySample}
-use Rattle.live_segment.proofs.AddCall.CountsAlone.{may_give_up}
-use Rattle.live_segment.proofs.AddCall.ValueCounted.{keeps_sampled, may_sample, sample_within, same_counted, value_claims, value_counted, value_lacks}
-use Rattle.live_segment.proofs.Walks.IndexKept.{kept_on}
+use Rattle.live_segment.specs.Add.SampleSearch.{HasSampleOf, LacksSampleOf}
+use Rattle.live_segment.specs.Steps.GhostNotes.{HasSampled, MaySample}
+use Rattle.live_segment.proofs.lemmas.Add.CountsAlone.{may_give_up}
+use Rattle.live_segment.proofs.lemmas.Add.ValueCounted.{keeps_sampled, may_sample, sample_within, same_counted, value_claims, value_counted, value_lacks}
+use Rattle.live_segment.proofs.lemmas.List.IndexKept.{kept_on}
 use Rattle.live_segment.proofs.segment.Segment.count_in_sample.Goals as goal
 
 pub returns-in_err-sample-clause-outcome : goal.returns-in_err-sample-clause-outcome
@@ -50,13 +50,12 @@ pub sample_of-requires-clause-closes : goal.sample_of-requires-clause-closes
 sample_of-requires-clause-closes c =
     may_give_up c.args.seat.now.me.0 (known_view c.args.histogram.now) (item_of (known_view c.args.histogram.now) c.args.value c.args.units) c.requires.may
 
-pub add_to_sample-requires-clause-room : goal.add_to_sample-requires-clause-room
-add_to_sample-requires-clause-room c =
+pub add_to_sample-requires-clause-reach : goal.add_to_sample-requires-clause-reach
+add_to_sample-requires-clause-reach c =
     let known = known_view c.args.histogram.now in
     let has = subst (λ (v : ℤ). HasSampleOf known v c.in_ok-sample.sample c.args.seat.now.me.0 c.sample_of.new.seat.me.0)
     (to_z-of_z w32 c.args.value c.ranges.value) c.in_ok-sample.ensures.outcome in
-    sample_within known c.args.value c.args.units c.in_ok-sample.sample c.args.seat.now c.sample_of.new.seat c.requires.may c.requires.sparse has
-    c.args.self.now c.requires.seat.of
+    record { table = c.sample_of.ensures.same.0 ∙ c.requires.ready.seated.table; room = sample_within known c.args.value c.args.units c.in_ok-sample.sample c.args.seat.now c.sample_of.new.seat c.requires.may c.requires.sparse has c.args.self.now c.requires.ready.seated.of }
 
 pub returns-clause-claims : goal.returns-clause-claims
 returns-clause-claims c =

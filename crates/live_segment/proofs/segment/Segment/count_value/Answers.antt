@@ -2,21 +2,21 @@ use Rattle.std.proofs.Common.{◌∙◌, ℤ, sym, subst, w32, IfOk, MatchResult
 use Rattle.std.proofs.lemmas.Int.{to_z-of_z}
 use Rattle.std.proofs.lemmas.Result.{IfOk-weaker, MatchResult-weaker}
 use Rattle.segment_machine.specs.declared.entry.Entry.{Entry}
-use Rattle.live_segment.specs.Claims.{ClaimsFor}
-use Rattle.live_segment.specs.Counts.Finishing.{item_of}
+use Rattle.live_segment.specs.Alloc.Claims.{ClaimsFor}
+use Rattle.live_segment.specs.Add.Finish.{item_of}
 use Rattle.live_segment.specs.Known.{known_view}
-use Rattle.live_segment.specs.Counts.Refusing.{IsNotCounted}
-use Rattle.live_segment.specs.Counts.Working.{CountsAlone, HasCounted}
+use Rattle.live_segment.specs.Add.Refusal.{IsNotCounted}
+use Rattle.live_segment.specs.Add.Progress.{CountsAlone, HasCounted}
 use Rattle.segment_promises.proofs.Calls.SpecBuckets.{below, is_bucketed, is_sparse}
-use Rattle.live_segment.proofs.DeltaCall.BucketKeys.{found_is, item_is, one_bucket}
-use Rattle.live_segment.proofs.AddCall.Blocks.{claims_mounted}
-use Rattle.live_segment.proofs.AddCall.TurnedAway.{bucket_seen, turned_not_counted}
-use Rattle.live_segment.proofs.Walks.IndexKept.{seen_on}
+use Rattle.live_segment.proofs.lemmas.Delta.BucketKeys.{found_is, item_is, one_bucket}
+use Rattle.live_segment.proofs.lemmas.Add.Blocks.{claims_mounted}
+use Rattle.live_segment.proofs.lemmas.Add.TurnedAway.{bucket_seen, turned_not_counted}
+use Rattle.live_segment.proofs.lemmas.List.IndexKept.{seen_on}
 use Rattle.live_segment.proofs.segment.Segment.count_value.Goals as goal
 
 pub count_in_sample-requires-clause-sparse : goal.count_in_sample-requires-clause-sparse
 count_in_sample-requires-clause-sparse c =
-    is_sparse c.args.histogram.now.spec c.args.histogram.now.ranges c.requires.right.lawful c.requires.right.ranges (sym c.len.ensures ∙ c.if-len-eq0.true)
+    is_sparse c.args.histogram.now.spec c.args.histogram.now.ranges c.requires.ready.right.lawful c.requires.ready.right.ranges (sym c.len.ensures ∙ c.if-len-eq0.true)
 
 pub count_in_sample-requires-clause-may : goal.count_in_sample-requires-clause-may
 count_in_sample-requires-clause-may c =
@@ -32,7 +32,7 @@ returns-then-len-eq0-clause-outcome c =
 
 pub count_in_bucket-requires-clause-bucket : goal.count_in_bucket-requires-clause-bucket
 count_in_bucket-requires-clause-bucket c =
-    let right = c.requires.right in
+    let right = c.requires.ready.right in
     let spec = c.args.histogram.now.spec in
     let bucketed = is_bucketed spec c.args.histogram.now.ranges right.ranges (λ none. c.if-len-eq0.false (c.len.ensures ∙ none)) in
     let found = found_is spec c.args.histogram.now.ranges c.args.value c.bucket-bucket.result right.ranges c.ranges.value c.bucket-bucket.ensures.found in
@@ -41,7 +41,7 @@ count_in_bucket-requires-clause-bucket c =
 pub count_in_bucket-requires-clause-may : goal.count_in_bucket-requires-clause-may
 count_in_bucket-requires-clause-may c =
     let known = known_view c.args.histogram.now in
-    let right = c.requires.right in
+    let right = c.requires.ready.right in
     let bucketed = is_bucketed known.spec c.args.histogram.now.ranges right.ranges (λ none. c.if-len-eq0.false (c.len.ensures ∙ none)) in
     let found = found_is known.spec c.args.histogram.now.ranges c.args.value c.bucket-bucket.result right.ranges c.ranges.value c.bucket-bucket.ensures.found in record {
       counts = subst (CountsAlone c.args.seat.now.me.0 known)
@@ -52,7 +52,7 @@ count_in_bucket-requires-clause-may c =
 pub returns-clause-outcome : goal.returns-clause-outcome
 returns-clause-outcome c =
     let known = known_view c.args.histogram.now in
-    let right = c.requires.right in
+    let right = c.requires.ready.right in
     let bucketed = is_bucketed known.spec c.args.histogram.now.ranges right.ranges (λ none. c.if-len-eq0.false (c.len.ensures ∙ none)) in
     let found = found_is known.spec c.args.histogram.now.ranges c.args.value c.bucket-bucket.result right.ranges c.ranges.value c.bucket-bucket.ensures.found in
     let is_of = item_is known right.lawful bucketed c.args.value c.bucket-bucket.result c.args.units found in
@@ -69,7 +69,7 @@ returns-then-len-eq0-clause-claims c =
 pub returns-clause-claims : goal.returns-clause-claims
 returns-clause-claims c =
     let known = known_view c.args.histogram.now in
-    let bucketed = is_bucketed known.spec c.args.histogram.now.ranges c.requires.right.ranges (λ none. c.if-len-eq0.false (c.len.ensures ∙ none)) in
+    let bucketed = is_bucketed known.spec c.args.histogram.now.ranges c.requires.ready.right.ranges (λ none. c.if-len-eq0.false (c.len.ensures ∙ none)) in
     IfOk-weaker c.count_in_bucket.result _ _
     (λ x claims. claims_mounted known c.args.value c.args.seat.now.me.0 c.count_in_bucket.new.seat.me.0 bucketed claims) c.count_in_bucket.ensures.claims
 
@@ -78,4 +78,4 @@ returns-clause-indexed c =
     seen_on c.args.self.now.setting.shape.size c.args.samples.now c.args.seat.now.me.0.seen c.count_in_bucket.new.seat.me.0.seen
     (bucket_seen c.count_in_bucket.result (known_view c.args.histogram.now) c.bucket-bucket.result c.args.units c.args.seat.now.me.0 c.count_in_bucket.new.seat.me.0
     c.count_in_bucket.ensures.outcome)
-    c.requires.indexed
+    c.requires.ready.indexed

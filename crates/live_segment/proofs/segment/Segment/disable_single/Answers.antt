@@ -1,9 +1,9 @@
 use Rattle.std.proofs.Common.{sym, ◌∙◌, arith}
-use Rattle.live_segment.proofs.AddCall.Disabled.{disabling, may_load, may_disable, same_after, rests, may_move, moved, looks_after, keeps_after, stands_after, falls}
+use Rattle.live_segment.proofs.lemmas.Add.Disabled.{disabling, may_load, may_disable, same_after, rests, may_move, moved, looks_after, keeps_after, stands_after, falls}
 use Rattle.live_segment.proofs.segment.Segment.disable_single.Goals as goal
 
 pub loop-counts-init : goal.loop-counts-init
-loop-counts-init c = disabling c.requires.seat c.requires.may c.requires.stands
+loop-counts-init c = disabling c.requires.at.seated c.requires.may c.requires.stands
 
 pub load_single-word-requires-clause-may : goal.load_single-word-requires-clause-may
 load_single-word-requires-clause-may c = may_load c.loop-counts.invariant
@@ -37,7 +37,7 @@ pub loop-counts-preserved : goal.loop-counts-preserved
 loop-counts-preserved c =
     let on = c.if-word-ge-DISABLED_BIT.false in
     record {
-      seated = c.requires.seat;
+      seated = c.requires.at.seated;
       may = c.requires.may;
       within = c.requires.stands.1;
       same = same_after c.loop-counts.invariant _ c.load_single-word.new.seat c.load_single-word.ensures (omega (arith, on)) _ c.disable.new.seat c.disable.ensures;

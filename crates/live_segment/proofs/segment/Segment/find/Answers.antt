@@ -1,9 +1,9 @@
 use Rattle.std.proofs.Common.{Bool, refl, subst, arith}
-use Rattle.live_segment.specs.Names.Finding.{ShowsName, ShowsSpec}
+use Rattle.live_segment.specs.Hist.ListSearch.{ShowsName, ShowsSpec}
 use Rattle.segment_promises.proofs.Growing.{grows_not}
-use Rattle.live_segment.proofs.Walks.Ends.{all_on}
-use Rattle.live_segment.proofs.Walks.Showing.{same_on, sees_on, meets_still}
-use Rattle.live_segment.proofs.HistCall.Searching.{searched_not, searched_on, sees_searched, searched, seat_on, may_follow, room, found_end, ends, meets, room_found, walks_then, comes_further, met_spec, met_other}
+use Rattle.live_segment.proofs.lemmas.List.Ends.{all_on}
+use Rattle.live_segment.proofs.lemmas.List.Showing.{same_on, sees_on, meets_still}
+use Rattle.live_segment.proofs.lemmas.Hist.Searching.{searched_not, searched_on, sees_searched, searched, seat_on, may_follow, room, found_end, ends, meets, room_found, walks_then, comes_further, met_spec, met_other}
 use Rattle.live_segment.proofs.segment.Segment.find.Goals as goal
 
 pub loop-from-init : goal.loop-from-init
@@ -39,21 +39,13 @@ returns-then-next-eq-QUEUE-clause-ended c =
     (searched was.seated was.walks _ _ c.load_next-next.ensures.step).ends (grows_not new.ends) refl
     (found_end was.seated was.walks _ _ c.load_next-next.ensures.step c.load_next-next.ensures.once c.if-next-eq-QUEUE.true)
 
-pub shows_name-requires-clause-met : goal.shows_name-requires-clause-met
-shows_name-requires-clause-met c =
-    let was = c.loop-from.invariant in
-    meets was.seated was.walks _ _ c.load_next-next.ensures.step c.if-next-eq-QUEUE.false
-
-pub shows_name-requires-clause-seat : goal.shows_name-requires-clause-seat
-shows_name-requires-clause-seat c =
-    let was = c.loop-from.invariant in
-    seat_on c.load_next-next.new.seat was.seated c.load_next-next.ensures.step.same
-    (searched was.seated was.walks _ _ c.load_next-next.ensures.step)
-
-pub shows_name-requires-clause-room : goal.shows_name-requires-clause-room
-shows_name-requires-clause-room c =
-    let was = c.loop-from.invariant in
-    room_found was.seated was.walks _ _ c.load_next-next.ensures.step c.if-next-eq-QUEUE.false
+pub shows_name-requires-clause-meets : goal.shows_name-requires-clause-meets
+shows_name-requires-clause-meets c =
+    let was = c.loop-from.invariant in record {
+      seated = seat_on c.load_next-next.new.seat was.seated c.load_next-next.ensures.step.same (searched was.seated was.walks _ _ c.load_next-next.ensures.step);
+      met = meets was.seated was.walks _ _ c.load_next-next.ensures.step c.if-next-eq-QUEUE.false;
+      room = room_found was.seated was.walks _ _ c.load_next-next.ensures.step c.if-next-eq-QUEUE.false;
+    }
 
 pub shows_spec-requires-clause-seat : goal.shows_spec-requires-clause-seat
 shows_spec-requires-clause-seat c =

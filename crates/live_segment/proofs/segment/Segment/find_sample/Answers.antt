@@ -1,12 +1,12 @@
 use Rattle.std.proofs.Common.{Bool, ℤ, w32, refl, sym, ◌∙◌, subst, arith}
 use Rattle.std.proofs.lemmas.Int.{to_z-of_z}
-use Rattle.live_segment.specs.Counts.Sampling.{ShowsValue, WalksBehind}
+use Rattle.live_segment.specs.Add.SampleSearch.{ShowsValue, WalksBehind}
 use Rattle.segment_promises.proofs.Growing.{grows_not}
-use Rattle.live_segment.proofs.Walks.Ends.{all_on}
-use Rattle.live_segment.proofs.Walks.WalkProgress.{comes_further}
-use Rattle.live_segment.proofs.HistCall.Searching.{searched_not, searched_on, sees_searched, seat_on}
-use Rattle.live_segment.proofs.Walks.Showing.{same_on}
-use Rattle.live_segment.proofs.AddCall.SampleSearches.{may_follow, room, searched, found_end, ends, meets, room_found, walks_then, met_first}
+use Rattle.live_segment.proofs.lemmas.List.Ends.{all_on}
+use Rattle.live_segment.proofs.lemmas.List.WalkProgress.{comes_further}
+use Rattle.live_segment.proofs.lemmas.Hist.Searching.{searched_not, searched_on, sees_searched, seat_on}
+use Rattle.live_segment.proofs.lemmas.List.Showing.{same_on}
+use Rattle.live_segment.proofs.lemmas.Add.SampleSearches.{may_follow, room, searched, found_end, ends, meets, room_found, walks_then, met_first}
 use Rattle.live_segment.proofs.segment.Segment.find_sample.Goals as goal
 
 pub loop-from-init : goal.loop-from-init
@@ -41,20 +41,13 @@ returns-then-next-eq-QUEUE-clause-ended c =
     (searched was.seated walks _ _ c.load_next-next.ensures.step).ends (grows_not new.ends) refl
     (found_end was.seated walks _ _ c.load_next-next.ensures.step c.load_next-next.ensures.once c.if-next-eq-QUEUE.true)
 
-pub shows_value-requires-clause-met : goal.shows_value-requires-clause-met
-shows_value-requires-clause-met c =
-    let was = c.loop-from.invariant in
-    meets was.seated (was.walks c.args.value (sym (to_z-of_z w32 c.args.value c.ranges.value))) _ _ c.load_next-next.ensures.step c.if-next-eq-QUEUE.false
-
-pub shows_value-requires-clause-seat : goal.shows_value-requires-clause-seat
-shows_value-requires-clause-seat c =
-    let was = c.loop-from.invariant in
-    seat_on c.load_next-next.new.seat was.seated c.load_next-next.ensures.step.same (searched was.seated (was.walks c.args.value (sym (to_z-of_z w32 c.args.value c.ranges.value))) _ _ c.load_next-next.ensures.step)
-
-pub shows_value-requires-clause-room : goal.shows_value-requires-clause-room
-shows_value-requires-clause-room c =
-    let was = c.loop-from.invariant in
-    room_found was.seated (was.walks c.args.value (sym (to_z-of_z w32 c.args.value c.ranges.value))) _ _ c.load_next-next.ensures.step c.if-next-eq-QUEUE.false
+pub shows_value-requires-clause-meets : goal.shows_value-requires-clause-meets
+shows_value-requires-clause-meets c =
+    let was = c.loop-from.invariant in record {
+      seated = seat_on c.load_next-next.new.seat was.seated c.load_next-next.ensures.step.same (searched was.seated (was.walks c.args.value (sym (to_z-of_z w32 c.args.value c.ranges.value))) _ _ c.load_next-next.ensures.step);
+      met = meets was.seated (was.walks c.args.value (sym (to_z-of_z w32 c.args.value c.ranges.value))) _ _ c.load_next-next.ensures.step c.if-next-eq-QUEUE.false;
+      room = room_found was.seated (was.walks c.args.value (sym (to_z-of_z w32 c.args.value c.ranges.value))) _ _ c.load_next-next.ensures.step c.if-next-eq-QUEUE.false;
+    }
 
 pub returns-then-shows_value-clause-view : goal.returns-then-shows_value-clause-view
 returns-then-shows_value-clause-view c =

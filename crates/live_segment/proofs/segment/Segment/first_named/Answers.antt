@@ -3,26 +3,26 @@ use Rattle.segment_machine.specs.declared.actor.Actor.{Actor}
 use Rattle.std.specs.Prelude.{Err}
 use Rattle.std.proofs.lemmas.Result.{err_from_is_err_and}
 use Rattle.segment_calls.specs.declared.refusal.Refusal.{Refusal}
-use Rattle.live_segment.specs.Names.Making.{Makes}
-use Rattle.live_segment.proofs.HistCall.Blocks.{searches_none, makes_one}
-use Rattle.live_segment.proofs.Walks.IndexKept.{made_on, refused_on}
-use Rattle.live_segment.proofs.HistCall.Settled.{walk_goes_on, meets_own, met_first, met_another, met_then, met_another_then, not_made}
+use Rattle.live_segment.specs.Hist.NewRecord.{Makes}
+use Rattle.live_segment.proofs.lemmas.Hist.Blocks.{searches_none, makes_one}
+use Rattle.live_segment.proofs.lemmas.List.IndexKept.{made_on, refused_on}
+use Rattle.live_segment.proofs.lemmas.Hist.Settled.{walk_goes_on, meets_own, met_first, met_another, met_then, met_another_then, not_made}
 use Rattle.live_segment.proofs.segment.Segment.first_named.Goals as goal
 
 pub returns-in-Met-clause-outcome : goal.returns-in-Met-clause-outcome
 returns-in-Met-clause-outcome c =
-    met_first c.args.asked.now c.args.seat.now.me.0 c.search.new.seat.me.0 c.in-Met.reference c.requires.rests.2 c.search.ensures.view c.in-Met.ensures.outcome
+    met_first c.args.asked.now c.args.seat.now.me.0 c.search.new.seat.me.0 c.in-Met.reference c.requires.asks.rests.2 c.search.ensures.view c.in-Met.ensures.outcome
 
 pub returns-in-OtherSpec-clause-outcome : goal.returns-in-OtherSpec-clause-outcome
 returns-in-OtherSpec-clause-outcome c =
-    met_another c.args.asked.now c.args.seat.now.me.0 c.search.new.seat.me.0 c.requires.rests.2 c.search.ensures.view c.in-OtherSpec.ensures.outcome
+    met_another c.args.asked.now c.args.seat.now.me.0 c.search.new.seat.me.0 c.requires.asks.rests.2 c.search.ensures.view c.in-OtherSpec.ensures.outcome
 
 pub returns-in_err-make_record-clause-outcome : goal.returns-in_err-make_record-clause-outcome
 returns-in_err-make_record-clause-outcome c =
     let p = err_from_is_err_and c.from_residual.result c.from_residual.ensures.1 in
     rw (p.1, p.2)
     (not_made c.args.asked.now c.in-End.at c.args.seat.now.me.0 c.search.new.seat.me.0 c.make_record.new.seat.me.0 c.in_err-make_record.field-0.0
-    c.requires.rests.2 c.requires.rests.1 c.search.ensures.view c.in-End.ensures.outcome c.in-End.ensures.ended c.in_err-make_record.ensures.outcome)
+    c.requires.asks.rests.2 c.requires.asks.rests.1 c.search.ensures.view c.in-End.ensures.outcome c.in-End.ensures.ended c.in_err-make_record.ensures.outcome)
 
 pub find-requires-clause-walks : goal.find-requires-clause-walks
 find-requires-clause-walks c =
@@ -35,12 +35,12 @@ unreachable-requires c =
 
 pub returns-in-Met-find-clause-outcome : goal.returns-in-Met-find-clause-outcome
 returns-in-Met-find-clause-outcome c =
-    met_then c.args.asked.now c.args.seat.now.me.0 c.search.new.seat.me.0 c.make_record.new.seat.me.0 c.find.new.seat.me.0 c.requires.rests.2 c.search.ensures.view
+    met_then c.args.asked.now c.args.seat.now.me.0 c.search.new.seat.me.0 c.make_record.new.seat.me.0 c.find.new.seat.me.0 c.requires.asks.rests.2 c.search.ensures.view
     c.in-End.ensures.outcome.0.free c.in_ok-make_record.ensures.outcome c.find.ensures.view c.in-Met-find.reference c.in-Met-find.ensures.outcome
 
 pub returns-in-OtherSpec-find-clause-outcome : goal.returns-in-OtherSpec-find-clause-outcome
 returns-in-OtherSpec-find-clause-outcome c =
-    met_another_then c.args.asked.now c.args.seat.now.me.0 c.search.new.seat.me.0 c.make_record.new.seat.me.0 c.find.new.seat.me.0 c.requires.rests.2 c.search.ensures.view
+    met_another_then c.args.asked.now c.args.seat.now.me.0 c.search.new.seat.me.0 c.make_record.new.seat.me.0 c.find.new.seat.me.0 c.requires.asks.rests.2 c.search.ensures.view
     c.in-End.ensures.outcome.0.free c.in_ok-make_record.ensures.outcome c.find.ensures.view c.in-OtherSpec-find.ensures.outcome
 
 pub returns-in-Met-clause-claims : goal.returns-in-Met-clause-claims
@@ -68,7 +68,7 @@ returns-in-OtherSpec-find-clause-claims c = λ is.
 pub returns-in_err-make_record-clause-indexed : goal.returns-in_err-make_record-clause-indexed
 returns-in_err-make_record-clause-indexed c =
     refused_on _ _ c.args.asked.now c.in_err-make_record.field-0.0 c.search.new.seat.me.0 c.make_record.new.seat.me.0
-    (ap (λ (a : Actor). a.entries.running) c.search.ensures.view.view ∙ c.requires.rests.1) c.in_err-make_record.ensures.outcome c.search.ensures.indexed
+    (ap (λ (a : Actor). a.entries.running) c.search.ensures.view.view ∙ c.requires.asks.rests.1) c.in_err-make_record.ensures.outcome c.search.ensures.indexed
 
 pub returns-in-Met-find-clause-indexed : goal.returns-in-Met-find-clause-indexed
 returns-in-Met-find-clause-indexed c =

@@ -1,10 +1,10 @@
 use Rattle.std.proofs.Common.{◌-◌, ◌<◌, ℕ, arith, ap, sym, subst}
 use Rattle.segment_promises.proofs.Furthest.{last_of}
-use Rattle.live_segment.specs.declared.records.WalkPlace.{WalkPlace}
-use Rattle.live_segment.proofs.Walks.Showing.{same_on}
-use Rattle.live_segment.proofs.Walks.WalkProgress.{searched, room, meets, way_on, comes_further}
-use Rattle.live_segment.proofs.HistCall.Searching.{searched_not, searched_on, sees_searched, seat_on}
-use Rattle.live_segment.proofs.Walks.Indexed.{way, indexed_on, not_entered, entered, few_seen, passed_all}
+use Rattle.live_segment.specs.declared.list.walk.WalkPlace.{WalkPlace}
+use Rattle.live_segment.proofs.lemmas.List.Showing.{same_on}
+use Rattle.live_segment.proofs.lemmas.List.WalkProgress.{searched, room, room_found, meets, way_on, comes_further}
+use Rattle.live_segment.proofs.lemmas.Hist.Searching.{searched_not, searched_on, sees_searched, seat_on}
+use Rattle.live_segment.proofs.lemmas.List.Indexed.{way, indexed_on, not_entered, entered, few_seen, passed_all}
 use Rattle.live_segment.proofs.segment.Segment.look_on.Goals as goal
 
 pub load_next-next-requires-clause-room : goal.load_next-next-requires-clause-room
@@ -31,10 +31,13 @@ returns-then-next-eq-QUEUE-clause-few c =
     let was = c.loop-kind.invariant in
     λ yes. few_seen _ was.seated was.free was.indexed _ _ c.load_next-next.ensures.step
 
-pub key_at-key-requires-clause-met : goal.key_at-key-requires-clause-met
-key_at-key-requires-clause-met c =
-    let was = c.loop-kind.invariant in
-    meets was.seated (way _ was.seated was.free was.indexed) _ _ c.load_next-next.ensures.step c.if-next-eq-QUEUE.false
+pub key_at-key-requires-clause-meets : goal.key_at-key-requires-clause-meets
+key_at-key-requires-clause-meets c =
+    let was = c.loop-kind.invariant in record {
+      seated = seat_on c.load_next-next.new.seat was.seated c.load_next-next.ensures.step.same (searched was.seated (way _ was.seated was.free was.indexed) _ _ c.load_next-next.ensures.step);
+      met = meets was.seated (way _ was.seated was.free was.indexed) _ _ c.load_next-next.ensures.step c.if-next-eq-QUEUE.false;
+      room = room_found was.seated (way _ was.seated was.free was.indexed) _ _ c.load_next-next.ensures.step c.if-next-eq-QUEUE.false;
+    }
 
 pub returns-then-not-enter-clause-view : goal.returns-then-not-enter-clause-view
 returns-then-not-enter-clause-view c =

@@ -1,8 +1,8 @@
 use Rattle.std.proofs.Common.{◌+◌, ap, refl, inl, inr, ◌∙◌}
 use Rattle.std.specs.Prelude.{Some}
 use Rattle.segment_promises.proofs.Growing.{still}
-use Rattle.live_segment.proofs.Walks.Showing.{may_load_fixed, sees_one, seen_one}
-use Rattle.live_segment.proofs.Walks.Keyed.{passed_over, no_key, words_of_bytes}
+use Rattle.live_segment.proofs.lemmas.List.Showing.{may_load_fixed, sees_one, seen_one}
+use Rattle.live_segment.proofs.lemmas.List.Keyed.{passed_over, no_key, words_of_bytes}
 use Rattle.live_segment.proofs.segment.Segment.name_key_at.Goals as goal
 
 pub returns-then-load_published-ne-TYPE_HISTOGRAM-clause-looked : goal.returns-then-load_published-ne-TYPE_HISTOGRAM-clause-looked
@@ -18,7 +18,7 @@ returns-then-load_published-ne-TYPE_HISTOGRAM-clause-key c =
 pub load_published-len-requires-clause-may : goal.load_published-len-requires-clause-may
 load_published-len-requires-clause-may c =
     let step = c.load_published.ensures in
-    may_load_fixed c.args.self.now c.args.seat.now c.load_published.new.seat c.args.at c.requires.seat.table c.requires.seat.recorder c.requires.met step.same
+    may_load_fixed c.args.self.now c.args.seat.now c.load_published.new.seat c.args.at c.requires.meets.seated.table c.requires.meets.seated.recorder c.requires.meets.met step.same
     (sees_one _ _ c.args.at 2 c.load_published.result step) 14
     (inr (inl (seen_one _ _ c.args.at 2 c.load_published.result step ∙ ap Some c.if-load_published-ne-TYPE_HISTOGRAM.false, inr (inl refl))))
 

@@ -1,7 +1,7 @@
 use Rattle.std.proofs.Common.{◌≡◌, sym, subst, ◌∙◌, Some}
 use Rattle.segment_machine.specs.declared.actor.Made.{Made}
-use Rattle.live_segment.specs.Lists.Publishing.{HasPublished}
-use Rattle.live_segment.proofs.NewRecords.Published.{may_store, begins, may_load, room, table_still, may_link, may_end, same_end, has_published, may_go_on, waits_on, falls}
+use Rattle.live_segment.specs.List.Publish.{HasPublished}
+use Rattle.live_segment.proofs.lemmas.List.Published.{may_store, begins, may_load, room, table_still, may_link, may_end, same_end, has_published, may_go_on, waits_on, falls}
 use Rattle.live_segment.proofs.segment.Segment.publish.Goals as goal
 
 pub store_own_next-requires-clause-may : goal.store_own_next-requires-clause-may
@@ -16,13 +16,11 @@ pub load_tail-tail-requires : goal.load_tail-tail-requires
 load_tail-tail-requires c =
     may_load c.requires.filled.2 c.requires.seat (c.loop-seat.invariant c.requires.filled.0 c.requires.filled.1 c.requires.filled.2)
 
-pub link-next-requires-clause-table : goal.link-next-requires-clause-table
-link-next-requires-clause-table c =
-    table_still c.requires.filled.2 c.requires.seat (c.loop-seat.invariant c.requires.filled.0 c.requires.filled.1 c.requires.filled.2) _ _ c.load_tail-tail.ensures
-
-pub link-next-requires-clause-room : goal.link-next-requires-clause-room
-link-next-requires-clause-room c =
-    room c.requires.filled.2 c.requires.seat (c.loop-seat.invariant c.requires.filled.0 c.requires.filled.1 c.requires.filled.2) _ _ c.load_tail-tail.ensures
+pub link-next-requires-clause-reach : goal.link-next-requires-clause-reach
+link-next-requires-clause-reach c = record {
+  table = table_still c.requires.filled.2 c.requires.seat (c.loop-seat.invariant c.requires.filled.0 c.requires.filled.1 c.requires.filled.2) _ _ c.load_tail-tail.ensures;
+  room = room c.requires.filled.2 c.requires.seat (c.loop-seat.invariant c.requires.filled.0 c.requires.filled.1 c.requires.filled.2) _ _ c.load_tail-tail.ensures;
+}
 
 pub link-next-requires-clause-may : goal.link-next-requires-clause-may
 link-next-requires-clause-may c =

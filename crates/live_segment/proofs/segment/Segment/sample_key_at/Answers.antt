@@ -1,8 +1,8 @@
 use Rattle.std.proofs.Common.{◌+◌, ap, inr, sym, ◌∙◌, arith}
 use Rattle.std.specs.Prelude.{Some}
 use Rattle.segment_promises.proofs.Growing.{still}
-use Rattle.live_segment.proofs.Walks.Keyed.{no_sample_key, passed_over_sample, sample_key_at, sample_looked_at}
-use Rattle.live_segment.proofs.Walks.Showing.{may_load_fixed, same_on, sees_on, sees_one, seen_one}
+use Rattle.live_segment.proofs.lemmas.List.Keyed.{no_sample_key, passed_over_sample, sample_key_at, sample_looked_at}
+use Rattle.live_segment.proofs.lemmas.List.Showing.{may_load_fixed, same_on, sees_on, sees_one, seen_one}
 use Rattle.live_segment.proofs.segment.Segment.sample_key_at.Goals as goal
 
 pub returns-then-load_published-ne-TYPE_SAMPLE-clause-looked : goal.returns-then-load_published-ne-TYPE_SAMPLE-clause-looked
@@ -18,7 +18,7 @@ returns-then-load_published-ne-TYPE_SAMPLE-clause-key c =
 pub load_published-histogram-requires-clause-may : goal.load_published-histogram-requires-clause-may
 load_published-histogram-requires-clause-may c =
     let tag = c.load_published.ensures in
-    may_load_fixed c.args.self.now c.args.seat.now c.load_published.new.seat c.args.at c.requires.seat.table c.requires.seat.recorder c.requires.met tag.same
+    may_load_fixed c.args.self.now c.args.seat.now c.load_published.new.seat c.args.at c.requires.meets.seated.table c.requires.meets.seated.recorder c.requires.meets.met tag.same
     (sees_one _ _ c.args.at 2 c.load_published.result tag) 4
     (inr (inr (seen_one _ _ c.args.at 2 c.load_published.result tag ∙ ap Some c.if-load_published-ne-TYPE_SAMPLE.false, omega arith, omega arith)))
 
@@ -28,7 +28,7 @@ load_published-value-requires-clause-may c =
     let of = c.load_published-histogram.ensures in
     let first = sees_one _ _ c.args.at 2 c.load_published.result tag in
     let second = sees_one _ _ c.args.at 4 c.load_published-histogram.result of in
-    may_load_fixed c.args.self.now c.args.seat.now c.load_published-histogram.new.seat c.args.at c.requires.seat.table c.requires.seat.recorder c.requires.met
+    may_load_fixed c.args.self.now c.args.seat.now c.load_published-histogram.new.seat c.args.at c.requires.meets.seated.table c.requires.meets.seated.recorder c.requires.meets.met
     (same_on c.args.seat.now c.load_published.new.seat c.load_published-histogram.new.seat tag.same of.same)
     (sees_on c.args.seat.now.me.0 c.load_published.new.seat.me.0 c.load_published-histogram.new.seat.me.0 first second) 5
     (inr (inr (

@@ -2,13 +2,13 @@ use Rattle.std.proofs.Common.{ℤ, ap, sym, w32, subst, ◌∙◌}
 use Rattle.std.proofs.lemmas.Int.{to_z-of_z}
 use Rattle.std.proofs.lemmas.Result.{err_from_is_err_and}
 use Rattle.live_segment.specs.Known.{known_view}
-use Rattle.live_segment.specs.Counts.Sampling.{HasSampleOf, LacksSampleOf}
-use Rattle.live_segment.proofs.AddCall.SampleOf.{knows_still, walk_goes_on, met_before, met_then, meets_own, lacks_sample}
+use Rattle.live_segment.specs.Add.SampleSearch.{HasSampleOf, LacksSampleOf}
+use Rattle.live_segment.proofs.lemmas.Add.SampleOf.{knows_still, walk_goes_on, met_before, met_then, meets_own, lacks_sample}
 use Rattle.segment_machine.specs.declared.actor.Actor.{Actor}
 use Rattle.segment_machine.specs.declared.seen.Seen.{Seen}
 use Rattle.segment_promises.specs.Onward.{SeesOn}
-use Rattle.live_segment.proofs.AddCall.Refusing.{only_given_up}
-use Rattle.live_segment.proofs.Walks.IndexKept.{searched_on, seen_on}
+use Rattle.live_segment.proofs.lemmas.Add.Refusing.{only_given_up}
+use Rattle.live_segment.proofs.lemmas.List.IndexKept.{searched_on, seen_on}
 use Rattle.live_segment.proofs.segment.Segment.sample_of.Goals as goal
 
 pub returns-in-Met-clause-outcome : goal.returns-in-Met-clause-outcome
@@ -19,7 +19,7 @@ returns-in-Met-clause-outcome c =
 
 pub make_sample-requires-clause-sparse : goal.make_sample-requires-clause-sparse
 make_sample-requires-clause-sparse c =
-    knows_still c.args.self.now.setting c.args.histogram.now c.args.seat.now.me.0 c.search_sample.new.seat.me.0 c.requires.right c.requires.sparse c.search_sample.ensures.view
+    knows_still c.args.self.now.setting c.args.histogram.now c.args.seat.now.me.0 c.search_sample.new.seat.me.0 c.requires.ready.right c.requires.sparse c.search_sample.ensures.view
 
 pub returns-in_err-make_sample-clause-outcome : goal.returns-in_err-make_sample-clause-outcome
 returns-in_err-make_sample-clause-outcome c =

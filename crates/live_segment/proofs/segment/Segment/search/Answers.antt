@@ -1,31 +1,39 @@
 use Rattle.std.proofs.Common.{ap, arith, subst, sym, ◌∙◌}
 use Rattle.segment_image.specs.Shape.{Dimensions}
-use Rattle.live_segment.proofs.HistCall.ByIndex.{ended_since}
-use Rattle.live_segment.proofs.HistCall.Indexing.{walks_behind}
-use Rattle.live_segment.proofs.Walks.IndexKept as kept
-use Rattle.live_segment.proofs.HistCall.Searching.{searched_on, seat_on}
-use Rattle.live_segment.specs.declared.indexing.KeyKind.{KeyKind}
-use Rattle.live_segment.specs.Lists.Indexed.{IsIndexed}
-use Rattle.live_segment.proofs.Walks.Indexed.{of_own}
+use Rattle.live_segment.proofs.lemmas.Hist.ByIndex.{ended_since}
+use Rattle.live_segment.proofs.lemmas.Hist.Indexing.{walks_behind}
+use Rattle.live_segment.proofs.lemmas.List.IndexKept as kept
+use Rattle.live_segment.proofs.lemmas.Hist.Searching.{searched_on, seat_on}
+use Rattle.live_segment.specs.declared.list.index.KeyKind.{KeyKind}
+use Rattle.live_segment.specs.List.Index.{IsIndexed}
+use Rattle.live_segment.proofs.lemmas.List.Indexed.{of_own}
 use Rattle.live_segment.proofs.segment.Segment.search.Goals as goal
 
-pub look_for-requires-clause-indexed : goal.look_for-requires-clause-indexed
-look_for-requires-clause-indexed c = of_own _ _ _ _ c.requires.indexed
+pub look_for-requires-clause-walks : goal.look_for-requires-clause-walks
+look_for-requires-clause-walks c = record {
+  seated = c.requires.walks.seated;
+  free = c.requires.walks.free;
+  indexed = of_own _ _ _ _ c.requires.walks.indexed;
+}
 
 pub find-requires-clause-seat : goal.find-requires-clause-seat
-find-requires-clause-seat c = seat_on c.look_for.new.seat c.requires.seat c.look_for.ensures.same c.look_for.ensures.view
+find-requires-clause-seat c = seat_on c.look_for.new.seat c.requires.walks.seated c.look_for.ensures.same c.look_for.ensures.view
 
-pub search_at-requires-clause-seat : goal.search_at-requires-clause-seat
-search_at-requires-clause-seat c = seat_on c.look_for.new.seat c.requires.seat c.look_for.ensures.same c.look_for.ensures.view
+pub search_at-requires-clause-walks : goal.search_at-requires-clause-walks
+search_at-requires-clause-walks c = record {
+  seated = seat_on c.look_for.new.seat c.requires.walks.seated c.look_for.ensures.same c.look_for.ensures.view;
+  free = c.look_for.ensures.free;
+  indexed = subst (λ (k : KeyKind). IsIndexed k c.args.self.now.setting.shape.size c.look_for.new.seat.me.0.seen c.look_for.new.index) c.requires.walks.indexed.of_kind c.look_for.ensures.indexed;
+}
 
 pub find-requires-clause-walks : goal.find-requires-clause-walks
 find-requires-clause-walks c =
     let me = c.args.self.now in
     let from = me.shaped.wide in
     let to = me.shaped.one in
-    let seated = seat_on c.look_for.new.seat c.requires.seat c.look_for.ensures.same c.look_for.ensures.view in
+    let seated = seat_on c.look_for.new.seat c.requires.walks.seated c.look_for.ensures.same c.look_for.ensures.view in
     walks_behind me.setting.shape.size c.look_for.new.seat.me.0 c.look_for.new.index c.args.asked.now.name.items c.key_of_name-key.result
-    (ap (λ (d : Dimensions). d.size) seated.of.shape) (omega (arith, from, to)) c.look_for.ensures.free (subst (λ (k : KeyKind). IsIndexed k c.args.self.now.setting.shape.size c.look_for.new.seat.me.0.seen c.look_for.new.index) c.requires.indexed.of_kind
+    (ap (λ (d : Dimensions). d.size) seated.of.shape) (omega (arith, from, to)) c.look_for.ensures.free (subst (λ (k : KeyKind). IsIndexed k c.args.self.now.setting.shape.size c.look_for.new.seat.me.0.seen c.look_for.new.index) c.requires.walks.indexed.of_kind
     c.look_for.ensures.indexed) c.key_of_name-key.ensures
     (sym c.first.ensures ∙ c.in-None.is)
 
@@ -35,7 +43,7 @@ returns-in-None-clause-ended c =
 
 pub returns-in-None-clause-indexed : goal.returns-in-None-clause-indexed
 returns-in-None-clause-indexed c =
-    kept.searched_on c.args.self.now.setting.shape.size c.look_for.new.index c.look_for.new.seat.me.0 c.find.new.seat.me.0 c.find.ensures.view (subst (λ (k : KeyKind). IsIndexed k c.args.self.now.setting.shape.size c.look_for.new.seat.me.0.seen c.look_for.new.index) c.requires.indexed.of_kind
+    kept.searched_on c.args.self.now.setting.shape.size c.look_for.new.index c.look_for.new.seat.me.0 c.find.new.seat.me.0 c.find.ensures.view (subst (λ (k : KeyKind). IsIndexed k c.args.self.now.setting.shape.size c.look_for.new.seat.me.0.seen c.look_for.new.index) c.requires.walks.indexed.of_kind
     c.look_for.ensures.indexed)
 
 pub returns-in-Some-clause-view : goal.returns-in-Some-clause-view
@@ -50,5 +58,5 @@ returns-in-Some-clause-ended c =
 pub returns-in-Some-clause-indexed : goal.returns-in-Some-clause-indexed
 returns-in-Some-clause-indexed c =
     kept.searched_on c.args.self.now.setting.shape.size c.look_for.new.index c.look_for.new.seat.me.0 c.search_at.new.seat.me.0 c.search_at.ensures.view
-    (subst (λ (k : KeyKind). IsIndexed k c.args.self.now.setting.shape.size c.look_for.new.seat.me.0.seen c.look_for.new.index) c.requires.indexed.of_kind
+    (subst (λ (k : KeyKind). IsIndexed k c.args.self.now.setting.shape.size c.look_for.new.seat.me.0.seen c.look_for.new.index) c.requires.walks.indexed.of_kind
     c.look_for.ensures.indexed)

@@ -2,21 +2,25 @@ use Rattle.std.proofs.Common.{ℕ, ℤ, of_z, to_z, ap, arith, subst, sym, w32, 
 use Rattle.std.proofs.lemmas.Int.{to_z-of_z}
 use Rattle.segment_image.specs.Shape.{Dimensions}
 use Rattle.list_index.specs.Firsts.{first_of}
-use Rattle.live_segment.specs.declared.indexing.KeyKind.{KeyKind}
-use Rattle.live_segment.specs.Counts.Sampling.{FindsSample, WalksBehind}
-use Rattle.live_segment.specs.Lists.Indexed.{IsIndexed}
-use Rattle.live_segment.proofs.AddCall.SampleKeys.{none_sampled, right_searched, sample_ended_since, walks_from}
-use Rattle.live_segment.proofs.AddCall.SampleOf.{walk_begins}
-use Rattle.live_segment.proofs.HistCall.Searching.{searched_on, seat_on}
-use Rattle.live_segment.proofs.Walks.Indexed.{of_own}
-use Rattle.live_segment.proofs.Walks.IndexKept as kept
+use Rattle.live_segment.specs.declared.list.index.KeyKind.{KeyKind}
+use Rattle.live_segment.specs.Add.SampleSearch.{FindsSample, WalksBehind}
+use Rattle.live_segment.specs.List.Index.{IsIndexed}
+use Rattle.live_segment.proofs.lemmas.Add.SampleKeys.{none_sampled, right_searched, sample_ended_since, walks_from}
+use Rattle.live_segment.proofs.lemmas.Add.SampleOf.{walk_begins}
+use Rattle.live_segment.proofs.lemmas.Hist.Searching.{searched_on, seat_on}
+use Rattle.live_segment.proofs.lemmas.List.Indexed.{of_own}
+use Rattle.live_segment.proofs.lemmas.List.IndexKept as kept
 use Rattle.live_segment.proofs.segment.Segment.search_sample.Goals as goal
 
-pub look_for-has_passed_all-requires-clause-indexed : goal.look_for-has_passed_all-requires-clause-indexed
-look_for-has_passed_all-requires-clause-indexed c = of_own _ _ _ _ c.requires.indexed
+pub look_for-has_passed_all-requires-clause-walks : goal.look_for-has_passed_all-requires-clause-walks
+look_for-has_passed_all-requires-clause-walks c = record {
+  seated = c.requires.ready.seated;
+  free = c.requires.free;
+  indexed = of_own _ _ _ _ c.requires.ready.indexed;
+}
 
 pub find_sample-requires-clause-seat : goal.find_sample-requires-clause-seat
-find_sample-requires-clause-seat c = seat_on c.look_for-has_passed_all.new.seat c.requires.seat c.look_for-has_passed_all.ensures.same c.look_for-has_passed_all.ensures.view
+find_sample-requires-clause-seat c = seat_on c.look_for-has_passed_all.new.seat c.requires.ready.seated c.look_for-has_passed_all.ensures.same c.look_for-has_passed_all.ensures.view
 
 pub find_sample-requires-clause-walks : goal.find_sample-requires-clause-walks
 find_sample-requires-clause-walks c =
@@ -26,9 +30,9 @@ find_sample-requires-clause-walks c =
     let known = c.args.histogram.now in
     let value = to_z w32 (of_z w32 c.args.value) in
     let mid = c.look_for-has_passed_all.new.seat.me.0 in
-    let seated = seat_on c.look_for-has_passed_all.new.seat c.requires.seat c.look_for-has_passed_all.ensures.same c.look_for-has_passed_all.ensures.view in
-    let right = right_searched me.setting known c.args.seat.now.me.0 mid c.look_for-has_passed_all.ensures.view c.requires.right in
-    let indexed = subst (λ (k : KeyKind). IsIndexed k me.setting.shape.size mid.seen c.look_for-has_passed_all.new.index) c.requires.indexed.of_kind c.look_for-has_passed_all.ensures.indexed in
+    let seated = seat_on c.look_for-has_passed_all.new.seat c.requires.ready.seated c.look_for-has_passed_all.ensures.same c.look_for-has_passed_all.ensures.view in
+    let right = right_searched me.setting known c.args.seat.now.me.0 mid c.look_for-has_passed_all.ensures.view c.requires.ready.right in
+    let indexed = subst (λ (k : KeyKind). IsIndexed k me.setting.shape.size mid.seen c.look_for-has_passed_all.new.index) c.requires.ready.indexed.of_kind c.look_for-has_passed_all.ensures.indexed in
     subst (λ (at : ℕ). WalksBehind known.reference value at mid) (sym c.start_behind-from.ensures)
     (walks_from known.reference value c.look_for-has_passed_all.new.index.place.at mid c.look_for-has_passed_all.result
     (λ all.
@@ -52,18 +56,14 @@ returns-in-None-clause-ended c =
 pub returns-in-None-clause-indexed : goal.returns-in-None-clause-indexed
 returns-in-None-clause-indexed c =
     kept.searched_on c.args.self.now.setting.shape.size c.look_for-has_passed_all.new.index c.look_for-has_passed_all.new.seat.me.0 c.find_sample.new.seat.me.0 c.find_sample.ensures.view
-    (subst (λ (k : KeyKind). IsIndexed k c.args.self.now.setting.shape.size c.look_for-has_passed_all.new.seat.me.0.seen c.look_for-has_passed_all.new.index) c.requires.indexed.of_kind c.look_for-has_passed_all.ensures.indexed)
+    (subst (λ (k : KeyKind). IsIndexed k c.args.self.now.setting.shape.size c.look_for-has_passed_all.new.seat.me.0.seen c.look_for-has_passed_all.new.index) c.requires.ready.indexed.of_kind c.look_for-has_passed_all.ensures.indexed)
 
-pub search_sample_at-requires-clause-seat : goal.search_sample_at-requires-clause-seat
-search_sample_at-requires-clause-seat c = seat_on c.look_for-has_passed_all.new.seat c.requires.seat c.look_for-has_passed_all.ensures.same c.look_for-has_passed_all.ensures.view
-
-pub search_sample_at-requires-clause-right : goal.search_sample_at-requires-clause-right
-search_sample_at-requires-clause-right c =
-    right_searched c.args.self.now.setting c.args.histogram.now c.args.seat.now.me.0 c.look_for-has_passed_all.new.seat.me.0 c.look_for-has_passed_all.ensures.view c.requires.right
-
-pub search_sample_at-requires-clause-indexed : goal.search_sample_at-requires-clause-indexed
-search_sample_at-requires-clause-indexed c =
-    subst (λ (k : KeyKind). IsIndexed k c.args.self.now.setting.shape.size c.look_for-has_passed_all.new.seat.me.0.seen c.look_for-has_passed_all.new.index) c.requires.indexed.of_kind c.look_for-has_passed_all.ensures.indexed
+pub search_sample_at-requires-clause-ready : goal.search_sample_at-requires-clause-ready
+search_sample_at-requires-clause-ready c = record {
+  seated = seat_on c.look_for-has_passed_all.new.seat c.requires.ready.seated c.look_for-has_passed_all.ensures.same c.look_for-has_passed_all.ensures.view;
+  right = right_searched c.args.self.now.setting c.args.histogram.now c.args.seat.now.me.0 c.look_for-has_passed_all.new.seat.me.0 c.look_for-has_passed_all.ensures.view c.requires.ready.right;
+  indexed = subst (λ (k : KeyKind). IsIndexed k c.args.self.now.setting.shape.size c.look_for-has_passed_all.new.seat.me.0.seen c.look_for-has_passed_all.new.index) c.requires.ready.indexed.of_kind c.look_for-has_passed_all.ensures.indexed;
+}
 
 pub search_sample_at-requires-clause-first : goal.search_sample_at-requires-clause-first
 search_sample_at-requires-clause-first c =
@@ -85,4 +85,4 @@ returns-in-Some-clause-ended c =
 pub returns-in-Some-clause-indexed : goal.returns-in-Some-clause-indexed
 returns-in-Some-clause-indexed c =
     kept.searched_on c.args.self.now.setting.shape.size c.look_for-has_passed_all.new.index c.look_for-has_passed_all.new.seat.me.0 c.search_sample_at.new.seat.me.0 c.search_sample_at.ensures.view
-    (subst (λ (k : KeyKind). IsIndexed k c.args.self.now.setting.shape.size c.look_for-has_passed_all.new.seat.me.0.seen c.look_for-has_passed_all.new.index) c.requires.indexed.of_kind c.look_for-has_passed_all.ensures.indexed)
+    (subst (λ (k : KeyKind). IsIndexed k c.args.self.now.setting.shape.size c.look_for-has_passed_all.new.seat.me.0.seen c.look_for-has_passed_all.new.index) c.requires.ready.indexed.of_kind c.look_for-has_passed_all.ensures.indexed)

@@ -2,39 +2,40 @@ use Rattle.std.proofs.Common.{Bool, ℤ, ap, subst, w32, ◌∙◌}
 use Rattle.std.proofs.lemmas.Int.{to_z-of_z}
 use Rattle.segment_machine.specs.declared.actor.Actor.{Actor}
 use Rattle.segment_machine.specs.Actor.{is_bound}
-use Rattle.live_segment.specs.Counts.Sampling.{ShowsValue}
-use Rattle.live_segment.proofs.AddCall.SampleKeys.{first_sampled, meets_sample, right_searched, room_sample}
-use Rattle.live_segment.proofs.AddCall.SampleOf.{split_there, walk_begins}
-use Rattle.live_segment.proofs.HistCall.Searching.{searched_on, seat_on, sees_searched}
+use Rattle.live_segment.specs.Add.SampleSearch.{ShowsValue}
+use Rattle.live_segment.proofs.lemmas.Add.SampleKeys.{first_sampled, meets_sample, right_searched, room_sample}
+use Rattle.live_segment.proofs.lemmas.Add.SampleOf.{split_there, walk_begins}
+use Rattle.live_segment.proofs.lemmas.Hist.Searching.{searched_on, seat_on, sees_searched}
 use Rattle.live_segment.proofs.segment.Segment.search_sample_at.Goals as goal
 
-pub shows_value-requires-clause-met : goal.shows_value-requires-clause-met
-shows_value-requires-clause-met c = meets_sample c.args.histogram.now.reference c.args.value c.args.seat.now.me.0 c.requires.free c.requires.indexed c.requires.first
-
-pub shows_value-requires-clause-room : goal.shows_value-requires-clause-room
-shows_value-requires-clause-room c = room_sample c.args.histogram.now.reference c.args.value c.args.seat.now.me.0 c.requires.free c.requires.indexed c.requires.first
+pub shows_value-requires-clause-meets : goal.shows_value-requires-clause-meets
+shows_value-requires-clause-meets c = record {
+  seated = c.requires.ready.seated;
+  met = meets_sample c.args.histogram.now.reference c.args.value c.args.seat.now.me.0 c.requires.free c.requires.ready.indexed c.requires.first;
+  room = room_sample c.args.histogram.now.reference c.args.value c.args.seat.now.me.0 c.requires.free c.requires.ready.indexed c.requires.first;
+}
 
 pub returns-then-shows_value-clause-view : goal.returns-then-shows_value-clause-view
 returns-then-shows_value-clause-view c = sees_searched _ _ c.shows_value.ensures.view
 
 pub returns-then-shows_value-clause-outcome : goal.returns-then-shows_value-clause-outcome
 returns-then-shows_value-clause-outcome c =
-    let (front, behind, parts) = split_there c.args.seat.now.me.0.seen.chain c.args.histogram.now.reference c.requires.right.met in
-    first_sampled c.args.histogram.now.reference c.args.value c.args.seat.now.me.0 c.requires.free c.requires.indexed c.requires.first c.shows_value.new.seat.me.0 c.shows_value.ensures.view c.shows_value.ensures.behind
+    let (front, behind, parts) = split_there c.args.seat.now.me.0.seen.chain c.args.histogram.now.reference c.requires.ready.right.met in
+    first_sampled c.args.histogram.now.reference c.args.value c.args.seat.now.me.0 c.requires.free c.requires.ready.indexed c.requires.first c.shows_value.new.seat.me.0 c.shows_value.ensures.view c.shows_value.ensures.behind
     c.shows_value.ensures.once front behind parts
     (subst (λ (b : Bool). ShowsValue c.args.histogram.now.reference c.args.value c.args.at b c.shows_value.new.seat.me.0) c.if-shows_value.true
     (subst (λ (v : ℤ). ShowsValue c.args.histogram.now.reference v c.args.at c.shows_value.result c.shows_value.new.seat.me.0) (to_z-of_z w32 c.args.value c.ranges.value)
     c.shows_value.ensures.shown))
 
 pub find_sample-requires-clause-seat : goal.find_sample-requires-clause-seat
-find_sample-requires-clause-seat c = seat_on c.shows_value.new.seat c.requires.seat c.shows_value.ensures.same (sees_searched _ _ c.shows_value.ensures.view)
+find_sample-requires-clause-seat c = seat_on c.shows_value.new.seat c.requires.ready.seated c.shows_value.ensures.same (sees_searched _ _ c.shows_value.ensures.view)
 
 pub find_sample-requires-clause-walks : goal.find_sample-requires-clause-walks
 find_sample-requires-clause-walks c =
     let sees = sees_searched _ _ c.shows_value.ensures.view in
-    let seated = seat_on c.shows_value.new.seat c.requires.seat c.shows_value.ensures.same sees in
+    let seated = seat_on c.shows_value.new.seat c.requires.ready.seated c.shows_value.ensures.same sees in
     walk_begins c.args.self.now.setting c.args.histogram.now _ c.shows_value.new.seat.me.0 seated.of (ap (λ (a : Actor). is_bound a.hand.place) c.shows_value.ensures.view.view ∙ c.requires.free)
-    (right_searched c.args.self.now.setting c.args.histogram.now c.args.seat.now.me.0 c.shows_value.new.seat.me.0 sees c.requires.right)
+    (right_searched c.args.self.now.setting c.args.histogram.now c.args.seat.now.me.0 c.shows_value.new.seat.me.0 sees c.requires.ready.right)
 
 pub returns-clause-view : goal.returns-clause-view
 returns-clause-view c = searched_on _ _ _ (sees_searched _ _ c.shows_value.ensures.view) c.find_sample.ensures.view

@@ -2,9 +2,9 @@ use Rattle.std.proofs.Common.{ℕ, ◌+◌, ◌≤◌, ap, subst, sym, ◌∙◌
 use Rattle.std.proofs.lemmas.Int.{to_z-of_z}
 use Rattle.std.specs.Prelude.{Some}
 use Rattle.segment_machine.specs.declared.actor.Actor.{Actor}
-use Rattle.live_segment.proofs.Walks.Showing.{sees_one, sees_on, seen_one, may_load_fixed, same_on}
+use Rattle.live_segment.proofs.lemmas.List.Showing.{sees_one, sees_on, seen_one, may_load_fixed, same_on}
 use Rattle.segment_promises.proofs.Growing.{still}
-use Rattle.live_segment.proofs.AddCall.SampleWords.{fits_is_value, holds_value, holds_none}
+use Rattle.live_segment.proofs.lemmas.Add.SampleWords.{fits_is_value, holds_value, holds_none}
 use Rattle.live_segment.proofs.segment.Segment.shows_sample.Goals as goal
 
 pub returns-then-load_type-ne-TYPE_SAMPLE-clause-shown : goal.returns-then-load_type-ne-TYPE_SAMPLE-clause-shown
@@ -14,7 +14,7 @@ returns-then-load_type-ne-TYPE_SAMPLE-clause-shown c = λ value small.
 pub load_published-of-requires-clause-may : goal.load_published-of-requires-clause-may
 load_published-of-requires-clause-may c =
     let tag = c.load_type.ensures.step in
-    may_load_fixed c.args.self.now c.args.seat.now c.load_type.new.seat c.args.at c.requires.seat.table c.requires.seat.recorder c.requires.met tag.same
+    may_load_fixed c.args.self.now c.args.seat.now c.load_type.new.seat c.args.at c.requires.meets.seated.table c.requires.meets.seated.recorder c.requires.meets.met tag.same
     (sees_one _ _ c.args.at 2 c.load_type.result tag) 4
     (inr (inr (seen_one _ _ c.args.at 2 c.load_type.result tag ∙ ap Some c.if-load_type-ne-TYPE_SAMPLE.false, omega arith, omega arith)))
 
@@ -24,7 +24,7 @@ load_published-value-requires-clause-may c =
     let of = c.load_published-of.ensures in
     let first = sees_one _ _ c.args.at 2 c.load_type.result tag in
     let second = sees_one _ _ c.args.at 4 c.load_published-of.result of in
-    may_load_fixed c.args.self.now c.args.seat.now c.load_published-of.new.seat c.args.at c.requires.seat.table c.requires.seat.recorder c.requires.met
+    may_load_fixed c.args.self.now c.args.seat.now c.load_published-of.new.seat c.args.at c.requires.meets.seated.table c.requires.meets.seated.recorder c.requires.meets.met
     (same_on c.args.seat.now c.load_type.new.seat c.load_published-of.new.seat tag.same of.same)
     (sees_on c.args.seat.now.me.0 c.load_type.new.seat.me.0 c.load_published-of.new.seat.me.0 first second) 5
     (inr (inr (

@@ -9,17 +9,17 @@ use Rattle.segment_calls.specs.declared.answer.Snapshot.{Snapshot}
 use Rattle.segment_machine.specs.Note.{answers, noted}
 use Rattle.segment_invariant.proofs.Packing.OffForms.{few_buckets}
 use Rattle.live_segment.specs.Known.{known_view}
-use Rattle.live_segment.specs.Readings.Snapshots.{HasSeenBuckets, HasSnapshot, saw_sum}
-use Rattle.live_segment.specs.Readings.Taking.{answered_as}
+use Rattle.live_segment.specs.Snapshot.Outcome.{HasSeenBuckets, HasSnapshot, saw_sum}
+use Rattle.live_segment.specs.Steps.Taking.{answered_as}
 use Rattle.segment_promises.proofs.Calls.BlankTotals.{keys_of_buckets, no_units}
-use Rattle.live_segment.specs.Readings.Values.{AreFewKeys}
-use Rattle.live_segment.proofs.DeltaCall.FewKeys.{few_of_snapshot}
-use Rattle.live_segment.proofs.SnapshotCall.Answering.{may_sum, may_answer, saw_buckets, has_snapshot}
+use Rattle.live_segment.specs.List.Values.{AreFewKeys}
+use Rattle.live_segment.proofs.lemmas.Delta.FewKeys.{few_of_snapshot}
+use Rattle.live_segment.proofs.lemmas.Snapshot.Answering.{may_sum, may_answer, saw_buckets, has_snapshot}
 use Rattle.live_segment.proofs.segment.Segment.snapshot_of_buckets.Goals as goal
 
 pub look_at_buckets-requires-clause-buckets : goal.look_at_buckets-requires-clause-buckets
 look_at_buckets-requires-clause-buckets c =
-    let right = c.requires.right in
+    let right = c.requires.ready.right in
     let known = known_view c.args.histogram.now in
     let long : length c.as_mut_slice.result.now ≡ buckets_of known.spec =
     ap length (c.as_mut_slice.ensures.value ∙ c.requires.blank) ∙ (keys_of_buckets known c.args.histogram.now.ranges right.lawful c.requires.bucketed right.ranges).1 in
@@ -32,7 +32,7 @@ look_at_buckets-requires-clause-blank c =
 
 pub look_at_sum-sum-requires-clause-may : goal.look_at_sum-sum-requires-clause-may
 look_at_sum-sum-requires-clause-may c =
-    may_sum c.args.self.now (known_view c.args.histogram.now) c.args.seat.now c.look_at_buckets.new.seat c.requires.seat.table c.requires.rests c.requires.right.alone
+    may_sum c.args.self.now (known_view c.args.histogram.now) c.args.seat.now c.look_at_buckets.new.seat c.requires.ready.seated.table c.requires.ready.rests c.requires.ready.right.alone
     c.look_at_buckets.ensures.same c.look_at_buckets.ensures.saw.looked
 
 pub answer_with-requires-clause-may : goal.answer_with-requires-clause-may
@@ -47,9 +47,9 @@ answer_with-requires-clause-may c =
     with_items_is c.args.totals c.look_at_buckets.new.totals (c.look_at_buckets.auto.totals ∙ c.as_mut_slice.ensures.len) in
     let keys = ap (λ (l : List (ℤ × ℕ)). map (λ total. total.0) l) written ∙ (c.look_at_buckets.ensures.keys
     ∙ (ap (λ (l : List (ℤ × ℕ)). map (λ total. total.0) l) (c.as_mut_slice.ensures.value ∙ c.requires.blank)
-    ∙ (keys_of_buckets known c.args.histogram.now.ranges c.requires.right.lawful c.requires.bucketed c.requires.right.ranges).0)) in
+    ∙ (keys_of_buckets known c.args.histogram.now.ranges c.requires.ready.right.lawful c.requires.bucketed c.requires.ready.right.ranges).0)) in
     let seen = subst (λ (l : List (ℤ × ℕ)). HasSeenBuckets known a l b) (sym written) c.look_at_buckets.ensures.saw in
-    may_answer known a b seen.looked snapshot c.look_at_sum-sum.new.seat.me.0 c.requires.right.alone
+    may_answer known a b seen.looked snapshot c.look_at_sum-sum.new.seat.me.0 c.requires.ready.right.alone
     (saw_buckets known a b snapshot c.requires.bucketed seen keys)
     (c.look_at_sum-sum.ensures.view ∙ ap (λ (s : ℤ). saw_sum b known.reference s sum.1) (sym (to_z-of_z w64 sum.0 fits)))
 
@@ -65,7 +65,7 @@ returns-clause-answer c =
     with_items_is c.args.totals c.look_at_buckets.new.totals (c.look_at_buckets.auto.totals ∙ c.as_mut_slice.ensures.len) in
     let keys = ap (λ (l : List (ℤ × ℕ)). map (λ total. total.0) l) written ∙ (c.look_at_buckets.ensures.keys
     ∙ (ap (λ (l : List (ℤ × ℕ)). map (λ total. total.0) l) (c.as_mut_slice.ensures.value ∙ c.requires.blank)
-    ∙ (keys_of_buckets known c.args.histogram.now.ranges c.requires.right.lawful c.requires.bucketed c.requires.right.ranges).0)) in
+    ∙ (keys_of_buckets known c.args.histogram.now.ranges c.requires.ready.right.lawful c.requires.bucketed c.requires.ready.right.ranges).0)) in
     let seen = subst (λ (l : List (ℤ × ℕ)). HasSeenBuckets known a l b) (sym written) c.look_at_buckets.ensures.saw in
     subst (λ (s : Snapshot). HasSnapshot known a s c.answer_with.new.seat.me.0) (sym c.answer_with.ensures.answer)
     (has_snapshot known a b seen.looked snapshot c.answer_with.new.seat.me.0
@@ -85,7 +85,7 @@ returns-clause-few c =
     with_items_is c.args.totals c.look_at_buckets.new.totals (c.look_at_buckets.auto.totals ∙ c.as_mut_slice.ensures.len) in
     let keys = ap (λ (l : List (ℤ × ℕ)). map (λ total. total.0) l) written ∙ (c.look_at_buckets.ensures.keys
     ∙ (ap (λ (l : List (ℤ × ℕ)). map (λ total. total.0) l) (c.as_mut_slice.ensures.value ∙ c.requires.blank)
-    ∙ (keys_of_buckets known c.args.histogram.now.ranges c.requires.right.lawful c.requires.bucketed c.requires.right.ranges).0)) in
+    ∙ (keys_of_buckets known c.args.histogram.now.ranges c.requires.ready.right.lawful c.requires.bucketed c.requires.ready.right.ranges).0)) in
     let seen = subst (λ (l : List (ℤ × ℕ)). HasSeenBuckets known a l b) (sym written) c.look_at_buckets.ensures.saw in
     subst (λ (s : Snapshot). AreFewKeys c.args.self.now known s.counts.items) (sym c.answer_with.ensures.answer)
     (few_of_snapshot c.args.self.now known a snapshot c.answer_with.new.seat.me.0 c.requires.bucketed (has_snapshot known a b seen.looked snapshot c.answer_with.new.seat.me.0

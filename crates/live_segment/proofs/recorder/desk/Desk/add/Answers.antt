@@ -1,4 +1,4 @@
-use Rattle.live_segment.proofs.AddCall.Desks.{desk_still}
+use Rattle.live_segment.proofs.lemmas.Add.Desks.{desk_still}
 use Rattle.live_segment.proofs.recorder.desk.Desk.add.Goals as goal
 
 pub returns-clause-at : goal.returns-clause-at

@@ -1,0 +1,4 @@
+-- What deltas take of a histogram, and what they and snapshots owe.
+pub mod Outcome
+pub mod Owed
+pub mod Prelude

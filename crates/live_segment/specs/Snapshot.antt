@@ -1,0 +1,4 @@
+-- What snapshots see of a histogram.
+pub mod Counts
+pub mod Outcome
+pub mod Prelude

@@ -1,0 +1,81 @@
+//! How a recorder takes a delta of a histogram: of each bucket the units that no delta has taken yet, and of the sum what is new.
+
+mod buckets;
+mod values;
+
+use crate::recorder::KnownHistogram;
+use crate::rule::Pass;
+use crate::segment::Segment;
+use segment_image::layout::{BLOCK_LEAST, HEADER_WORDS};
+
+impl Segment {
+    ghost use Rattle.std.specs.Prelude.{◌≡◌, ◌⊎◌, ◌+◌, ◌≤◌, [], length, vec_capacity, IfSome, MatchOption};
+    ghost use Rattle.live_segment.specs.Delta.Prelude.{AreFewKeys, AreMostKeys, AreOwn, HasTaken, HasTakenSum, HasTakenValues, HoldsKeys, known_view, KnowsRight, MayTakeSum, Sparse, Actor, IsAtRest, IsSame, IsSeated, opened_with, Setting, Standing};
+
+    // The delta takes what is new of the sum, once it has taken of all buckets or of all samples, and ends.
+    fn take_sum(&self, seat: &mut Pass, histogram: &KnownHistogram) -> i64
+        requires may { MayTakeSum self.now (known_view histogram.now) seat.old ⊎ HasTakenValues self.now (known_view histogram.now) seat.old }
+        requires room { histogram.now.reference + 15 ≤ self.now.setting.shape.size }
+        ensures same { IsSame seat.old seat.new }
+        ensures taken { HasTakenSum (known_view histogram.now) result seat.old.me.0 seat.new.me.0 }
+        ensures stands { Standing (opened_with self.now) seat.new.id seat.new.me.0 }
+    {
+        let sum = self.load_sum(seat, histogram.reference).cast_signed();
+        let mark = self
+            .swap_sum_mark(seat, histogram.reference, sum)
+            .cast_signed();
+        self.stand(seat);
+        sum - mark
+    }
+
+    // How many keys a histogram may have: its buckets, or as many values as records fit in a segment.
+    pub(crate) fn keys_of(&self, histogram: &KnownHistogram) -> usize
+        requires right { (setting : Setting) × (a : Actor) × KnowsRight setting a histogram.now }
+        ensures { AreMostKeys self.now (known_view histogram.now) result }
+    {
+        if histogram.ranges.len() == 0 {
+            (self.setting.shape.size() as usize - HEADER_WORDS) / BLOCK_LEAST
+        } else {
+            histogram.ranges.len()
+        }
+    }
+
+    // How many keys are listed of a histogram at most: its samples, where an index has all of them, or else as many as it may have.
+    pub(crate) fn most_keys(&self, histogram: &KnownHistogram, samples: Option<&[u64]>) -> usize
+        requires right { (setting : Setting) × (a : Actor) × KnowsRight setting a histogram.now }
+        ensures { MatchOption samples.entry (HoldsKeys self.now (known_view histogram.now) result) (λ own. length own.now ≤ result) }
+    {
+        match samples {
+            Some(own) => own.len(),
+            None => self.keys_of(histogram),
+        }
+    }
+
+    // A delta of a histogram. There is room for as many keys as are listed of it at most. It answers what it took of the sum.
+    pub(crate) fn take_delta(
+        &self,
+        seat: &mut Pass,
+        histogram: &KnownHistogram,
+        samples: Option<&[u64]>,
+        taken: &mut Vec<(i32, u64)>,
+    ) -> i64
+        requires seat { IsSeated self.now seat.old }
+        requires rests { IsAtRest seat.old.me.0 }
+        requires right { KnowsRight self.now.setting seat.old.me.0 histogram.now }
+        requires own { IfSome samples (λ own. (histogram.now.spec ≡ Sparse) × AreOwn self.now.setting.shape.size seat.old.me.0.seen histogram.now.reference own.now) }
+        requires begins { taken.old.items ≡ [] }
+        requires room { MatchOption samples (HoldsKeys self.now (known_view histogram.now) (vec_capacity taken.old)) (λ own. length own.now ≤ vec_capacity taken.old) }
+        ensures same { IsSame seat.old seat.new }
+        ensures taken { HasTaken (known_view histogram.now) taken.new.items result seat.old.me.0 seat.new.me.0 }
+        ensures few { AreFewKeys self.now (known_view histogram.now) taken.new.items }
+        ensures stands { Standing (opened_with self.now) seat.new.id seat.new.me.0 }
+    {
+        if let Some(own) = samples {
+            self.delta_of_listed(seat, histogram, own, taken)
+        } else if histogram.ranges.len() == 0 {
+            self.delta_of_values(seat, histogram, taken)
+        } else {
+            self.delta_of_buckets(seat, histogram, taken)
+        }
+    }
+}

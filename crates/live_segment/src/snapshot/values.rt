@@ -1,0 +1,116 @@
+//! How a snapshot looks at what is counted in the samples of a sparse histogram: along the list, or those that an index has.
+
+use crate::recorder::KnownHistogram;
+use crate::rule::Pass;
+use crate::segment::Segment;
+use segment_calls::{Snapshot, sort_by_key};
+use segment_image::layout::QUEUE;
+
+impl Segment {
+    ghost use Rattle.std.specs.Prelude.{◌≡◌, ◌≤◌, ℕ, length, ◌-◌, ◌/◌, List, [], vec_capacity};
+    ghost use Rattle.live_segment.specs.Snapshot.Prelude.{AreFewKeys, AreOwn, AreUnits, ComesTo, HasSnapshot, IsReadyFor, IsSame, known_view, KnowsRight, LooksAlong, LooksAtValues, LooksListed, opened_with, Sparse, Standing};
+    ghost use Rattle.segment_image.specs.declared.layout.TheConstants.{QUEUE};
+
+    // The values of a sparse histogram that have units, from the first record behind its own on to the end of the list, are listed in
+    // their order there. There is room for as many as fit in a segment.
+    fn look_at_values(
+        &self,
+        seat: &mut Pass,
+        histogram: &KnownHistogram,
+        first: u64,
+        totals: &mut Vec<(i32, u64)>,
+    )
+        requires looks { LooksAtValues self.now (known_view histogram.now) seat.old }
+        requires comes { ComesTo histogram.now.reference [] first seat.old.me.0 }
+        requires room { (totals.old.items ≡ []) × ((self.now.setting.shape.size - 16) / 5 ≤ vec_capacity totals.old) }
+        ensures { (passed : List ℕ) × LooksAlong self.now (known_view histogram.now) passed QUEUE totals.new.items seat.old seat.new }
+    {
+        let mut at = first;
+        while at != QUEUE {
+            if let Some(total) = self.sample_at(seat, histogram, at) {
+                totals.push_reserved(total);
+            }
+            at = self.load_next(seat, at);
+        }
+    }
+
+    // What a sparse histogram has: the totals are empty, and there is room for as many values as fit in a segment.
+    pub(crate) fn snapshot_of_values(
+        &self,
+        seat: &mut Pass,
+        histogram: &KnownHistogram,
+        mut totals: Vec<(i32, u64)>,
+    ) -> Snapshot
+        requires ready { IsReadyFor self.now histogram.now seat.old }
+        requires sparse { histogram.now.spec ≡ Sparse }
+        requires room { (totals.items ≡ []) × ((self.now.setting.shape.size - 16) / 5 ≤ vec_capacity totals) }
+        ensures same { IsSame seat.old seat.new }
+        ensures answer { HasSnapshot (known_view histogram.now) seat.old.me.0 result seat.new.me.0 }
+        ensures stands { Standing (opened_with self.now) seat.new.id seat.new.me.0 }
+        ensures units { AreUnits result.counts.items }
+        ensures few { AreFewKeys self.now (known_view histogram.now) result.counts.items }
+    {
+        let first = self.look_next(seat, histogram.reference);
+        self.look_at_values(seat, histogram, first, &mut totals);
+        sort_by_key(&mut totals);
+        let (sum, redundant) = self.look_at_sum(seat, histogram.reference);
+        let snapshot = Snapshot {
+            counts: totals,
+            sum,
+            redundant,
+        };
+        self.answer_with(seat, histogram, snapshot)
+    }
+
+    // The values of a sparse histogram that have units are listed, of its samples, which an index has, in their order there. There is room
+    // for all of them.
+    fn look_at_listed(
+        &self,
+        seat: &mut Pass,
+        histogram: &KnownHistogram,
+        samples: &[u64],
+        totals: &mut Vec<(i32, u64)>,
+    )
+        requires looks { LooksAtValues self.now (known_view histogram.now) seat.old }
+        requires right { KnowsRight self.now.setting seat.old.me.0 histogram.now }
+        requires own { AreOwn self.now.setting.shape.size seat.old.me.0.seen histogram.now.reference samples.now }
+        requires room { (totals.old.items ≡ []) × (length samples.now ≤ vec_capacity totals.old) }
+        ensures { LooksListed self.now (known_view histogram.now) samples.now totals.new.items seat.old seat.new }
+    {
+        for at in samples {
+            if let Some(total) = self.sample_at(seat, histogram, *at) {
+                totals.push_reserved(total);
+            }
+        }
+    }
+
+    // What a sparse histogram has whose samples an index has: the totals are empty, and there is room for all of them.
+    pub(crate) fn snapshot_of_listed(
+        &self,
+        seat: &mut Pass,
+        histogram: &KnownHistogram,
+        samples: &[u64],
+        mut totals: Vec<(i32, u64)>,
+    ) -> Snapshot
+        requires ready { IsReadyFor self.now histogram.now seat.old }
+        requires sparse { histogram.now.spec ≡ Sparse }
+        requires own { AreOwn self.now.setting.shape.size seat.old.me.0.seen histogram.now.reference samples.now }
+        requires room { (totals.items ≡ []) × (length samples.now ≤ vec_capacity totals) }
+        ensures same { IsSame seat.old seat.new }
+        ensures answer { HasSnapshot (known_view histogram.now) seat.old.me.0 result seat.new.me.0 }
+        ensures stands { Standing (opened_with self.now) seat.new.id seat.new.me.0 }
+        ensures units { AreUnits result.counts.items }
+        ensures few { AreFewKeys self.now (known_view histogram.now) result.counts.items }
+    {
+        self.look_type(seat, histogram.reference);
+        self.look_at_listed(seat, histogram, samples, &mut totals);
+        sort_by_key(&mut totals);
+        let (sum, redundant) = self.look_at_sum(seat, histogram.reference);
+        let snapshot = Snapshot {
+            counts: totals,
+            sum,
+            redundant,
+        };
+        self.answer_with(seat, histogram, snapshot)
+    }
+}

@@ -60,15 +60,14 @@ ASKED = {
 # `merge` for all histograms 88 bytes each, then for each of them twice its name and 8 bytes for each of its keys, and then again for all
 # 32 bytes each, before the `hist` of each.
 MERGED = {"boolean": 3, "custom": 4, "sparse": 10, "A": 3, "B": 3, "C": 3, "D": 3, "a_name_that_is_longer": 3}
-# `hist` so many bytes at most in all, but for the list of what it knows, which has 88 bytes for each, and for its indexes: the one of
-# what it knows, and the one of names on the list. Both grow once, and ask for this. So does the one of samples, in an `add`, and asks then
-# for a list of samples, and for a map of such lists.
+# `hist` asks for so many bytes at most in all, but where a list or an index of its recorder grows: the list of what it knows, the index of
+# that, and the index of names. The first `hist` lets all three grow, and no more than two others one of them. What these ask for is
+# bounded, and not known to the byte: it is the library's that has lists and maps. So is what the index of samples asks for in the `add`
+# that first meets samples, and where its list of samples grows twice in a `batch`.
 MOST_OF_HIST = 512
-KNOWN = (4 * 88, 8 * 88)
-INDEX = [256, 72, 72, 72]
-INDEXES = 2
-INDEX_OF_SAMPLES = [*INDEX, 4 * 8, 256, 72, 72, 9 * 24]
-MORE_SAMPLES = [8 * 8, 16 * 8]
+MOST_OF_GROWTH = 2048
+GROWING_HISTS = 3
+MOST_OF_SAMPLES = {"add": 1536, "batch": 384}
 # `adopt` asks twice for the words of the table, 8 bytes for each word, for one more and for the cursor, and for nothing that is larger.
 TABLE = 8 * (SIZE + 2)
 # The histograms that are asked for first: boolean, custom, sparse and five more. Where one is asked for again, with the same spec, its
@@ -96,28 +95,32 @@ def wrong_list(asked, lines):
 def wrong_sizes(asked):
     """What is wrong with what calls ask for, or None."""
     sizes = collections.defaultdict(list)
-    hists = collections.defaultdict(list)
+    hists = collections.Counter()
     for one in asked:
         sizes[name_of(one.call)].append(one.size)
-        if one.call == "hist" and one.size not in KNOWN:
-            hists[one.place].append(one.size)
+        if one.call == "hist":
+            hists[one.place] += one.size
     of_merge = [88 * len(MERGED), *(size for name, keys in MERGED.items() for size in (len(name), len(name), 8 * keys)), 32 * len(MERGED)]
-    wanted = {**ASKED, "add": INDEX_OF_SAMPLES, "batch": MORE_SAMPLES, "merge": of_merge}
-    for name, right in wanted.items():
+    for name, right in {**ASKED, "merge": of_merge}.items():
         came = sizes[name][:len(right)] if name == "merge" else sizes[name]
         if came != right:
             return f"{name} asks for {came} bytes, wanted {right}"
+    for name, most in MOST_OF_SAMPLES.items():
+        if not 0 < sum(sizes[name]) <= most:
+            return f"{name} asks for {sum(sizes[name])} bytes, wanted some and {most} at most"
     largest = sorted(sizes["adopt"])[-3:]
     if largest[0] >= TABLE or largest[1:] != [TABLE, TABLE]:
         return f"adopt asks for {largest} bytes, wanted twice {TABLE} and then less"
-    if len(hists) != FIRST_HISTS:
-        return f"{len(hists)} hists ask for memory, wanted {FIRST_HISTS}"
-    growing = [place for place, asked_for in hists.items() if asked_for[-len(INDEX):] == INDEX]
-    if len(growing) != INDEXES:
-        return f"an index grows in {len(growing)} hists, wanted {INDEXES}"
-    most = max(sum(asked_for) - (sum(INDEX) if place in growing else 0) for place, asked_for in hists.items())
-    if most > MOST_OF_HIST:
-        return f"a hist asks for {most} bytes, wanted {MOST_OF_HIST} at most"
+    return wrong_hists(list(hists.values()))
+
+
+def wrong_hists(asked):
+    """What is wrong with how many bytes each `hist` asks for that asks for some, or None."""
+    if len(asked) != FIRST_HISTS:
+        return f"{len(asked)} hists ask for memory, wanted {FIRST_HISTS}"
+    growing = [size for size in asked if size > MOST_OF_HIST]
+    if len(growing) > GROWING_HISTS or max(asked) > MOST_OF_HIST + MOST_OF_GROWTH:
+        return f"hists ask for {asked} bytes, wanted {MOST_OF_HIST} at most but in {GROWING_HISTS}, and there {MOST_OF_GROWTH} more at most"
     return None
 
 

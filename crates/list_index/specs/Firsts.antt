@@ -12,6 +12,14 @@ first_of firsts key = hash.get nat_eq firsts.map key
 abbrev pub is_grouping : Firsts → Bool
 is_grouping firsts = firsts.has_groups
 
+-- how many numbers were entered, also with keys that had one
+abbrev pub entered_of : Firsts → ℕ
+entered_of firsts = firsts.entered
+
+-- how many numbers may be entered
+abbrev pub limit_of : Firsts → ℕ
+limit_of firsts = firsts.limit
+
 -- the numbers that were entered with keys of a group, in their order
 abbrev pub all_of : Firsts → ℕ → List ℕ
 all_of firsts group = numbers_of firsts.groups group

@@ -1,9 +1,9 @@
 //! A map from keys to the first number that was entered with each.
 
-ghost use Rattle.std.specs.Prelude.{◌≡◌, ◌==◌, ◌++◌, ◌∷◌, ◌<◌, [], true, false, ℕ, None, Some, if◌then◌else◌};
+ghost use Rattle.std.specs.Prelude.{◌≡◌, ◌==◌, ◌++◌, ◌∷◌, ◌<◌, ◌+◌, [], true, false, ℕ, None, Some, if◌then◌else◌};
 ghost use Rattle.std.specs.HashMap.{spare};
 ghost use Rattle.std.specs.Option.{option_or};
-ghost use Rattle.list_index.specs.Firsts.{all_of, first_of, HasStill, is_grouping};
+ghost use Rattle.list_index.specs.Firsts.{all_of, entered_of, first_of, HasStill, is_grouping, limit_of};
 ghost use Rattle.list_index.specs.Groups.{group_of as group_of_key};
 
 use crate::groups::{Groups, group_of};
@@ -16,19 +16,26 @@ pub struct Firsts {
     map: HashMap<u64, u64>,
     has_groups: bool,
     groups: Groups,
+    // How many numbers were entered, and how many may be.
+    entered: usize,
+    limit: usize,
 }
 
 impl Firsts {
-    /// Nothing was entered. It takes no memory.
+    /// Nothing was entered, and it has no limit but memory. It takes no memory.
     pub fn new(alloc: Global) -> Firsts
         ensures first { (key : ℕ) → first_of result key ≡ None }
         ensures all { (group : ℕ) → all_of result group ≡ [] }
         ensures alone { is_grouping result ≡ false }
+        ensures entered { entered_of result ≡ 0 }
+        ensures limit { limit_of result ≡ 18446744073709551615 }
     {
         Firsts {
             map: HashMap::new(alloc),
             has_groups: false,
             groups: Groups::new(alloc),
+            entered: 0,
+            limit: usize::MAX,
         }
     }
 
@@ -37,12 +44,27 @@ impl Firsts {
         ensures first { (key : ℕ) → first_of result key ≡ None }
         ensures all { (group : ℕ) → all_of result group ≡ [] }
         ensures grouping { is_grouping result ≡ true }
+        ensures entered { entered_of result ≡ 0 }
+        ensures limit { limit_of result ≡ 18446744073709551615 }
     {
         Firsts {
             map: HashMap::new(alloc),
             has_groups: true,
             groups: Groups::new(alloc),
+            entered: 0,
+            limit: usize::MAX,
         }
+    }
+
+    /// Sets how many numbers may be entered in all, for whoever has little memory: from that many on `enter` returns false. What was
+    /// entered stays. Each number takes at most 80 bytes (that is not proved).
+    pub fn set_limit(&mut self, numbers: usize)
+        ensures limit { limit_of self.new ≡ numbers }
+        ensures entered { entered_of self.new ≡ entered_of self.old }
+        ensures still { HasStill self.old self.new }
+        ensures grouping { is_grouping self.new ≡ is_grouping self.old }
+    {
+        self.limit = numbers;
     }
 
     /// The first number that was entered with a key.
@@ -62,17 +84,24 @@ impl Firsts {
 
     /// Enters a number with a key. Where the key was entered before, the first number stays.
     ///
-    /// False where there is no memory for it: then nothing has changed.
+    /// Returns false where the limit is reached, or there is no memory for it: then nothing has changed.
     pub fn enter(&mut self, key: u64, number: u64) -> bool
         ensures entered { result ≡ true → (other : ℕ) → first_of self.new other ≡ option_or (first_of self.old other) (if key == other then Some number else None) }
         ensures listed { result ≡ true → is_grouping self.old ≡ true → (other : ℕ) → all_of self.new other ≡ all_of self.old other ++ (if group_of_key key == other then number ∷ [] else []) }
         ensures kept { result ≡ false → HasStill self.old self.new }
         ensures grouping { is_grouping self.new ≡ is_grouping self.old }
+        ensures few { result ≡ true → entered_of self.old < limit_of self.old }
+        ensures counted { entered_of self.new ≡ (if result then entered_of self.old + 1 else entered_of self.old) }
+        ensures limit { limit_of self.new ≡ limit_of self.old }
     {
-        if !self.has_room_for(key) || !self.enter_in_group(group_of(key), number) {
+        if self.entered >= self.limit
+            || !self.has_room_for(key)
+            || !self.enter_in_group(group_of(key), number)
+        {
             return false;
         }
         self.enter_first(key, number);
+        self.entered += 1;
         true
     }
 
@@ -81,6 +110,7 @@ impl Firsts {
         ensures still { HasStill self.old self.new }
         ensures room { result ≡ true → first_of self.new key ≡ None → 0 < spare self.new.map }
         ensures grouping { is_grouping self.new ≡ is_grouping self.old }
+        ensures counts { (entered_of self.new ≡ entered_of self.old) × (limit_of self.new ≡ limit_of self.old) }
     {
         self.map.contains_key(&key) || self.map.reserve(1).is_ok()
     }
@@ -91,6 +121,7 @@ impl Firsts {
         ensures listed { result ≡ true → is_grouping self.old ≡ true → (other : ℕ) → all_of self.new other ≡ all_of self.old other ++ (if group == other then number ∷ [] else []) }
         ensures kept { result ≡ false → (other : ℕ) → all_of self.new other ≡ all_of self.old other }
         ensures grouping { is_grouping self.new ≡ is_grouping self.old }
+        ensures counts { (entered_of self.new ≡ entered_of self.old) × (limit_of self.new ≡ limit_of self.old) }
     {
         !self.has_groups || self.groups.enter(group, number)
     }
@@ -101,6 +132,7 @@ impl Firsts {
         ensures entered { (other : ℕ) → first_of self.new other ≡ option_or (first_of self.old other) (if key == other then Some number else None) }
         ensures groups { self.new.groups ≡ self.old.groups }
         ensures grouping { is_grouping self.new ≡ is_grouping self.old }
+        ensures counts { (entered_of self.new ≡ entered_of self.old) × (limit_of self.new ≡ limit_of self.old) }
     {
         if self.map.contains_key(&key) {
             return;
@@ -120,6 +152,21 @@ fn the_first_stays(rt: HostRuntime) {
     assert!(rt; firsts.first(8) == Some(50));
     assert!(rt; firsts.first(9).is_none());
     assert!(rt; firsts.all(0).len() == 0);
+}
+
+#[test]
+fn no_more_than_the_limit(rt: HostRuntime) {
+    let mut firsts = Firsts::with_groups(rt.alloc());
+    firsts.set_limit(2);
+    assert!(rt; firsts.enter(7, 16));
+    assert!(rt; firsts.enter(8, 40));
+    assert!(rt; !firsts.enter(9, 50));
+    assert!(rt; !firsts.enter(7, 60));
+    assert!(rt; firsts.first(9).is_none());
+    assert!(rt; firsts.all(0).len() == 2);
+    firsts.set_limit(3);
+    assert!(rt; firsts.enter(9, 50));
+    assert!(rt; firsts.all(0).len() == 3);
 }
 
 #[test]

@@ -11,6 +11,9 @@ With --write it writes the pages. Without, it says what differs in the pages tha
 anything was.
 """
 
+from __future__ import annotations
+
+import itertools
 import pathlib
 import re
 import sys
@@ -26,7 +29,16 @@ WIDTH = 140
 # How many signs a clause may have that is shown as it stands.
 SHORT = 80
 # The crates whose doc comments do not name their clauses yet: docs/PROVED_BY_HAND.md has what is proved of them.
-LEFT = ("list_index", "live_segment", "owned_recorder", "povundiri_c", "reading_shows", "persist_report_core", "fault_texts", "persist_report")
+LEFT = (
+    "list_index",
+    "live_segment",
+    "owned_recorder",
+    "povundiri_c",
+    "reading_shows",
+    "persist_report_core",
+    "fault_texts",
+    "persist_report",
+)
 # Programs of the tests, which promise nothing.
 PROGRAMS_OF_TESTS = ("trials", "worked_lists", "worked_rows", "worked_words")
 
@@ -49,10 +61,10 @@ class Clause(NamedTuple):
 class Function(NamedTuple):
     name: str
     signature: str
-    comment: list
-    clauses: list
+    comment: list[str]
+    clauses: list[Clause]
     # Which definition each name of its clauses is: the crate, the module and the name there.
-    names: dict
+    names: dict[str, tuple[str, str, str]]
 
     def promises(self):
         return [clause for clause in self.clauses if clause.kind == "ensures"]
@@ -105,7 +117,8 @@ def functions(text):
     """The public functions of a file that have clauses; those of a trait, or of its `impl`, are public too."""
     lines = text.split("\n")
     whole = imported(line for line in lines if line.startswith("ghost use"))
-    owner, is_open, inside = None, False, {}
+    owner: str | None = None
+    is_open, inside = False, imported([])
     for place, line in enumerate(lines):
         if (item := ITEM.match(line)) is not None:
             owner, is_open, inside = item[2], item[1] is not None or line.startswith("pub trait"), {}
@@ -206,7 +219,8 @@ def clause_entry(clause, function, told):
 
 def wrapped(text, first="", later=""):
     """The lines of a paragraph; a name in signs of code is not parted."""
-    lines, line = [], first
+    lines: list[str] = []
+    line = first
     for word in re.findall(r"(?:`[^`]*`|\S)+", text):
         if len(line) + 1 + len(word) > WIDTH and line.strip():
             lines.append(line.rstrip())
@@ -221,15 +235,16 @@ def comment_lines(comment):
     shown = BRACKET.sub(lambda names: "[" + ", ".join(f"`{name}`" for name in names[1].split(", ")) + "]", shown)
     lines = []
     for part in re.split(r"\n(?=\s*- |\n)", shown):
-        indent = re.match(r"\n?( *)(- )?", part)
+        text = part.lstrip("\n")
+        indent = " " * (len(text) - len(text.lstrip(" ")))
         if part.startswith("\n"):
             lines.append("")
-        lines += wrapped(part, indent[1], indent[1] + ("  " if indent[2] else ""))
+        lines += wrapped(text, indent, indent + ("  " if text.lstrip().startswith("- ") else ""))
     return lines
 
 
 def function_lines(function):
-    told = {}
+    told: dict[str, str] = {}
     is_law = re.search(r"\(\)$", function.signature) is not None
     lines = ["", f"### `{function.name}`", ""]
     if not is_law:
@@ -242,8 +257,8 @@ def function_lines(function):
 
 def about(text):
     """What a file says that it is about, in its first paragraph."""
-    head = re.match(r"(?://!.*\n)*", text)[0]
-    return LINK.sub(r"\1", " ".join(line[3:].strip() for line in head.split("\n//!\n")[0].splitlines()))
+    head = list(itertools.takewhile(lambda line: line.startswith("//! "), text.splitlines()))
+    return LINK.sub(r"\1", " ".join(line[3:].strip() for line in head))
 
 
 def root_of(crate):

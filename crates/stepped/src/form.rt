@@ -21,7 +21,7 @@ pub enum Form {
 }
 
 impl Form {
-    /// Shows a call that begins, as a line or a row, byte for byte. The error is the writer's.
+    /// Shows a call that begins. The error is the writer's.
     pub fn show_begin<W: Write>(&self, writer: &mut W, place: Place, call: &Call) -> io::Result<()>
         ensures { OnOk result (Appends (W.contents writer.old) (W.contents writer.new) (text_of self.now place (Begins call.now))) }
     {
@@ -50,8 +50,8 @@ impl Form {
         }
     }
 
-    /// Shows an event, with what it did, as the words then stand [text]. A picture numbers its events: the form has counted this one [form].
-    /// The error is the writer's.
+    /// Shows an event, with what it did, as the words then stand [text]. A picture numbers its events: the form has
+    /// counted this one [form]. The error is the writer's.
     pub fn show_event<W: Write>(
         &mut self,
         writer: &mut W,
@@ -71,7 +71,7 @@ impl Form {
         }
     }
 
-    /// Shows the answer of a call that has ended with its last event. The error is the writer's.
+    /// Shows the answer of a call that has ended by its last event. The error is the writer's.
     pub fn show_end<W: Write>(
         &self,
         writer: &mut W,

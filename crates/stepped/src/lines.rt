@@ -55,7 +55,7 @@ pub enum Effect {
 impl Effect {
     ghost use Rattle.stepped.specs.Lines.{effect_of};
 
-    /// Returns what an event did that changed this, or that missed that if it changed nothing.
+    /// What an event did that changed this, where it missed that if it changed nothing.
     pub fn of(change: Option<Change>, miss: Option<Miss>) -> Effect
         ensures { result ≡ effect_of change miss }
     {
@@ -104,7 +104,7 @@ fn end_line<W: Write>(writer: &mut W) -> io::Result<()>
     writer.write_all(b"\n")
 }
 
-/// Writes the line of a call that begins, byte for byte. The error is the writer's.
+/// Writes the line of a call that begins. The error is the writer's.
 pub fn show_begin<W: Write>(writer: &mut W, place: Place) -> io::Result<()>
     ensures { OnOk result (Appends (W.contents writer.old) (W.contents writer.new) (line place (codes "begin" ∷ []))) }
 {
@@ -122,8 +122,7 @@ fn put_change<W: Write>(writer: &mut W, change: Change) -> io::Result<()>
     put_number(writer, change.new)
 }
 
-/// Writes the line of an event, with the word that it changed, from what to what, or none; byte for byte. The error
-/// is the writer's.
+/// Writes the line of an event, with the word that it changed. The error is the writer's.
 pub fn show_step<W: Write>(writer: &mut W, place: Place, effect: Effect) -> io::Result<()>
     ensures { OnOk result (Appends (W.contents writer.old) (W.contents writer.new) (line place (step_fields effect))) }
 {
@@ -135,7 +134,7 @@ pub fn show_step<W: Write>(writer: &mut W, place: Place, effect: Effect) -> io::
     end_line(writer)
 }
 
-/// Writes the line of a call's answer, byte for byte. The error is the writer's.
+/// Writes the line of a call's answer. The error is the writer's.
 pub fn show_answer<W: Write>(writer: &mut W, place: Place, answer: &Answer) -> io::Result<()>
     ensures { OnOk result (Appends (W.contents writer.old) (W.contents writer.new) (line place (codes "answer" ∷ answer_fields answer.now))) }
 {
@@ -145,7 +144,7 @@ pub fn show_answer<W: Write>(writer: &mut W, place: Place, answer: &Answer) -> i
     end_line(writer)
 }
 
-/// Writes the fields of an answer, each after a comma. The error is the writer's.
+/// Writes the fields of an answer, each behind a comma. The error is the writer's.
 pub fn put_answer<W: Write>(writer: &mut W, answer: &Answer) -> io::Result<()>
     ensures { OnOk result (Appends (W.contents writer.old) (W.contents writer.new) (behind (answer_fields answer.now))) }
 {

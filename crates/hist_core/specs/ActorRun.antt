@@ -113,6 +113,12 @@ pub record IsKnown (shape : Dimensions) (known : Known) : Type 0 where
 abbrev pub IsKnownAt : List Known → ℕ → List ℕ → Type 0
 IsKnownAt list i name = (known : Known) × (get_elem? list i ≡ some known) × (known.name.items ≡ name)
 
+-- What an actor knows at a place is lawful, and has the ranges of its spec.
+pub record KnowsAt (actor_run : ActorRun) (i : ℕ) : Type 0 where
+  pub near : i < vec_len actor_run.known
+  pub lawful : (known : Known) → get_elem? actor_run.known.items i ≡ some known → spec_fault known.spec ≡ None
+  pub ranges : (known : Known) → get_elem? actor_run.known.items i ≡ some known → known.ranges ≡ boundaries_of known.spec
+
 -- none of them has a name
 abbrev pub NoneHasName : List Known → List ℕ → Type 0
 NoneHasName list name = (i : ℕ) (known : Known) → get_elem? list i ≡ some known → known.name.items ≢ name

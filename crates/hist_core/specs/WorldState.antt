@@ -257,17 +257,19 @@ HoldsNoPointer actor world_state =
 
 -- ---- what an actor knows
 
--- an actor knows a histogram, at a place
-abbrev pub IsKnownBy : WorldState → ℕ → ℕ → Known → Type 0
-IsKnownBy world_state actor place known =
-    (actor_run : ActorRun) × (get_elem? world_state.actor_runs.items actor ≡ some actor_run) × (get_elem? actor_run.known.items place ≡ some known)
+-- an actor that is there and rests
+pub record IsResting (world_state : WorldState) (actor : ℕ) (actor_run : ActorRun) : Type 0 where
+  pub near : actor < vec_len world_state.actor_runs
+  pub at : get_elem? world_state.actor_runs.items actor ≡ some actor_run
+  pub rests : actor_run.running ≡ None
 
--- an actor knows the histogram of a name at a place, or knows none of it
-abbrev pub IsPlaceOf : WorldState → ℕ → List ℕ → ℕ → Type 0
-IsPlaceOf world_state actor name place = (known : Known) × IsKnownBy world_state actor place known × (known.name.items ≡ name)
-
-abbrev pub LacksName : WorldState → ℕ → List ℕ → Type 0
-LacksName world_state actor name = (actor_run : ActorRun) → get_elem? world_state.actor_runs.items actor ≡ some actor_run → NoneHasName actor_run.known.items name
+-- it knows the histogram of a name, at a place
+pub record IsReady (world_state : WorldState) (actor : ℕ) (name : List ℕ) (place : ℕ) : Type 0 where
+  pub actor_run : ActorRun
+  pub resting : IsResting world_state actor actor_run
+  pub known : Known
+  pub there : get_elem? actor_run.known.items place ≡ some known
+  pub named : known.name.items ≡ name
 
 -- ---- how a `hist` begins
 

@@ -182,44 +182,7 @@ impl World {
         ensures loads { OnOk result (HoldsNoPointer actor self.old.world_state) }
         ensures says { IfOk result (λ said. BeginSays actor call.now self.old.world_state self.new.world_state said) }
     {
-        let world_state = &mut self.world_state;
-        if actor >= world_state.actor_runs.len() {
-            return Err(WorldFault::NoActor);
-        }
-        if world_state.actor_runs[actor].running.is_some() {
-            return Err(WorldFault::Busy);
-        }
-        match call {
-            Call::Hist(name, spec) => Ok(world_state.begin_hist(actor, name, spec)?),
-            Call::Add(name, value, count) => {
-                let Some(place) = world_state.place_of(actor, name) else {
-                    return Err(WorldFault::Unknown);
-                };
-                Ok(world_state.begin_add(actor, place, *value, *count)?)
-            }
-            Call::Snapshot(name) => {
-                let Some(place) = world_state.place_of(actor, name) else {
-                    return Err(WorldFault::Unknown);
-                };
-                Ok(world_state.begin_snapshot(actor, place)?)
-            }
-            Call::Delta(name) => {
-                let Some(place) = world_state.place_of(actor, name) else {
-                    return Err(WorldFault::Unknown);
-                };
-                Ok(world_state.begin_delta(actor, place)?)
-            }
-            Call::Batch(name, items, sum) => {
-                let Some(place) = world_state.place_of(actor, name) else {
-                    return Err(WorldFault::Unknown);
-                };
-                Ok(world_state.begin_batch(actor, place, items, *sum)?)
-            }
-            Call::SetCorrupt => {
-                world_state.begin_set_corrupt(actor);
-                Ok(Begun::Going)
-            }
-        }
+        self.world_state.begin(actor, call)
     }
 
     /// The exchange that is the next event of an actor's call, where that is one: of which word, and what is wanted there. An actor that is

@@ -10,7 +10,7 @@ use Rattle.segment_machine.specs.Event.{spot, after, next, Ready, Learned, packi
 use Rattle.segment_machine.specs.Packing.{PackingEvent, load_single, pack, mount_counts, purge_block, disable, add_moved, after_pack, after_mount, after_disable}
 use Rattle.hist_core.specs.declared.add.Add.{Add}
 use Rattle.hist_core.specs.declared.add.AddStep.TheVariants.{More}
-use Rattle.hist_core.specs.declared.add.Stage.{Stage}
+use Rattle.hist_core.specs.declared.add.AddStage.{AddStage}
 use Rattle.hist_core.specs.StepsBy.{DoesOnly, StepsBy}
 use Rattle.hist_core.specs.Add.{Amid, FrameOfAdd, StaysOpen, StandsAtStage, IsAdd, AddGives, serves_counted}
 use Rattle.hist_core.proofs.Parts.Deeds.{does_nothing}
@@ -71,7 +71,7 @@ packing_aside a (add_moved counts bucket units) found =
 
 -- ---- a step
 
-module _ (shape : Dimensions) (known : Known) (amid : Amid) (add : Add) (a : Actor) (is : IsAdd shape known amid add a) (stage : Stage) where
+module _ (shape : Dimensions) (known : Known) (amid : Amid) (add : Add) (a : Actor) (is : IsAdd shape known amid add a) (stage : AddStage) where
   -- it goes on from another stage
   pub goes_still : (b : Actor) → FrameOfAdd a b → StaysOpen a b → DoesOnly false false (serves_counted known add a) a b → StandsAtStage shape known amid (record add { stage = stage }) b stage
       → AddGives shape known amid (record add { stage = stage }) More a b

@@ -18,7 +18,7 @@ use Rattle.segment_machine.specs.Event.{Event, next, counting_event}
 use Rattle.hist_core.proofs.AddCall.Going.{aside_counts}
 use Rattle.hist_core.specs.declared.add.Add.{Add}
 use Rattle.hist_core.specs.declared.add.AddStep.TheVariants.{More}
-use Rattle.hist_core.specs.declared.add.Stage.TheVariants.{LoadingCounts, Counting}
+use Rattle.hist_core.specs.declared.add.AddStage.TheVariants.{LoadingCounts, Counting}
 use Rattle.hist_core.specs.StepsBy.{StepsBy}
 use Rattle.hist_core.specs.Add.{Amid, StandsAtStage, IsAdd, AddGives, serves_counted}
 use Rattle.hist_core.proofs.Parts.Deeds.{does_nothing}

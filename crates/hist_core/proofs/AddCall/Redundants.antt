@@ -11,7 +11,7 @@ use Rattle.segment_machine.specs.Event.{Event, next, counting_event}
 use Rattle.hist_core.proofs.AddCall.Going.{aside_still}
 use Rattle.hist_core.specs.declared.add.Add.{Add}
 use Rattle.hist_core.specs.declared.add.AddStep.TheVariants.{Done}
-use Rattle.hist_core.specs.declared.add.Stage.TheVariants.{Noting}
+use Rattle.hist_core.specs.declared.add.AddStage.TheVariants.{Noting}
 use Rattle.hist_core.specs.StepsBy.{StepsBy}
 use Rattle.hist_core.specs.Add.{Amid, StandsAtStage, IsAdd, AddGives, serves_counted}
 use Rattle.hist_core.proofs.Parts.Deeds.{does_nothing}

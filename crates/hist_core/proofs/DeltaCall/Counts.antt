@@ -37,7 +37,7 @@ use Rattle.segment_promises.specs.Calls.{AreBelow}
 use Rattle.segment_promises.proofs.Calls.Sights.{seen_here, took_bucket}
 use Rattle.segment_promises.proofs.Calls.Places.{looks_again}
 use Rattle.hist_core.specs.declared.mounted.Mounted.{Mounted}
-use Rattle.hist_core.specs.declared.delta_call.Stage.TheVariants.{LoadingCounts, LoadingCount, Raising, LoadingSum}
+use Rattle.hist_core.specs.declared.delta_call.DeltaStage.TheVariants.{LoadingCounts, LoadingCount, Raising, LoadingSum}
 use Rattle.hist_core.specs.declared.delta_call.DeltaCall.{DeltaCall}
 use Rattle.hist_core.specs.declared.delta_call.DeltaCallStep.TheVariants.{More}
 use Rattle.hist_core.specs.StepsBy.{StepsBy}

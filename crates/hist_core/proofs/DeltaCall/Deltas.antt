@@ -34,16 +34,17 @@ use Rattle.hist_core.specs.declared.hist.Known.{Known}
 use Rattle.hist_core.specs.declared.actor_run.Running.{Running}
 use Rattle.hist_core.specs.declared.actor_run.Running.TheVariants.{SetCorrupt, Hist, Add, Delta, Snapshot, Batch}
 use Rattle.hist_core.specs.declared.actor_run.ActorRun.{ActorRun}
-use Rattle.hist_core.specs.declared.delta_call.Stage.{Stage}
-use Rattle.hist_core.specs.declared.delta_call.Stage.TheVariants.{LoadingSingle, TakingPacked, LoadingCounts, LoadingCount, Raising, Walking, LoadingSample, RaisingSample, LoadingSum, Swapping}
+use Rattle.hist_core.specs.declared.delta_call.DeltaStage.{DeltaStage}
+use Rattle.hist_core.specs.declared.delta_call.DeltaStage.TheVariants.{LoadingSingle, TakingPacked, LoadingCounts, LoadingCount, Raising, Walking, LoadingSample, RaisingSample, LoadingSum, Swapping}
 use Rattle.hist_core.specs.declared.delta_call.DeltaCall.{DeltaCall}
 use Rattle.hist_core.specs.declared.delta_call.DeltaCallStep.{DeltaCallStep}
 use Rattle.hist_core.specs.declared.delta_call.DeltaCallStep.TheVariants.{More, Took, Done}
 use Rattle.hist_core.specs.Start.{Start}
-use Rattle.hist_core.specs.WorldState.{IsReached, IsReachedAs, TakesOf}
+use Rattle.hist_core.specs.declared.call.Begun.TheVariants.{Going}
+use Rattle.hist_core.specs.WorldState.{BeginsFrom, DeltaBegins, IsReached, IsReachedAs, TakesOf}
 use Rattle.hist_core.specs.StepsBy.{StepsBy, IsFree, WalksInOrder}
-use Rattle.hist_core.specs.declared.walk.Walk.{Walk}
-use Rattle.hist_core.specs.declared.walk.Walk.TheVariants.{LoadingFirst, LoadingType, LoadingHistogram, LoadingValue, LoadingNext}
+use Rattle.hist_core.specs.declared.walk.SampleWalk.{SampleWalk}
+use Rattle.hist_core.specs.declared.walk.SampleWalk.TheVariants.{LoadingFirst, LoadingType, LoadingHistogram, LoadingValue, LoadingNext}
 use Rattle.hist_core.specs.Walk.{HasSetOut}
 use Rattle.hist_core.proofs.Worlds.Landing.{Landing}
 use Rattle.hist_core.specs.ActorRun.{Answers, AreShown, BeginsDelta, Becomes, Fits, HasDraft, HasPlace, HasRoom, IsDeltaAnnounced, IsDraft, IsDrawing, IsKnown, IsLast, IsQuiet, IsRun, IsShown, IsSomeRun, IsTimely, IsTook, Serves, StandsIn, TakenGoes, apart_from_delta, begun_by, ended_by, ended_deltas, known_of, looked_by, pending_by}
@@ -51,6 +52,7 @@ use Rattle.hist_core.specs.DeltaCall.{HasBegun, HasEnded, IsFirst, IsSomeDeltaCa
 use Rattle.hist_core.proofs.Parts.Allocations.{goes_with}
 use Rattle.hist_core.proofs.Parts.Deeds.{does_nothing}
 use Rattle.hist_core.proofs.Worlds.Apart.{asks_not, adds_not, looks_not, batches_not, sets_not}
+use Rattle.hist_core.proofs.Worlds.Beginnings.{IsPlaced, IsTurned}
 use Rattle.hist_core.proofs.Worlds.WorldStates.{each_runs, is_there}
 use Rattle.hist_core.proofs.Worlds.Free.{free_apart, free_turns}
 use Rattle.hist_core.proofs.Worlds.Quiet.{begun_there, met_on, met_split}
@@ -133,7 +135,7 @@ taken_ascends world_state reached i r at = ∥∥₁_elim reached (hlevel props)
 -- ---- it goes on
 
 -- once its first event has happened it is under way
-way_of : (shape : Dimensions) (known : MachineKnown) (earlier : List MachineTaken) (delta_call : DeltaCall) (a : Actor) (stage : Stage) → HasBegun stage
+way_of : (shape : Dimensions) (known : MachineKnown) (earlier : List MachineTaken) (delta_call : DeltaCall) (a : Actor) (stage : DeltaStage) → HasBegun stage
     → StandsAtStage shape known earlier delta_call a stage → IsUnderWay known earlier delta_call a
 way_of shape known earlier delta_call a LoadingSingle begun stands = absurd begun
 way_of shape known earlier delta_call a (TakingPacked bucket units) begun stands = stands.0
@@ -142,7 +144,7 @@ way_of shape known earlier delta_call a (LoadingCount mounted bucket) begun stan
 way_of shape known earlier delta_call a (Raising mounted bucket total) begun stands = stands.0
 way_of shape known earlier delta_call a (Walking walk) begun stands = by walk begun stands.0
   where
-    by : (walk : Walk) → HasSetOut walk → TakesAlong known earlier delta_call a walk → IsUnderWay known earlier delta_call a
+    by : (walk : SampleWalk) → HasSetOut walk → TakesAlong known earlier delta_call a walk → IsUnderWay known earlier delta_call a
     by LoadingFirst begun way = absurd begun
     by (LoadingType at) begun way = way
     by (LoadingHistogram at) begun way = way
@@ -154,7 +156,7 @@ way_of shape known earlier delta_call a LoadingSum begun stands = stands.0
 way_of shape known earlier delta_call a (Swapping sum) begun stands = stands.0
 
 -- before that its actor's deltas took what they took
-taken_first : (shape : Dimensions) (known : MachineKnown) (earlier : List MachineTaken) (delta_call : DeltaCall) (a : Actor) (stage : Stage) → IsFirst stage
+taken_first : (shape : Dimensions) (known : MachineKnown) (earlier : List MachineTaken) (delta_call : DeltaCall) (a : Actor) (stage : DeltaStage) → IsFirst stage
     → StandsAtStage shape known earlier delta_call a stage → a.deltas.taken ≡ earlier
 taken_first shape known earlier delta_call a LoadingSingle first stands = stands.1
 taken_first shape known earlier delta_call a (Walking LoadingFirst) first stands = stands.0.1
@@ -475,7 +477,7 @@ no_units : AreUnits []
 no_units = record { ascending = no_keys; some = λ k d below. absurd (omega (arith, below)) }
 
 -- so it is before its first event
-opens_first : (shape : Dimensions) (known : MachineKnown) (delta_call : DeltaCall) (stage : Stage) → OpensWith shape known delta_call stage → IsFirst stage
+opens_first : (shape : Dimensions) (known : MachineKnown) (delta_call : DeltaCall) (stage : DeltaStage) → OpensWith shape known delta_call stage → IsFirst stage
 opens_first shape known delta_call LoadingSingle opens = tt
 opens_first shape known delta_call (Walking LoadingFirst) opens = tt
 opens_first shape known delta_call (Walking (LoadingType at)) none = absurd none
@@ -508,7 +510,7 @@ module _ (shape : Dimensions) (version : ℕ) (known : Known) (old new : ActorRu
     knows = subst (λ (l : List MachineKnown). Contains l (known_of known)) run.names (contains_map known_of old.known.items known (contains_at old.known.items i known at))
 
     -- of a histogram with buckets it stands before the single word, of a sparse one at the record
-    stands_first : (stage : Stage) → OpensWith shape (known_of known) delta_call stage → StandsAtStage shape (known_of known) a.deltas.taken delta_call a stage
+    stands_first : (stage : DeltaStage) → OpensWith shape (known_of known) delta_call stage → StandsAtStage shape (known_of known) a.deltas.taken delta_call a stage
     stands_first LoadingSingle has = (stood.1.takes, refl, starts.started.none, has)
     stands_first (Walking LoadingFirst) (sparse, room) = (
       (stood.1.takes, refl, starts.started.none),
@@ -572,20 +574,11 @@ module _ (shape : Dimensions) (version : ℕ) (known : Known) (old new : ActorRu
     })
 
 -- on a world_state
-module _ (old new : WorldState) (actor : ℕ) (r now : ActorRun) (here : get_elem? old.actor_runs.items actor ≡ some r) (place : ℕ) (known : Known)
-    (at : get_elem? r.known.items place ≡ some known) (starts : BeginsDelta old.shape old.version known r now) where
-  pub delta_begins : r.running ≡ None → new.shape ≡ old.shape → new.version ≡ old.version → new.words ≡ old.words → new.units ≡ old.units
-      → new.actor_runs.items ≡ set old.actor_runs.items actor now → (start : Start) (state : State) → IsReachedAs start old state → IsReachedAs start new state
-  delta_begins rests shaped versioned worded pooled actor_runs =
-      call_begins old new actor r now here place known at rests shaped versioned worded pooled actor_runs
-      (begins_with old.shape old.version known r now starts place at rests)
+module _ (old new : WorldState) (actor : ℕ) (name : List ℕ) (place : ℕ) (r now : ActorRun) (its : IsPlaced old actor name place r) (turned : IsTurned old new actor now)
+    (starts : BeginsDelta old.shape old.version its.known r now) (pooled : new.units ≡ old.units) where
+  pub delta_begins : (start : Start) (state : State) → IsReachedAs start old state → BeginsFrom start state actor new
+  delta_begins = call_begins old new actor name place r now its turned pooled (begins_with old.shape old.version its.known r now starts place its.there its.resting.rests)
 
--- so it is among the actors
-pub delta_begun : {shape : Dimensions} {version : ℕ} (actor_runs : List ActorRun) (actor : ℕ) (r now : ActorRun) → get_elem? actor_runs actor ≡ some r → (place : ℕ) (known : Known)
-    → get_elem? r.known.items place ≡ some known → BeginsDelta shape version known r now → (name : List ℕ) → known.name.items ≡ name
-    → (before behind : ActorRun) × (get_elem? actor_runs actor ≡ some before) × (get_elem? (set actor_runs actor now) actor ≡ some behind)
-    × (behind.taken.items ≡ before.taken.items)
-    × ((k : Known) × Contains behind.known.items k × (k.name.items ≡ name) × TakesOf k.reference behind.running)
-delta_begun actor_runs actor r now here place known at starts =
-    call_begun TakesOf actor_runs actor r now here place known at (ap (λ (x : ActorRun). x.known.items) starts.is) starts.taken
-    (subst (TakesOf known.reference) (sym (ap (λ (x : ActorRun). x.running) starts.is)) starts.started.reference)
+  pub delta_begun : DeltaBegins actor name old new Going
+  delta_begun = call_begun old new actor name place r now its turned pooled TakesOf (ap (λ (x : ActorRun). x.known.items) starts.is) starts.taken
+      (subst (TakesOf (its.known).reference) (sym (ap (λ (x : ActorRun). x.running) starts.is)) starts.started.reference)

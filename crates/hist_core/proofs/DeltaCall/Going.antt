@@ -21,9 +21,9 @@ use Rattle.segment_machine.specs.Event.{Event, spot, after, next, Ready, Learned
 use Rattle.segment_machine.specs.Taking.{TakingEvent, Takes, load_count, raise_mark, raise_single_mark, load_sum, swap_sum_mark, load_redundant}
 use Rattle.segment_promises.proofs.Growing.{grows_not}
 use Rattle.segment_promises.specs.Calls.{AreUnits, SeesMore}
-use Rattle.hist_core.specs.declared.delta_call.Stage.{Stage}
+use Rattle.hist_core.specs.declared.delta_call.DeltaStage.{DeltaStage}
 use Rattle.hist_core.specs.declared.delta_call.DeltaCall.{DeltaCall}
-use Rattle.hist_core.specs.StepsBy.{StepsBy}
+use Rattle.hist_core.specs.StepsBy.{StepsBy, LiesWithin}
 use Rattle.hist_core.specs.DeltaCall.{IsSomeDeltaCall, IsDeltaCall, IsUnderWay, StandsAtStage, FrameOfDelta}
 
 -- ---- what stays as it was
@@ -148,16 +148,17 @@ few_boundaries spec.Boolean lawful = few_of spec.Boolean lawful refl
 few_boundaries (spec.Custom values) lawful = few_of (spec.Custom values) lawful refl
 
 -- the record of a delta that stands somewhere lies in so many words, which are few
-pub some_inside : (delta_call : DeltaCall) (words : List ℕ) → ∥ IsSomeDeltaCall (length words) delta_call ∥₁
-    → (delta_call.histogram + 15 ≤ length words) × (length words ≤ 1048576) × (length delta_call.ranges ≤ 1001)
-some_inside delta_call words stands = ∥∥₁_elim stands (hlevel props) (λ (shape, known, earlier, a, long, is).
-    let inside = is_inside shape known earlier delta_call a is (length words) long in
-    let ranges = ap length is.ranges in
-    let some = few_boundaries known.spec is.lawful in
-    (inside.0, inside.1, omega (arith, ranges, some)))
+pub lies_within : (delta_call : DeltaCall) (words : List ℕ) → ∥ IsSomeDeltaCall (length words) delta_call ∥₁ → LiesWithin (length words) delta_call.histogram
+lies_within delta_call words stands = ∥∥₁_elim stands (hlevel props) (λ (shape, known, earlier, a, long, is).
+    let inside = is_inside shape known earlier delta_call a is (length words) long in record { within = inside.0; few = inside.1 })
+
+-- and it has few ranges
+pub some_ranges : (delta_call : DeltaCall) (n : ℕ) → ∥ IsSomeDeltaCall n delta_call ∥₁ → length delta_call.ranges ≤ 1001
+some_ranges delta_call n stands = ∥∥₁_elim stands (hlevel props) (λ (shape, known, earlier, a, long, is).
+    let ranges = ap length is.ranges in let some = few_boundaries known.spec is.lawful in omega (arith, ranges, some))
 
 -- it goes on with another stage, with what it lists as it was or with more
-pub same_still : (old : DeltaCall) (stage : Stage) (new : DeltaCall) → new ≡ record old { stage = stage } → IsSame old new
+pub same_still : (old : DeltaCall) (stage : DeltaStage) (new : DeltaCall) → new ≡ record old { stage = stage } → IsSame old new
 same_still old stage new same = record {
   version = ap (λ (t : DeltaCall). t.version) same;
   histogram = ap (λ (t : DeltaCall). t.histogram) same;
@@ -165,7 +166,7 @@ same_still old stage new same = record {
   room = ap (λ (t : DeltaCall). vec_capacity t.counts) same;
 }
 
-pub same_taken : (old : DeltaCall) (stage : Stage) (new : DeltaCall) → new ≡ record old { stage = stage; counts = new.counts } → vec_capacity new.counts ≡ vec_capacity old.counts
+pub same_taken : (old : DeltaCall) (stage : DeltaStage) (new : DeltaCall) → new ≡ record old { stage = stage; counts = new.counts } → vec_capacity new.counts ≡ vec_capacity old.counts
     → IsSame old new
 same_taken old stage new same room = record {
   version = ap (λ (t : DeltaCall). t.version) same;

@@ -28,15 +28,15 @@ use Rattle.segment_promises.proofs.ValueWalks.{behind_it, split_at_it}
 use Rattle.segment_promises.specs.Calls.{AreUnits, SeesMore}
 use Rattle.segment_promises.proofs.Calls.SampleLists.{not_before}
 use Rattle.segment_promises.proofs.Calls.Sights.{saw_count, seen_here}
-use Rattle.hist_core.specs.declared.delta_call.Stage.{Stage}
-use Rattle.hist_core.specs.declared.delta_call.Stage.TheVariants.{Walking, LoadingSample, RaisingSample}
+use Rattle.hist_core.specs.declared.delta_call.DeltaStage.{DeltaStage}
+use Rattle.hist_core.specs.declared.delta_call.DeltaStage.TheVariants.{Walking, LoadingSample, RaisingSample}
 use Rattle.hist_core.specs.declared.delta_call.DeltaCall.{DeltaCall}
 use Rattle.hist_core.specs.declared.delta_call.DeltaCallStep.{DeltaCallStep}
 use Rattle.hist_core.specs.declared.delta_call.DeltaCallStep.TheVariants.{More, Took, Done}
 use Rattle.hist_core.specs.declared.walk.Met.{Met}
 use Rattle.hist_core.specs.declared.walk.Met.TheVariants.{Nothing, Sample, End}
-use Rattle.hist_core.specs.declared.walk.Walk.{Walk}
-use Rattle.hist_core.specs.declared.walk.Walk.TheVariants.{LoadingFirst, LoadingType, LoadingHistogram, LoadingValue, LoadingNext}
+use Rattle.hist_core.specs.declared.walk.SampleWalk.{SampleWalk}
+use Rattle.hist_core.specs.declared.walk.SampleWalk.TheVariants.{LoadingFirst, LoadingType, LoadingHistogram, LoadingValue, LoadingNext}
 use Rattle.hist_core.specs.StepsBy.{FrameOfStep, StepsBy, IsInOrder, WalksInOrder}
 use Rattle.hist_core.specs.DeltaCall.{HasBegun, HasCounted, HoldsValues, IsSomeDeltaCall, IsDeltaCall, IsUnderWay, ListsTaken, StandsAtStage, DeltaCallGives, TakesAlong, FrameOfDelta, TakesUnits, behind_sample, behind_walk, insert_by_key}
 use Rattle.hist_core.specs.Walk.{HasComeTo, HasSetOut, IsWalkProgress, Meets, MetRecord, MetSample, WalksAt, spot_of}
@@ -52,7 +52,7 @@ use Rattle.hist_core.proofs.Walks.Walking.{began_before, few_passed, spot_inside
 -- ---- its first event has happened
 
 -- whatever its walk met
-pub begun_behind : (walk : Walk) (histogram word : ℕ) (met : Met) → Meets walk histogram word met → HasBegun (behind_walk met)
+pub begun_behind : (walk : SampleWalk) (histogram word : ℕ) (met : Met) → Meets walk histogram word met → HasBegun (behind_walk met)
 begun_behind LoadingFirst histogram word met is = subst (λ (m : Met). HasBegun (behind_walk m)) (sym is) (by (word == 12))
   where
     by : (ends : Bool) → HasBegun (behind_walk (if ends then End else Nothing (LoadingType word)))
@@ -98,7 +98,7 @@ way_beside known earlier delta_call a b deltas way = record {
   sum = way.sum;
 }
 
-along : (known : Known) (earlier : List Taken) (delta_call : DeltaCall) (a : Actor) (walk : Walk) → HasSetOut walk → IsUnderWay known earlier delta_call a
+along : (known : Known) (earlier : List Taken) (delta_call : DeltaCall) (a : Actor) (walk : SampleWalk) → HasSetOut walk → IsUnderWay known earlier delta_call a
     → TakesAlong known earlier delta_call a walk
 along known earlier delta_call a LoadingFirst set_out way = absurd set_out
 along known earlier delta_call a (LoadingType at) set_out way = way
@@ -124,7 +124,7 @@ module _ (shape : Dimensions) (known : Known) (earlier : List Taken) (delta_call
   stands_behind (Nothing walk) b way room (set_out, stands) =
       (along known earlier (behind (Nothing walk)) b walk set_out (same_way known earlier delta_call (behind (Nothing walk)) b refl way), still_at walk stands, room)
     where
-      still_at : (walk : Walk) → WalksAt shape known (ListsTaken known delta_call) walk b → WalksAt shape known (ListsTaken known (behind (Nothing walk))) walk b
+      still_at : (walk : SampleWalk) → WalksAt shape known (ListsTaken known delta_call) walk b → WalksAt shape known (ListsTaken known (behind (Nothing walk))) walk b
       still_at walk stands = stands
   stands_behind (Sample at value) b way room met = (same_way known earlier delta_call (behind (Sample at value)) b refl way, met, room)
   stands_behind End b way room all =
@@ -156,7 +156,7 @@ module _ (shape : Dimensions) (known : Known) (earlier : List Taken) (delta_call
     )
 
     -- behind its first event
-    further : (walk : Walk) → IsUnderWay known earlier delta_call a → WalksAt shape known (ListsTaken known delta_call) walk a → HoldsValues shape delta_call → HasSetOut walk
+    further : (walk : SampleWalk) → IsUnderWay known earlier delta_call a → WalksAt shape known (ListsTaken known delta_call) walk a → HoldsValues shape delta_call → HasSetOut walk
         → Meets walk known.reference (word_at words (spot_of known.reference walk)) met
         → StepsBy shape.size delta_call.version a words words (DeltaCallGives shape known earlier (behind met) More a)
     further walk way stands room set_out meets =
@@ -190,12 +190,12 @@ module _ (shape : Dimensions) (known : Known) (earlier : List Taken) (delta_call
         (record { singles = omega arith; counts = omega arith }) met meets) (λ b (beside, since, done, turns, comes).
         goes_behind b (aside_of begun b refl refl refl beside done) turns (way_beside known earlier delta_call begun b beside.deltas way) stands.2 comes))
 
-    pub walks_further : (walk : Walk) → delta_call.stage ≡ Walking walk → Meets walk delta_call.histogram (word_at words (spot_of delta_call.histogram walk)) met
+    pub walks_further : (walk : SampleWalk) → delta_call.stage ≡ Walking walk → Meets walk delta_call.histogram (word_at words (spot_of delta_call.histogram walk)) met
         → StepsBy shape.size delta_call.version a words words (DeltaCallGives shape known earlier (behind met) More a)
     walks_further walk loads meets = by walk (subst (StandsAtStage shape known earlier delta_call a) loads is.stands)
         (subst (λ (h : ℕ). Meets walk h (word_at words (spot_of h walk)) met) (sym is.reference) meets)
       where
-        by : (walk : Walk) → StandsAtStage shape known earlier delta_call a (Walking walk) → Meets walk known.reference (word_at words (spot_of known.reference walk)) met
+        by : (walk : SampleWalk) → StandsAtStage shape known earlier delta_call a (Walking walk) → Meets walk known.reference (word_at words (spot_of known.reference walk)) met
             → StepsBy shape.size delta_call.version a words words (DeltaCallGives shape known earlier (behind met) More a)
         by LoadingFirst stands meets = sets_out stands meets
         by (LoadingType at) stands meets = further (LoadingType at) stands.0 stands.1 stands.2 tt meets
@@ -252,7 +252,7 @@ module _ (shape : Dimensions) (known : Known) (earlier : List Taken) (delta_call
 
     module _ (order : IsInOrder a) (learned : Learned a (taking_event (load_count (at + 6))) count) where
       stands_then : (none : Bool) → (count == 0) ≡ none
-          → let stage : Stage = if none then Walking (LoadingNext at) else RaisingSample at value count in
+          → let stage : DeltaStage = if none then Walking (LoadingNext at) else RaisingSample at value count in
           StandsAtStage shape known earlier (record delta_call { stage = stage }) counted stage
       stands_then true e = (
         under_way (record delta_call { stage = Walking (LoadingNext at) }) refl,
@@ -393,7 +393,7 @@ module _ (shape : Dimensions) (known : Known) (earlier : List Taken) (delta_call
 
 -- ---- words that are loaded lie within the words
 
-pub some_walk : (delta_call : DeltaCall) (words : List ℕ) (walk : Walk) → delta_call.stage ≡ Walking walk → ∥ IsSomeDeltaCall (length words) delta_call ∥₁
+pub some_walk : (delta_call : DeltaCall) (words : List ℕ) (walk : SampleWalk) → delta_call.stage ≡ Walking walk → ∥ IsSomeDeltaCall (length words) delta_call ∥₁
     → (spot_of delta_call.histogram walk < length words) × (length words ≤ 1048576)
 some_walk delta_call words walk loads stands = ∥∥₁_elim stands (hlevel props) (λ (shape, known, earlier, a, long, is).
     let many = (is_inside shape known earlier delta_call a is (length words) long).1 in

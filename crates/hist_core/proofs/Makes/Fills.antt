@@ -17,7 +17,7 @@ use Rattle.segment_machine.specs.Event.{Event, next, allocating_event}
 use Rattle.segment_machine.specs.Publishing.{own_at}
 use Rattle.hist_core.specs.declared.making.Making.{Making}
 use Rattle.hist_core.specs.declared.making.MakingStep.TheVariants.{More}
-use Rattle.hist_core.specs.declared.making.Stage.TheVariants.{Filling, Publishing}
+use Rattle.hist_core.specs.declared.making.MakingStage.TheVariants.{Filling, Publishing}
 use Rattle.hist_core.specs.StepsBy.{FrameOfStep, StepsBy}
 use Rattle.hist_core.specs.Making.{Wanted, IsMaking, IsFilledTo, IsNextFilled, IsFilled, StandsAtStage, MakingGives, serves_wanted}
 use Rattle.hist_core.proofs.Worlds.Free.{free_turns}

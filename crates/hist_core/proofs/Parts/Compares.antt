@@ -24,7 +24,7 @@ use Rattle.hist_core.proofs.Parts.Deeds.{does_nothing}
 use Rattle.hist_core.specs.declared.hist.Hist.{Hist}
 use Rattle.hist_core.specs.declared.hist.HistStep.{HistStep}
 use Rattle.hist_core.specs.declared.hist.HistStep.TheVariants.{More, Done, Refused}
-use Rattle.hist_core.specs.declared.hist.Stage.TheVariants.{Walking, Comparing}
+use Rattle.hist_core.specs.declared.hist.HistStage.TheVariants.{Walking, Comparing}
 use Rattle.segment_calls.specs.declared.refusal.Refusal.{Refusal}
 use Rattle.hist_core.specs.StepsBy.{DoesOnly, FrameOfStep, StepsBy}
 use Rattle.hist_core.proofs.Worlds.Free.{free_turns}

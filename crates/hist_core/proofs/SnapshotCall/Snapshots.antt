@@ -34,10 +34,10 @@ use Rattle.segment_machine.specs.Taking.{load_count, load_redundant, load_sum}
 use Rattle.hist_core.proofs.Parts.Alone.{seen_alike, seen_words}
 use Rattle.hist_core.specs.declared.snapshot_call.SnapshotCall.{SnapshotCall}
 use Rattle.hist_core.specs.declared.snapshot_call.SnapshotCallStep.TheVariants.{More, Done}
-use Rattle.hist_core.specs.declared.snapshot_call.Stage.{Stage}
-use Rattle.hist_core.specs.declared.snapshot_call.Stage.TheVariants.{LoadingSingle, LoadingCounts, LoadingCount, Walking, LoadingSample, LoadingSum, LoadingRedundant}
+use Rattle.hist_core.specs.declared.snapshot_call.SnapshotStage.{SnapshotStage}
+use Rattle.hist_core.specs.declared.snapshot_call.SnapshotStage.TheVariants.{LoadingSingle, LoadingCounts, LoadingCount, Walking, LoadingSample, LoadingSum, LoadingRedundant}
 use Rattle.hist_core.specs.declared.mounted.Mounted.{Mounted}
-use Rattle.hist_core.specs.StepsBy.{FrameOfStep, StepsBy, IsInOrder, WalksInOrder, is_tied}
+use Rattle.hist_core.specs.StepsBy.{FrameOfStep, StepsBy, IsInOrder, WalksInOrder, is_tied, LiesWithin}
 use Rattle.hist_core.specs.SnapshotCall.{HasKeys, IsBehindSingle, IsSnapshotCall, IsPut, IsSomeSnapshotCall, LooksAnew, SnapshotCallGives, SawBefore, SawTotalsOf, StandsAtStage, behind_bucket}
 use Rattle.hist_core.specs.Mounted.{AreMounted, HasWord, total_at}
 use Rattle.segment_machine.specs.Form.{SaysPacked}
@@ -139,7 +139,7 @@ module _ (shape : Dimensions) (known : Known) (snapshot_call : SnapshotCall) (a 
         stands = ap (λ (n : ℕ). Looking (record { histogram = n; single = Some found; counts = (look_of a.hand.place known.reference).counts })) (looks_there a.hand.place known.reference);
       }
 
-      same_behind : (stage : Stage) → IsBehindSingle snapshot_call found new stage → IsSame snapshot_call new
+      same_behind : (stage : SnapshotStage) → IsBehindSingle snapshot_call found new stage → IsSame snapshot_call new
       same_behind (LoadingCounts packed kept) (off, says, small, same) = record {
         version = ap (λ (l : SnapshotCall). l.version) same;
         histogram = ap (λ (l : SnapshotCall). l.histogram) same;
@@ -158,7 +158,7 @@ module _ (shape : Dimensions) (known : Known) (snapshot_call : SnapshotCall) (a 
       same_behind (Walking walk) none = absurd none
       same_behind (LoadingSample at value) none = absurd none
 
-      stands_behind : (stage : Stage) → IsBehindSingle snapshot_call found new stage → StandsAtStage shape known new acted stage
+      stands_behind : (stage : SnapshotStage) → IsBehindSingle snapshot_call found new stage → StandsAtStage shape known new acted stage
       stands_behind (LoadingCounts packed kept) (off, says, small, same) = (
         keys_still known snapshot_call new (same_behind (LoadingCounts packed kept) (off, says, small, same)) has_single,
         small,
@@ -207,7 +207,7 @@ module _ (shape : Dimensions) (known : Known) (snapshot_call : SnapshotCall) (a 
       goes = λ learned apart ordered.
           let there : IsBehindSingle snapshot_call found new new.stage = subst (λ (h : ℕ). IsBehindSingle snapshot_call (word_at words (h + 9)) new new.stage) (sym is.reference) behind in
           let same = same_behind learned new new.stage there in
-          ([], acted, refl, (beside, refl, subst (λ (stage : Stage). LooksAnew stage a acted) (sym loads) refl, goes_still new acted same.version same.histogram beside refl (stands_behind learned new new.stage there)));
+          ([], acted, refl, (beside, refl, subst (λ (stage : SnapshotStage). LooksAnew stage a acted) (sym loads) refl, goes_still new acted same.version same.histogram beside refl (stands_behind learned new new.stage there)));
     }
 
   -- ---- the counts reference is loaded
@@ -249,7 +249,7 @@ module _ (shape : Dimensions) (known : Known) (snapshot_call : SnapshotCall) (a 
             (
               beside,
               refl,
-              subst (λ (stage : Stage). LooksAnew stage a acted) (sym loads) refl,
+              subst (λ (stage : SnapshotStage). LooksAnew stage a acted) (sym loads) refl,
               goes_still new acted refl refl beside refl (
                 keys_still known snapshot_call new (record { version = refl; histogram = refl; keys = refl; long = refl }) has_counts,
                 (λ i total lt there. absurd (omega (arith, lt))),
@@ -351,7 +351,7 @@ module _ (shape : Dimensions) (known : Known) (snapshot_call : SnapshotCall) (a 
               (
                 beside,
                 refl,
-                subst (λ (stage : Stage). LooksAnew stage a counted) (sym loads) refl,
+                subst (λ (stage : SnapshotStage). LooksAnew stage a counted) (sym loads) refl,
                 goes_still new counted same.version same.histogram beside (ap is_bound (count_placed known mounted word a are bucket stands.2 count))
                     (subst (StandsAtStage shape known new counted) (sym (ap (λ (l : SnapshotCall). l.stage) put.same)) (stands_then learned.0)),
               ),
@@ -383,7 +383,7 @@ module _ (shape : Dimensions) (known : Known) (snapshot_call : SnapshotCall) (a 
             (
               beside,
               refl,
-              subst (λ (stage : Stage). LooksAnew stage a acted) (sym loads) refl,
+              subst (λ (stage : SnapshotStage). LooksAnew stage a acted) (sym loads) refl,
               goes_still (record snapshot_call { stage = LoadingRedundant sum }) acted refl refl beside refl (
                 ⊎_elim (λ (has, totals). inl (keys_still known snapshot_call (record snapshot_call { stage = LoadingRedundant sum }) (record { version = refl; histogram = refl; keys = refl; long = refl }) has, totals))
                     (λ all. inr (all_still known a acted (taking_sees a (load_sum known.reference) found) snapshot_call.totals.items refl refl all)) before_sum.0,
@@ -464,7 +464,7 @@ module _ (shape : Dimensions) (known : Known) (snapshot_call : SnapshotCall) (a 
         (
           ap is_tied before_last.2,
           refl,
-          subst (λ (stage : Stage). LooksAnew stage a (noted loaded (answers answered))) (sym loads) refl,
+          subst (λ (stage : SnapshotStage). LooksAnew stage a (noted loaded (answers answered))) (sym loads) refl,
           record {
             beside = record {
               role = refl;
@@ -499,10 +499,9 @@ module _ (shape : Dimensions) (known : Known) (snapshot_call : SnapshotCall) (a 
     }
 
 -- the record of a snapshot that stands somewhere lies in so many words, which are few
-pub some_inside : (snapshot_call : SnapshotCall) (words : List ℕ) → ∥ IsSomeSnapshotCall (length words) snapshot_call ∥₁
-    → (snapshot_call.histogram + 15 ≤ length words) × (length words ≤ 1048576)
-some_inside snapshot_call words stands = ∥∥₁_elim stands (hlevel props) (λ (shape, known, a, long, is).
-    is_inside shape known snapshot_call a words is (length words) long)
+pub lies_within : (snapshot_call : SnapshotCall) (words : List ℕ) → ∥ IsSomeSnapshotCall (length words) snapshot_call ∥₁ → LiesWithin (length words) snapshot_call.histogram
+lies_within snapshot_call words stands = ∥∥₁_elim stands (hlevel props) (λ (shape, known, a, long, is).
+    let inside = is_inside shape known snapshot_call a words is (length words) long in record { within = inside.0; few = inside.1 })
 
 -- and of a histogram with buckets there are few
 pub some_few : (snapshot_call : SnapshotCall) (words : List ℕ) → snapshot_call.stage ≡ LoadingSingle → ∥ IsSomeSnapshotCall (length words) snapshot_call ∥₁ → length snapshot_call.totals.items ≤ 1000

@@ -27,8 +27,8 @@ use Rattle.segment_promises.proofs.Calls.SeenWords.{seen_now}
 use Rattle.hist_core.proofs.Parts.Alone.{seen_words}
 use Rattle.hist_core.specs.declared.walk.Met.{Met}
 use Rattle.hist_core.specs.declared.walk.Met.TheVariants.{Nothing, Sample, End}
-use Rattle.hist_core.specs.declared.walk.Walk.{Walk}
-use Rattle.hist_core.specs.declared.walk.Walk.TheVariants.{LoadingFirst, LoadingType, LoadingHistogram, LoadingValue, LoadingNext}
+use Rattle.hist_core.specs.declared.walk.SampleWalk.{SampleWalk}
+use Rattle.hist_core.specs.declared.walk.SampleWalk.TheVariants.{LoadingFirst, LoadingType, LoadingHistogram, LoadingValue, LoadingNext}
 use Rattle.hist_core.specs.StepsBy.{FrameOfStep, StepsBy}
 use Rattle.hist_core.specs.Walk.{HasComeTo, HasSetOut, IsBehindValue, IsWalkProgress, MayWalk, Meets, MetRecord, OfPassed, PassedRecord, WalksAt, behind_next, behind_type, spot_of}
 use Rattle.hist_core.proofs.Walks.Passing.{way_still}
@@ -81,7 +81,7 @@ pub record GoesAlong (known : Known) (holds : OfPassed) : Type 0 where
       → holds (passed ++ at ∷ []) a
 
 -- who has set out began to look before
-pub began_before : (shape : Dimensions) (known : Known) (holds : OfPassed) (walk : Walk) (a : Actor) → HasSetOut walk → WalksAt shape known holds walk a → BeganBefore a
+pub began_before : (shape : Dimensions) (known : Known) (holds : OfPassed) (walk : SampleWalk) (a : Actor) → HasSetOut walk → WalksAt shape known holds walk a → BeganBefore a
 began_before shape known holds LoadingFirst a set_out stands = absurd set_out
 began_before shape known holds (LoadingType at) a set_out stands = stands.way.began
 began_before shape known holds (LoadingHistogram at) a set_out stands = stands.0.way.began
@@ -310,7 +310,7 @@ module _ (shape : Dimensions) (version : ℕ) (known : Known) (holds : OfPassed)
 
   -- ---- whichever it is
 
-  pub walks_so : (walk : Walk) → WalksAt shape known holds walk a → BeganBefore a → (m : Met) → Meets walk known.reference (word_at words (spot_of known.reference walk)) m
+  pub walks_so : (walk : SampleWalk) → WalksAt shape known holds walk a → BeganBefore a → (m : Met) → Meets walk known.reference (word_at words (spot_of known.reference walk)) m
       → StepsBy shape.size version a words words (Gives m)
   walks_so LoadingFirst stands began m is = first_so stands.0 stands.1 began m is
   walks_so (LoadingType at) stands began m is = subst (λ (x : Met). StepsBy shape.size version a words words (Gives x)) (sym is) (type_so at stands)
@@ -322,7 +322,7 @@ module _ (shape : Dimensions) (version : ℕ) (known : Known) (holds : OfPassed)
   record_inside at within there = subst (λ (d : Dimensions). at + 5 ≤ d.size) here (within there)
 
   -- the word that it loads lies within the segment
-  pub spot_inside : (walk : Walk) → WalksAt shape known holds walk a → known.reference + 15 ≤ shape.size → spot_of known.reference walk < shape.size
+  pub spot_inside : (walk : SampleWalk) → WalksAt shape known holds walk a → known.reference + 15 ≤ shape.size → spot_of known.reference walk < shape.size
   spot_inside LoadingFirst stands within = omega (arith, within)
   spot_inside (LoadingType at) stands within = let low = record_inside at stands.way.comes.within stands.record_there in omega (arith, low)
   spot_inside (LoadingHistogram at) stands within = let low = stands.1.1 in omega (arith, low)

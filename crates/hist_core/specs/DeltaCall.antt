@@ -93,8 +93,8 @@ IsBeforeAll earlier delta_call a = (a.deltas.taking ≡ false) × (a.deltas.take
 
 -- with a walk that has not set out it is before its first event
 abbrev pub TakesAlong : Known → List Taken → DeltaCall → Actor → SampleWalk → Type 0
-TakesAlong known earlier delta_call a LoadingFirst = IsBeforeAll earlier delta_call a
-TakesAlong known earlier delta_call a walk = IsUnderWay known earlier delta_call a
+TakesAlong known earlier delta_call a walk =
+    ((walk ≡ LoadingFirst) × IsBeforeAll earlier delta_call a) ⊎ (HasSetOut walk × IsUnderWay known earlier delta_call a)
 
 -- so is what it saw of the buckets before one, and it lists units of these alone
 pub record HasDrawn (known : Known) (delta_call : DeltaCall) (bucket : ℕ) (a : Actor) : Type 0 where
@@ -150,9 +150,8 @@ pub record IsDeltaCall (shape : Dimensions) (known : Known) (earlier : List Take
 
 -- It begins with the single word where the histogram has buckets, and with a walk where it is sparse. There is room for all keys.
 abbrev pub OpensWith : Dimensions → Known → DeltaCall → DeltaStage → Type 0
-OpensWith shape known delta_call LoadingSingle = HasBuckets known delta_call
-OpensWith shape known delta_call (Walking LoadingFirst) = (known.spec ≡ Sparse) × HoldsValues shape delta_call
-OpensWith shape known delta_call stage = ⊥
+OpensWith shape known delta_call stage =
+    ((stage ≡ LoadingSingle) × HasBuckets known delta_call) ⊎ ((stage ≡ Walking LoadingFirst) × (known.spec ≡ Sparse) × HoldsValues shape delta_call)
 
 -- it has taken nothing
 pub record IsStarted (shape : Dimensions) (version : ℕ) (known : Known) (delta_call : DeltaCall) : Type 0 where
@@ -219,9 +218,7 @@ HasBegun stage = ⊤
 
 -- it stands before that
 abbrev pub IsFirst : DeltaStage → Type 0
-IsFirst LoadingSingle = ⊤
-IsFirst (Walking LoadingFirst) = ⊤
-IsFirst stage = ⊥
+IsFirst stage = (stage ≡ LoadingSingle) ⊎ (stage ≡ Walking LoadingFirst)
 
 -- a delta that stands so somewhere does this next
 pub record IsAtStage (stage : DeltaStage) (n : ℕ) (delta_call : DeltaCall) : Type 0 where

@@ -121,9 +121,9 @@ pub record IsSnapshotCall (shape : Dimensions) (known : Known) (snapshot_call : 
 -- It begins: of a histogram with buckets it has seen no units; of a sparse one it lists nothing, with room for as many values as fit in the
 -- segment.
 abbrev pub OpensWith : Dimensions → Known → SnapshotCall → SnapshotStage → Type 0
-OpensWith shape known snapshot_call LoadingSingle = (has_buckets known.spec ≡ true) × (snapshot_call.totals.items ≡ blank_totals (boundaries_of known.spec))
-OpensWith shape known snapshot_call (Walking LoadingFirst) = (known.spec ≡ Sparse) × (snapshot_call.totals.items ≡ []) × HasRoom shape snapshot_call
-OpensWith shape known snapshot_call stage = ⊥
+OpensWith shape known snapshot_call stage =
+    ((stage ≡ LoadingSingle) × (has_buckets known.spec ≡ true) × (snapshot_call.totals.items ≡ blank_totals (boundaries_of known.spec)))
+    ⊎ ((stage ≡ Walking LoadingFirst) × (known.spec ≡ Sparse) × (snapshot_call.totals.items ≡ []) × HasRoom shape snapshot_call)
 
 pub record IsStarted (shape : Dimensions) (version : ℕ) (known : Known) (snapshot_call : SnapshotCall) : Type 0 where
   pub versioned : snapshot_call.version ≡ version
@@ -132,9 +132,7 @@ pub record IsStarted (shape : Dimensions) (version : ℕ) (known : Known) (snaps
 
 -- it has done no event yet
 abbrev pub HasJustBegun : SnapshotStage → Type 0
-HasJustBegun LoadingSingle = ⊤
-HasJustBegun (Walking LoadingFirst) = ⊤
-HasJustBegun stage = ⊥
+HasJustBegun stage = (stage ≡ LoadingSingle) ⊎ (stage ≡ Walking LoadingFirst)
 
 -- ---- what a step makes of its actor
 

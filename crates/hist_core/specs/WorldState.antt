@@ -257,7 +257,12 @@ HoldsNoPointer actor world_state =
 
 -- ---- what an actor knows
 
--- an actor that is there and rests
+-- an actor that is there
+pub record IsThere (world_state : WorldState) (actor : ℕ) (actor_run : ActorRun) : Type 0 where
+  pub near : actor < vec_len world_state.actor_runs
+  pub at : get_elem? world_state.actor_runs.items actor ≡ some actor_run
+
+-- it rests
 pub record IsResting (world_state : WorldState) (actor : ℕ) (actor_run : ActorRun) : Type 0 where
   pub near : actor < vec_len world_state.actor_runs
   pub at : get_elem? world_state.actor_runs.items actor ≡ some actor_run

@@ -59,6 +59,8 @@ impl ActorRun {
     ghost use Rattle.hist_core.specs.declared.entry.Taken.{Taken};
     ghost use Rattle.hist_core.specs.declared.delta_call.DeltaCall.{DeltaCall};
     ghost use Rattle.hist_core.specs.declared.actor_run.Running.TheVariants as runs;
+    ghost use Rattle.bucket_ranges.specs.Ranges.{AreBoundaries, boundaries_of};
+    ghost use Rattle.bucket_ranges.specs.Spec.{spec_fault};
     ghost use Rattle.segment_image.specs.Shape.{Dimensions};
     ghost use Rattle.segment_machine.specs.declared.actor.Actor.{Actor};
     ghost use Rattle.hist_core.specs.declared.hist.HistStep.TheVariants.{Done};
@@ -107,6 +109,17 @@ impl ActorRun {
         }
     }
 
+    // The histogram that it knows at a place.
+    fn known_at(&self, i: usize) -> &Known
+        requires { KnowsAt self.now i }
+        ensures at { get_elem? self.now.known.items i ≡ some result.now }
+        ensures lawful { spec_fault result.now.spec ≡ None }
+        ensures ranges { result.now.ranges ≡ boundaries_of result.now.spec }
+        ensures bounds { AreBoundaries result.now.ranges }
+    {
+        &self.known[i]
+    }
+
     // It begins to ask for a histogram, or is answered at once where it knows one of that name.
     pub(crate) fn begin_hist(&mut self, shape: Shape, asked: Asked) -> Result<Begun, AllocError>
         ensures { BeginsHist shape asked self.old self.new result }
@@ -146,7 +159,7 @@ impl ActorRun {
         ensures begins { IfOk result (λ _. (known : Known) → get_elem? self.old.known.items i ≡ some known → BeginsAdd shape version known value units self.old self.new) }
         ensures fails { OnErr result (IsAsItWas self.old self.new) }
     {
-        let known = &self.known[i];
+        let known = self.known_at(i);
         let amount = amount_of(&known.ranges, value, units);
         let add = Add::start(shape, version, known, value, units, amount);
         let entry = entry_of(alloc, known, key_of(&known.ranges, value), units, amount)?;
@@ -170,7 +183,7 @@ impl ActorRun {
         ensures begins { IfOk result (λ _. (known : Known) → get_elem? self.old.known.items i ≡ some known → BeginsBatch shape version known items.now sum cost self.old self.new) }
         ensures fails { OnErr result (IsAsItWas self.old self.new) }
     {
-        let known = &self.known[i];
+        let known = self.known_at(i);
         let batch = Batch {
             histogram: known.reference,
             items: new_items(alloc, shape, version, known, items)?,
@@ -288,7 +301,7 @@ impl ActorRun {
         ensures begins { IfOk result (λ _. (known : Known) → get_elem? self.old.known.items i ≡ some known → BeginsDelta shape version known self.old self.new) }
         ensures fails { OnErr result (IsAsItWas self.old self.new) }
     {
-        let known = &self.known[i];
+        let known = self.known_at(i);
         let delta_call = DeltaCall::start(alloc, shape, version, known)?;
         let fresh = Taken {
             name: Vec::from_slice(alloc, &known.name)?,
@@ -354,7 +367,7 @@ impl ActorRun {
         ensures begins { IfOk result (λ _. (known : Known) → get_elem? self.old.known.items i ≡ some known → BeginsSnapshot shape version known self.old self.new) }
         ensures fails { OnErr result (self.new ≡ self.old) }
     {
-        let snapshot_call = SnapshotCall::start(alloc, shape, version, &self.known[i])?;
+        let snapshot_call = SnapshotCall::start(alloc, shape, version, self.known_at(i))?;
         self.running = Some(Running::Snapshot(snapshot_call));
         Ok(())
     }

@@ -142,10 +142,9 @@ impl World {
     pub fn begun(&self, actor: usize) -> &[Entry]
         ensures { result.now ≡ begun_of self.now.world_state actor }
     {
-        if actor >= self.world_state.actor_runs.len() {
+        let Some(actor_run) = self.world_state.run(actor) else {
             return &[];
-        }
-        let actor_run = &self.world_state.actor_runs[actor];
+        };
         &actor_run.entries[..actor_run.begun]
     }
 
@@ -153,10 +152,9 @@ impl World {
     pub fn ended(&self, actor: usize) -> &[Entry]
         ensures { result.now ≡ ended_of self.now.world_state actor }
     {
-        if actor >= self.world_state.actor_runs.len() {
+        let Some(actor_run) = self.world_state.run(actor) else {
             return &[];
-        }
-        let actor_run = &self.world_state.actor_runs[actor];
+        };
         &actor_run.entries[..actor_run.ended]
     }
 
@@ -190,10 +188,7 @@ impl World {
     pub fn next_exchange(&self, actor: usize) -> Option<Attempt>
         ensures { result ≡ next_attempt self.now.world_state actor }
     {
-        if actor >= self.world_state.actor_runs.len() {
-            return None;
-        }
-        self.world_state.actor_runs[actor].next_exchange()
+        self.world_state.run(actor)?.next_exchange()
     }
 
     /// An actor goes on with its call by one event. `Added` puts what the call counted at the end of `ended`; a `BatchRefused` puts the
@@ -224,14 +219,13 @@ impl World {
         ensures word { OnOk result (∥ ChangesOneWord self.old.world_state.words.items self.new.world_state.words.items ∥₁) }
         ensures says { IfOk result (λ said. Says actor self.old.world_state self.new.world_state said) }
     {
-        let world_state = &mut self.world_state;
-        if actor >= world_state.actor_runs.len() {
+        let Some(actor_run) = self.world_state.run(actor) else {
             return Err(WorldFault::NoActor);
-        }
-        if world_state.actor_runs[actor].running.is_none() {
+        };
+        if actor_run.running.is_none() {
             return Err(WorldFault::Idle);
         }
-        Ok(world_state.step(actor))
+        Ok(self.world_state.step(actor))
     }
 
     // Makes a move: an actor begins a call, or goes on with it by one event.
@@ -267,10 +261,10 @@ impl World {
         ensures items { result.now ≡ taken_of self.now.world_state actor }
         ensures ascending { ∥ All (λ taken. AreUnits taken.counts.items) result.now ∥₁ }
     {
-        if actor >= self.world_state.actor_runs.len() {
+        let Some(actor_run) = self.world_state.run(actor) else {
             return &[];
-        }
-        self.world_state.actor_runs[actor].taken.as_slice()
+        };
+        actor_run.taken.as_slice()
     }
 }
 

@@ -81,13 +81,13 @@ fn refused_batch(why: Refusal) -> Answer
 }
 
 impl WorldState {
-    ghost use Rattle.std.specs.Prelude.{◌<◌, Ok, Err, IsOk, MatchOption, ⊤};
+    ghost use Rattle.std.specs.Prelude.{◌<◌, ◌≤◌, Ok, Err, IfNone, IfSome, IsOk, MatchOption, ⊤};
     ghost use mathlib.Core.Option.{some, none};
     ghost use Rattle.segment_image.specs.Checks.{first_fault};
     ghost use Rattle.segment_machine.specs.State.{State};
     ghost use Rattle.image_adoption.specs.Checking.{IsAdoption};
     ghost use Rattle.hist_core.specs.Start.{Start};
-    ghost use Rattle.hist_core.specs.WorldState.{IsAdoptedWorldState, IsNewWorldState, IsReached, IsReachedAs, StepsTo, IsBusy, IsReady, IsResting, OthersStay, HistBegins, AddBegins, BatchBegins, DeltaBegins, SnapshotBegins, SetCorruptBegins, Says};
+    ghost use Rattle.hist_core.specs.WorldState.{IsAdoptedWorldState, IsNewWorldState, IsReached, IsReachedAs, StepsTo, IsBusy, IsReady, IsResting, IsThere, OthersStay, HistBegins, AddBegins, BatchBegins, DeltaBegins, SnapshotBegins, SetCorruptBegins, Says};
     ghost use Rattle.hist_core.specs.World.{BeginsCall, BeginSays, TakesMemory, name_checks, named_by, rest_checks};
 
     // A new segment with so many actors.
@@ -133,15 +133,25 @@ impl WorldState {
         })
     }
 
+    // An actor that is there.
+    pub(crate) fn run(&self, actor: usize) -> Option<&ActorRun>
+        ensures there { IfSome result (λ actor_run. IsThere self.now actor actor_run.now) }
+        ensures none { IfNone result (vec_len self.now.actor_runs ≤ actor) }
+    {
+        if actor >= self.actor_runs.len() {
+            return None;
+        }
+        Some(&self.actor_runs[actor])
+    }
+
     // An actor that is there and rests.
     fn resting(&self, actor: usize) -> Result<&ActorRun, WorldFault>
         ensures faults { MatchOption (first_fault (rest_checks self.now actor)) (IsOk result) (λ fault. result ≡ Err fault) }
         ensures rests { IfOk result (λ actor_run. IsResting self.now actor actor_run.now) }
     {
-        if actor >= self.actor_runs.len() {
+        let Some(actor_run) = self.run(actor) else {
             return Err(WorldFault::NoActor);
-        }
-        let actor_run = &self.actor_runs[actor];
+        };
         if actor_run.running.is_some() {
             return Err(WorldFault::Busy);
         }

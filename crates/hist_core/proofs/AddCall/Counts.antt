@@ -17,6 +17,7 @@ use Rattle.bucket_ranges.specs.declared.spec.Spec.{Spec}
 use Rattle.segment_machine.specs.Made.{IsFirstSample}
 use Rattle.segment_machine.specs.Entry.{fresh, key_of, has_ended, is_counted}
 use Rattle.segment_machine.specs.Event.{Event, next, counting_event}
+use Rattle.hist_core.proofs.Parts.Alone.{by_event}
 use Rattle.hist_core.specs.declared.add.Add.{Add}
 use Rattle.hist_core.specs.declared.add.AddStep.TheVariants.{More}
 use Rattle.hist_core.specs.declared.add.AddStage.{AddStage}
@@ -100,33 +101,24 @@ module _ (shape : Dimensions) (known : Known) (amid : Amid) (add : Add) (a : Act
 
     pub counts_so : (new_words : List ℕ) → new_words ≡ slice_set words at ((word_at words at + add.units) % 2 ^ 64)
         → StepsBy shape.size add.version a words new_words (AddGives shape known amid (record add { stage = behind_count add.amount }) More a)
-    counts_so new_words are = record {
-      before = [];
-      at = a;
-      told = refl;
-      event = event;
-      ready = (
-        counting_of known add false false,
-        known,
-        (next_is shape known amid add a is false false stands.0, is.counting.some),
-        refl,
-        refl,
-        ⊎_elim (λ (look, (place, some, off, (knows, here, has)), there). inl (look, add.bucket, (place, some, off, (knows, here, has)), is.counting.bucket has, there))
-            (λ (sample, turns, (knows, here, sparse), first, there). inr (
-              sample,
-              turns,
-              (knows, here, sparse),
-              subst (λ (key : ℤ). IsFirstSample a.seen known.reference key sample) (ap (λ (kind : Spec). key_of (boundaries_of kind) add.value) (sym sparse)) first,
-              there,
-            ))
-            stands.1,
-      );
-      words_are = are;
-      goes = λ learned apart ordered. (
-        [],
-        acted,
-        refl,
-        (
+    counts_so new_words are = by_event event (
+      counting_of known add false false,
+      known,
+      (next_is shape known amid add a is false false stands.0, is.counting.some),
+      refl,
+      refl,
+      ⊎_elim (λ (look, (place, some, off, (knows, here, has)), there). inl (look, add.bucket, (place, some, off, (knows, here, has)), is.counting.bucket has, there))
+          (λ (sample, turns, (knows, here, sparse), first, there). inr (
+            sample,
+            turns,
+            (knows, here, sparse),
+            subst (λ (key : ℤ). IsFirstSample a.seen known.reference key sample) (ap (λ (kind : Spec). key_of (boundaries_of kind) add.value) (sym sparse)) first,
+            there,
+          ))
+          stands.1,
+    )
+        are
+        (λ learned apart ordered. (
           record {
             role = refl;
             segment = refl;
@@ -149,9 +141,7 @@ module _ (shape : Dimensions) (known : Known) (amid : Amid) (add : Add) (a : Act
             over = is.over;
             stands = behind_stands shape known amid add acted refl is_counted_then;
           },
-        ),
-      );
-    }
+        ))
 
 -- the record of an `add` that stands somewhere lies in so many words, which are few
 pub lies_within : (add : Add) (words : List ℕ) → ∥ IsSomeAdd (length words) add ∥₁ → LiesWithin (length words) add.histogram

@@ -24,6 +24,7 @@ use Rattle.segment_machine.specs.Made.{SawOther}
 use Rattle.segment_machine.specs.Walking.{IsFixed, WalkingEvent, load_published}
 use Rattle.segment_promises.proofs.Growing.{others_still, reference_within, still}
 use Rattle.segment_promises.proofs.Calls.SeenWords.{seen_now}
+use Rattle.hist_core.proofs.Parts.Alone.{by_event}
 use Rattle.hist_core.specs.declared.making.Making.{Making as MakingOf}
 use Rattle.hist_core.specs.declared.making.MakingStep.{MakingStep}
 use Rattle.hist_core.specs.declared.making.MakingStep.TheVariants as made
@@ -223,15 +224,9 @@ module _ (shape : Dimensions) (version : ℕ) (s : Sampling) (a : Actor) (words 
 
       does_load : (new : Sampling) (said : SamplingStep) → (Learned a (walking_event event) found → SamplingGives shape new said a acted)
           → StepsBy shape.size version a words words (SamplingGives shape new said a)
-      does_load new said gives = record {
-        before = [];
-        at = a;
-        told = refl;
-        event = walking_event event;
-        ready = (free_turns a.hand.place met.free, there, fixed);
-        words_are = sym (set-get_or words (at + index) 0);
-        goes = λ learned apart ordered. ([], acted, refl, gives learned);
-      }
+      does_load new said gives = by_event (walking_event event) (free_turns a.hand.place met.free, there, fixed)
+          (sym (set-get_or words (at + index) 0))
+          (λ learned apart ordered. gives learned)
 
   -- the type
   module _ (at : ℕ) (loads : s.stage ≡ LoadingType at) where

@@ -36,6 +36,7 @@ use Rattle.segment_promises.proofs.Calls.BucketLists.{still_below}
 use Rattle.segment_promises.specs.Calls.{AreBelow}
 use Rattle.segment_promises.proofs.Calls.Sights.{seen_here, took_bucket}
 use Rattle.segment_promises.proofs.Calls.Places.{looks_again}
+use Rattle.hist_core.proofs.Parts.Alone.{by_event}
 use Rattle.hist_core.specs.declared.mounted.Mounted.{Mounted}
 use Rattle.hist_core.specs.declared.delta_call.DeltaStage.TheVariants.{LoadingCounts, LoadingCount, Raising, LoadingSum}
 use Rattle.hist_core.specs.declared.delta_call.DeltaCall.{DeltaCall}
@@ -225,38 +226,27 @@ module _ (shape : Dimensions) (known : Known) (earlier : List Taken) (delta_call
           chain = ([], sym (append-nil a.seen.chain));
           words = (sight_counts known.reference found, refl);
           done = refl;
-        } in record {
-          before = [];
-          at = a;
-          told = refl;
-          event = event;
-          ready = (is.turns, (known, knows_it shape known earlier delta_call a is before_counts.4.0));
-          words_are = sym (set-get_or words (known.reference + 8) 0);
-          goes = λ learned apart ordered. (
-            [],
-            acted,
-            refl,
+        } in by_event event (is.turns, (known, knows_it shape known earlier delta_call a is before_counts.4.0))
+        (sym (set-get_or words (known.reference + 8) 0))
+        (λ learned apart ordered. (
+          beside,
+          goes_still shape known earlier delta_call a is new acted (record { version = refl; histogram = refl; ranges = refl; room = refl }) beside refl is.units (
+            let way = before_counts.0 in record { taking = way.taking; last = way.last; taken = way.taken; name = way.name; counts = way.counts; sum = way.sum },
+            record {
+              took = λ i lt. absurd (omega (arith, lt));
+              below = subst (AreBelow known 0) (sym before_counts.1) tt;
+              few = let e = ap length before_counts.1 in omega (arith, e);
+              inside = some_buckets;
+            },
             (
-              beside,
-              goes_still shape known earlier delta_call a is new acted (record { version = refl; histogram = refl; ranges = refl; room = refl }) beside refl is.units (
-                let way = before_counts.0 in record { taking = way.taking; last = way.last; taken = way.taken; name = way.name; counts = way.counts; sum = way.sum },
-                record {
-                  took = λ i lt. absurd (omega (arith, lt));
-                  below = subst (AreBelow known 0) (sym before_counts.1) tt;
-                  few = let e = ap length before_counts.1 in omega (arith, e);
-                  inside = some_buckets;
-                },
-                (
-                  before_counts.3.0,
-                  subst (λ (n : ℕ). AreMounted known (record { counts = n; packed = packed; kept = kept }) before_counts.3.0 acted) same
-                      (are_mounted known before_counts.3.0 a before_counts.3.1 before_counts.3.2 (knows_it shape known earlier delta_call a is before_counts.4.0) found packed kept
-                      (subst (λ (v : ℕ). SaysPacked v (buckets_of known.spec) before_counts.3.0 packed kept) (sym is.version) before_counts.3.3) before_counts.2 learned),
-                ),
-                before_counts.4,
-              ),
+              before_counts.3.0,
+              subst (λ (n : ℕ). AreMounted known (record { counts = n; packed = packed; kept = kept }) before_counts.3.0 acted) same
+                  (are_mounted known before_counts.3.0 a before_counts.3.1 before_counts.3.2 (knows_it shape known earlier delta_call a is before_counts.4.0) found packed kept
+                  (subst (λ (v : ℕ). SaysPacked v (buckets_of known.spec) before_counts.3.0 packed kept) (sym is.version) before_counts.3.3) before_counts.2 learned),
             ),
-          );
-        }
+            before_counts.4,
+          ),
+        ))
       where
         some_buckets : 0 < buckets_of known.spec
         some_buckets = by (buckets_of known.spec) refl

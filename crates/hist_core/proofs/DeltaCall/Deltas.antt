@@ -1,5 +1,5 @@
 -- A `delta` of an actor goes on, what it is shown as, and what it is answered with.
-use Rattle.std.proofs.Common.{◌≡◌, ◌⊎◌, inl, inr, ◌<◌, ◌≤◌, ◌+◌, ◌-◌, ℕ, zero, suc, ℤ, pos, arith, set, List, [], ◌∷◌, ◌++◌, length, map, take, refl, sym, ap, subst, ◌∙◌, vec_len}
+use Rattle.std.proofs.Common.{◌≡◌, ◌⊎◌, inl, inr, ⊎_elim, ◌<◌, ◌≤◌, ◌+◌, ◌-◌, ℕ, zero, suc, ℤ, pos, arith, set, List, [], ◌∷◌, ◌++◌, length, map, take, refl, sym, ap, subst, ◌∙◌, vec_len}
 use Rattle.std.specs.Prelude.{Option, Some, None, option_to_list, slice_index_or, slice_set, vec_capacity}
 use Rattle.std.specs.declared.alloc.Global.{Global}
 use Rattle.std.specs.declared.vec.Vec.{Vec}
@@ -25,6 +25,8 @@ use Rattle.segment_promises.specs.Values.{ListsValues}
 use Rattle.segment_promises.proofs.ListedValues.{lists_nothing}
 use Rattle.segment_promises.specs.Calls.{AreUnits}
 use Rattle.segment_machine.specs.State.{State}
+use Rattle.hist_core.proofs.HistCall.Asking.{as_it_stood, runs_on}
+use Rattle.hist_core.proofs.Parts.Alone.{alike}
 use Rattle.hist_core.specs.declared.world_state.WorldState.{WorldState}
 use Rattle.hist_core.specs.declared.call.Answer.TheVariants as answer
 use Rattle.hist_core.specs.declared.call.Stepped.{Stepped}
@@ -142,14 +144,7 @@ way_of shape known earlier delta_call a (TakingPacked bucket units) begun stands
 way_of shape known earlier delta_call a (LoadingCounts packed kept) begun stands = stands.0
 way_of shape known earlier delta_call a (LoadingCount mounted bucket) begun stands = stands.0
 way_of shape known earlier delta_call a (Raising mounted bucket total) begun stands = stands.0
-way_of shape known earlier delta_call a (Walking walk) begun stands = by walk begun stands.0
-  where
-    by : (walk : SampleWalk) → HasSetOut walk → TakesAlong known earlier delta_call a walk → IsUnderWay known earlier delta_call a
-    by LoadingFirst begun way = absurd begun
-    by (LoadingType at) begun way = way
-    by (LoadingHistogram at) begun way = way
-    by (LoadingValue at of) begun way = way
-    by (LoadingNext at) begun way = way
+way_of shape known earlier delta_call a (Walking walk) begun stands = ⊎_elim (λ first. absurd (subst HasSetOut first.0 begun)) (λ way. way.1) stands.0
 way_of shape known earlier delta_call a (LoadingSample at value) begun stands = stands.0
 way_of shape known earlier delta_call a (RaisingSample at value count) begun stands = stands.0
 way_of shape known earlier delta_call a LoadingSum begun stands = stands.0
@@ -158,20 +153,9 @@ way_of shape known earlier delta_call a (Swapping sum) begun stands = stands.0
 -- before that its actor's deltas took what they took
 taken_first : (shape : Dimensions) (known : MachineKnown) (earlier : List MachineTaken) (delta_call : DeltaCall) (a : Actor) (stage : DeltaStage) → IsFirst stage
     → StandsAtStage shape known earlier delta_call a stage → a.deltas.taken ≡ earlier
-taken_first shape known earlier delta_call a LoadingSingle first stands = stands.1
-taken_first shape known earlier delta_call a (Walking LoadingFirst) first stands = stands.0.1
-taken_first shape known earlier delta_call a (Walking (LoadingType at)) first stands = absurd first
-taken_first shape known earlier delta_call a (Walking (LoadingHistogram at)) first stands = absurd first
-taken_first shape known earlier delta_call a (Walking (LoadingValue at of)) first stands = absurd first
-taken_first shape known earlier delta_call a (Walking (LoadingNext at)) first stands = absurd first
-taken_first shape known earlier delta_call a (TakingPacked bucket units) first stands = absurd first
-taken_first shape known earlier delta_call a (LoadingCounts packed kept) first stands = absurd first
-taken_first shape known earlier delta_call a (LoadingCount mounted bucket) first stands = absurd first
-taken_first shape known earlier delta_call a (Raising mounted bucket total) first stands = absurd first
-taken_first shape known earlier delta_call a (LoadingSample at value) first stands = absurd first
-taken_first shape known earlier delta_call a (RaisingSample at value count) first stands = absurd first
-taken_first shape known earlier delta_call a LoadingSum first stands = absurd first
-taken_first shape known earlier delta_call a (Swapping sum) first stands = absurd first
+taken_first shape known earlier delta_call a stage (inl is) stands = (subst (StandsAtStage shape known earlier delta_call a) is stands).1
+taken_first shape known earlier delta_call a stage (inr is) stands =
+    ⊎_elim (λ before. before.1.1) (λ way. absurd way.0) (subst (StandsAtStage shape known earlier delta_call a) is stands).0
 
 pub some_delta_call : (n : ℕ) (actor_run : ActorRun) (delta_call : DeltaCall) (fresh : Option Taken) → actor_run.running ≡ Some (Delta delta_call fresh) → IsSomeRun n actor_run → IsSomeDeltaCall n delta_call
 some_delta_call n actor_run delta_call fresh is (shape, version, a, long, wide, run) =
@@ -478,20 +462,8 @@ no_units = record { ascending = no_keys; some = λ k d below. absurd (omega (ari
 
 -- so it is before its first event
 opens_first : (shape : Dimensions) (known : MachineKnown) (delta_call : DeltaCall) (stage : DeltaStage) → OpensWith shape known delta_call stage → IsFirst stage
-opens_first shape known delta_call LoadingSingle opens = tt
-opens_first shape known delta_call (Walking LoadingFirst) opens = tt
-opens_first shape known delta_call (Walking (LoadingType at)) none = absurd none
-opens_first shape known delta_call (Walking (LoadingHistogram at)) none = absurd none
-opens_first shape known delta_call (Walking (LoadingValue at of)) none = absurd none
-opens_first shape known delta_call (Walking (LoadingNext at)) none = absurd none
-opens_first shape known delta_call (TakingPacked bucket units) none = absurd none
-opens_first shape known delta_call (LoadingCounts packed kept) none = absurd none
-opens_first shape known delta_call (LoadingCount mounted bucket) none = absurd none
-opens_first shape known delta_call (Raising mounted bucket total) none = absurd none
-opens_first shape known delta_call (LoadingSample at value) none = absurd none
-opens_first shape known delta_call (RaisingSample at value count) none = absurd none
-opens_first shape known delta_call LoadingSum none = absurd none
-opens_first shape known delta_call (Swapping sum) none = absurd none
+opens_first _ _ _ stage (inl opens) = inl opens.0
+opens_first _ _ _ stage (inr opens) = inr opens.0
 
 -- who rests begins it, which is no event
 module _ (shape : Dimensions) (version : ℕ) (known : Known) (old new : ActorRun) (starts : BeginsDelta shape version known old new) (i : ℕ)
@@ -511,9 +483,9 @@ module _ (shape : Dimensions) (version : ℕ) (known : Known) (old new : ActorRu
 
     -- of a histogram with buckets it stands before the single word, of a sparse one at the record
     stands_first : (stage : DeltaStage) → OpensWith shape (known_of known) delta_call stage → StandsAtStage shape (known_of known) a.deltas.taken delta_call a stage
-    stands_first LoadingSingle has = (stood.1.takes, refl, starts.started.none, has)
-    stands_first (Walking LoadingFirst) (sparse, room) = (
-      (stood.1.takes, refl, starts.started.none),
+    stands_first stage (inl (is, has)) = subst (StandsAtStage shape (known_of known) a.deltas.taken delta_call a) (sym is) (stood.1.takes, refl, starts.started.none, has)
+    stands_first stage (inr (is, sparse, room)) = subst (StandsAtStage shape (known_of known) a.deltas.taken delta_call a) (sym is) (
+      inl (refl, (stood.1.takes, refl, starts.started.none)),
       (
         record { sparse = sparse; apart = free_apart a.hand.place stood.0; met = met_split a.seen.chain known.reference (run.met (known_of known) knows) },
         λ b. subst (λ (l : List (ℤ × ℕ)). ListsValues (λ value sample. TookSample b sample) (λ sample units. 1 ≤ units) known.reference [] l b.seen)
@@ -521,18 +493,6 @@ module _ (shape : Dimensions) (version : ℕ) (known : Known) (old new : ActorRu
       ),
       room,
     )
-    stands_first (Walking (LoadingType at)) none = absurd none
-    stands_first (Walking (LoadingHistogram at)) none = absurd none
-    stands_first (Walking (LoadingValue at of)) none = absurd none
-    stands_first (Walking (LoadingNext at)) none = absurd none
-    stands_first (TakingPacked bucket units) none = absurd none
-    stands_first (LoadingCounts packed kept) none = absurd none
-    stands_first (LoadingCount mounted bucket) none = absurd none
-    stands_first (Raising mounted bucket total) none = absurd none
-    stands_first (LoadingSample at value) none = absurd none
-    stands_first (RaisingSample at value count) none = absurd none
-    stands_first LoadingSum none = absurd none
-    stands_first (Swapping sum) none = absurd none
 
     begins_taking : IsDeltaCall shape (known_of known) a.deltas.taken delta_call a
     begins_taking = record {
@@ -556,22 +516,13 @@ module _ (shape : Dimensions) (version : ℕ) (known : Known) (old new : ActorRu
     quiet = let q = stood.1 in record { none = q.none; runs = q.runs; holds = q.holds; share = q.share; takes = refl }
 
     pub begins_with : IsRun shape version new a
-    begins_with = subst (λ (r : ActorRun). IsRun shape version r a) (sym starts.is) (record {
-      records = run.records;
-      segment = run.segment;
-      first = run.first;
-      within = run.within;
-      ended = run.ended;
-      begun = run.begun;
-      taken = subst (λ (l : List Taken). AreShown l a.deltas.taken) (sym starts.taken) run.taken;
-      names = run.names;
-      lawful = run.lawful;
-      once = run.once;
-      met = run.met;
-      stands = (quiet, (known_of known, a.deltas.taken, begins_taking, (opens_first shape (known_of known) delta_call delta_call.stage starts.started.opens, starts.named)));
-      room = tt;
-      draft = (starts.room, starts.draft);
-    })
+    begins_with = subst (λ (r : ActorRun). IsRun shape version r a) (sym starts.is)
+        (runs_on shape version roomy a (as_it_stood shape version old roomy a rests (refl, refl, refl, starts.taken) run) a (Some (Delta delta_call (Some starts.fresh))) (alike a)
+        (quiet, (known_of known, a.deltas.taken, begins_taking, (opens_first shape (known_of known) delta_call delta_call.stage starts.started.opens, starts.named)))
+        tt (starts.room, starts.draft))
+      where
+        roomy : ActorRun
+        roomy = record old { taken = new.taken }
 
 -- on a world_state
 module _ (old new : WorldState) (actor : ℕ) (name : List ℕ) (place : ℕ) (r now : ActorRun) (its : IsPlaced old actor name place r) (turned : IsTurned old new actor now)

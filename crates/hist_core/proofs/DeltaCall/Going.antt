@@ -21,6 +21,7 @@ use Rattle.segment_machine.specs.Event.{Event, spot, after, next, Ready, Learned
 use Rattle.segment_machine.specs.Taking.{TakingEvent, Takes, load_count, raise_mark, raise_single_mark, load_sum, swap_sum_mark, load_redundant}
 use Rattle.segment_promises.proofs.Growing.{grows_not}
 use Rattle.segment_promises.specs.Calls.{AreUnits, SeesMore}
+use Rattle.hist_core.proofs.Parts.Alone.{by_event}
 use Rattle.hist_core.specs.declared.delta_call.DeltaStage.{DeltaStage}
 use Rattle.hist_core.specs.declared.delta_call.DeltaCall.{DeltaCall}
 use Rattle.hist_core.specs.StepsBy.{StepsBy, LiesWithin}
@@ -125,15 +126,9 @@ module _ (shape : Dimensions) (known : Known) (earlier : List Taken) (delta_call
     pub acts_on : Ready a event → new_words ≡ after shape.size delta_call.version event words → MayTurn acted → AreUnits new.counts.items
         → (Learned a event found → StandsAtStage shape known earlier new acted new.stage)
         → StepsBy shape.size delta_call.version a words new_words (λ b. FrameOfDelta a b × IsDeltaCall shape known earlier new b)
-    acts_on ready are turns units stands = record {
-      before = [];
-      at = a;
-      told = refl;
-      event = event;
-      ready = ready;
-      words_are = are;
-      goes = λ learned apart ordered. ([], acted, refl, (taking_aside a e found, goes_still new acted same (taking_aside a e found) turns units (stands learned)));
-    }
+    acts_on ready are turns units stands = by_event event ready
+        are
+        (λ learned apart ordered. (taking_aside a e found, goes_still new acted same (taking_aside a e found) turns units (stands learned)))
 
 -- the boundaries of a lawful spec are few
 few_of : (s : Spec) → spec_fault s ≡ None → has_buckets s ≡ true → length (boundaries_of s) ≤ 1001

@@ -31,7 +31,7 @@ use Rattle.segment_machine.specs.Event.{Event, next, counting_event, packing_eve
 use Rattle.segment_machine.specs.Note.{SawAll, SawBucket, answers, looks, moment_of, noted}
 use Rattle.segment_machine.specs.Packing.{IsSingleOf, load_single}
 use Rattle.segment_machine.specs.Taking.{load_count, load_redundant, load_sum}
-use Rattle.hist_core.proofs.Parts.Alone.{seen_alike, seen_words}
+use Rattle.hist_core.proofs.Parts.Alone.{by_event, seen_alike, seen_words}
 use Rattle.hist_core.specs.declared.snapshot_call.SnapshotCall.{SnapshotCall}
 use Rattle.hist_core.specs.declared.snapshot_call.SnapshotCallStep.TheVariants.{More, Done}
 use Rattle.hist_core.specs.declared.snapshot_call.SnapshotStage.{SnapshotStage}
@@ -235,35 +235,24 @@ module _ (shape : Dimensions) (known : Known) (snapshot_call : SnapshotCall) (a 
         let event : Event = counting_event (load_counts known.reference) in
         let acted : Actor = next a event found in
         let new : SnapshotCall = record snapshot_call { stage = LoadingCount (record { counts = counts; packed = packed; kept = kept }) 0 } in
-        let beside : FrameOfStep a acted = seen_words a acted (sight_counts known.reference found) refl refl refl refl refl refl refl refl in record {
-          before = [];
-          at = a;
-          told = refl;
-          event = event;
-          ready = (is.turns, (known, knows_it has_counts));
-          words_are = sym (set-get_or words (known.reference + 8) 0);
-          goes = λ learned apart ordered. (
-            [],
-            acted,
-            refl,
+        let beside : FrameOfStep a acted = seen_words a acted (sight_counts known.reference found) refl refl refl refl refl refl refl refl in by_event event (is.turns, (known, knows_it has_counts))
+        (sym (set-get_or words (known.reference + 8) 0))
+        (λ learned apart ordered. (
+          beside,
+          refl,
+          subst (λ (stage : SnapshotStage). LooksAnew stage a acted) (sym loads) refl,
+          goes_still new acted refl refl beside refl (
+            keys_still known snapshot_call new (record { version = refl; histogram = refl; keys = refl; long = refl }) has_counts,
+            (λ i total lt there. absurd (omega (arith, lt))),
+            some_buckets,
             (
-              beside,
-              refl,
-              subst (λ (stage : SnapshotStage). LooksAnew stage a acted) (sym loads) refl,
-              goes_still new acted refl refl beside refl (
-                keys_still known snapshot_call new (record { version = refl; histogram = refl; keys = refl; long = refl }) has_counts,
-                (λ i total lt there. absurd (omega (arith, lt))),
-                some_buckets,
-                (
-                  before_counts.2.0,
-                  subst (λ (n : ℕ). AreMounted known (record { counts = n; packed = packed; kept = kept }) before_counts.2.0 acted) same
-                      (are_mounted known before_counts.2.0 a before_counts.2.1 before_counts.2.2 (knows_it has_counts) found packed kept
-                      (subst (λ (v : ℕ). SaysPacked v (buckets_of known.spec) before_counts.2.0 packed kept) (sym is.version) before_counts.2.3) before_counts.1 learned),
-                ),
-              ),
+              before_counts.2.0,
+              subst (λ (n : ℕ). AreMounted known (record { counts = n; packed = packed; kept = kept }) before_counts.2.0 acted) same
+                  (are_mounted known before_counts.2.0 a before_counts.2.1 before_counts.2.2 (knows_it has_counts) found packed kept
+                  (subst (λ (v : ℕ). SaysPacked v (buckets_of known.spec) before_counts.2.0 packed kept) (sym is.version) before_counts.2.3) before_counts.1 learned),
             ),
-          );
-        }
+          ),
+        ))
 
   -- ---- the count of a bucket is loaded
   module _ (mounted : Mounted) (bucket : ℕ) (loads : snapshot_call.stage ≡ LoadingCount mounted bucket) where
@@ -337,26 +326,15 @@ module _ (shape : Dimensions) (known : Known) (snapshot_call : SnapshotCall) (a 
 
       pub puts_count : StepsBy shape.size snapshot_call.version a words words (SnapshotCallGives shape known snapshot_call.stage new More a)
       puts_count =
-          let beside : FrameOfStep a counted = seen_alike a counted refl refl refl refl refl refl refl refl in record {
-            before = [];
-            at = a;
-            told = refl;
-            event = taking_event (load_count at);
-            ready = may_load known mounted word a are bucket stands.2 count;
-            words_are = sym (set-get_or words at 0);
-            goes = λ learned apart ordered. (
-              [],
-              counted,
-              refl,
-              (
-                beside,
-                refl,
-                subst (λ (stage : SnapshotStage). LooksAnew stage a counted) (sym loads) refl,
-                goes_still new counted same.version same.histogram beside (ap is_bound (count_placed known mounted word a are bucket stands.2 count))
-                    (subst (StandsAtStage shape known new counted) (sym (ap (λ (l : SnapshotCall). l.stage) put.same)) (stands_then learned.0)),
-              ),
-            );
-          }
+          let beside : FrameOfStep a counted = seen_alike a counted refl refl refl refl refl refl refl refl in by_event (taking_event (load_count at)) (may_load known mounted word a are bucket stands.2 count)
+          (sym (set-get_or words at 0))
+          (λ learned apart ordered. (
+            beside,
+            refl,
+            subst (λ (stage : SnapshotStage). LooksAnew stage a counted) (sym loads) refl,
+            goes_still new counted same.version same.histogram beside (ap is_bound (count_placed known mounted word a are bucket stands.2 count))
+                (subst (StandsAtStage shape known new counted) (sym (ap (λ (l : SnapshotCall). l.stage) put.same)) (stands_then learned.0)),
+          ))
 
   -- ---- the sum is loaded
   module _ (loads : snapshot_call.stage ≡ LoadingSum) where
@@ -369,30 +347,19 @@ module _ (shape : Dimensions) (known : Known) (snapshot_call : SnapshotCall) (a 
         let found : ℕ = word_at words (known.reference + 11) in
         let event : Event = taking_event (load_sum known.reference) in
         let acted : Actor = next a event found in
-        let beside : FrameOfStep a acted = seen_alike a acted refl refl refl refl refl refl refl refl in record {
-          before = [];
-          at = a;
-          told = refl;
-          event = event;
-          ready = (is.turns, (known, is.knows, refl));
-          words_are = sym (set-get_or words (known.reference + 11) 0);
-          goes = λ learned apart ordered. (
-            [],
-            acted,
-            refl,
-            (
-              beside,
-              refl,
-              subst (λ (stage : SnapshotStage). LooksAnew stage a acted) (sym loads) refl,
-              goes_still (record snapshot_call { stage = LoadingRedundant sum }) acted refl refl beside refl (
-                ⊎_elim (λ (has, totals). inl (keys_still known snapshot_call (record snapshot_call { stage = LoadingRedundant sum }) (record { version = refl; histogram = refl; keys = refl; long = refl }) has, totals))
-                    (λ all. inr (all_still known a acted (taking_sees a (load_sum known.reference) found) snapshot_call.totals.items refl refl all)) before_sum.0,
-                record { singles = before_sum.1.singles; counts = before_sum.1.counts },
-                ap (λ (h : ℕ). SumLoaded known.reference (cast_signed w64 (word_at words (h + 11)))) is.reference ∙ ap (SumLoaded known.reference) (sym is_sum),
-              ),
-            ),
-          );
-        }
+        let beside : FrameOfStep a acted = seen_alike a acted refl refl refl refl refl refl refl refl in by_event event (is.turns, (known, is.knows, refl))
+        (sym (set-get_or words (known.reference + 11) 0))
+        (λ learned apart ordered. (
+          beside,
+          refl,
+          subst (λ (stage : SnapshotStage). LooksAnew stage a acted) (sym loads) refl,
+          goes_still (record snapshot_call { stage = LoadingRedundant sum }) acted refl refl beside refl (
+            ⊎_elim (λ (has, totals). inl (keys_still known snapshot_call (record snapshot_call { stage = LoadingRedundant sum }) (record { version = refl; histogram = refl; keys = refl; long = refl }) has, totals))
+                (λ all. inr (all_still known a acted (taking_sees a (load_sum known.reference) found) snapshot_call.totals.items refl refl all)) before_sum.0,
+            record { singles = before_sum.1.singles; counts = before_sum.1.counts },
+            ap (λ (h : ℕ). SumLoaded known.reference (cast_signed w64 (word_at words (h + 11)))) is.reference ∙ ap (SumLoaded known.reference) (sym is_sum),
+          ),
+        ))
 
   -- ---- the redundant count is loaded, and the snapshot is answered
   module _ (sum : ℤ) (loads : snapshot_call.stage ≡ LoadingRedundant sum) (redundant : ℕ) (is_redundant : redundant ≡ word_at words (snapshot_call.histogram + 13)) where

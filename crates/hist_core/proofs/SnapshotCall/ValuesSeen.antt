@@ -25,7 +25,7 @@ use Rattle.segment_promises.proofs.ValueWalks.{behind_it, split_at_it}
 use Rattle.segment_promises.proofs.Calls.SampleLists.{not_before}
 use Rattle.segment_promises.specs.Calls.{SeesMore}
 use Rattle.segment_promises.proofs.Calls.Sights.{seen_here}
-use Rattle.hist_core.proofs.Parts.Alone.{seen_alike}
+use Rattle.hist_core.proofs.Parts.Alone.{by_event, seen_alike}
 use Rattle.hist_core.specs.declared.snapshot_call.SnapshotCall.{SnapshotCall}
 use Rattle.hist_core.specs.declared.snapshot_call.SnapshotCallStep.TheVariants.{More}
 use Rattle.hist_core.specs.declared.snapshot_call.SnapshotStage.{SnapshotStage}
@@ -208,18 +208,9 @@ module _ (shape : Dimensions) (known : Known) (snapshot_call : SnapshotCall) (a 
 
     pub loads_sample : (new : SnapshotCall) → IsListed value count (record snapshot_call { stage = Walking (LoadingNext at) }) new → WalksInOrder a
         → StepsBy shape.size snapshot_call.version a words words (SnapshotCallGives shape known snapshot_call.stage new More a)
-    loads_sample new listed order = record {
-      before = [];
-      at = a;
-      told = refl;
-      event = loading;
-      ready = inr (known, at, value, sparse_there, met_there, met_count.2, refl, is.turns, its_way.apart);
-      words_are = sym (set-get_or words (at + 6) 0);
-      goes = λ learned apart ordered. (
-        [],
-        counted,
-        refl,
-        (
+    loads_sample new listed order = by_event loading (inr (known, at, value, sparse_there, met_there, met_count.2, refl, is.turns, its_way.apart))
+        (sym (set-get_or words (at + 6) 0))
+        (λ learned apart ordered. (
           counted_beside,
           refl,
           subst (λ (stage : SnapshotStage). LooksAnew stage a counted) (sym loads) refl,
@@ -234,9 +225,7 @@ module _ (shape : Dimensions) (known : Known) (snapshot_call : SnapshotCall) (a 
                   lists = subst (λ (l : List (ℤ × ℕ)). HasSeenValues known (its_passed ++ at ∷ []) l counted) (sym listed.items) (lists_then (order (not_spent a.hand.place is.turns)) learned (count == 0) refl);
                 },
               )),
-        ),
-      );
-    }
+        ))
 
 -- ---- words that are loaded lie within the words
 

@@ -1,11 +1,12 @@
 -- A `snapshot` of an actor goes on, and what it is answered with.
-use Rattle.std.proofs.Common.{◌≡◌, ◌≤◌, ◌+◌, ℕ, ℤ, set, List, [], length, map, take, All, refl, sym, ap, subst, ◌∙◌}
+use Rattle.std.proofs.Common.{◌≡◌, ◌≤◌, ◌+◌, inl, inr, ℕ, ℤ, set, List, [], length, map, take, All, refl, sym, ap, subst, ◌∙◌}
 use Rattle.std.specs.Prelude.{Option, Some, None}
 use Rattle.std.specs.List.{Contains}
 use Rattle.segment_image.specs.Shape.{Dimensions}
 use Rattle.segment_machine.specs.declared.actor.Actor.{Actor}
 use Rattle.segment_machine.specs.declared.actor.Known.{Known as MachineKnown}
 use Rattle.segment_promises.proofs.Calls.BlankTotals.{keys_of_buckets, no_units}
+use Rattle.hist_core.proofs.Parts.Alone.{alike}
 use Rattle.hist_core.specs.declared.call.Stepped.{Stepped}
 use Rattle.hist_core.specs.declared.call.Answer.TheVariants as answer
 use Rattle.hist_core.specs.declared.call.Stepped.TheVariants as stepped
@@ -195,27 +196,18 @@ module _ (shape : Dimensions) (version : ℕ) (known : Known) (old new : ActorRu
 
     -- of a histogram with buckets it stands before the single word, of a sparse one at the record
     stands_first : (stage : SnapshotStage) → OpensWith shape (known_of known) snapshot_call stage → StandsAtStage shape (known_of known) snapshot_call a stage
-    stands_first LoadingSingle (has, blank) =
-        let keys : HasBlanks snapshot_call.totals.items = subst HasBlanks (sym blank) (keys_of_buckets (known_of known) (boundaries_of known.spec) its_known.lawful has refl) in (
+    stands_first stage (inl (is, has, blank)) = subst (StandsAtStage shape (known_of known) snapshot_call a) (sym is)
+        (let keys : HasBlanks snapshot_call.totals.items = subst HasBlanks (sym blank) (keys_of_buckets (known_of known) (boundaries_of known.spec) its_known.lawful has refl) in (
           record { bucketed = has; keys = keys.0; buckets = keys.1 },
           subst (All (λ total. total.1 ≡ 0)) (sym blank) (no_units (boundaries_of known.spec)),
-        )
-    stands_first (Walking LoadingFirst) (sparse, none, room) = (
+        ))
+    stands_first stage (inr (is, sparse, none, room)) = subst (StandsAtStage shape (known_of known) snapshot_call a) (sym is) (
       room,
       (
         record { sparse = sparse; apart = free_apart a.hand.place stood.0; met = met_split a.seen.chain known.reference (run.met (known_of known) knows) },
         λ b. subst (λ (l : List (ℤ × ℕ)). HasSeenValues (known_of known) [] l b) (sym none) (lists_nothing (HasListed [] b) (HasTotal b) known.reference b.seen),
       ),
     )
-    stands_first (Walking (LoadingType at)) none = absurd none
-    stands_first (Walking (LoadingHistogram at)) none = absurd none
-    stands_first (Walking (LoadingValue at of)) none = absurd none
-    stands_first (Walking (LoadingNext at)) none = absurd none
-    stands_first (LoadingCounts packed kept) none = absurd none
-    stands_first (LoadingCount mounted bucket) none = absurd none
-    stands_first (LoadingSample at value) none = absurd none
-    stands_first LoadingSum none = absurd none
-    stands_first (LoadingRedundant sum) none = absurd none
 
     begins_looking : IsSnapshotCall shape (known_of known) snapshot_call a
     begins_looking = record {
@@ -235,22 +227,8 @@ module _ (shape : Dimensions) (version : ℕ) (known : Known) (old new : ActorRu
     }
 
     pub begins_with : IsRun shape version new a
-    begins_with = subst (λ (r : ActorRun). IsRun shape version r a) (sym starts.2) (record {
-      records = run.records;
-      segment = run.segment;
-      first = run.first;
-      within = run.within;
-      ended = run.ended;
-      begun = run.begun;
-      taken = run.taken;
-      names = run.names;
-      lawful = run.lawful;
-      once = run.once;
-      met = run.met;
-      stands = (stood.1, (known_of known, begins_looking));
-      room = tt;
-      draft = tt;
-    })
+    begins_with = subst (λ (r : ActorRun). IsRun shape version r a) (sym starts.2)
+        (runs_on shape version old a run a (Some (Snapshot snapshot_call)) (alike a) (stood.1, (known_of known, begins_looking)) tt tt)
 
 -- on a world_state
 module _ (old new : WorldState) (actor : ℕ) (name : List ℕ) (place : ℕ) (r now : ActorRun) (its : IsPlaced old actor name place r) (turned : IsTurned old new actor now)
@@ -287,17 +265,8 @@ module _ (old new : WorldState) (actor : ℕ) (name : List ℕ) (place : ℕ) (r
 
 -- it has done no event yet
 just_begun : (shape : Dimensions) (known : MachineKnown) (snapshot_call : SnapshotCall) (stage : SnapshotStage) → OpensWith shape known snapshot_call stage → HasJustBegun stage
-just_begun shape k d LoadingSingle opens = tt
-just_begun shape k d (Walking LoadingFirst) opens = tt
-just_begun shape k d (Walking (LoadingType at)) none = absurd none
-just_begun shape k d (Walking (LoadingHistogram at)) none = absurd none
-just_begun shape k d (Walking (LoadingValue at of)) none = absurd none
-just_begun shape k d (Walking (LoadingNext at)) none = absurd none
-just_begun shape k d (LoadingCounts packed kept) none = absurd none
-just_begun shape k d (LoadingCount mounted bucket) none = absurd none
-just_begun shape k d (LoadingSample at value) none = absurd none
-just_begun shape k d LoadingSum none = absurd none
-just_begun shape k d (LoadingRedundant sum) none = absurd none
+just_begun _ _ _ stage (inl opens) = inl opens.0
+just_begun _ _ _ stage (inr opens) = inr opens.0
 
 pub snapshot_begun : (old new : WorldState) (actor : ℕ) (name : List ℕ) (place : ℕ) (r now : ActorRun) (its : IsPlaced old actor name place r) → IsTurned old new actor now
     → BeginsSnapshot old.shape old.version its.known r now → new.units ≡ old.units → SnapshotBegins actor name old new Going

@@ -20,8 +20,11 @@ use Rattle.std.specs.Str.{bytes_eq}
 use Rattle.std.proofs.lemmas.Slice.Eq.{bytes_eq-Decides}
 use mathlib.Core.Option as maybe
 
--- the second of two checks fails, or none does
+-- the first or the second of two checks fails, or none does
 module _ (a b : Bool) (first second : WorldFault) (fine : Type 0) (faulty : WorldFault → Type 0) where
+  pub first_fails : a ≡ true → faulty first → MatchOption (if a then Some first else (if b then Some second else None)) fine faulty
+  first_fails fails holds = rw fails holds
+
   pub second_fails : a ≡ false → b ≡ true → faulty second → MatchOption (if a then Some first else (if b then Some second else None)) fine faulty
   second_fails passes fails holds = rw (passes, fails) holds
 
@@ -112,10 +115,10 @@ module _ (world_state : WorldState) (i : ℕ) (r : ActorRun) (at : get_elem? wor
   is_busy runs = λ actor_run is. subst (λ (x : ActorRun). IsSome x.running) (some-injective r actor_run (sym at ∙ is)) runs
 
 -- an actor that is not there shows nothing
-pub shows_nothing : {X : Type 0} (shown : ActorRun → List X) (world_state : WorldState) (i : ℕ) → length world_state.actor_runs.items ≤ i
+pub shows_nothing : {X : Type 0} (shown : ActorRun → List X) (world_state : WorldState) (i : ℕ) → vec_len world_state.actor_runs ≤ i
     → [] ≡ of_actor shown (get_elem? world_state.actor_runs.items i)
 shows_nothing shown world_state i beyond = by (get_elem? world_state.actor_runs.items i) refl
   where
     by : (found : maybe.Option ActorRun) → get_elem? world_state.actor_runs.items i ≡ found → [] ≡ of_actor shown found
     by none at = refl
-    by (some r) at = absurd (let below = place_below world_state.actor_runs.items i r at in omega (arith, below, beyond))
+    by (some r) at = absurd (let below = place_below world_state.actor_runs.items i r at in let long = world_state.actor_runs.ok.0 in omega (arith, below, beyond, long))

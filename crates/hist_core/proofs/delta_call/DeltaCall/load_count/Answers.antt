@@ -1,4 +1,4 @@
-use Rattle.std.proofs.Common.{arith, sym, subst, ◌∙◌, ◌≡◌, ◌+◌}
+use Rattle.std.proofs.Common.{arith, sym, subst, ◌∙◌, ◌≡◌, ◌+◌, length}
 use Rattle.segment_image.specs.Words.{word_at}
 use Rattle.hist_core.specs.declared.delta_call.DeltaStage.{DeltaStage}
 use Rattle.hist_core.specs.declared.delta_call.DeltaCallStep.TheVariants.{More}

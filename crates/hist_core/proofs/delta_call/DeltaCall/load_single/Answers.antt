@@ -1,4 +1,4 @@
-use Rattle.std.proofs.Common.{arith}
+use Rattle.std.proofs.Common.{arith, length}
 use Rattle.hist_core.proofs.DeltaCall.Going.{some_ranges}
 use Rattle.hist_core.proofs.DeltaCall.Singles.{loads_single}
 use Rattle.hist_core.proofs.delta_call.DeltaCall.load_single.Goals as goal

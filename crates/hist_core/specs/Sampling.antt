@@ -10,7 +10,6 @@ use Rattle.list_core.specs.Chain.{is_reference}
 use Rattle.list_core.specs.Walk.{IsPrefix, stands_behind}
 use Rattle.segment_machine.specs.declared.actor.Actor.{Actor}
 use Rattle.segment_machine.specs.declared.actor.Known.{Known}
-use Rattle.segment_machine.specs.declared.actor.Made.{Made}
 use Rattle.segment_machine.specs.declared.actor.Made.TheVariants.{Sample}
 use Rattle.segment_machine.specs.Actor.{Sparse, word_seen}
 use Rattle.segment_machine.specs.declared.seen.Seen.{Seen}

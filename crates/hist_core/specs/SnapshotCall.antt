@@ -1,5 +1,5 @@
 -- A snapshot that is going on.
-use Rattle.std.specs.Prelude.{◌≡◌, ◌≢◌, ◌⊎◌, ◌==◌, true, false, nat_lt, ℕ, ◌+◌, ◌-◌, ◌/◌, ◌<◌, ◌≤◌, ℤ, List, [], ◌∷◌, ◌++◌, map, length, if◌then◌else◌, Some, None, vec_capacity, ⊤}
+use Rattle.std.specs.Prelude.{◌≡◌, ◌≢◌, ◌⊎◌, ◌==◌, true, false, nat_lt, ℕ, ◌+◌, ◌-◌, ◌/◌, ◌<◌, ◌≤◌, ℤ, List, [], ◌∷◌, ◌++◌, map, length, if◌then◌else◌, Some, None, vec_capacity}
 use Rattle.std.specs.List.{All, Contains, range_with_len}
 use mathlib.Core.Option.{some}
 use lib.ListN.{get_elem?}

@@ -42,7 +42,7 @@ use Rattle.segment_calls.specs.declared.refusal.Refusal.TheVariants as refusal
 use Rattle.hist_core.specs.declared.actor_run.Running.{Running}
 use Rattle.hist_core.specs.declared.actor_run.Running.TheVariants.{Hist, Add, Delta, Snapshot, Batch, SetCorrupt}
 use Rattle.segment_calls.specs.Asked.{IsRefusedFor, IsTooLarge}
-use Rattle.hist_core.specs.ActorRun.{IsFresh, IsRun, IsAsItWas, IsAnswer, IsTook, IsKnownAnswer, IsRefusedBy, DoesAsSaid, LooksSince, NoneHasName, Answers, entry_of, looked_by, pending_by, ended_by, begun_by}
+use Rattle.hist_core.specs.ActorRun.{IsFresh, IsRun, IsAsItWas, IsAnswer, IsTook, IsKnownAnswer, IsRefusedBy, DoesAsSaid, LooksSince, Answers, entry_of, looked_by, pending_by, ended_by, begun_by}
 use Rattle.segment_machine.specs.Entry.{batch_cost, batch_entries, sample_entry, tally_noted}
 use Rattle.segment_machine.specs.declared.entry.Entry.{Entry as MachineEntry}
 use Rattle.hist_core.specs.Batch.{sample_of}

@@ -1,5 +1,5 @@
 -- An `add` loads the counts reference.
-use Rattle.std.proofs.Common.{◌≡◌, ◌<◌, ◌≤◌, ℕ, ◌+◌, ◌*◌, ◌%◌, ◌^◌, Bool, List, [], refl, sym, ap, subst, ◌∙◌, arith, inl}
+use Rattle.std.proofs.Common.{◌≡◌, ◌<◌, ◌≤◌, ℕ, ◌+◌, ◌*◌, ◌%◌, ◌^◌, Bool, List, refl, sym, ap, subst, ◌∙◌, arith, inl}
 use Rattle.std.specs.Prelude.{◌≢◌, Some, if◌then◌else◌}
 use Rattle.std.proofs.lemmas.Bool.{eq-eqb}
 use lib.Seq.{set-get_or}
@@ -20,9 +20,7 @@ use Rattle.hist_core.specs.declared.add.Add.{Add}
 use Rattle.hist_core.specs.declared.add.AddStep.TheVariants.{More}
 use Rattle.hist_core.specs.declared.add.AddStage.TheVariants.{LoadingCounts, Counting}
 use Rattle.hist_core.specs.StepsBy.{StepsBy}
-use Rattle.hist_core.specs.Add.{Amid, StandsAtStage, IsAdd, AddGives, serves_counted}
-use Rattle.hist_core.proofs.Parts.Deeds.{does_nothing}
-use Rattle.hist_core.proofs.AddCall.Counts.{counts_on}
+use Rattle.hist_core.specs.Add.{Amid, StandsAtStage, IsAdd, AddGives}
 
 module _ (shape : Dimensions) (known : Known) (amid : Amid) (add : Add) (a : Actor) (words : List ℕ) (is : IsAdd shape known amid add a) (loads : add.stage ≡ LoadingCounts) where
   stands : StandsAtStage shape known amid add a LoadingCounts

@@ -1,5 +1,5 @@
 -- A call of an actor that counts begins: what it counts, and that it may.
-use Rattle.std.proofs.Common.{◌≡◌, ◌≢◌, ◌≤◌, ◌<◌, ◌+◌, ◌*◌, ℕ, zero, suc, ℤ, pos, ◌+ℤ◌, Bool, true, false, not, ◌==◌, ◌⊎◌, List, [], ◌∷◌, ◌++◌, map, length, take, drop, set, fold, Contains, inl, refl, sym, ap, subst, ◌∙◌, arith, length-append}
+use Rattle.std.proofs.Common.{◌≡◌, ◌≢◌, ◌≤◌, ◌<◌, ◌+◌, ◌*◌, ℕ, zero, suc, ℤ, pos, ◌+ℤ◌, Bool, true, false, not, ◌==◌, ◌⊎◌, List, [], ◌∷◌, ◌++◌, map, length, take, drop, fold, Contains, inl, refl, sym, ap, subst, ◌∙◌, arith, length-append}
 use Rattle.std.specs.Prelude.{Option, Some, None, unsigned_abs, if◌then◌else◌, vec_len, vec_capacity}
 use Rattle.std.proofs.lemmas.List.Elements.{All-nil, Contains-append_left}
 use Rattle.std.specs.Str.{bytes_eq}
@@ -44,7 +44,7 @@ use Rattle.hist_core.proofs.Worlds.Beginnings.{IsPlaced, IsTurned, is_now}
 use Rattle.hist_core.proofs.Worlds.WorldStates.{lends, is_long, quiet_now}
 use Rattle.hist_core.proofs.HistCall.Asking.{place_below}
 use Rattle.hist_core.specs.Add.{alone, counted_entry, IsAdd, IsCounting, IsStarted}
-use Rattle.hist_core.specs.ActorRun.{entry_of, known_of, pending_by, IsKnown, NoneHasName, HaveOwnNames, IsKnownAt, IsQuiet, HasDraft, HasRoom, StandsIn, IsRun, IsGhostNoting, BeginsToCount, BeginsAdd}
+use Rattle.hist_core.specs.ActorRun.{entry_of, known_of, pending_by, IsKnown, HaveOwnNames, IsQuiet, HasDraft, HasRoom, StandsIn, IsRun, IsGhostNoting, BeginsToCount, BeginsAdd}
 use Rattle.hist_core.proofs.Worlds.Free.{free_turns}
 use Rattle.hist_core.proofs.AddCall.Samples.{stands_first}
 use Rattle.hist_core.specs.StepsBy.{IsFree}

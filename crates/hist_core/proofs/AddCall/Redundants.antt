@@ -1,5 +1,5 @@
 -- An `add` adds its units to the redundant count, and all of its entry has happened.
-use Rattle.std.proofs.Common.{◌≡◌, ℕ, ◌+◌, ◌%◌, ◌^◌, pos, Bool, true, false, not, List, [], refl, subst}
+use Rattle.std.proofs.Common.{◌≡◌, ℕ, ◌+◌, ◌%◌, ◌^◌, pos, Bool, true, false, not, List, refl, subst}
 use Rattle.std.specs.Prelude.{◌||◌, slice_set}
 use Rattle.std.specs.Ordering.{int_eq}
 use Rattle.segment_image.specs.Shape.{Dimensions}

@@ -1,5 +1,5 @@
 -- An `add` adds its amount to the sum.
-use Rattle.std.proofs.Common.{◌≡◌, ℕ, ◌+◌, ◌%◌, ◌^◌, Bool, true, false, not, List, [], ◌∷◌, ◌++◌, map, refl, sym, ap, subst, ◌∙◌}
+use Rattle.std.proofs.Common.{◌≡◌, ℕ, ◌+◌, ◌%◌, ◌^◌, Bool, true, false, not, List, ◌∷◌, ◌++◌, map, refl, sym, ap, subst, ◌∙◌}
 use Rattle.std.specs.Prelude.{slice_set}
 use Rattle.std.specs.Int.{cast_unsigned, w64}
 use Rattle.segment_image.specs.Shape.{Dimensions}
@@ -14,9 +14,8 @@ use Rattle.hist_core.specs.declared.add.Add.{Add}
 use Rattle.hist_core.specs.declared.add.AddStep.TheVariants.{More}
 use Rattle.hist_core.specs.declared.add.AddStage.TheVariants.{Summing, Noting}
 use Rattle.hist_core.specs.StepsBy.{StepsBy}
-use Rattle.hist_core.specs.Add.{Amid, StandsAtStage, IsAdd, AddGives, serves_counted}
-use Rattle.hist_core.proofs.Parts.Deeds.{does_nothing}
-use Rattle.hist_core.proofs.AddCall.Counts.{counts_on, next_is, changed_is}
+use Rattle.hist_core.specs.Add.{Amid, StandsAtStage, IsAdd, AddGives}
+use Rattle.hist_core.proofs.AddCall.Counts.{next_is, changed_is}
 use Rattle.hist_core.proofs.AddCall.Entries.{counting_of}
 
 module _ (shape : Dimensions) (known : Known) (amid : Amid) (add : Add) (a : Actor) (words : List ℕ) (is : IsAdd shape known amid add a) (sums : add.stage ≡ Summing) where

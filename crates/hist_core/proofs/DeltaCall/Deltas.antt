@@ -45,12 +45,10 @@ use Rattle.hist_core.specs.Start.{Start}
 use Rattle.hist_core.specs.declared.call.Begun.TheVariants.{Going}
 use Rattle.hist_core.specs.WorldState.{BeginsFrom, DeltaBegins, IsReached, IsReachedAs, TakesOf}
 use Rattle.hist_core.specs.StepsBy.{StepsBy, IsFree, WalksInOrder}
-use Rattle.hist_core.specs.declared.walk.SampleWalk.{SampleWalk}
-use Rattle.hist_core.specs.declared.walk.SampleWalk.TheVariants.{LoadingFirst, LoadingType, LoadingHistogram, LoadingValue, LoadingNext}
 use Rattle.hist_core.specs.Walk.{HasSetOut}
 use Rattle.hist_core.proofs.Worlds.Landing.{Landing}
 use Rattle.hist_core.specs.ActorRun.{Answers, AreShown, BeginsDelta, Becomes, Fits, HasDraft, HasPlace, HasRoom, IsDeltaAnnounced, IsDraft, IsDrawing, IsKnown, IsLast, IsQuiet, IsRun, IsShown, IsSomeRun, IsTimely, IsTook, Serves, StandsIn, TakenGoes, apart_from_delta, begun_by, ended_by, ended_deltas, known_of, looked_by, pending_by}
-use Rattle.hist_core.specs.DeltaCall.{HasBegun, HasEnded, IsFirst, IsSomeDeltaCall, IsDeltaCall, IsUnderWay, Lists, OpensWith, StandsAtStage, DeltaCallGives, DeltaCallSteps, TakesAlong, FrameOfDelta, insert_by_key, place_of}
+use Rattle.hist_core.specs.DeltaCall.{HasBegun, HasEnded, IsFirst, IsSomeDeltaCall, IsDeltaCall, IsUnderWay, Lists, OpensWith, StandsAtStage, DeltaCallGives, DeltaCallSteps, FrameOfDelta, insert_by_key, place_of}
 use Rattle.hist_core.proofs.Parts.Allocations.{goes_with}
 use Rattle.hist_core.proofs.Parts.Deeds.{does_nothing}
 use Rattle.hist_core.proofs.Worlds.Apart.{asks_not, adds_not, looks_not, batches_not, sets_not}

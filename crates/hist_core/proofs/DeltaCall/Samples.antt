@@ -38,7 +38,7 @@ use Rattle.hist_core.specs.declared.walk.Met.TheVariants.{Nothing, Sample, End}
 use Rattle.hist_core.specs.declared.walk.SampleWalk.{SampleWalk}
 use Rattle.hist_core.specs.declared.walk.SampleWalk.TheVariants.{LoadingFirst, LoadingType, LoadingHistogram, LoadingValue, LoadingNext}
 use Rattle.hist_core.specs.StepsBy.{FrameOfStep, StepsBy, IsInOrder, WalksInOrder}
-use Rattle.hist_core.specs.DeltaCall.{HasBegun, HasCounted, HoldsValues, IsBeforeAll, IsSomeDeltaCall, IsDeltaCall, IsUnderWay, ListsTaken, StandsAtStage, DeltaCallGives, TakesAlong, FrameOfDelta, TakesUnits, behind_sample, behind_walk, insert_by_key}
+use Rattle.hist_core.specs.DeltaCall.{HasBegun, HasCounted, HoldsValues, IsBeforeAll, IsSomeDeltaCall, IsDeltaCall, IsUnderWay, ListsTaken, StandsAtStage, DeltaCallGives, FrameOfDelta, TakesUnits, behind_sample, behind_walk, insert_by_key}
 use Rattle.hist_core.specs.Walk.{HasComeTo, HasSetOut, IsWalkProgress, Meets, MetRecord, MetSample, WalksAt, spot_of}
 use Rattle.hist_core.proofs.Parts.Allocations.{goes_with}
 use Rattle.hist_core.proofs.Walks.Passing.{way_still}

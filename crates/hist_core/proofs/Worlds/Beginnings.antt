@@ -1,6 +1,6 @@
 -- A call of a world begins: what has become of the actors, and what is said.
-use Rattle.std.proofs.Common.{◌≡◌, ◌+◌, ℕ, Bool, false, true≢false, List, ◌∷◌, ◌++◌, get_or, set, length, inl, ⊎_elim, refl, sym, ap, subst, ◌∙◌, vec_len, arith, length-append}
-use Rattle.std.specs.Prelude.{Option, Some, None, Result, Ok, Err, IfErr, IsOk, MatchOption, nat_le, if◌then◌else◌}
+use Rattle.std.proofs.Common.{◌≡◌, ◌+◌, ℕ, Bool, false, List, ◌∷◌, ◌++◌, get_or, set, length, inl, ⊎_elim, refl, sym, ap, subst, ◌∙◌, vec_len, arith, length-append}
+use Rattle.std.specs.Prelude.{Option, Some, None, Result, Ok, Err, IfErr, MatchOption, nat_le, if◌then◌else◌}
 use Rattle.std.specs.declared.alloc.AllocError.{AllocError}
 use mathlib.Core.Logic.{dite}
 use mathlib.Core.Option.{some, none, some-injective}

@@ -1,5 +1,5 @@
 -- The faults of a world's calls, and the calls that are going on.
-use Rattle.std.proofs.Common.{◌≡◌, ◌≤◌, arith, length, zero, suc, List, [], ◌∷◌, ◌||◌, Bool, true, false, true≢false, refl, sym, subst, ℕ, ap, ◌∙◌}
+use Rattle.std.proofs.Common.{◌≡◌, ◌≤◌, arith, zero, suc, List, [], ◌∷◌, ◌||◌, Bool, true, false, true≢false, refl, sym, subst, ℕ, ap, ◌∙◌}
 use Rattle.std.specs.Prelude.{Option, Some, None, IsSome, not, is_some, nat_le, vec_len, MatchOption, Result, Ok, Err, IfErr, IsErr, IsOk, is_ok, if◌then◌else◌}
 use Rattle.std.proofs.lemmas.Bool.{lt-leb}
 use Rattle.segment_image.specs.Checks.{first_fault}

@@ -1,5 +1,5 @@
 use Rattle.std.specs.Prelude.{unsigned_abs}
-use Rattle.std.proofs.Common.{◌≤◌, ◌*◌, [], ◌∷◌, ◌≡◌, refl, sym, ap, subst, ◌∙◌, vec_len, ℤ, w32, w64, to_z, of_z, rules}
+use Rattle.std.proofs.Common.{◌≤◌, ◌*◌, [], ◌∷◌, ◌≡◌, refl, sym, ap, subst, ◌∙◌, ℤ, w32, w64, to_z, of_z, rules}
 use Rattle.std.proofs.lemmas.Int.{to_z-of_z}
 use Rattle.hist_core.specs.Add.{IsStarted}
 use mathlib.Core.Option.{some-injective}

@@ -1,4 +1,4 @@
-use Rattle.std.proofs.Common.{◌≡◌, pos, refl, sym, subst, ◌∙◌, vec_len, w64, to_z, of_z}
+use Rattle.std.proofs.Common.{◌≡◌, pos, refl, sym, subst, ◌∙◌, w64, to_z, of_z}
 use Rattle.std.specs.List.{AllZip}
 use Rattle.std.proofs.lemmas.Int.{to_z-of_z}
 use Rattle.hist_core.specs.Add.{IsStarted}

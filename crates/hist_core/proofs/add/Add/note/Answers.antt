@@ -1,4 +1,4 @@
-use Rattle.std.proofs.Common.{arith, ◌∙◌, ◌+◌, ◌%◌, ◌^◌, ℕ, ap}
+use Rattle.std.proofs.Common.{◌∙◌, ◌+◌, ◌%◌, ◌^◌, ℕ, ap}
 use Rattle.hist_core.proofs.AddCall.Redundants.{notes_so}
 use Rattle.hist_core.proofs.add.Add.note.Goals as goal
 use Rattle.std.specs.Prelude.{slice_set}

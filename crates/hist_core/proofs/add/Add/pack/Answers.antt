@@ -1,4 +1,4 @@
-use Rattle.std.proofs.Common.{true, false, subst, sym, ◌∙◌, arith}
+use Rattle.std.proofs.Common.{true, false, subst, sym, ◌∙◌}
 use Rattle.std.proofs.lemmas.Bool.{eq-eqb, ne_eqb}
 use Rattle.hist_core.specs.declared.add.Add.{Add}
 use Rattle.hist_core.specs.declared.add.AddStep.TheVariants.{More}

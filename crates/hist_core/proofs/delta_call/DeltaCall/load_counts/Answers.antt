@@ -1,4 +1,4 @@
-use Rattle.std.proofs.Common.{arith, refl}
+use Rattle.std.proofs.Common.{refl}
 use Rattle.hist_core.proofs.DeltaCall.Counts.{loads_counts}
 use Rattle.hist_core.proofs.delta_call.DeltaCall.load_counts.Goals as goal
 

@@ -1,4 +1,4 @@
-use Rattle.std.proofs.Common.{arith, rules}
+use Rattle.std.proofs.Common.{rules}
 use Rattle.hist_core.proofs.DeltaCall.Sums.{loads_sum}
 use Rattle.hist_core.proofs.delta_call.DeltaCall.load_sum.Goals as goal
 

@@ -1,4 +1,4 @@
-use Rattle.std.proofs.Common.{arith, refl}
+use Rattle.std.proofs.Common.{refl}
 use Rattle.hist_core.proofs.SnapshotCall.Snapshots.{loads_counts}
 use Rattle.hist_core.proofs.snapshot_call.SnapshotCall.load_counts.Goals as goal
 

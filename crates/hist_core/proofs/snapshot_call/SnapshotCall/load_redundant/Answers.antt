@@ -1,4 +1,4 @@
-use Rattle.std.proofs.Common.{arith, refl, rules, sym, subst, ◌≡◌, ◌+◌, ℤ}
+use Rattle.std.proofs.Common.{refl, rules, sym, subst, ◌≡◌, ◌+◌, ℤ}
 use Rattle.std.specs.Int.{cast_signed, cast_unsigned, w64}
 use Rattle.segment_image.specs.Words.{word_at}
 use Rattle.hist_core.specs.declared.snapshot_call.SnapshotCallStep.TheVariants.{Done}

@@ -1,4 +1,4 @@
-use Rattle.std.proofs.Common.{arith, rules}
+use Rattle.std.proofs.Common.{rules}
 use Rattle.hist_core.proofs.SnapshotCall.Snapshots.{loads_sum}
 use Rattle.hist_core.proofs.snapshot_call.SnapshotCall.load_sum.Goals as goal
 

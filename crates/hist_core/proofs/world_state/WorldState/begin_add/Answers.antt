@@ -6,7 +6,7 @@ use Rattle.segment_machine.specs.Entry.{key_of, sample_entry}
 use Rattle.hist_core.specs.declared.fault.WorldFault.TheVariants.{NoMemory}
 use Rattle.hist_core.specs.ActorRun.{BeginsAdd}
 use Rattle.hist_core.specs.declared.actor_run.Running.TheVariants.{Add}
-use Rattle.hist_core.specs.WorldState.{AddBegins, CountsValue, IsAddBegun}
+use Rattle.hist_core.specs.WorldState.{CountsValue}
 use Rattle.hist_core.proofs.AddCall.Opening.{add_stands, count_begins, count_begun}
 use Rattle.hist_core.proofs.Worlds.Beginnings.{IsTurned, answered, as_it_was, begun, knows_at, no_memory, not_begun, others_stay, placed}
 use Rattle.hist_core.proofs.Worlds.Faults.{err_is, the_fault}

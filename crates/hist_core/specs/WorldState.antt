@@ -129,10 +129,6 @@ IsReachedFromImage words world_state =
 abbrev pub IsBusy : WorldState → ℕ → Type 0
 IsBusy world_state actor = (actor_run : ActorRun) → get_elem? world_state.actor_runs.items actor ≡ some actor_run → IsSome actor_run.running
 
--- no call of an actor is going on
-abbrev pub Rests : WorldState → ℕ → Type 0
-Rests world_state actor = (actor_run : ActorRun) → get_elem? world_state.actor_runs.items actor ≡ some actor_run → actor_run.running ≡ None
-
 -- the opener lends units to the actor, or nothing happens
 abbrev pub Lends : ℕ → State → State → Type 0
 Lends actor old new = (new ≡ old) ⊎ ((units : ℕ) × IsLent old 0 (actor + 1) units new)

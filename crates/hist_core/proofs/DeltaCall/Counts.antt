@@ -11,7 +11,7 @@ use Rattle.std.proofs.lemmas.List.Elements.{Contains-append_right}
 use lib.Seq.{set-get_or}
 use mathlib.Core.Logic.{dite}
 use native.Mathlib.Decide.{ℕ_discrete}
-use Rattle.bucket_ranges.specs.Ranges.{boundaries_of}
+use Rattle.bucket_ranges.specs.Ranges.{boundaries_of, IsSplit}
 use Rattle.bucket_ranges.specs.Spec.{buckets_of}
 use Rattle.bucket_ranges.specs.Single.{single_of, units_packed}
 use Rattle.bucket_ranges.specs.declared.single.SingleWord.{SingleWord}
@@ -36,6 +36,7 @@ use Rattle.segment_promises.proofs.Calls.BucketLists.{still_below}
 use Rattle.segment_promises.specs.Calls.{AreBelow}
 use Rattle.segment_promises.proofs.Calls.Sights.{seen_here, took_bucket}
 use Rattle.segment_promises.proofs.Calls.Places.{looks_again}
+use Rattle.bucket_ranges.specs.declared.spec.Spec.{Spec}
 use Rattle.hist_core.proofs.Parts.Alone.{by_event}
 use Rattle.hist_core.specs.declared.mounted.Mounted.{Mounted}
 use Rattle.hist_core.specs.declared.delta_call.DeltaStage.TheVariants.{LoadingCounts, LoadingCount, Raising, LoadingSum}
@@ -174,6 +175,14 @@ module _ (known : Known) (mounted : Mounted) (word : ℕ) (a : Actor) (are : Are
 
 -- ---- a delta
 
+-- a spec that has boundaries has some bucket
+pub some_buckets : (spec : Spec) → IsSplit (buckets_of spec) (boundaries_of spec) → 0 < buckets_of spec
+some_buckets spec split = by (buckets_of spec) refl split.first split.last
+  where
+    by : (n : ℕ) → buckets_of spec ≡ n → slice_index (boundaries_of spec) 0 ≡ 0 → slice_index (boundaries_of spec) (buckets_of spec) ≡ 2147483647 → 0 < n
+    by zero none first last = let same = ap (slice_index (boundaries_of spec)) none in absurd (omega (arith, first, last, same))
+    by (suc n) e first last = omega arith
+
 module _ (shape : Dimensions) (known : Known) (earlier : List Taken) (delta_call : DeltaCall) (a : Actor) (words : List ℕ) (is : IsDeltaCall shape known earlier delta_call a) where
   -- behind a bucket
   pub stands_behind : (mounted : Mounted) (word bucket : ℕ) (new : DeltaCall) (b : Actor) → new.ranges ≡ delta_call.ranges → new.stage ≡ behind_bucket delta_call mounted bucket
@@ -236,7 +245,7 @@ module _ (shape : Dimensions) (known : Known) (earlier : List Taken) (delta_call
               took = λ i lt. absurd (omega (arith, lt));
               below = subst (AreBelow known 0) (sym before_counts.1) tt;
               few = let e = ap length before_counts.1 in omega (arith, e);
-              inside = some_buckets;
+              inside = some_buckets known.spec (split shape known earlier delta_call a is before_counts.4.0);
             },
             (
               before_counts.3.0,
@@ -247,16 +256,6 @@ module _ (shape : Dimensions) (known : Known) (earlier : List Taken) (delta_call
             before_counts.4,
           ),
         ))
-      where
-        some_buckets : 0 < buckets_of known.spec
-        some_buckets = by (buckets_of known.spec) refl
-          where
-            by : (n : ℕ) → buckets_of known.spec ≡ n → 0 < n
-            by zero none =
-                let both = split shape known earlier delta_call a is before_counts.4.0 in
-                let first = both.first in let last = both.last in let same = ap (slice_index (boundaries_of known.spec)) none in
-                absurd (omega (arith, first, last, same))
-            by (suc n) e = omega arith
 
   -- it has loaded the count of a bucket
   module _ (mounted : Mounted) (bucket : ℕ) (loads : delta_call.stage ≡ LoadingCount mounted bucket) where

@@ -215,9 +215,6 @@ module _ (shape : Dimensions) (version : ℕ) (old : ActorRun) (a : Actor) (run 
 -- what is answered
 module _ (old : ActorRun) (h now : HistCall) (is : old.running ≡ Some (Hist h)) (same : now.asked ≡ h.asked) (words new_words : List ℕ)
     (all : length old.entries.items ≡ old.ended) (unbegun : old.begun ≡ old.ended) where
-  ended_on : (new : ActorRun) → new.entries ≡ old.entries → new.ended ≡ old.ended → ended_by new ≡ ended_by old
-  ended_on new entries ended i = take (ended i) (entries i).items
-
   begun_on : (new : ActorRun) → new.entries ≡ old.entries → new.ended ≡ old.ended → new.begun ≡ old.begun → begun_by new ≡ ended_by new
   begun_on new entries ended begun = ap (λ n. take n new.entries.items) (begun ∙ unbegun ∙ sym ended)
 

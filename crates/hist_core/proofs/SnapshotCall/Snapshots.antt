@@ -45,7 +45,7 @@ use Rattle.segment_promises.specs.Calls.{SeesMore}
 use Rattle.segment_promises.proofs.Calls.Sights.{began_still, saw_bucket, saw_count, seen_here}
 use Rattle.segment_promises.proofs.Calls.Places.{looks_there}
 use Rattle.hist_core.proofs.Worlds.Quiet.{not_spent}
-use Rattle.hist_core.proofs.DeltaCall.Counts.{are_mounted, count_placed, may_load, saw_total, still_mounted, total_is}
+use Rattle.hist_core.proofs.DeltaCall.Counts.{are_mounted, count_placed, may_load, saw_total, some_buckets, still_mounted, total_is}
 use Rattle.hist_core.proofs.DeltaCall.Going.{taking_sees}
 use Rattle.hist_core.proofs.Walks.Passing.{all_still, are_all, are_first, are_once, are_units}
 use Rattle.hist_core.proofs.DeltaCall.Singles.{none_packed}
@@ -218,14 +218,6 @@ module _ (shape : Dimensions) (known : Known) (snapshot_call : SnapshotCall) (a 
     abbrev has_counts : HasKeys known snapshot_call
     has_counts = before_counts.0
 
-    some_buckets : 0 < buckets_of known.spec
-    some_buckets = by (buckets_of known.spec) refl (split has_counts).first (split has_counts).last
-      where
-        by : (n : ℕ) → buckets_of known.spec ≡ n → slice_index (boundaries_of known.spec) 0 ≡ 0
-            → slice_index (boundaries_of known.spec) (buckets_of known.spec) ≡ 2147483647 → 0 < n
-        by zero none first last = let same = ap (slice_index (boundaries_of known.spec)) none in absurd (omega (arith, first, last, same))
-        by (suc n) e first last = omega arith
-
     pub loads_counts : (counts : ℕ) → counts ≡ word_at words (snapshot_call.histogram + 8)
         → let new : SnapshotCall = record snapshot_call { stage = LoadingCount (record { counts = counts; packed = packed; kept = kept }) 0 } in
         StepsBy shape.size snapshot_call.version a words words (SnapshotCallGives shape known snapshot_call.stage new More a)
@@ -244,7 +236,7 @@ module _ (shape : Dimensions) (known : Known) (snapshot_call : SnapshotCall) (a 
           goes_still new acted refl refl beside refl (
             keys_still known snapshot_call new (record { version = refl; histogram = refl; keys = refl; long = refl }) has_counts,
             (λ i total lt there. absurd (omega (arith, lt))),
-            some_buckets,
+            some_buckets known.spec (split has_counts),
             (
               before_counts.2.0,
               subst (λ (n : ℕ). AreMounted known (record { counts = n; packed = packed; kept = kept }) before_counts.2.0 acted) same

@@ -213,7 +213,7 @@ module _ (actor : ℕ) (name : maybe.Option (List ℕ)) (takes : Type 0) (says :
       fault = tt;
       begins = begins;
       others = others;
-      loads = rests_without old actor r resting.at (λ x is. ap (λ (y : ActorRun). y.running) (some-injective x r (sym is ∙ resting.at)) ∙ resting.rests);
+      loads = rests_without old actor r resting;
       answer = its;
     }
 

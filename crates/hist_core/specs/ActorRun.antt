@@ -14,7 +14,6 @@ use Rattle.segment_image.specs.Shape.{Dimensions}
 use Rattle.segment_image.specs.declared.layout.TheConstants.{BLOCK_HEADER, FLAG_CORRUPT, FLAGS_WORD, HEADER_WORDS, HISTOGRAM_NAME}
 use Rattle.segment_machine.specs.declared.entry.Entry.{Entry as MachineEntry}
 use Rattle.segment_machine.specs.declared.actor.Actor.{Actor}
-use Rattle.segment_machine.specs.declared.actor.Made.{Made}
 use Rattle.segment_machine.specs.declared.place.Place.TheVariants.{Spent}
 use Rattle.segment_machine.specs.declared.actor.Taken.{Taken as MachineTaken}
 use Rattle.segment_machine.specs.Actor.{is_opener, units_listed}
@@ -112,6 +111,12 @@ pub record IsKnown (shape : Dimensions) (known : Known) : Type 0 where
 -- the histogram of a name stands at a place among those that are known
 abbrev pub IsKnownAt : List Known → ℕ → List ℕ → Type 0
 IsKnownAt list i name = (known : Known) × (get_elem? list i ≡ some known) × (known.name.items ≡ name)
+
+-- What an actor knows at a place is lawful, and has the ranges of its spec.
+pub record KnowsAt (actor_run : ActorRun) (i : ℕ) : Type 0 where
+  pub near : i < vec_len actor_run.known
+  pub lawful : (known : Known) → get_elem? actor_run.known.items i ≡ some known → spec_fault known.spec ≡ None
+  pub ranges : (known : Known) → get_elem? actor_run.known.items i ≡ some known → known.ranges ≡ boundaries_of known.spec
 
 -- none of them has a name
 abbrev pub NoneHasName : List Known → List ℕ → Type 0

@@ -19,7 +19,6 @@ use Rattle.segment_machine.specs.declared.actor.Known.{Known}
 use Rattle.segment_machine.specs.declared.entry.EntryProgress.{EntryProgress}
 use Rattle.segment_machine.specs.declared.entry.Entry.{Entry}
 use Rattle.segment_machine.specs.declared.place.Look.{Look}
-use Rattle.segment_machine.specs.declared.actor.Made.{Made}
 use Rattle.segment_machine.specs.declared.actor.Made.TheVariants.{Sample}
 use Rattle.segment_machine.specs.declared.actor.Own.{Own}
 use Rattle.segment_machine.specs.declared.place.Place.TheVariants.{Looking, Losing, Moving as PlaceMoving}
@@ -34,11 +33,11 @@ use Rattle.segment_machine.specs.Stages.{Allocates}
 use Rattle.hist_core.specs.declared.add.Add.{Add}
 use Rattle.hist_core.specs.declared.add.AddStep.{AddStep}
 use Rattle.hist_core.specs.declared.add.AddStep.TheVariants.{More, Done, Refused}
-use Rattle.hist_core.specs.declared.add.Stage.{Stage}
-use Rattle.hist_core.specs.declared.add.Stage.TheVariants.{LoadingSingle, Packing, LoadingCounts, SeekingCounts, Allocating, Mounting, Purging, LoadingAgain, Disabling, Moving, Sampling, Counting, Summing, Noting}
+use Rattle.hist_core.specs.declared.add.AddStage.{AddStage}
+use Rattle.hist_core.specs.declared.add.AddStage.TheVariants.{LoadingSingle, Packing, LoadingCounts, SeekingCounts, Allocating, Mounting, Purging, LoadingAgain, Disabling, Moving, Sampling, Counting, Summing, Noting}
 use Rattle.segment_calls.specs.declared.refusal.Refusal.TheVariants as why
 use Rattle.hist_core.specs.Making.{IsCause, is_full}
-use Rattle.hist_core.specs.StepsBy.{Deed, links, raises, DoesOnly, StepsBy, IsFree}
+use Rattle.hist_core.specs.StepsBy.{Deed, links, raises, DoesOnly, StepsBy, IsFree, LiesWithin}
 use Rattle.hist_core.specs.Sampling.{IsSampling, IsStarted as BeginsToSearch, SawNoSample}
 use Rattle.hist_core.specs.declared.sampling.SamplingStep.{SamplingStep}
 use Rattle.hist_core.specs.declared.sampling.SamplingStep.TheVariants as found
@@ -80,7 +79,7 @@ pub record IsCounting (shape : Dimensions) (known : Known) (add : Add) : Type 0 
 
 -- What it does first: it loads the single word, or, where the histogram is sparse, looks for the sample of the value, which is one of an
 -- `i32`.
-abbrev pub OpensWith : Dimensions → Known → Add → Stage → Type 0
+abbrev pub OpensWith : Dimensions → Known → Add → AddStage → Type 0
 OpensWith shape known add LoadingSingle = has_buckets known.spec ≡ true
 OpensWith shape known add (Sampling sampling) =
     (known.spec ≡ spec.Sparse) × (is_i32 add.value ≡ true) × BeginsToSearch shape known.reference add.value sampling
@@ -159,7 +158,7 @@ pub record NeedsBlock (known : Known) (sample : ℤ × ℕ) (a : Actor) : Type 0
   pub value : known.spec ≡ spec.Sparse → SawNoSample known.reference sample.0 a.seen
 
 -- Where its actor stands, whose units are not counted yet.
-abbrev pub StandsBefore : Dimensions → Known → Add → Actor → Stage → Type 0
+abbrev pub StandsBefore : Dimensions → Known → Add → Actor → AddStage → Type 0
 StandsBefore shape known add a LoadingSingle = MayTurn a
 StandsBefore shape known add a (Packing old new) =
     ((counts : ℕ) × Looks known a old counts) × (is_off old ≡ false) × IsPacking add.bucket add.units old new
@@ -183,7 +182,7 @@ StandsBefore shape known add a (Moving counts bucket units) =
 StandsBefore shape known add a _ = ⊥
 
 -- Where its actor stands, and what has happened of its entry.
-abbrev pub StandsAtStage : Dimensions → Known → Amid → Add → Actor → Stage → Type 0
+abbrev pub StandsAtStage : Dimensions → Known → Amid → Add → Actor → AddStage → Type 0
 StandsAtStage shape known amid add a (Counting at) = HasEntry known amid add a false false × IsCountOf known add a at × (at < shape.size)
 StandsAtStage shape known amid add a (Sampling sampling) =
     HasEntry known amid add a false false × (known.spec ≡ spec.Sparse) × (sampling.histogram ≡ known.reference) × (sampling.value ≡ add.value)
@@ -249,14 +248,20 @@ AddSteps old words new new_words said = (shape : Dimensions) (known : Known) (am
 abbrev pub IsSomeAdd : ℕ → Add → Type 0
 IsSomeAdd n add = (shape : Dimensions) × (known : Known) × (amid : Amid) × (a : Actor) × (n ≡ shape.size) × IsAdd shape known amid add a
 
+-- one that stands so does this next
+pub record IsAtStage (stage : AddStage) (n : ℕ) (add : Add) : Type 0 where
+  pub next : add.stage ≡ stage
+  pub stands : ∥ IsSomeAdd n add ∥₁
+  pub inside : LiesWithin n add.histogram
+
 -- what it does behind the event that counts its units: it adds its amount, where that is not 0
-abbrev pub behind_count : ℤ → Stage
+abbrev pub behind_count : ℤ → AddStage
 behind_count amount = if int_eq amount (pos 0) then Noting else Summing
 
 -- ---- what it does next
 
 -- what a single word leads to: the counts, where they are in use; else a word with its units more, or none where no word packs them
-abbrev pub IsBehindSingle : Add → ℕ → Stage → Type 0
+abbrev pub IsBehindSingle : Add → ℕ → AddStage → Type 0
 IsBehindSingle add word LoadingCounts = is_off word ≡ true
 IsBehindSingle add word (Packing old new) =
     (is_off word ≡ false) × (old ≡ word) × ((word ≡ 0) ⊎ (1 ≤ word % 2 ^ 32) → IsPacking add.bucket add.units word new)
@@ -270,7 +275,7 @@ BeginsToAllocate old new Done = ⊥
 BeginsToAllocate old new (Refused cause) = ⊥
 
 -- it is allocating
-abbrev pub IsAllocating : Stage → Type 0
+abbrev pub IsAllocating : AddStage → Type 0
 IsAllocating (Allocating allocation) = ⊤
 IsAllocating _ = ⊥
 
@@ -282,7 +287,7 @@ IsAllocated old said.Full new result = (new ≡ old) × (result ≡ Refused why.
 IsAllocated old said.Corrupt new result = (new ≡ old) × (result ≡ Refused why.Corrupt)
 
 -- it looks for the sample of its value
-abbrev pub IsSearching : Stage → Type 0
+abbrev pub IsSearching : AddStage → Type 0
 IsSearching (Sampling sampling) = ⊤
 IsSearching _ = ⊥
 
@@ -297,6 +302,6 @@ abbrev pub count_in : Add → ℕ → ℕ
 count_in add counts = (counts + (BLOCK_HEADER + add.bucket)) % 2 ^ 64
 
 -- what it does behind the event that disables a word: in version 1 it moves the units that the word had
-abbrev pub behind_disabling : Add → ℕ → ℕ → Stage
+abbrev pub behind_disabling : Add → ℕ → ℕ → AddStage
 behind_disabling add counts old =
     if (add.version == 1) && nat_lt 0 old then Moving counts (old / 2 ^ 32) (old % 2 ^ 32) else Counting (count_in add counts)

@@ -23,17 +23,17 @@ use Rattle.segment_machine.specs.Note.{TookAll, TookBucket, TookSample}
 use Rattle.segment_promises.specs.Calls.{AreUnits, AreBelow}
 use Rattle.segment_promises.specs.Values.{ListsValues}
 use Rattle.hist_core.specs.declared.mounted.Mounted.{Mounted}
-use Rattle.hist_core.specs.declared.delta_call.Stage.{Stage}
-use Rattle.hist_core.specs.declared.delta_call.Stage.TheVariants.{LoadingSingle, TakingPacked, LoadingCounts, LoadingCount, Raising, Walking, LoadingSample, RaisingSample, LoadingSum, Swapping}
+use Rattle.hist_core.specs.declared.delta_call.DeltaStage.{DeltaStage}
+use Rattle.hist_core.specs.declared.delta_call.DeltaStage.TheVariants.{LoadingSingle, TakingPacked, LoadingCounts, LoadingCount, Raising, Walking, LoadingSample, RaisingSample, LoadingSum, Swapping}
 use Rattle.hist_core.specs.declared.delta_call.DeltaCall.{DeltaCall}
 use Rattle.hist_core.specs.declared.delta_call.DeltaCallStep.{DeltaCallStep}
 use Rattle.hist_core.specs.declared.delta_call.DeltaCallStep.TheVariants.{More, Took, Done}
-use Rattle.hist_core.specs.StepsBy.{StepsBy, IsFree, WalksInOrder}
+use Rattle.hist_core.specs.StepsBy.{StepsBy, IsFree, WalksInOrder, LiesWithin}
 use Rattle.hist_core.specs.Mounted.{HasWord, AreMounted, HasLoaded}
 use Rattle.hist_core.specs.declared.walk.Met.{Met}
 use Rattle.hist_core.specs.declared.walk.Met.TheVariants.{Nothing, Sample, End}
-use Rattle.hist_core.specs.declared.walk.Walk.{Walk}
-use Rattle.hist_core.specs.declared.walk.Walk.TheVariants.{LoadingFirst, LoadingNext}
+use Rattle.hist_core.specs.declared.walk.SampleWalk.{SampleWalk}
+use Rattle.hist_core.specs.declared.walk.SampleWalk.TheVariants.{LoadingFirst, LoadingNext}
 use Rattle.hist_core.specs.Walk.{HasPassedAll, HasSetOut, MetSample, WalksAt}
 
 -- ---- what is taken
@@ -92,9 +92,9 @@ abbrev pub IsBeforeAll : List Taken → DeltaCall → Actor → Type 0
 IsBeforeAll earlier delta_call a = (a.deltas.taking ≡ false) × (a.deltas.taken ≡ earlier) × (delta_call.counts.items ≡ [])
 
 -- with a walk that has not set out it is before its first event
-abbrev pub TakesAlong : Known → List Taken → DeltaCall → Actor → Walk → Type 0
-TakesAlong known earlier delta_call a LoadingFirst = IsBeforeAll earlier delta_call a
-TakesAlong known earlier delta_call a walk = IsUnderWay known earlier delta_call a
+abbrev pub TakesAlong : Known → List Taken → DeltaCall → Actor → SampleWalk → Type 0
+TakesAlong known earlier delta_call a walk =
+    ((walk ≡ LoadingFirst) × IsBeforeAll earlier delta_call a) ⊎ (HasSetOut walk × IsUnderWay known earlier delta_call a)
 
 -- so is what it saw of the buckets before one, and it lists units of these alone
 pub record HasDrawn (known : Known) (delta_call : DeltaCall) (bucket : ℕ) (a : Actor) : Type 0 where
@@ -104,7 +104,7 @@ pub record HasDrawn (known : Known) (delta_call : DeltaCall) (bucket : ℕ) (a :
   pub inside : bucket < buckets_of known.spec
 
 -- Where its actor stands.
-abbrev pub StandsAtStage : Dimensions → Known → List Taken → DeltaCall → Actor → Stage → Type 0
+abbrev pub StandsAtStage : Dimensions → Known → List Taken → DeltaCall → Actor → DeltaStage → Type 0
 StandsAtStage shape known earlier delta_call a LoadingSingle =
     (a.deltas.taking ≡ false) × (a.deltas.taken ≡ earlier) × (delta_call.counts.items ≡ []) × HasBuckets known delta_call
 StandsAtStage shape known earlier delta_call a (TakingPacked bucket units) =
@@ -149,10 +149,9 @@ pub record IsDeltaCall (shape : Dimensions) (known : Known) (earlier : List Take
   pub stands : StandsAtStage shape known earlier delta_call a delta_call.stage
 
 -- It begins with the single word where the histogram has buckets, and with a walk where it is sparse. There is room for all keys.
-abbrev pub OpensWith : Dimensions → Known → DeltaCall → Stage → Type 0
-OpensWith shape known delta_call LoadingSingle = HasBuckets known delta_call
-OpensWith shape known delta_call (Walking LoadingFirst) = (known.spec ≡ Sparse) × HoldsValues shape delta_call
-OpensWith shape known delta_call stage = ⊥
+abbrev pub OpensWith : Dimensions → Known → DeltaCall → DeltaStage → Type 0
+OpensWith shape known delta_call stage =
+    ((stage ≡ LoadingSingle) × HasBuckets known delta_call) ⊎ ((stage ≡ Walking LoadingFirst) × (known.spec ≡ Sparse) × HoldsValues shape delta_call)
 
 -- it has taken nothing
 pub record IsStarted (shape : Dimensions) (version : ℕ) (known : Known) (delta_call : DeltaCall) : Type 0 where
@@ -212,21 +211,32 @@ Lists old new (Took key units) = new.counts.items ≡ insert_by_key (key, units)
 Lists old new said = new.counts.items ≡ old.counts.items
 
 -- its first event has happened
-abbrev pub HasBegun : Stage → Type 0
+abbrev pub HasBegun : DeltaStage → Type 0
 HasBegun LoadingSingle = ⊥
 HasBegun (Walking walk) = HasSetOut walk
 HasBegun stage = ⊤
 
 -- it stands before that
-abbrev pub IsFirst : Stage → Type 0
-IsFirst LoadingSingle = ⊤
-IsFirst (Walking LoadingFirst) = ⊤
-IsFirst stage = ⊥
+abbrev pub IsFirst : DeltaStage → Type 0
+IsFirst stage = (stage ≡ LoadingSingle) ⊎ (stage ≡ Walking LoadingFirst)
+
+-- a delta that stands so somewhere does this next
+pub record IsAtStage (stage : DeltaStage) (n : ℕ) (delta_call : DeltaCall) : Type 0 where
+  pub next : delta_call.stage ≡ stage
+  pub stands : ∥ IsSomeDeltaCall n delta_call ∥₁
+  pub inside : LiesWithin n delta_call.histogram
+
+-- What a step leaves of the call: it lists what it took, with room as before, its first event has happened, and it takes of the same histogram.
+pub record HasGoneOn (old new : DeltaCall) (said : DeltaCallStep) : Type 0 where
+  pub lists : Lists old new said
+  pub room : vec_capacity new.counts ≡ vec_capacity old.counts
+  pub begun : HasBegun new.stage
+  pub of : new.histogram ≡ old.histogram
 
 -- ---- what it does next
 
 -- what a single word leads to: the counts, where they are in use; else the packed units, or the sum where there are none
-abbrev pub IsBehindSingle : DeltaCall → ℕ → Stage → Type 0
+abbrev pub IsBehindSingle : DeltaCall → ℕ → DeltaStage → Type 0
 IsBehindSingle delta_call word (LoadingCounts packed kept) =
     (is_off word ≡ true) × SaysPacked delta_call.version (length delta_call.ranges - 1) word packed kept × (kept ≤ 65535)
 IsBehindSingle delta_call word (TakingPacked bucket units) =
@@ -235,17 +245,17 @@ IsBehindSingle delta_call word LoadingSum = (is_off word ≡ false) × (packed_b
 IsBehindSingle delta_call word _ = ⊥
 
 -- behind a bucket comes the next, and behind the last one the sum
-abbrev pub behind_bucket : DeltaCall → Mounted → ℕ → Stage
+abbrev pub behind_bucket : DeltaCall → Mounted → ℕ → DeltaStage
 behind_bucket delta_call mounted bucket = if nat_lt (bucket + 1) (length delta_call.ranges - 1) then LoadingCount mounted (bucket + 1) else LoadingSum
 
 -- behind what its walk met comes its next event, the count of a sample, or at the end of the list the sum
-abbrev pub behind_walk : Met → Stage
+abbrev pub behind_walk : Met → DeltaStage
 behind_walk (Nothing walk) = Walking walk
 behind_walk (Sample at value) = LoadingSample at value
 behind_walk End = LoadingSum
 
 -- behind the count of a sample its mark is raised, where it has units
-abbrev pub behind_sample : ℕ → ℤ → ℕ → Stage
+abbrev pub behind_sample : ℕ → ℤ → ℕ → DeltaStage
 behind_sample at value count = if count == 0 then Walking (LoadingNext at) else RaisingSample at value count
 
 -- where the mark of a bucket stands

@@ -10,15 +10,15 @@ use Rattle.alloc_core.specs.Attempt.{attempt_of}
 use Rattle.alloc_core.specs.Alloc as alloc
 use Rattle.list_core.specs.Publish as publish
 use Rattle.segment_machine.specs.Form.{off_word}
-use Rattle.hist_core.specs.declared.making.Stage.{Stage as MakingStage}
-use Rattle.hist_core.specs.declared.making.Stage.TheVariants as making
-use Rattle.hist_core.specs.declared.sampling.Stage.{Stage as SamplingStage}
-use Rattle.hist_core.specs.declared.sampling.Stage.TheVariants as sampling
+use Rattle.hist_core.specs.declared.making.MakingStage.{MakingStage}
+use Rattle.hist_core.specs.declared.making.MakingStage.TheVariants as making
+use Rattle.hist_core.specs.declared.sampling.SamplingStage.{SamplingStage}
+use Rattle.hist_core.specs.declared.sampling.SamplingStage.TheVariants as sampling
 use Rattle.hist_core.specs.declared.add.Add.{Add}
-use Rattle.hist_core.specs.declared.add.Stage.{Stage as AddStage}
-use Rattle.hist_core.specs.declared.add.Stage.TheVariants as adding
-use Rattle.hist_core.specs.declared.hist.Stage.{Stage as HistStage}
-use Rattle.hist_core.specs.declared.hist.Stage.TheVariants as asking
+use Rattle.hist_core.specs.declared.add.AddStage.{AddStage}
+use Rattle.hist_core.specs.declared.add.AddStage.TheVariants as adding
+use Rattle.hist_core.specs.declared.hist.HistStage.{HistStage}
+use Rattle.hist_core.specs.declared.hist.HistStage.TheVariants as asking
 use Rattle.hist_core.specs.declared.actor_run.Running.{Running}
 use Rattle.hist_core.specs.declared.actor_run.Running.TheVariants as runs
 use Rattle.hist_core.specs.declared.actor_run.ActorRun.{ActorRun}

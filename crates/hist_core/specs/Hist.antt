@@ -26,8 +26,8 @@ use Rattle.hist_core.specs.declared.hist.Hist.{Hist}
 use Rattle.hist_core.specs.declared.hist.HistStep.{HistStep}
 use Rattle.hist_core.specs.declared.hist.HistStep.TheVariants.{More, Done, Refused}
 use Rattle.hist_core.specs.StepsBy.{Deed, links, raises, DoesOnly, FrameOfStep, SawEnd, StepsBy, IsFree}
-use Rattle.hist_core.specs.declared.hist.Stage.{Stage}
-use Rattle.hist_core.specs.declared.hist.Stage.TheVariants.{Walking, Comparing, Making}
+use Rattle.hist_core.specs.declared.hist.HistStage.{HistStage}
+use Rattle.hist_core.specs.declared.hist.HistStage.TheVariants.{Walking, Comparing, Making}
 use Rattle.hist_core.specs.declared.making.MakingStep.{MakingStep}
 use Rattle.hist_core.specs.declared.making.MakingStep.TheVariants as made
 use Rattle.hist_core.specs.Making.{IsMaking, Wanted, is_full}
@@ -113,7 +113,7 @@ HaveOtherNames h a records = All (SawOtherName a.seen h.asked.name.items) record
 
 -- Where its actor stands, whose walk has given these records: none of them has the name, but for the last while it is compared. While it
 -- makes its record these are all that it has met, up to the end of the list.
-abbrev pub StandsAtStage : Dimensions → Hist → Actor → List ℕ → Stage → Type 0
+abbrev pub StandsAtStage : Dimensions → Hist → Actor → List ℕ → HistStage → Type 0
 StandsAtStage shape h a given Walking = IsFree a × HaveOtherNames h a given
 StandsAtStage shape h a given (Comparing same) =
     IsFree a × ((front : List ℕ) × (given ≡ front ++ h.reference ∷ []) × HaveOtherNames h a front)
@@ -175,7 +175,7 @@ abbrev pub IsSomeHist : ℕ → Hist → Type 0
 IsSomeHist n h = (shape : Dimensions) × (a : Actor) × (n ≡ shape.size) × IsHist shape h a
 
 -- it is making its record
-abbrev pub IsMakingRecord : Stage → Type 0
+abbrev pub IsMakingRecord : HistStage → Type 0
 IsMakingRecord (Making making) = ⊤
 IsMakingRecord _ = ⊥
 

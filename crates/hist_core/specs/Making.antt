@@ -22,8 +22,8 @@ use Rattle.segment_machine.specs.Stages.{Allocates, PublishesAt}
 use Rattle.hist_core.specs.declared.making.Making.{Making}
 use Rattle.hist_core.specs.declared.making.MakingStep.{MakingStep}
 use Rattle.hist_core.specs.declared.making.MakingStep.TheVariants.{More, Done, Refused}
-use Rattle.hist_core.specs.declared.making.Stage.{Stage}
-use Rattle.hist_core.specs.declared.making.Stage.TheVariants.{Allocating, Filling, Publishing}
+use Rattle.hist_core.specs.declared.making.MakingStage.{MakingStage}
+use Rattle.hist_core.specs.declared.making.MakingStage.TheVariants.{Allocating, Filling, Publishing}
 use Rattle.hist_core.specs.StepsBy.{Deed, links, raises, DoesOnly, FrameOfStep, SeesNoMore, StepsBy, IsFree}
 
 -- ---- what it makes
@@ -72,7 +72,7 @@ HasBlock wanted at a own =
 -- ---- where it stands
 
 -- where its actor stands
-abbrev pub StandsAtStage : Dimensions → Wanted → Actor → Stage → Type 0
+abbrev pub StandsAtStage : Dimensions → Wanted → Actor → MakingStage → Type 0
 StandsAtStage shape wanted a (Allocating allocation) =
     Allocates a allocation × (is_some (alloc.next_event allocation) ≡ true) × (allocation.tag ≡ tag_of wanted.made)
     × (allocation.size ≡ BLOCK_HEADER + wanted.room)
@@ -134,7 +134,7 @@ abbrev pub IsStarted : Dimensions → ℕ → ℕ → Making → Type 0
 IsStarted shape room tag new = new.stage ≡ Allocating (alloc.first_of shape room tag)
 
 -- it is allocating
-abbrev pub IsAllocating : Stage → Type 0
+abbrev pub IsAllocating : MakingStage → Type 0
 IsAllocating (Allocating allocation) = ⊤
 IsAllocating _ = ⊥
 
@@ -146,7 +146,7 @@ IsAllocated old said.Full new result = result ≡ Refused why.Full
 IsAllocated old said.Corrupt new result = result ≡ Refused why.Corrupt
 
 -- it is publishing
-abbrev pub IsPublishing : Stage → Type 0
+abbrev pub IsPublishing : MakingStage → Type 0
 IsPublishing (Publishing publishing) = ⊤
 IsPublishing _ = ⊥
 

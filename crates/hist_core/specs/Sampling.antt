@@ -10,7 +10,6 @@ use Rattle.list_core.specs.Chain.{is_reference}
 use Rattle.list_core.specs.Walk.{IsPrefix, stands_behind}
 use Rattle.segment_machine.specs.declared.actor.Actor.{Actor}
 use Rattle.segment_machine.specs.declared.actor.Known.{Known}
-use Rattle.segment_machine.specs.declared.actor.Made.{Made}
 use Rattle.segment_machine.specs.declared.actor.Made.TheVariants.{Sample}
 use Rattle.segment_machine.specs.Actor.{Sparse, word_seen}
 use Rattle.segment_machine.specs.declared.seen.Seen.{Seen}
@@ -20,8 +19,8 @@ use Rattle.hist_core.specs.declared.making.MakingStep.TheVariants as made
 use Rattle.hist_core.specs.declared.sampling.Sampling.{Sampling}
 use Rattle.hist_core.specs.declared.sampling.SamplingStep.{SamplingStep}
 use Rattle.hist_core.specs.declared.sampling.SamplingStep.TheVariants.{More, Found, Refused}
-use Rattle.hist_core.specs.declared.sampling.Stage.{Stage}
-use Rattle.hist_core.specs.declared.sampling.Stage.TheVariants.{Walking, LoadingType, LoadingHistogram, LoadingValue, Making}
+use Rattle.hist_core.specs.declared.sampling.SamplingStage.{SamplingStage}
+use Rattle.hist_core.specs.declared.sampling.SamplingStage.TheVariants.{Walking, LoadingType, LoadingHistogram, LoadingValue, Making}
 use Rattle.hist_core.specs.StepsBy.{Deed, links, raises, DoesOnly, FrameOfStep, SawEnd, StepsBy, IsFree}
 use Rattle.hist_core.specs.Walk.{IsSample}
 use Rattle.hist_core.specs.Making.{IsCause, IsMaking, Wanted, is_full}
@@ -47,7 +46,7 @@ pub record MetRecord (shape : Dimensions) (s : Sampling) (at : ℕ) (a : Actor) 
   pub within : at + BLOCK_LEAST ≤ shape.size
 
 -- Where its actor stands, whose walk has given these records behind the histogram's.
-abbrev pub StandsAtStage : Dimensions → Sampling → Actor → List ℕ → Stage → Type 0
+abbrev pub StandsAtStage : Dimensions → Sampling → Actor → List ℕ → SamplingStage → Type 0
 StandsAtStage shape s a behind Walking = IsFree a × HaveOthers s a behind
 StandsAtStage shape s a behind (LoadingType at) = MetRecord shape s at a behind
 StandsAtStage shape s a behind (LoadingHistogram at) = MetRecord shape s at a behind × IsSample shape at a
@@ -56,7 +55,7 @@ StandsAtStage shape s a behind (LoadingValue at of) =
 StandsAtStage shape s a behind (Making making) = HaveOthers s a behind × IsMaking shape (wanted_of s) making a
 
 -- it is making its sample
-abbrev pub IsMakingSample : Stage → Type 0
+abbrev pub IsMakingSample : SamplingStage → Type 0
 IsMakingSample (Making making) = ⊤
 IsMakingSample _ = ⊥
 
@@ -117,7 +116,7 @@ pub record IsStarted (shape : Dimensions) (histogram : ℕ) (value : ℤ) (s : S
   pub stage : s.stage ≡ Walking
 
 -- what the type of a record leads to: the histogram of a sample, or the next of another record
-abbrev pub behind_type : ℕ → ℕ → Stage
+abbrev pub behind_type : ℕ → ℕ → SamplingStage
 behind_type at tag = if tag == TYPE_SAMPLE then LoadingHistogram at else Walking
 
 -- whether a sample of a histogram, whose value has this word, is that of its own value

@@ -1,5 +1,5 @@
 -- A snapshot that is going on.
-use Rattle.std.specs.Prelude.{◌≡◌, ◌≢◌, ◌⊎◌, ◌==◌, true, false, nat_lt, ℕ, ◌+◌, ◌-◌, ◌/◌, ◌<◌, ◌≤◌, ℤ, List, [], ◌∷◌, ◌++◌, map, length, if◌then◌else◌, Some, None, vec_capacity, ⊤}
+use Rattle.std.specs.Prelude.{◌≡◌, ◌≢◌, ◌⊎◌, ◌==◌, true, false, nat_lt, ℕ, ◌+◌, ◌-◌, ◌/◌, ◌<◌, ◌≤◌, ℤ, List, [], ◌∷◌, ◌++◌, map, length, if◌then◌else◌, Some, None, vec_capacity}
 use Rattle.std.specs.List.{All, Contains, range_with_len}
 use mathlib.Core.Option.{some}
 use lib.ListN.{get_elem?}
@@ -25,12 +25,12 @@ use Rattle.hist_core.specs.declared.mounted.Mounted.{Mounted}
 use Rattle.hist_core.specs.declared.snapshot_call.SnapshotCall.{SnapshotCall}
 use Rattle.hist_core.specs.declared.snapshot_call.SnapshotCallStep.{SnapshotCallStep}
 use Rattle.hist_core.specs.declared.snapshot_call.SnapshotCallStep.TheVariants.{More, Done}
-use Rattle.hist_core.specs.declared.snapshot_call.Stage.{Stage}
-use Rattle.hist_core.specs.declared.snapshot_call.Stage.TheVariants.{LoadingSingle, LoadingCounts, LoadingCount, Walking, LoadingSample, LoadingSum, LoadingRedundant}
-use Rattle.hist_core.specs.StepsBy.{FrameOfStep, StepsBy, IsFree, WalksInOrder}
+use Rattle.hist_core.specs.declared.snapshot_call.SnapshotStage.{SnapshotStage}
+use Rattle.hist_core.specs.declared.snapshot_call.SnapshotStage.TheVariants.{LoadingSingle, LoadingCounts, LoadingCount, Walking, LoadingSample, LoadingSum, LoadingRedundant}
+use Rattle.hist_core.specs.StepsBy.{FrameOfStep, StepsBy, IsFree, WalksInOrder, LiesWithin}
 use Rattle.hist_core.specs.declared.walk.Met.{Met}
 use Rattle.hist_core.specs.declared.walk.Met.TheVariants.{Nothing, Sample, End}
-use Rattle.hist_core.specs.declared.walk.Walk.TheVariants.{LoadingFirst}
+use Rattle.hist_core.specs.declared.walk.SampleWalk.TheVariants.{LoadingFirst}
 use Rattle.hist_core.specs.Mounted.{AreMounted, HasWord}
 use Rattle.hist_core.specs.Walk.{IsWalkProgress, MetSample, WalksAt}
 
@@ -87,7 +87,7 @@ SawTotalsOf known snapshot_call a =
     (HasKeys known snapshot_call × SawTotals known snapshot_call.totals.items a) ⊎ HasSeenAll known snapshot_call.totals.items a
 
 -- Where its actor stands.
-abbrev pub StandsAtStage : Dimensions → Known → SnapshotCall → Actor → Stage → Type 0
+abbrev pub StandsAtStage : Dimensions → Known → SnapshotCall → Actor → SnapshotStage → Type 0
 StandsAtStage shape known snapshot_call a LoadingSingle = HasKeys known snapshot_call × All (λ total. total.1 ≡ 0) snapshot_call.totals.items
 StandsAtStage shape known snapshot_call a (LoadingCounts packed kept) =
     HasKeys known snapshot_call × (kept ≤ 65535)
@@ -120,10 +120,10 @@ pub record IsSnapshotCall (shape : Dimensions) (known : Known) (snapshot_call : 
 
 -- It begins: of a histogram with buckets it has seen no units; of a sparse one it lists nothing, with room for as many values as fit in the
 -- segment.
-abbrev pub OpensWith : Dimensions → Known → SnapshotCall → Stage → Type 0
-OpensWith shape known snapshot_call LoadingSingle = (has_buckets known.spec ≡ true) × (snapshot_call.totals.items ≡ blank_totals (boundaries_of known.spec))
-OpensWith shape known snapshot_call (Walking LoadingFirst) = (known.spec ≡ Sparse) × (snapshot_call.totals.items ≡ []) × HasRoom shape snapshot_call
-OpensWith shape known snapshot_call stage = ⊥
+abbrev pub OpensWith : Dimensions → Known → SnapshotCall → SnapshotStage → Type 0
+OpensWith shape known snapshot_call stage =
+    ((stage ≡ LoadingSingle) × (has_buckets known.spec ≡ true) × (snapshot_call.totals.items ≡ blank_totals (boundaries_of known.spec)))
+    ⊎ ((stage ≡ Walking LoadingFirst) × (known.spec ≡ Sparse) × (snapshot_call.totals.items ≡ []) × HasRoom shape snapshot_call)
 
 pub record IsStarted (shape : Dimensions) (version : ℕ) (known : Known) (snapshot_call : SnapshotCall) : Type 0 where
   pub versioned : snapshot_call.version ≡ version
@@ -131,15 +131,13 @@ pub record IsStarted (shape : Dimensions) (version : ℕ) (known : Known) (snaps
   pub opens : OpensWith shape known snapshot_call snapshot_call.stage
 
 -- it has done no event yet
-abbrev pub HasJustBegun : Stage → Type 0
-HasJustBegun LoadingSingle = ⊤
-HasJustBegun (Walking LoadingFirst) = ⊤
-HasJustBegun stage = ⊥
+abbrev pub HasJustBegun : SnapshotStage → Type 0
+HasJustBegun stage = (stage ≡ LoadingSingle) ⊎ (stage ≡ Walking LoadingFirst)
 
 -- ---- what a step makes of its actor
 
 -- Its first event looks anew: what its actor saw before counts no more. No other event of it changes since when it looks.
-abbrev pub LooksAnew : Stage → Actor → Actor → Type 0
+abbrev pub LooksAnew : SnapshotStage → Actor → Actor → Type 0
 LooksAnew LoadingSingle a b = b.since ≡ (looking a).since
 LooksAnew (Walking LoadingFirst) a b = b.since ≡ (looking a).since
 LooksAnew stage a b = b.since ≡ a.since
@@ -158,7 +156,7 @@ pub record HasLooked (known : Known) (snapshot_call : SnapshotCall) (sum : ℤ) 
   pub values : known.spec ≡ Sparse → AreUnits snapshot_call.totals.items
 
 -- What a step says: it goes on; or it has ended, and its actor may turn to another call. It does nothing to the segment for all to see.
-abbrev pub SnapshotCallGives : Dimensions → Known → Stage → SnapshotCall → SnapshotCallStep → Actor → Actor → Type 0
+abbrev pub SnapshotCallGives : Dimensions → Known → SnapshotStage → SnapshotCall → SnapshotCallStep → Actor → Actor → Type 0
 SnapshotCallGives shape known stage new More a b = FrameOfStep a b × (b.done ≡ a.done) × LooksAnew stage a b × IsSnapshotCall shape known new b
 SnapshotCallGives shape known stage new (Done sum redundant) a b = IsFree b × (b.done ≡ a.done) × LooksAnew stage a b × HasLooked known new sum redundant a b
 
@@ -170,6 +168,12 @@ SnapshotCallSteps old words new new_words said = (shape : Dimensions) (known : K
 -- a snapshot that stands so somewhere, in so many words
 abbrev pub IsSomeSnapshotCall : ℕ → SnapshotCall → Type 0
 IsSomeSnapshotCall n snapshot_call = (shape : Dimensions) × (known : Known) × (a : Actor) × (n ≡ shape.size) × IsSnapshotCall shape known snapshot_call a
+
+-- a snapshot that stands so somewhere does this next
+pub record IsAtStage (stage : SnapshotStage) (n : ℕ) (snapshot_call : SnapshotCall) : Type 0 where
+  pub next : snapshot_call.stage ≡ stage
+  pub stands : ∥ IsSomeSnapshotCall n snapshot_call ∥₁
+  pub inside : LiesWithin n snapshot_call.histogram
 
 -- ---- what it does next
 
@@ -190,7 +194,7 @@ pub record HavePacked (version word : ℕ) (old new : List (ℤ × ℕ)) : Type 
       ⊎ ((packed_bucket (single_of version (length old) word) ≢ Some i) × (get_elem? old i ≡ some x))
 
 -- what a single word leads to: the counts, where they are in use; else the sum, with the units that the word holds
-abbrev pub IsBehindSingle : SnapshotCall → ℕ → SnapshotCall → Stage → Type 0
+abbrev pub IsBehindSingle : SnapshotCall → ℕ → SnapshotCall → SnapshotStage → Type 0
 IsBehindSingle old word new (LoadingCounts packed kept) =
     (is_off word ≡ true) × SaysPacked old.version (length old.totals.items) word packed kept × (kept ≤ 65535)
     × (new ≡ record old { stage = LoadingCounts packed kept })
@@ -200,7 +204,7 @@ IsBehindSingle old word new LoadingSum =
 IsBehindSingle old word new _ = ⊥
 
 -- behind a bucket comes the next, and behind the last one the sum
-abbrev pub behind_bucket : ℕ → Mounted → ℕ → Stage
+abbrev pub behind_bucket : ℕ → Mounted → ℕ → SnapshotStage
 behind_bucket buckets mounted bucket = if nat_lt (bucket + 1) buckets then LoadingCount mounted (bucket + 1) else LoadingSum
 
 -- What its walk met leads to: it goes on, or to the count of a sample; at the end of the list the totals are sorted, and the sum comes.

@@ -1,8 +1,8 @@
 -- How an actor goes on by one event.
-use Rattle.std.specs.Prelude.{◌≡◌, ◌≢◌, Bool, true, false, ◌||◌, ℕ, ◌+◌, List, ◌++◌}
+use Rattle.std.specs.Prelude.{◌≡◌, ◌≢◌, ◌≤◌, Bool, true, false, ◌||◌, ℕ, ◌+◌, List, ◌++◌}
 use Rattle.std.specs.List.{All, Contains}
 use Rattle.segment_image.specs.Words.{word_at}
-use Rattle.segment_image.specs.declared.layout.TheConstants.{BLOCK_NEXT}
+use Rattle.segment_image.specs.declared.layout.TheConstants.{BLOCK_NEXT, HISTOGRAM_NAME}
 use Rattle.list_core.specs.Walk.{IsPrefix, stands_behind}
 use Rattle.segment_machine.specs.declared.actor.Actor.{Actor}
 use Rattle.segment_machine.specs.declared.actor.Known.{Known}
@@ -93,3 +93,8 @@ SawEnd seen = Contains seen.ends (stands_behind seen.chain + BLOCK_NEXT)
 -- of the list and of single words it has seen as much as before
 abbrev pub SeesNoMore : Actor → Actor → Type 0
 SeesNoMore a b = (b.seen.chain ≡ a.seen.chain) × (b.seen.ends ≡ a.seen.ends) × (b.seen.singles ≡ a.seen.singles)
+
+-- the record of a histogram lies in so many words, which are few
+pub record LiesWithin (n histogram : ℕ) : Type 0 where
+  pub within : histogram + HISTOGRAM_NAME ≤ n
+  pub few : n ≤ 1048576

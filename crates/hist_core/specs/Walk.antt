@@ -14,8 +14,8 @@ use Rattle.segment_promises.specs.Values.{ComesTo}
 use Rattle.segment_promises.specs.Calls.{BeganBefore}
 use Rattle.hist_core.specs.declared.walk.Met.{Met}
 use Rattle.hist_core.specs.declared.walk.Met.TheVariants.{Nothing, Sample, End}
-use Rattle.hist_core.specs.declared.walk.Walk.{Walk}
-use Rattle.hist_core.specs.declared.walk.Walk.TheVariants.{LoadingFirst, LoadingType, LoadingHistogram, LoadingValue, LoadingNext}
+use Rattle.hist_core.specs.declared.walk.SampleWalk.{SampleWalk}
+use Rattle.hist_core.specs.declared.walk.SampleWalk.TheVariants.{LoadingFirst, LoadingType, LoadingHistogram, LoadingValue, LoadingNext}
 
 -- ---- where it stands
 
@@ -66,7 +66,7 @@ pub record MayWalk (known : Known) (a : Actor) : Type 0 where
   pub met : (front behind : List ℕ) × (a.seen.chain ≡ front ++ known.reference ∷ behind)
 
 -- where its actor stands
-abbrev pub WalksAt : Dimensions → Known → OfPassed → Walk → Actor → Type 0
+abbrev pub WalksAt : Dimensions → Known → OfPassed → SampleWalk → Actor → Type 0
 WalksAt shape known holds LoadingFirst a = MayWalk known a × ((b : Actor) → holds [] b)
 WalksAt shape known holds (LoadingType at) a = MetRecord known holds at a
 WalksAt shape known holds (LoadingHistogram at) a = MetRecord known holds at a × IsSample shape at a
@@ -75,7 +75,7 @@ WalksAt shape known holds (LoadingValue at of) a =
 WalksAt shape known holds (LoadingNext at) a = PassedRecord known holds at a
 
 -- its first event has happened
-abbrev pub HasSetOut : Walk → Type 0
+abbrev pub HasSetOut : SampleWalk → Type 0
 HasSetOut LoadingFirst = ⊥
 HasSetOut walk = ⊤
 
@@ -88,7 +88,7 @@ HasComeTo shape known holds End a = HasPassedAll known holds a
 -- ---- a step
 
 -- the word that it loads
-abbrev pub spot_of : ℕ → Walk → ℕ
+abbrev pub spot_of : ℕ → SampleWalk → ℕ
 spot_of histogram LoadingFirst = histogram + BLOCK_NEXT
 spot_of histogram (LoadingType at) = at + BLOCK_TYPE
 spot_of histogram (LoadingHistogram at) = at + SAMPLE_HISTOGRAM
@@ -100,7 +100,7 @@ abbrev pub behind_next : ℕ → Met
 behind_next next = if next == QUEUE then End else Nothing (LoadingType next)
 
 -- behind the type of a record comes its histogram, where it is a sample, or else its next
-abbrev pub behind_type : ℕ → ℕ → Walk
+abbrev pub behind_type : ℕ → ℕ → SampleWalk
 behind_type at tag = if tag == TYPE_SAMPLE then LoadingHistogram at else LoadingNext at
 
 -- behind the value of a sample comes that sample, where it is one of this histogram and its word is that of a value, or else its next
@@ -111,7 +111,7 @@ IsBehindValue histogram at of word (Nothing (LoadingNext r)) =
 IsBehindValue histogram at of word met = ⊥
 
 -- what a word that it loaded leads to
-abbrev pub Meets : Walk → ℕ → ℕ → Met → Type 0
+abbrev pub Meets : SampleWalk → ℕ → ℕ → Met → Type 0
 Meets LoadingFirst histogram word met = met ≡ behind_next word
 Meets (LoadingType at) histogram word met = met ≡ Nothing (behind_type at word)
 Meets (LoadingHistogram at) histogram word met = met ≡ Nothing (LoadingValue at word)

@@ -2,10 +2,12 @@
 use Rattle.std.specs.List.{list_any}
 use Rattle.std.specs.Str.{bytes_eq}
 use Rattle.hist_core.specs.declared.hist.Known.{Known}
-use Rattle.std.specs.Prelude.{◌≡◌, Bool, false, not, ◌&&◌, ◌||◌, ◌==◌, nat_lt, nat_le, ℕ, List, [], ◌∷◌, vec_len, is_some, slice_set, Ok, ⊤}
+use Rattle.std.specs.Prelude.{◌≡◌, Bool, false, not, ◌&&◌, ◌||◌, ◌==◌, nat_lt, nat_le, ℕ, List, [], ◌∷◌, vec_len, is_some, slice_set, Result, Ok, Err, IfErr, IfOk, OnErr, OnOk, MatchOption, ⊤}
 use mathlib.Core.Option.{Option, some, none}
 use lib.ListN.{get_elem?}
+use Rattle.segment_image.specs.Checks.{first_fault}
 use Rattle.segment_image.specs.Shape.{is_page, is_size}
+use Rattle.segment_machine.specs.State.{State}
 use Rattle.hist_core.specs.declared.entry.Entry.{Entry}
 use Rattle.hist_core.specs.declared.entry.Taken.{Taken}
 use Rattle.hist_core.specs.declared.fault.WorldFault.{WorldFault}
@@ -15,7 +17,8 @@ use Rattle.segment_calls.specs.declared.adopt_fault.AdoptFault.TheVariants as ad
 use Rattle.hist_core.specs.declared.actor_run.ActorRun.{ActorRun}
 use Rattle.hist_core.specs.declared.world_state.WorldState.{WorldState}
 use Rattle.hist_core.specs.ActorRun.{ended_by, begun_by}
-use Rattle.hist_core.specs.WorldState.{HistBegins, AddBegins, DeltaBegins, SnapshotBegins, BatchBegins, SetCorruptBegins}
+use Rattle.hist_core.specs.Start.{Start}
+use Rattle.hist_core.specs.WorldState.{IsAsBefore, IsReachedAs, BeginsFrom, HoldsNoPointer, OthersStay, HistBegins, AddBegins, DeltaBegins, SnapshotBegins, BatchBegins, SetCorruptBegins}
 use Rattle.hist_core.specs.declared.call.Begun.{Begun}
 use Rattle.segment_calls.specs.declared.call.Call.{Call}
 use Rattle.segment_calls.specs.declared.call.Call.TheVariants.{Hist, Add, Delta, Snapshot, Batch, SetCorrupt}
@@ -84,13 +87,20 @@ abbrev pub lacks : Option ActorRun → Option (List ℕ) → Bool
 lacks none name = false
 lacks (some actor_run) name = lacks_name actor_run.known.items name
 
--- with the begin of a call: there is no such actor, a call of it is going on, or it does not know the histogram of the name
-abbrev pub begin_checks : WorldState → ℕ → Call → List (Bool × WorldFault)
-begin_checks world_state actor call =
+-- with the begin of any call: there is no such actor, or a call of it is going on
+abbrev pub rest_checks : WorldState → ℕ → List (Bool × WorldFault)
+rest_checks world_state actor = (nat_le (vec_len world_state.actor_runs) actor, NoActor) ∷ (runs (get_elem? world_state.actor_runs.items actor), Busy) ∷ []
+
+-- where it is of the histogram of a name, also: it does not know that
+abbrev pub name_checks : WorldState → ℕ → Option (List ℕ) → List (Bool × WorldFault)
+name_checks world_state actor name =
     (nat_le (vec_len world_state.actor_runs) actor, NoActor)
     ∷ (runs (get_elem? world_state.actor_runs.items actor), Busy)
-    ∷ (lacks (get_elem? world_state.actor_runs.items actor) (named_by call), Unknown)
+    ∷ (lacks (get_elem? world_state.actor_runs.items actor) name, Unknown)
     ∷ []
+
+abbrev pub begin_checks : WorldState → ℕ → Call → List (Bool × WorldFault)
+begin_checks world_state actor call = name_checks world_state actor (named_by call)
 
 -- with a step: there is no such actor, or it runs no call
 abbrev pub step_checks : WorldState → ℕ → List (Bool × WorldFault)
@@ -115,6 +125,18 @@ BeginSays actor (Delta name) old new said = DeltaBegins actor name.items old new
 BeginSays actor (Snapshot name) old new said = SnapshotBegins actor name.items old new said
 BeginSays actor (Batch name items sum) old new said = BatchBegins actor name.items items.items sum old new said
 BeginSays actor SetCorrupt old new said = SetCorruptBegins actor new said
+
+-- What the begin of a call comes to, which is of the histogram of a name, or of none. Its fault is that of the first check, or there was no
+-- memory where it takes some; then all is as it was. It takes its units from the pool, and changes no word and no other actor. Its actor held no
+-- free pointer. It says this.
+pub record BeginsCall (actor : ℕ) (name : Option (List ℕ)) (takes : Type 0) (says : Begun → Type 0) (old : WorldState) (result : Result Begun WorldFault)
+    (new : WorldState) : Type 0 where
+  pub faults : MatchOption (first_fault (name_checks old actor name)) (IfErr result (λ fault. (fault ≡ NoMemory) × takes)) (λ fault. result ≡ Err fault)
+  pub fault : OnErr result (IsAsBefore old new)
+  pub begins : (start : Start) (state : State) → IsReachedAs start old state → BeginsFrom start state actor new
+  pub others : OthersStay actor old new
+  pub loads : OnOk result (HoldsNoPointer actor old)
+  pub answer : IfOk result says
 
 -- ---- a step
 

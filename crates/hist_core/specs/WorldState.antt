@@ -42,7 +42,7 @@ use Rattle.segment_calls.specs.declared.refusal.Refusal.TheVariants as refusal
 use Rattle.hist_core.specs.declared.actor_run.Running.{Running}
 use Rattle.hist_core.specs.declared.actor_run.Running.TheVariants.{Hist, Add, Delta, Snapshot, Batch, SetCorrupt}
 use Rattle.segment_calls.specs.Asked.{IsRefusedFor, IsTooLarge}
-use Rattle.hist_core.specs.ActorRun.{IsFresh, IsRun, IsAsItWas, IsAnswer, IsTook, IsKnownAnswer, IsRefusedBy, DoesAsSaid, LooksSince, NoneHasName, Answers, entry_of, looked_by, pending_by, ended_by, begun_by}
+use Rattle.hist_core.specs.ActorRun.{IsFresh, IsRun, IsAsItWas, IsAnswer, IsTook, IsKnownAnswer, IsRefusedBy, DoesAsSaid, LooksSince, Answers, entry_of, looked_by, pending_by, ended_by, begun_by}
 use Rattle.segment_machine.specs.Entry.{batch_cost, batch_entries, sample_entry, tally_noted}
 use Rattle.segment_machine.specs.declared.entry.Entry.{Entry as MachineEntry}
 use Rattle.hist_core.specs.Batch.{sample_of}
@@ -128,10 +128,6 @@ IsReachedFromImage words world_state =
 -- a call of an actor is going on
 abbrev pub IsBusy : WorldState → ℕ → Type 0
 IsBusy world_state actor = (actor_run : ActorRun) → get_elem? world_state.actor_runs.items actor ≡ some actor_run → IsSome actor_run.running
-
--- no call of an actor is going on
-abbrev pub Rests : WorldState → ℕ → Type 0
-Rests world_state actor = (actor_run : ActorRun) → get_elem? world_state.actor_runs.items actor ≡ some actor_run → actor_run.running ≡ None
 
 -- the opener lends units to the actor, or nothing happens
 abbrev pub Lends : ℕ → State → State → Type 0
@@ -257,17 +253,24 @@ HoldsNoPointer actor world_state =
 
 -- ---- what an actor knows
 
--- an actor knows a histogram, at a place
-abbrev pub IsKnownBy : WorldState → ℕ → ℕ → Known → Type 0
-IsKnownBy world_state actor place known =
-    (actor_run : ActorRun) × (get_elem? world_state.actor_runs.items actor ≡ some actor_run) × (get_elem? actor_run.known.items place ≡ some known)
+-- an actor that is there
+pub record IsThere (world_state : WorldState) (actor : ℕ) (actor_run : ActorRun) : Type 0 where
+  pub near : actor < vec_len world_state.actor_runs
+  pub at : get_elem? world_state.actor_runs.items actor ≡ some actor_run
 
--- an actor knows the histogram of a name at a place, or knows none of it
-abbrev pub IsPlaceOf : WorldState → ℕ → List ℕ → ℕ → Type 0
-IsPlaceOf world_state actor name place = (known : Known) × IsKnownBy world_state actor place known × (known.name.items ≡ name)
+-- it rests
+pub record IsResting (world_state : WorldState) (actor : ℕ) (actor_run : ActorRun) : Type 0 where
+  pub near : actor < vec_len world_state.actor_runs
+  pub at : get_elem? world_state.actor_runs.items actor ≡ some actor_run
+  pub rests : actor_run.running ≡ None
 
-abbrev pub LacksName : WorldState → ℕ → List ℕ → Type 0
-LacksName world_state actor name = (actor_run : ActorRun) → get_elem? world_state.actor_runs.items actor ≡ some actor_run → NoneHasName actor_run.known.items name
+-- it knows the histogram of a name, at a place
+pub record IsReady (world_state : WorldState) (actor : ℕ) (name : List ℕ) (place : ℕ) : Type 0 where
+  pub actor_run : ActorRun
+  pub resting : IsResting world_state actor actor_run
+  pub known : Known
+  pub there : get_elem? actor_run.known.items place ≡ some known
+  pub named : known.name.items ≡ name
 
 -- ---- how a `hist` begins
 

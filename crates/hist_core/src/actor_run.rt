@@ -3,10 +3,10 @@
 use crate::add::{Add, AddStep};
 use crate::batch::{Batch, BatchStep};
 use crate::call::{Answer, Begun, Stepped};
+use crate::call_entries::{batch_entries, entry_of, new_items};
 use crate::delta_call::{DeltaCall, DeltaCallStep};
 use crate::drawing::{draw, draw_sum};
 use crate::entry::{Entry, Taken};
-use crate::ghost_notes::{batch_entries, entry_of, new_items};
 use crate::hist::{Hist, HistStep, Known};
 use crate::samples::key_of;
 use crate::snapshot_call::{SnapshotCall, SnapshotCallStep};
@@ -59,16 +59,15 @@ impl ActorRun {
     ghost use Rattle.hist_core.specs.declared.entry.Taken.{Taken};
     ghost use Rattle.hist_core.specs.declared.delta_call.DeltaCall.{DeltaCall};
     ghost use Rattle.hist_core.specs.declared.actor_run.Running.TheVariants as runs;
-    ghost use Rattle.bucket_ranges.specs.Ranges.{boundaries_of};
+    ghost use Rattle.bucket_ranges.specs.Ranges.{AreBoundaries, boundaries_of};
     ghost use Rattle.bucket_ranges.specs.Spec.{spec_fault};
-    ghost use Rattle.segment_machine.specs.Actor.{has_buckets};
     ghost use Rattle.segment_image.specs.Shape.{Dimensions};
     ghost use Rattle.segment_machine.specs.declared.actor.Actor.{Actor};
     ghost use Rattle.hist_core.specs.declared.hist.HistStep.TheVariants.{Done};
     ghost use Rattle.hist_core.specs.Batch.{added_of};
     ghost use Rattle.hist_core.specs.Exchanging.{running_attempt};
     ghost use Rattle.hist_core.specs.StepsBy.{WalksInOrder};
-    ghost use Rattle.hist_core.specs.ActorRun.{IsFresh, IsRun, IsSomeRun, NoneHasName, IsKnownAt, IsKnownAnswer, BeginsHist, HasRoom, AsksForOne, IsHistAnnounced, IsAddAnnounced, Adds, BeginsAdd, IsBatchAnnounced, BeginsBatch, BeginsSnapshot, BeginsDelta, IsNowShown, TakesOfOne, HasEndedDelta, HasPlace, IsDeltaAnnounced, LooksAtOne, IsSnapshotAnnounced, IsAsItWas, held_by, Advances, Answers};
+    ghost use Rattle.hist_core.specs.ActorRun.{IsFresh, IsRun, IsSomeRun, NoneHasName, IsKnownAt, KnowsAt, IsKnownAnswer, BeginsHist, HasRoom, AsksForOne, IsHistAnnounced, IsAddAnnounced, Adds, BeginsAdd, IsBatchAnnounced, BeginsBatch, BeginsSnapshot, BeginsDelta, IsNowShown, TakesOfOne, HasEndedDelta, HasPlace, IsDeltaAnnounced, LooksAtOne, IsSnapshotAnnounced, IsAsItWas, held_by, Advances, Answers};
 
     // An actor that has done nothing.
     pub(crate) fn new(alloc: Global) -> ActorRun
@@ -110,6 +109,17 @@ impl ActorRun {
         }
     }
 
+    // The histogram that it knows at a place.
+    fn known_at(&self, i: usize) -> &Known
+        requires { KnowsAt self.now i }
+        ensures at { get_elem? self.now.known.items i ≡ some result.now }
+        ensures lawful { spec_fault result.now.spec ≡ None }
+        ensures ranges { result.now.ranges ≡ boundaries_of result.now.spec }
+        ensures bounds { AreBoundaries result.now.ranges }
+    {
+        &self.known[i]
+    }
+
     // It begins to ask for a histogram, or is answered at once where it knows one of that name.
     pub(crate) fn begin_hist(&mut self, shape: Shape, asked: Asked) -> Result<Begun, AllocError>
         ensures { BeginsHist shape asked self.old self.new result }
@@ -145,13 +155,11 @@ impl ActorRun {
         value: i32,
         units: u32,
     ) -> Result<(), AllocError>
-        requires near { i < vec_len self.old.known }
-        requires lawful { (known : Known) → get_elem? self.old.known.items i ≡ some known → spec_fault known.spec ≡ None }
-        requires ranges { (known : Known) → get_elem? self.old.known.items i ≡ some known → known.ranges ≡ boundaries_of known.spec }
+        requires { KnowsAt self.old i }
         ensures begins { IfOk result (λ _. (known : Known) → get_elem? self.old.known.items i ≡ some known → BeginsAdd shape version known value units self.old self.new) }
         ensures fails { OnErr result (IsAsItWas self.old self.new) }
     {
-        let known = &self.known[i];
+        let known = self.known_at(i);
         let amount = amount_of(&known.ranges, value, units);
         let add = Add::start(shape, version, known, value, units, amount);
         let entry = entry_of(alloc, known, key_of(&known.ranges, value), units, amount)?;
@@ -171,13 +179,11 @@ impl ActorRun {
         sum: i64,
         cost: u32,
     ) -> Result<(), AllocError>
-        requires near { i < vec_len self.old.known }
-        requires lawful { (known : Known) → get_elem? self.old.known.items i ≡ some known → spec_fault known.spec ≡ None }
-        requires ranges { (known : Known) → get_elem? self.old.known.items i ≡ some known → known.ranges ≡ boundaries_of known.spec }
+        requires { KnowsAt self.old i }
         ensures begins { IfOk result (λ _. (known : Known) → get_elem? self.old.known.items i ≡ some known → BeginsBatch shape version known items.now sum cost self.old self.new) }
         ensures fails { OnErr result (IsAsItWas self.old self.new) }
     {
-        let known = &self.known[i];
+        let known = self.known_at(i);
         let batch = Batch {
             histogram: known.reference,
             items: new_items(alloc, shape, version, known, items)?,
@@ -193,7 +199,7 @@ impl ActorRun {
     }
 
     // What becomes of it by what a step of its `add` said.
-    fn add_said(&mut self, said: AddStep) -> Stepped
+    fn after_add(&mut self, said: AddStep) -> Stepped
         requires within { self.old.ended ≤ vec_len self.old.entries }
         ensures { IsAddAnnounced self.old said self.new result }
     {
@@ -215,7 +221,7 @@ impl ActorRun {
     }
 
     // What becomes of it by what a step of its `batch` said.
-    fn batch_said(&mut self, said: BatchStep) -> Stepped
+    fn after_batch(&mut self, said: BatchStep) -> Stepped
         requires within { self.old.ended + added_of said ≤ vec_len self.old.entries }
         ensures { IsBatchAnnounced self.old said self.new result }
     {
@@ -268,7 +274,7 @@ impl ActorRun {
     }
 
     // What becomes of it by what a step of its `hist` said.
-    fn hist_said(&mut self, said: HistStep) -> Stepped
+    fn after_hist(&mut self, said: HistStep) -> Stepped
         requires room { HasRoom self.old.running (vec_len self.old.known) (vec_capacity self.old.known) }
         requires asks { AsksForOne self.old.running }
         ensures { IsHistAnnounced self.old said self.new result }
@@ -291,12 +297,11 @@ impl ActorRun {
         version: u64,
         i: usize,
     ) -> Result<(), AllocError>
-        requires near { i < vec_len self.old.known }
-        requires lawful { (known : Known) → get_elem? self.old.known.items i ≡ some known → spec_fault known.spec ≡ None }
+        requires { KnowsAt self.old i }
         ensures begins { IfOk result (λ _. (known : Known) → get_elem? self.old.known.items i ≡ some known → BeginsDelta shape version known self.old self.new) }
         ensures fails { OnErr result (IsAsItWas self.old self.new) }
     {
-        let known = &self.known[i];
+        let known = self.known_at(i);
         let delta_call = DeltaCall::start(alloc, shape, version, known)?;
         let fresh = Taken {
             name: Vec::from_slice(alloc, &known.name)?,
@@ -335,7 +340,7 @@ impl ActorRun {
     }
 
     // What becomes of it by what a step of its `delta` said.
-    fn delta_said(&mut self, said: DeltaCallStep) -> Stepped
+    fn after_delta(&mut self, said: DeltaCallStep) -> Stepped
         requires place { HasPlace said self.old.running self.old.taken }
         ensures { (delta_call : DeltaCall) (fresh : Option Taken) → self.old.running ≡ Some (runs.Delta delta_call fresh) → IsDeltaAnnounced delta_call fresh self.old said self.new result }
     {
@@ -358,19 +363,17 @@ impl ActorRun {
         version: u64,
         i: usize,
     ) -> Result<(), AllocError>
-        requires near { i < vec_len self.old.known }
-        requires lawful { (known : Known) → get_elem? self.old.known.items i ≡ some known → spec_fault known.spec ≡ None }
-        requires ranges { (known : Known) → get_elem? self.old.known.items i ≡ some known → known.ranges ≡ boundaries_of known.spec }
+        requires { KnowsAt self.old i }
         ensures begins { IfOk result (λ _. (known : Known) → get_elem? self.old.known.items i ≡ some known → BeginsSnapshot shape version known self.old self.new) }
         ensures fails { OnErr result (self.new ≡ self.old) }
     {
-        let snapshot_call = SnapshotCall::start(alloc, shape, version, &self.known[i])?;
+        let snapshot_call = SnapshotCall::start(alloc, shape, version, self.known_at(i))?;
         self.running = Some(Running::Snapshot(snapshot_call));
         Ok(())
     }
 
     // What becomes of it by what a step of its `snapshot` said.
-    fn snapshot_said(&mut self, said: SnapshotCallStep) -> Stepped
+    fn after_snapshot(&mut self, said: SnapshotCallStep) -> Stepped
         requires looks { LooksAtOne self.old.running }
         ensures { IsSnapshotAnnounced self.old said self.new result }
     {
@@ -415,23 +418,23 @@ impl ActorRun {
             }
             Some(Running::Hist(hist)) => {
                 let said = hist.step(words);
-                self.hist_said(said)
+                self.after_hist(said)
             }
             Some(Running::Add(add)) => {
                 let said = add.step(words);
-                self.add_said(said)
+                self.after_add(said)
             }
             Some(Running::Delta(delta_call, _)) => {
                 let said = delta_call.step(words);
-                self.delta_said(said)
+                self.after_delta(said)
             }
             Some(Running::Snapshot(snapshot_call)) => {
                 let said = snapshot_call.step(words);
-                self.snapshot_said(said)
+                self.after_snapshot(said)
             }
             Some(Running::Batch(batch)) => {
                 let said = batch.step(words);
-                self.batch_said(said)
+                self.after_batch(said)
             }
             None => Stepped::More,
         }

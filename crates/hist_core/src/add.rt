@@ -17,7 +17,7 @@ use segment_image::layout::{
 
 /// What an `add` does next.
 #[derive(Debug, Drop)]
-pub(crate) enum Stage {
+pub(crate) enum AddStage {
     /// It loads the single word.
     LoadingSingle,
     /// It packs its units into the single word, which was `old`.
@@ -95,7 +95,7 @@ pub(crate) struct Add {
     pub(crate) value: i32,
     pub(crate) units: u32,
     pub(crate) amount: i64,
-    pub(crate) stage: Stage,
+    pub(crate) stage: AddStage,
 }
 
 impl Add {
@@ -103,10 +103,11 @@ impl Add {
     ghost use Rattle.bucket_ranges.specs.Ranges.{boundaries_of};
     ghost use Rattle.bucket_ranges.specs.Spec.{spec_fault};
     ghost use Rattle.hist_core.specs.ActorRun.{known_of};
+    ghost use Rattle.hist_core.specs.StepsBy.{LiesWithin};
     ghost use Rattle.hist_core.specs.Exchanging.{add_attempt};
     ghost use Rattle.alloc_core.specs.Layout.{IsShape};
-    ghost use Rattle.hist_core.specs.declared.add.Stage.TheVariants.{LoadingSingle, Packing, LoadingCounts, SeekingCounts, Mounting, Purging, LoadingAgain, Disabling, Moving, Counting, Summing, Noting};
-    ghost use Rattle.hist_core.specs.Add.{IsSomeAdd, AddSteps, IsBehindSingle, BeginsToAllocate, IsAllocating, IsAllocated, IsSampled, IsSearching, IsStarted, behind_count, behind_disabling, count_in};
+    ghost use Rattle.hist_core.specs.declared.add.AddStage.TheVariants.{LoadingSingle, Packing, LoadingCounts, SeekingCounts, Mounting, Purging, LoadingAgain, Disabling, Moving, Counting, Summing, Noting};
+    ghost use Rattle.hist_core.specs.Add.{IsAtStage, IsSomeAdd, AddSteps, IsBehindSingle, BeginsToAllocate, IsAllocating, IsAllocated, IsSampled, IsSearching, IsStarted, behind_count, behind_disabling, count_in};
 
     // It begins to count so many units of a value in a known histogram, and an amount: it loads the single word, or, where the
     // histogram is sparse, it looks for the sample of the value.
@@ -133,7 +134,7 @@ impl Add {
                 value,
                 units,
                 amount,
-                stage: Stage::Sampling { sampling },
+                stage: AddStage::Sampling { sampling },
             };
         }
         Add {
@@ -145,7 +146,7 @@ impl Add {
             value,
             units,
             amount,
-            stage: Stage::LoadingSingle,
+            stage: AddStage::LoadingSingle,
         }
     }
 
@@ -154,30 +155,29 @@ impl Add {
         ensures { self.new ≡ record self.old { stage = behind_count self.old.amount } }
     {
         self.stage = if self.amount == 0 {
-            Stage::Noting
+            AddStage::Noting
         } else {
-            Stage::Summing
+            AddStage::Summing
         };
     }
 
     // What a single word leads to.
-    fn behind_single(&self, word: u64) -> Stage
+    fn behind_single(&self, word: u64) -> AddStage
         requires { self.now.bucket ≤ 65535 }
         ensures { IsBehindSingle self.now word result }
     {
         if word >= DISABLED_BIT {
-            return Stage::LoadingCounts;
+            return AddStage::LoadingCounts;
         }
         match packed_with(word, self.bucket, self.units) {
-            Some(new) => Stage::Packing { old: word, new },
-            None => Stage::SeekingCounts,
+            Some(new) => AddStage::Packing { old: word, new },
+            None => AddStage::SeekingCounts,
         }
     }
 
     // It loads the single word.
     fn load_single(&mut self, words: &[u64]) -> AddStep
-        requires loads { self.old.stage ≡ LoadingSingle }
-        requires stands { ∥ IsSomeAdd (length words.now) self.old ∥₁ }
+        requires { IsAtStage LoadingSingle (length words.now) self.old }
         ensures steps { AddSteps self.old words.now self.new words.now result }
         ensures same { self.new ≡ record self.old { stage = self.new.stage } }
     {
@@ -188,8 +188,7 @@ impl Add {
 
     // It packs its units, where the single word is as it was; else it loads that anew.
     fn pack(&mut self, words: &mut [u64], old: u64, new: u64) -> AddStep
-        requires packs { self.old.stage ≡ Packing old new }
-        requires stands { ∥ IsSomeAdd (length words.old) self.old ∥₁ }
+        requires { IsAtStage (Packing old new) (length words.old) self.old }
         ensures steps { AddSteps self.old words.old self.new words.new result }
         ensures same { self.new ≡ record self.old { stage = self.new.stage } }
     {
@@ -197,20 +196,19 @@ impl Add {
         if exchange(words, at, old, new) == old {
             self.counted();
         } else {
-            self.stage = Stage::LoadingSingle;
+            self.stage = AddStage::LoadingSingle;
         }
         AddStep::More
     }
 
     // It loads the counts reference. The counts are in use, so they lie within the segment.
     fn load_counts(&mut self, words: &[u64]) -> AddStep
-        requires loads { self.old.stage ≡ LoadingCounts }
-        requires stands { ∥ IsSomeAdd (length words.now) self.old ∥₁ }
+        requires { IsAtStage LoadingCounts (length words.now) self.old }
         ensures steps { AddSteps self.old words.now self.new words.now result }
         ensures same { self.new ≡ record self.old { stage = self.new.stage } }
     {
         let counts = words[self.histogram as usize + HISTOGRAM_COUNTS];
-        self.stage = Stage::Counting {
+        self.stage = AddStage::Counting {
             at: self.count_in(counts),
         };
         AddStep::More
@@ -218,8 +216,7 @@ impl Add {
 
     // It loads the counts reference, to put the counts in use. Where there are none yet, it claims words for them.
     fn seek_counts(&mut self, words: &[u64]) -> AddStep
-        requires seeks { self.old.stage ≡ SeekingCounts }
-        requires stands { ∥ IsSomeAdd (length words.now) self.old ∥₁ }
+        requires { IsAtStage SeekingCounts (length words.now) self.old }
         ensures steps { AddSteps self.old words.now self.new words.now result }
         ensures same { self.new ≡ record self.old { stage = self.new.stage } }
     {
@@ -227,7 +224,7 @@ impl Add {
         if counts == 0 {
             return self.begin_allocating();
         }
-        self.stage = Stage::LoadingAgain { counts };
+        self.stage = AddStage::LoadingAgain { counts };
         AddStep::More
     }
 
@@ -239,7 +236,7 @@ impl Add {
     {
         match Alloc::start(self.shape, 2 * self.buckets as u64, TYPE_COUNTS) {
             Ok(alloc) => {
-                self.stage = Stage::Allocating { alloc };
+                self.stage = AddStage::Allocating { alloc };
                 AddStep::More
             }
             Err(_) => AddStep::Refused(Refusal::TooLarge),
@@ -253,7 +250,7 @@ impl Add {
         match said {
             AllocStep::More => AddStep::More,
             AllocStep::Done(at) => {
-                self.stage = Stage::Mounting { at };
+                self.stage = AddStage::Mounting { at };
                 AddStep::More
             }
             AllocStep::Full => AddStep::Refused(Refusal::Full),
@@ -269,7 +266,7 @@ impl Add {
         ensures same { self.new ≡ record self.old { stage = self.new.stage } }
     {
         match &mut self.stage {
-            Stage::Allocating { alloc } => {
+            AddStage::Allocating { alloc } => {
                 let said = alloc.step(words);
                 self.allocated(said)
             }
@@ -279,30 +276,28 @@ impl Add {
 
     // It stores the reference of its block, where there are no counts yet; else its block is of no use.
     fn mount(&mut self, words: &mut [u64], at: u64) -> AddStep
-        requires mounts { self.old.stage ≡ Mounting at }
-        requires stands { ∥ IsSomeAdd (length words.old) self.old ∥₁ }
+        requires { IsAtStage (Mounting at) (length words.old) self.old }
         ensures steps { AddSteps self.old words.old self.new words.new result }
         ensures same { self.new ≡ record self.old { stage = self.new.stage } }
     {
         let reference = self.histogram as usize + HISTOGRAM_COUNTS;
         let counts = exchange(words, reference, 0, at);
         self.stage = if counts == 0 {
-            Stage::LoadingAgain { counts: at }
+            AddStage::LoadingAgain { counts: at }
         } else {
-            Stage::Purging { at, counts }
+            AddStage::Purging { at, counts }
         };
         AddStep::More
     }
 
     // It marks its block as of no use.
     fn purge(&mut self, words: &mut [u64], at: u64, counts: u64) -> AddStep
-        requires purges { self.old.stage ≡ Purging at counts }
-        requires stands { ∥ IsSomeAdd (length words.old) self.old ∥₁ }
+        requires { IsAtStage (Purging at counts) (length words.old) self.old }
         ensures steps { AddSteps self.old words.old self.new words.new result }
         ensures same { self.new ≡ record self.old { stage = self.new.stage } }
     {
         store(words, at as usize + BLOCK_TYPE, TYPE_PURGED);
-        self.stage = Stage::LoadingAgain { counts };
+        self.stage = AddStage::LoadingAgain { counts };
         AddStep::More
     }
 
@@ -316,44 +311,42 @@ impl Add {
 
     // It loads the single word once more. It counts where that is off, and else disables it.
     fn load_again(&mut self, words: &[u64], counts: u64) -> AddStep
-        requires loads { self.old.stage ≡ LoadingAgain counts }
-        requires stands { ∥ IsSomeAdd (length words.now) self.old ∥₁ }
+        requires { IsAtStage (LoadingAgain counts) (length words.now) self.old }
         ensures steps { AddSteps self.old words.now self.new words.now result }
         ensures same { self.new ≡ record self.old { stage = self.new.stage } }
     {
         let old = words[self.histogram as usize + HISTOGRAM_SINGLE];
         self.stage = if old >= DISABLED_BIT {
-            Stage::Counting {
+            AddStage::Counting {
                 at: self.count_in(counts),
             }
         } else {
-            Stage::Disabling { counts, old }
+            AddStage::Disabling { counts, old }
         };
         AddStep::More
     }
 
     // The single word is disabled: what it does next.
-    fn behind_disabling(&self, counts: u64, old: u64) -> Stage
+    fn behind_disabling(&self, counts: u64, old: u64) -> AddStage
         requires { self.now.bucket ≤ 65535 }
         ensures { result ≡ behind_disabling self.now counts old }
     {
         if self.version == VERSION_MOVING && old != 0 {
             let (bucket, units) = unpacked(old);
-            return Stage::Moving {
+            return AddStage::Moving {
                 counts,
                 bucket,
                 units,
             };
         }
-        Stage::Counting {
+        AddStage::Counting {
             at: self.count_in(counts),
         }
     }
 
     // It disables the single word, where that is as it was; else it loads it anew.
     fn disable(&mut self, words: &mut [u64], counts: u64, old: u64) -> AddStep
-        requires disables { self.old.stage ≡ Disabling counts old }
-        requires stands { ∥ IsSomeAdd (length words.old) self.old ∥₁ }
+        requires { IsAtStage (Disabling counts old) (length words.old) self.old }
         ensures steps { AddSteps self.old words.old self.new words.new result }
         ensures same { self.new ≡ record self.old { stage = self.new.stage } }
     {
@@ -362,20 +355,19 @@ impl Add {
         self.stage = if exchange(words, at, old, off) == old {
             self.behind_disabling(counts, old)
         } else {
-            Stage::LoadingAgain { counts }
+            AddStage::LoadingAgain { counts }
         };
         AddStep::More
     }
 
     // It adds the units that the single word had to the count of their bucket.
     fn move_units(&mut self, words: &mut [u64], counts: u64, bucket: usize, units: u64) -> AddStep
-        requires moves { self.old.stage ≡ Moving counts bucket units }
-        requires stands { ∥ IsSomeAdd (length words.old) self.old ∥₁ }
+        requires { IsAtStage (Moving counts bucket units) (length words.old) self.old }
         ensures steps { AddSteps self.old words.old self.new words.new result }
         ensures same { self.new ≡ record self.old { stage = self.new.stage } }
     {
         fetch_add(words, counts as usize + (BLOCK_HEADER + bucket), units);
-        self.stage = Stage::Counting {
+        self.stage = AddStage::Counting {
             at: self.count_in(counts),
         };
         AddStep::More
@@ -389,7 +381,7 @@ impl Add {
             SamplingStep::More => AddStep::More,
             SamplingStep::Found(sample) => {
                 let at = sample.wrapping_add(SAMPLE_COUNT as u64);
-                self.stage = Stage::Counting { at };
+                self.stage = AddStage::Counting { at };
                 AddStep::More
             }
             SamplingStep::Refused(refusal) => AddStep::Refused(refusal),
@@ -404,7 +396,7 @@ impl Add {
         ensures same { self.new ≡ record self.old { stage = self.new.stage } }
     {
         match &mut self.stage {
-            Stage::Sampling { sampling } => {
+            AddStage::Sampling { sampling } => {
                 let said = sampling.step(words);
                 self.sampled(said)
             }
@@ -414,8 +406,7 @@ impl Add {
 
     // It adds its units to a count.
     fn count(&mut self, words: &mut [u64], at: u64) -> AddStep
-        requires counts { self.old.stage ≡ Counting at }
-        requires stands { ∥ IsSomeAdd (length words.old) self.old ∥₁ }
+        requires { IsAtStage (Counting at) (length words.old) self.old }
         ensures steps { AddSteps self.old words.old self.new words.new result }
         ensures same { self.new ≡ record self.old { stage = self.new.stage } }
     {
@@ -426,21 +417,19 @@ impl Add {
 
     // It adds its amount to the sum.
     fn sum(&mut self, words: &mut [u64]) -> AddStep
-        requires sums { self.old.stage ≡ Summing }
-        requires stands { ∥ IsSomeAdd (length words.old) self.old ∥₁ }
+        requires { IsAtStage Summing (length words.old) self.old }
         ensures steps { AddSteps self.old words.old self.new words.new result }
         ensures same { self.new ≡ record self.old { stage = self.new.stage } }
     {
         let at = self.histogram as usize + HISTOGRAM_SUM;
         fetch_add(words, at, self.amount.cast_unsigned());
-        self.stage = Stage::Noting;
+        self.stage = AddStage::Noting;
         AddStep::More
     }
 
     // It adds its units to the redundant count, and all has happened.
     fn note(&mut self, words: &mut [u64]) -> AddStep
-        requires notes { self.old.stage ≡ Noting }
-        requires stands { ∥ IsSomeAdd (length words.old) self.old ∥₁ }
+        requires { IsAtStage Noting (length words.old) self.old }
         ensures steps { AddSteps self.old words.old self.new words.new result }
         ensures same { self.new ≡ record self.old { stage = self.new.stage } }
     {
@@ -454,16 +443,16 @@ impl Add {
         ensures { result ≡ add_attempt self.now self.now.stage }
     {
         match &self.stage {
-            Stage::Packing { old, .. } | Stage::Disabling { old, .. } => Some(Attempt {
+            AddStage::Packing { old, .. } | AddStage::Disabling { old, .. } => Some(Attempt {
                 at: (self.histogram as usize).wrapping_add(HISTOGRAM_SINGLE),
                 wanted: *old,
             }),
-            Stage::Mounting { .. } => Some(Attempt {
+            AddStage::Mounting { .. } => Some(Attempt {
                 at: (self.histogram as usize).wrapping_add(HISTOGRAM_COUNTS),
                 wanted: 0,
             }),
-            Stage::Allocating { alloc } => alloc.next_exchange(),
-            Stage::Sampling { sampling } => sampling.next_exchange(),
+            AddStage::Allocating { alloc } => alloc.next_exchange(),
+            AddStage::Sampling { sampling } => sampling.next_exchange(),
             _ => None,
         }
     }
@@ -471,28 +460,29 @@ impl Add {
     // Goes on by one event.
     pub(crate) fn step(&mut self, words: &mut [u64]) -> AddStep
         requires stands { ∥ IsSomeAdd (length words.old) self.old ∥₁ }
+        requires inside { LiesWithin (length words.old) self.old.histogram }
         ensures steps { AddSteps self.old words.old self.new words.new result }
         ensures same { self.new ≡ record self.old { stage = self.new.stage } }
     {
         match self.stage {
-            Stage::LoadingSingle => self.load_single(words),
-            Stage::Packing { old, new } => self.pack(words, old, new),
-            Stage::LoadingCounts => self.load_counts(words),
-            Stage::SeekingCounts => self.seek_counts(words),
-            Stage::Allocating { .. } => self.allocate(words),
-            Stage::Mounting { at } => self.mount(words, at),
-            Stage::Purging { at, counts } => self.purge(words, at, counts),
-            Stage::LoadingAgain { counts } => self.load_again(words, counts),
-            Stage::Disabling { counts, old } => self.disable(words, counts, old),
-            Stage::Moving {
+            AddStage::LoadingSingle => self.load_single(words),
+            AddStage::Packing { old, new } => self.pack(words, old, new),
+            AddStage::LoadingCounts => self.load_counts(words),
+            AddStage::SeekingCounts => self.seek_counts(words),
+            AddStage::Allocating { .. } => self.allocate(words),
+            AddStage::Mounting { at } => self.mount(words, at),
+            AddStage::Purging { at, counts } => self.purge(words, at, counts),
+            AddStage::LoadingAgain { counts } => self.load_again(words, counts),
+            AddStage::Disabling { counts, old } => self.disable(words, counts, old),
+            AddStage::Moving {
                 counts,
                 bucket,
                 units,
             } => self.move_units(words, counts, bucket, units),
-            Stage::Sampling { .. } => self.sample(words),
-            Stage::Counting { at } => self.count(words, at),
-            Stage::Summing => self.sum(words),
-            Stage::Noting => self.note(words),
+            AddStage::Sampling { .. } => self.sample(words),
+            AddStage::Counting { at } => self.count(words, at),
+            AddStage::Summing => self.sum(words),
+            AddStage::Noting => self.note(words),
         }
     }
 }

@@ -4,7 +4,7 @@
 use crate::hist::Known;
 use crate::mounted::Mounted;
 use crate::samples::list_by_key;
-use crate::walk::{Met, Walk};
+use crate::walk::{Met, SampleWalk};
 use crate::word_ops::{fetch_max, swap};
 use bucket_ranges::Ranges;
 use segment_calls::packing::{DISABLED_BIT, packed_in};
@@ -17,7 +17,7 @@ use std::alloc::{AllocError, Global};
 
 /// What a delta does next.
 #[derive(Clone, Copy, Debug, PartialEq, Eq)]
-pub(crate) enum Stage {
+pub(crate) enum DeltaStage {
     /// It loads the single word.
     LoadingSingle,
     /// It raises the single mark to the packed units of a bucket.
@@ -43,7 +43,7 @@ pub(crate) enum Stage {
     },
     /// It walks along the samples of a sparse histogram.
     Walking {
-        walk: Walk,
+        walk: SampleWalk,
     },
     /// It loads the count of a sample.
     LoadingSample {
@@ -85,15 +85,16 @@ pub(crate) struct DeltaCall {
     // The keys of which it took units so far, each with how many. There is room for all buckets, or for as many values as fit in the
     // segment.
     pub(crate) counts: Vec<(i32, u64)>,
-    pub(crate) stage: Stage,
+    pub(crate) stage: DeltaStage,
 }
 
 impl DeltaCall {
     ghost use Rattle.std.specs.Prelude.{◌≡◌, ◌≤◌, ◌<◌, ◌+◌, length, vec_len, vec_capacity, None, IfOk};
     ghost use Rattle.bucket_ranges.specs.Spec.{spec_fault};
     ghost use Rattle.hist_core.specs.ActorRun.{known_of};
-    ghost use Rattle.hist_core.specs.declared.delta_call.Stage.TheVariants.{LoadingSingle, TakingPacked, LoadingCounts, LoadingCount, Raising, Walking, LoadingSample, RaisingSample, LoadingSum, Swapping};
-    ghost use Rattle.hist_core.specs.DeltaCall.{IsSomeDeltaCall, IsStarted, DeltaCallSteps, Lists, IsBehindSingle, HasBegun, behind_bucket, behind_sample, behind_walk, IsTaken, TakesUnits, mark_of};
+    ghost use Rattle.hist_core.specs.StepsBy.{LiesWithin};
+    ghost use Rattle.hist_core.specs.declared.delta_call.DeltaStage.TheVariants.{LoadingSingle, TakingPacked, LoadingCounts, LoadingCount, Raising, Walking, LoadingSample, RaisingSample, LoadingSum, Swapping};
+    ghost use Rattle.hist_core.specs.DeltaCall.{IsSomeDeltaCall, IsStarted, IsAtStage, DeltaCallSteps, HasGoneOn, IsBehindSingle, behind_bucket, behind_sample, behind_walk, IsTaken, TakesUnits, mark_of};
 
     // It begins to take of a known histogram: it loads the single word, or, where the histogram is sparse, the next of its record. There
     // is room for all keys.
@@ -117,8 +118,8 @@ impl DeltaCall {
                 histogram: known.reference,
                 ranges,
                 counts,
-                stage: Stage::Walking {
-                    walk: Walk::LoadingFirst,
+                stage: DeltaStage::Walking {
+                    walk: SampleWalk::LoadingFirst,
                 },
             });
         }
@@ -128,37 +129,33 @@ impl DeltaCall {
             histogram: known.reference,
             ranges,
             counts,
-            stage: Stage::LoadingSingle,
+            stage: DeltaStage::LoadingSingle,
         })
     }
 
     // What a single word leads to.
-    fn behind_single(&self, word: u64) -> Stage
+    fn behind_single(&self, word: u64) -> DeltaStage
         requires { length self.now.ranges ≤ 65535 }
         ensures { IsBehindSingle self.now word result }
     {
         let (packed, kept) = packed_in(self.version, word, self.ranges.len());
         if word >= DISABLED_BIT {
-            return Stage::LoadingCounts { packed, kept };
+            return DeltaStage::LoadingCounts { packed, kept };
         }
         match packed {
-            Some(bucket) => Stage::TakingPacked {
+            Some(bucket) => DeltaStage::TakingPacked {
                 bucket,
                 units: kept,
             },
-            None => Stage::LoadingSum,
+            None => DeltaStage::LoadingSum,
         }
     }
 
     // It loads the single word.
     fn load_single(&mut self, words: &[u64]) -> DeltaCallStep
-        requires loads { self.old.stage ≡ LoadingSingle }
-        requires stands { ∥ IsSomeDeltaCall (length words.now) self.old ∥₁ }
+        requires { IsAtStage LoadingSingle (length words.now) self.old }
         ensures steps { DeltaCallSteps self.old words.now self.new words.now result }
-        ensures lists { Lists self.old self.new result }
-        ensures room { vec_capacity self.new.counts ≡ vec_capacity self.old.counts }
-        ensures begun { HasBegun self.new.stage }
-        ensures of { self.new.histogram ≡ self.old.histogram }
+        ensures goes { HasGoneOn self.old self.new result }
     {
         let word = words[self.histogram as usize + HISTOGRAM_SINGLE];
         self.stage = self.behind_single(word);
@@ -189,29 +186,21 @@ impl DeltaCall {
 
     // It raises the single mark to the packed units.
     fn take_packed(&mut self, words: &mut [u64], bucket: usize, units: u64) -> DeltaCallStep
-        requires takes { self.old.stage ≡ TakingPacked bucket units }
-        requires stands { ∥ IsSomeDeltaCall (length words.old) self.old ∥₁ }
+        requires { IsAtStage (TakingPacked bucket units) (length words.old) self.old }
         ensures steps { DeltaCallSteps self.old words.old self.new words.new result }
-        ensures lists { Lists self.old self.new result }
-        ensures room { vec_capacity self.new.counts ≡ vec_capacity self.old.counts }
-        ensures begun { HasBegun self.new.stage }
-        ensures of { self.new.histogram ≡ self.old.histogram }
+        ensures goes { HasGoneOn self.old self.new result }
     {
         let at = self.histogram as usize + HISTOGRAM_SINGLE_MARK;
         let mark = fetch_max(words, at, units);
-        self.stage = Stage::LoadingSum;
+        self.stage = DeltaStage::LoadingSum;
         self.take_bucket(bucket, units, mark)
     }
 
     // It loads the counts reference. The counts are in use, so they lie within the segment.
     fn load_counts(&mut self, words: &[u64], packed: Option<usize>, kept: u64) -> DeltaCallStep
-        requires loads { self.old.stage ≡ LoadingCounts packed kept }
-        requires stands { ∥ IsSomeDeltaCall (length words.now) self.old ∥₁ }
+        requires { IsAtStage (LoadingCounts packed kept) (length words.now) self.old }
         ensures steps { DeltaCallSteps self.old words.now self.new words.now result }
-        ensures lists { Lists self.old self.new result }
-        ensures room { vec_capacity self.new.counts ≡ vec_capacity self.old.counts }
-        ensures begun { HasBegun self.new.stage }
-        ensures of { self.new.histogram ≡ self.old.histogram }
+        ensures goes { HasGoneOn self.old self.new result }
     {
         let counts = words[self.histogram as usize + HISTOGRAM_COUNTS];
         let mounted = Mounted {
@@ -219,41 +208,37 @@ impl DeltaCall {
             packed,
             kept,
         };
-        self.stage = Stage::LoadingCount { mounted, bucket: 0 };
+        self.stage = DeltaStage::LoadingCount { mounted, bucket: 0 };
         DeltaCallStep::More
     }
 
     // What it does behind a bucket: it goes on to the next, or to the sum.
-    fn behind_bucket(&self, mounted: Mounted, bucket: usize) -> Stage
+    fn behind_bucket(&self, mounted: Mounted, bucket: usize) -> DeltaStage
         requires { bucket ≤ 65535 }
         ensures { result ≡ behind_bucket self.now mounted bucket }
     {
         if bucket + 1 < self.ranges.len() {
-            Stage::LoadingCount {
+            DeltaStage::LoadingCount {
                 mounted,
                 bucket: bucket + 1,
             }
         } else {
-            Stage::LoadingSum
+            DeltaStage::LoadingSum
         }
     }
 
     // It loads the count of a bucket, and raises its mark next where the bucket has units.
     fn load_count(&mut self, words: &[u64], mounted: Mounted, bucket: usize) -> DeltaCallStep
-        requires loads { self.old.stage ≡ LoadingCount mounted bucket }
-        requires stands { ∥ IsSomeDeltaCall (length words.now) self.old ∥₁ }
+        requires { IsAtStage (LoadingCount mounted bucket) (length words.now) self.old }
         ensures steps { DeltaCallSteps self.old words.now self.new words.now result }
-        ensures lists { Lists self.old self.new result }
-        ensures room { vec_capacity self.new.counts ≡ vec_capacity self.old.counts }
-        ensures begun { HasBegun self.new.stage }
-        ensures of { self.new.histogram ≡ self.old.histogram }
+        ensures goes { HasGoneOn self.old self.new result }
     {
         let count = words[mounted.counts as usize + (BLOCK_HEADER + bucket)];
         let total = mounted.total(bucket, count);
         self.stage = if total == 0 {
             self.behind_bucket(mounted, bucket)
         } else {
-            Stage::Raising {
+            DeltaStage::Raising {
                 mounted,
                 bucket,
                 total,
@@ -283,13 +268,9 @@ impl DeltaCall {
         bucket: usize,
         total: u64,
     ) -> DeltaCallStep
-        requires raises { self.old.stage ≡ Raising mounted bucket total }
-        requires stands { ∥ IsSomeDeltaCall (length words.old) self.old ∥₁ }
+        requires { IsAtStage (Raising mounted bucket total) (length words.old) self.old }
         ensures steps { DeltaCallSteps self.old words.old self.new words.new result }
-        ensures lists { Lists self.old self.new result }
-        ensures room { vec_capacity self.new.counts ≡ vec_capacity self.old.counts }
-        ensures begun { HasBegun self.new.stage }
-        ensures of { self.new.histogram ≡ self.old.histogram }
+        ensures goes { HasGoneOn self.old self.new result }
     {
         let mark = fetch_max(words, self.mark_of(mounted, bucket), total);
         self.stage = self.behind_bucket(mounted, bucket);
@@ -297,25 +278,21 @@ impl DeltaCall {
     }
 
     // What its walk met leads to: it goes on, or to the count of a sample, or at the end of the list to the sum.
-    fn behind_walk(met: Met) -> Stage
+    fn behind_walk(met: Met) -> DeltaStage
         ensures { result ≡ behind_walk met }
     {
         match met {
-            Met::Nothing(walk) => Stage::Walking { walk },
-            Met::Sample { at, value } => Stage::LoadingSample { at, value },
-            Met::End => Stage::LoadingSum,
+            Met::Nothing(walk) => DeltaStage::Walking { walk },
+            Met::Sample { at, value } => DeltaStage::LoadingSample { at, value },
+            Met::End => DeltaStage::LoadingSum,
         }
     }
 
     // It walks on.
-    fn walk_on(&mut self, words: &[u64], walk: Walk) -> DeltaCallStep
-        requires loads { self.old.stage ≡ Walking walk }
-        requires stands { ∥ IsSomeDeltaCall (length words.now) self.old ∥₁ }
+    fn walk_on(&mut self, words: &[u64], walk: SampleWalk) -> DeltaCallStep
+        requires { IsAtStage (Walking walk) (length words.now) self.old }
         ensures steps { DeltaCallSteps self.old words.now self.new words.now result }
-        ensures lists { Lists self.old self.new result }
-        ensures room { vec_capacity self.new.counts ≡ vec_capacity self.old.counts }
-        ensures begun { HasBegun self.new.stage }
-        ensures of { self.new.histogram ≡ self.old.histogram }
+        ensures goes { HasGoneOn self.old self.new result }
     {
         let met = walk.step(self.histogram, words);
         self.stage = DeltaCall::behind_walk(met);
@@ -323,27 +300,23 @@ impl DeltaCall {
     }
 
     // What the count of a sample leads to: its mark is raised next where it has units.
-    fn behind_sample(at: u64, value: i32, count: u64) -> Stage
+    fn behind_sample(at: u64, value: i32, count: u64) -> DeltaStage
         ensures { result ≡ behind_sample at value count }
     {
         if count == 0 {
-            Stage::Walking {
-                walk: Walk::LoadingNext { at },
+            DeltaStage::Walking {
+                walk: SampleWalk::LoadingNext { at },
             }
         } else {
-            Stage::RaisingSample { at, value, count }
+            DeltaStage::RaisingSample { at, value, count }
         }
     }
 
     // It loads the count of a sample of its histogram.
     fn load_sample(&mut self, words: &[u64], at: u64, value: i32) -> DeltaCallStep
-        requires loads { self.old.stage ≡ LoadingSample at value }
-        requires stands { ∥ IsSomeDeltaCall (length words.now) self.old ∥₁ }
+        requires { IsAtStage (LoadingSample at value) (length words.now) self.old }
         ensures steps { DeltaCallSteps self.old words.now self.new words.now result }
-        ensures lists { Lists self.old self.new result }
-        ensures room { vec_capacity self.new.counts ≡ vec_capacity self.old.counts }
-        ensures begun { HasBegun self.new.stage }
-        ensures of { self.new.histogram ≡ self.old.histogram }
+        ensures goes { HasGoneOn self.old self.new result }
     {
         let count = words[at as usize + SAMPLE_COUNT];
         self.stage = DeltaCall::behind_sample(at, value, count);
@@ -352,45 +325,33 @@ impl DeltaCall {
 
     // It raises the mark of a sample to its count.
     fn raise_sample(&mut self, words: &mut [u64], at: u64, value: i32, count: u64) -> DeltaCallStep
-        requires raises { self.old.stage ≡ RaisingSample at value count }
-        requires stands { ∥ IsSomeDeltaCall (length words.old) self.old ∥₁ }
+        requires { IsAtStage (RaisingSample at value count) (length words.old) self.old }
         ensures steps { DeltaCallSteps self.old words.old self.new words.new result }
-        ensures lists { Lists self.old self.new result }
-        ensures room { vec_capacity self.new.counts ≡ vec_capacity self.old.counts }
-        ensures begun { HasBegun self.new.stage }
-        ensures of { self.new.histogram ≡ self.old.histogram }
+        ensures goes { HasGoneOn self.old self.new result }
     {
         let mark = fetch_max(words, at as usize + SAMPLE_MARK, count);
-        self.stage = Stage::Walking {
-            walk: Walk::LoadingNext { at },
+        self.stage = DeltaStage::Walking {
+            walk: SampleWalk::LoadingNext { at },
         };
         self.take(value, count, mark)
     }
 
     // It loads the sum.
     fn load_sum(&mut self, words: &[u64]) -> DeltaCallStep
-        requires loads { self.old.stage ≡ LoadingSum }
-        requires stands { ∥ IsSomeDeltaCall (length words.now) self.old ∥₁ }
+        requires { IsAtStage LoadingSum (length words.now) self.old }
         ensures steps { DeltaCallSteps self.old words.now self.new words.now result }
-        ensures lists { Lists self.old self.new result }
-        ensures room { vec_capacity self.new.counts ≡ vec_capacity self.old.counts }
-        ensures begun { HasBegun self.new.stage }
-        ensures of { self.new.histogram ≡ self.old.histogram }
+        ensures goes { HasGoneOn self.old self.new result }
     {
         let sum = words[self.histogram as usize + HISTOGRAM_SUM].cast_signed();
-        self.stage = Stage::Swapping { sum };
+        self.stage = DeltaStage::Swapping { sum };
         DeltaCallStep::More
     }
 
     // It swaps the sum into the sum mark, and has ended.
     fn swap_sum(&mut self, words: &mut [u64], sum: i64) -> DeltaCallStep
-        requires swaps { self.old.stage ≡ Swapping sum }
-        requires stands { ∥ IsSomeDeltaCall (length words.old) self.old ∥₁ }
+        requires { IsAtStage (Swapping sum) (length words.old) self.old }
         ensures steps { DeltaCallSteps self.old words.old self.new words.new result }
-        ensures lists { Lists self.old self.new result }
-        ensures room { vec_capacity self.new.counts ≡ vec_capacity self.old.counts }
-        ensures begun { HasBegun self.new.stage }
-        ensures of { self.new.histogram ≡ self.old.histogram }
+        ensures goes { HasGoneOn self.old self.new result }
     {
         let at = self.histogram as usize + HISTOGRAM_SUM_MARK;
         let mark = swap(words, at, sum.cast_unsigned());
@@ -400,29 +361,27 @@ impl DeltaCall {
     // Goes on by one event.
     pub(crate) fn step(&mut self, words: &mut [u64]) -> DeltaCallStep
         requires stands { ∥ IsSomeDeltaCall (length words.old) self.old ∥₁ }
+        requires inside { LiesWithin (length words.old) self.old.histogram }
         ensures steps { DeltaCallSteps self.old words.old self.new words.new result }
-        ensures lists { Lists self.old self.new result }
-        ensures room { vec_capacity self.new.counts ≡ vec_capacity self.old.counts }
-        ensures begun { HasBegun self.new.stage }
-        ensures of { self.new.histogram ≡ self.old.histogram }
+        ensures goes { HasGoneOn self.old self.new result }
     {
         match self.stage {
-            Stage::LoadingSingle => self.load_single(words),
-            Stage::TakingPacked { bucket, units } => self.take_packed(words, bucket, units),
-            Stage::LoadingCounts { packed, kept } => self.load_counts(words, packed, kept),
-            Stage::LoadingCount { mounted, bucket } => self.load_count(words, mounted, bucket),
-            Stage::Raising {
+            DeltaStage::LoadingSingle => self.load_single(words),
+            DeltaStage::TakingPacked { bucket, units } => self.take_packed(words, bucket, units),
+            DeltaStage::LoadingCounts { packed, kept } => self.load_counts(words, packed, kept),
+            DeltaStage::LoadingCount { mounted, bucket } => self.load_count(words, mounted, bucket),
+            DeltaStage::Raising {
                 mounted,
                 bucket,
                 total,
             } => self.raise(words, mounted, bucket, total),
-            Stage::Walking { walk } => self.walk_on(words, walk),
-            Stage::LoadingSample { at, value } => self.load_sample(words, at, value),
-            Stage::RaisingSample { at, value, count } => {
+            DeltaStage::Walking { walk } => self.walk_on(words, walk),
+            DeltaStage::LoadingSample { at, value } => self.load_sample(words, at, value),
+            DeltaStage::RaisingSample { at, value, count } => {
                 self.raise_sample(words, at, value, count)
             }
-            Stage::LoadingSum => self.load_sum(words),
-            Stage::Swapping { sum } => self.swap_sum(words, sum),
+            DeltaStage::LoadingSum => self.load_sum(words),
+            DeltaStage::Swapping { sum } => self.swap_sum(words, sum),
         }
     }
 }

@@ -22,7 +22,7 @@ pub(crate) struct Known {
 
 /// What a `hist` does next.
 #[derive(Debug, Drop)]
-pub(crate) enum Stage {
+pub(crate) enum HistStage {
     /// It loads the next of where the walk stands.
     Walking,
     /// It loads a word of the record where the walk stands. So many before it were as they are to be.
@@ -53,7 +53,7 @@ pub(crate) struct Hist {
     pub(crate) walk: Walk,
     // The record that the walk gave last.
     pub(crate) reference: u64,
-    pub(crate) stage: Stage,
+    pub(crate) stage: HistStage,
 }
 
 impl Hist {
@@ -61,7 +61,7 @@ impl Hist {
     ghost use Rattle.segment_machine.specs.declared.actor.Actor.{Actor};
     ghost use Rattle.hist_core.specs.Exchanging.{hist_attempt};
     ghost use Rattle.hist_core.specs.Hist.{compared_place, compared_index, compared_word, IsBegun, IsSomeHist, HistSteps, IsMade, IsMakingRecord, IsMatched, IsDifferent};
-    ghost use Rattle.hist_core.specs.declared.hist.Stage.TheVariants.{Walking, Comparing};
+    ghost use Rattle.hist_core.specs.declared.hist.HistStage.TheVariants.{Walking, Comparing};
 
     // It begins at the start of the list.
     pub(crate) fn start(shape: Shape, asked: Asked) -> Hist
@@ -79,7 +79,7 @@ impl Hist {
             letters: asked.letters,
             walk: Walk::from_start(),
             reference: 0,
-            stage: Stage::Walking,
+            stage: HistStage::Walking,
         }
     }
 
@@ -132,7 +132,7 @@ impl Hist {
         ensures { IsMatched self.old same self.new result }
     {
         if same + 6 < self.payload.len() {
-            self.stage = Stage::Comparing { same: same + 1 };
+            self.stage = HistStage::Comparing { same: same + 1 };
             HistStep::More
         } else {
             HistStep::Done
@@ -145,7 +145,7 @@ impl Hist {
         ensures { IsDifferent self.old same self.new result }
     {
         if same < self.letters + 2 {
-            self.stage = Stage::Walking;
+            self.stage = HistStage::Walking;
             HistStep::More
         } else {
             HistStep::Refused(Refusal::OtherSpec)
@@ -177,13 +177,13 @@ impl Hist {
         match self.walk.step(words) {
             WalkStep::Record(reference) => {
                 self.reference = reference;
-                self.stage = Stage::Comparing { same: 0 };
+                self.stage = HistStage::Comparing { same: 0 };
                 HistStep::More
             }
             WalkStep::End => {
                 let room = self.payload.len() as u64;
                 let making = Making::start(self.shape, room, TYPE_HISTOGRAM);
-                self.stage = Stage::Making { making };
+                self.stage = HistStage::Making { making };
                 HistStep::More
             }
             WalkStep::Stray => HistStep::More,
@@ -197,7 +197,7 @@ impl Hist {
         match said {
             MakingStep::More => HistStep::More,
             MakingStep::Done => {
-                self.stage = Stage::Walking;
+                self.stage = HistStage::Walking;
                 HistStep::More
             }
             MakingStep::Refused(refusal) => HistStep::Refused(refusal),
@@ -212,7 +212,7 @@ impl Hist {
         ensures asks { self.new.asked ≡ self.old.asked }
     {
         match &mut self.stage {
-            Stage::Making { making } => {
+            HistStage::Making { making } => {
                 let said = making.step(words, &self.payload);
                 self.made(said)
             }
@@ -225,7 +225,7 @@ impl Hist {
         ensures { result ≡ hist_attempt self.now.stage }
     {
         match &self.stage {
-            Stage::Making { making } => making.next_exchange(),
+            HistStage::Making { making } => making.next_exchange(),
             _ => None,
         }
     }
@@ -237,9 +237,9 @@ impl Hist {
         ensures asks { self.new.asked ≡ self.old.asked }
     {
         match self.stage {
-            Stage::Walking => self.walk_on(words),
-            Stage::Comparing { same } => self.compare(words, same),
-            Stage::Making { .. } => self.make(words),
+            HistStage::Walking => self.walk_on(words),
+            HistStage::Comparing { same } => self.compare(words, same),
+            HistStage::Making { .. } => self.make(words),
         }
     }
 }

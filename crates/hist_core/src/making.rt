@@ -11,7 +11,7 @@ use segment_image::layout::BLOCK_HEADER;
 
 /// What the making of a record does next.
 #[derive(Debug, Drop)]
-pub(crate) enum Stage {
+pub(crate) enum MakingStage {
     /// It claims the words of the record.
     Allocating { alloc: Alloc },
     /// It stores a word of the payload, which is not 0.
@@ -34,14 +34,14 @@ pub(crate) enum MakingStep {
 /// A record that is being made. What it is to hold is given at each step.
 #[derive(Debug, Drop)]
 pub(crate) struct Making {
-    pub(crate) stage: Stage,
+    pub(crate) stage: MakingStage,
 }
 
 impl Making {
     ghost use Rattle.std.specs.Prelude.{◌+◌, ◌≤◌, vec_len};
     ghost use Rattle.hist_core.specs.Exchanging.{making_attempt};
     ghost use Rattle.alloc_core.specs.Layout.{IsShape};
-    ghost use Rattle.hist_core.specs.declared.making.Stage.TheVariants.{Filling};
+    ghost use Rattle.hist_core.specs.declared.making.MakingStage.TheVariants.{Filling};
     ghost use Rattle.hist_core.specs.Making.{IsSomeMaking, MakingSteps, IsStarted, IsAllocated, IsAllocating, IsPublished, IsPublishing, IsNextFilled, IsFilled};
 
     // It begins to claim words for a record: so many behind the header, which fit in a page.
@@ -52,7 +52,7 @@ impl Making {
     {
         match Alloc::start(shape, room, tag) {
             Ok(alloc) => Making {
-                stage: Stage::Allocating { alloc },
+                stage: MakingStage::Allocating { alloc },
             },
             Err(_) => unreachable!(),
         }
@@ -77,9 +77,9 @@ impl Making {
     {
         let index = Making::next_filled(payload, from);
         self.stage = if index < payload.len() {
-            Stage::Filling { at, index }
+            MakingStage::Filling { at, index }
         } else {
-            Stage::Publishing {
+            MakingStage::Publishing {
                 publish: Publish::start(at),
             }
         };
@@ -92,7 +92,7 @@ impl Making {
         match said {
             AllocStep::More => MakingStep::More,
             AllocStep::Done(at) => {
-                self.stage = Stage::Filling { at, index: 0 };
+                self.stage = MakingStage::Filling { at, index: 0 };
                 MakingStep::More
             }
             AllocStep::Full => MakingStep::Refused(Refusal::Full),
@@ -107,7 +107,7 @@ impl Making {
         ensures { MakingSteps payload.now self.old words.old self.new words.new result }
     {
         match &mut self.stage {
-            Stage::Allocating { alloc } => {
+            MakingStage::Allocating { alloc } => {
                 let said = alloc.step(words);
                 self.allocated(said)
             }
@@ -144,7 +144,7 @@ impl Making {
         ensures { MakingSteps payload.now self.old words.old self.new words.new result }
     {
         match &mut self.stage {
-            Stage::Publishing { publish } => {
+            MakingStage::Publishing { publish } => {
                 let said = publish.step(words);
                 Making::published(said)
             }
@@ -157,9 +157,9 @@ impl Making {
         ensures { result ≡ making_attempt self.now.stage }
     {
         match &self.stage {
-            Stage::Allocating { alloc } => alloc.next_exchange(),
-            Stage::Filling { .. } => None,
-            Stage::Publishing { publish } => publish.next_exchange(),
+            MakingStage::Allocating { alloc } => alloc.next_exchange(),
+            MakingStage::Filling { .. } => None,
+            MakingStage::Publishing { publish } => publish.next_exchange(),
         }
     }
 
@@ -169,9 +169,9 @@ impl Making {
         ensures { MakingSteps payload.now self.old words.old self.new words.new result }
     {
         match self.stage {
-            Stage::Allocating { .. } => self.allocate(words, payload),
-            Stage::Filling { at, index } => self.fill(words, payload, at, index),
-            Stage::Publishing { .. } => self.publish(words, payload),
+            MakingStage::Allocating { .. } => self.allocate(words, payload),
+            MakingStage::Filling { at, index } => self.fill(words, payload, at, index),
+            MakingStage::Publishing { .. } => self.publish(words, payload),
         }
     }
 }

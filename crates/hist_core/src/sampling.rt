@@ -15,7 +15,7 @@ use segment_image::layout::{
 
 /// What a search for a sample does next.
 #[derive(Debug, Drop)]
-pub(crate) enum Stage {
+pub(crate) enum SamplingStage {
     /// It loads the next of where the walk stands.
     Walking,
     /// It loads the type of the record that the walk gave last.
@@ -47,24 +47,24 @@ pub(crate) struct Sampling {
     pub(crate) histogram: u64,
     pub(crate) value: i32,
     pub(crate) walk: Walk,
-    pub(crate) stage: Stage,
+    pub(crate) stage: SamplingStage,
 }
 
 // What the type of a record leads to: the histogram of a sample, or the next of another record.
-fn behind_type(at: u64, tag: u64) -> Stage
+fn behind_type(at: u64, tag: u64) -> SamplingStage
     ensures { result ≡ behind_type at tag }
 {
     if tag == TYPE_SAMPLE {
-        Stage::LoadingHistogram { at }
+        SamplingStage::LoadingHistogram { at }
     } else {
-        Stage::Walking
+        SamplingStage::Walking
     }
 }
 
 impl Sampling {
     ghost use Rattle.std.specs.Int.{w64, cast_unsigned};
     ghost use Rattle.hist_core.specs.Exchanging.{sampling_attempt};
-    ghost use Rattle.hist_core.specs.declared.sampling.Stage.TheVariants.{Walking, LoadingType, LoadingHistogram, LoadingValue};
+    ghost use Rattle.hist_core.specs.declared.sampling.SamplingStage.TheVariants.{Walking, LoadingType, LoadingHistogram, LoadingValue};
     ghost use Rattle.hist_core.specs.Sampling.{IsSomeSampling, SamplingSteps, IsStarted, IsIts, IsMade, IsMakingSample};
 
     // It begins to walk on from the histogram's record.
@@ -76,7 +76,7 @@ impl Sampling {
             histogram,
             value,
             walk: Walk::from(histogram),
-            stage: Stage::Walking,
+            stage: SamplingStage::Walking,
         }
     }
 
@@ -95,11 +95,11 @@ impl Sampling {
         ensures same { self.new ≡ record self.old { walk = self.new.walk; stage = self.new.stage } }
     {
         match self.walk.step(words) {
-            WalkStep::Record(at) => self.stage = Stage::LoadingType { at },
+            WalkStep::Record(at) => self.stage = SamplingStage::LoadingType { at },
             WalkStep::End => {
                 let room = (SAMPLE_LEAST - BLOCK_HEADER) as u64;
                 let making = Making::start(self.shape, room, TYPE_SAMPLE);
-                self.stage = Stage::Making { making };
+                self.stage = SamplingStage::Making { making };
             }
             WalkStep::Stray => {}
         }
@@ -126,7 +126,7 @@ impl Sampling {
         ensures same { self.new ≡ record self.old { walk = self.new.walk; stage = self.new.stage } }
     {
         let of = words[at as usize + SAMPLE_HISTOGRAM];
-        self.stage = Stage::LoadingValue { at, of };
+        self.stage = SamplingStage::LoadingValue { at, of };
         SamplingStep::More
     }
 
@@ -148,7 +148,7 @@ impl Sampling {
         if self.is_its(of, word) {
             return SamplingStep::Found(at);
         }
-        self.stage = Stage::Walking;
+        self.stage = SamplingStage::Walking;
         SamplingStep::More
     }
 
@@ -159,7 +159,7 @@ impl Sampling {
         match said {
             MakingStep::More => SamplingStep::More,
             MakingStep::Done => {
-                self.stage = Stage::Walking;
+                self.stage = SamplingStage::Walking;
                 SamplingStep::More
             }
             MakingStep::Refused(refusal) => SamplingStep::Refused(refusal),
@@ -175,7 +175,7 @@ impl Sampling {
     {
         let payload = [self.histogram, self.value_word()];
         match &mut self.stage {
-            Stage::Making { making } => {
+            SamplingStage::Making { making } => {
                 let said = making.step(words, &payload);
                 self.made(said)
             }
@@ -188,7 +188,7 @@ impl Sampling {
         ensures { result ≡ sampling_attempt self.now.stage }
     {
         match &self.stage {
-            Stage::Making { making } => making.next_exchange(),
+            SamplingStage::Making { making } => making.next_exchange(),
             _ => None,
         }
     }
@@ -200,11 +200,11 @@ impl Sampling {
         ensures same { self.new ≡ record self.old { walk = self.new.walk; stage = self.new.stage } }
     {
         match self.stage {
-            Stage::Walking => self.walk_on(words),
-            Stage::LoadingType { at } => self.load_type(words, at),
-            Stage::LoadingHistogram { at } => self.load_histogram(words, at),
-            Stage::LoadingValue { at, of } => self.load_value(words, at, of),
-            Stage::Making { .. } => self.make(words),
+            SamplingStage::Walking => self.walk_on(words),
+            SamplingStage::LoadingType { at } => self.load_type(words, at),
+            SamplingStage::LoadingHistogram { at } => self.load_histogram(words, at),
+            SamplingStage::LoadingValue { at, of } => self.load_value(words, at, of),
+            SamplingStage::Making { .. } => self.make(words),
         }
     }
 }

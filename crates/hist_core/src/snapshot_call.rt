@@ -2,7 +2,7 @@
 
 use crate::hist::Known;
 use crate::mounted::Mounted;
-use crate::walk::{Met, Walk};
+use crate::walk::{Met, SampleWalk};
 use bucket_ranges::empty_buckets;
 use segment_calls::packing::{DISABLED_BIT, packed_in};
 use segment_calls::sort_by_key;
@@ -15,7 +15,7 @@ use std::alloc::{AllocError, Global};
 
 /// What a snapshot does next.
 #[derive(Clone, Copy, Debug, PartialEq, Eq)]
-pub(crate) enum Stage {
+pub(crate) enum SnapshotStage {
     /// It loads the single word.
     LoadingSingle,
     /// It loads the counts reference. The counts are in use.
@@ -23,7 +23,7 @@ pub(crate) enum Stage {
     /// It loads the count of a bucket.
     LoadingCount { mounted: Mounted, bucket: usize },
     /// It walks along the samples. The histogram is sparse.
-    Walking { walk: Walk },
+    Walking { walk: SampleWalk },
     /// It loads the count of a sample of its histogram.
     LoadingSample { at: u64, value: i32 },
     /// It loads the sum.
@@ -50,7 +50,7 @@ pub(crate) struct SnapshotCall {
     // The key of each bucket, in order, with the units that it saw there, 0 so far as it did not look. Of a sparse histogram the values
     // that it met with units, in the order of the list; at its end they are sorted.
     pub(crate) totals: Vec<(i32, u64)>,
-    pub(crate) stage: Stage,
+    pub(crate) stage: SnapshotStage,
 }
 
 impl SnapshotCall {
@@ -58,8 +58,9 @@ impl SnapshotCall {
     ghost use Rattle.bucket_ranges.specs.Ranges.{boundaries_of};
     ghost use Rattle.bucket_ranges.specs.Spec.{spec_fault};
     ghost use Rattle.hist_core.specs.ActorRun.{known_of};
-    ghost use Rattle.hist_core.specs.declared.snapshot_call.Stage.TheVariants.{LoadingSingle, LoadingCounts, LoadingCount, Walking, LoadingSample, LoadingSum, LoadingRedundant};
-    ghost use Rattle.hist_core.specs.SnapshotCall.{IsSomeSnapshotCall, IsStarted, SnapshotCallSteps, IsPut, IsBehindSingle, IsBehindWalk, IsListed, behind_bucket};
+    ghost use Rattle.hist_core.specs.StepsBy.{LiesWithin};
+    ghost use Rattle.hist_core.specs.declared.snapshot_call.SnapshotStage.TheVariants.{LoadingSingle, LoadingCounts, LoadingCount, Walking, LoadingSample, LoadingSum, LoadingRedundant};
+    ghost use Rattle.hist_core.specs.SnapshotCall.{IsAtStage, IsSomeSnapshotCall, IsStarted, SnapshotCallSteps, IsPut, IsBehindSingle, IsBehindWalk, IsListed, behind_bucket};
 
     // It begins to look at a known histogram: it loads the single word, or, where the histogram is sparse, the next of its record.
     pub(crate) fn start(
@@ -78,8 +79,8 @@ impl SnapshotCall {
                 version,
                 histogram: known.reference,
                 totals: Vec::with_capacity(alloc, most)?,
-                stage: Stage::Walking {
-                    walk: Walk::LoadingFirst,
+                stage: SnapshotStage::Walking {
+                    walk: SampleWalk::LoadingFirst,
                 },
             });
         }
@@ -87,7 +88,7 @@ impl SnapshotCall {
             version,
             histogram: known.reference,
             totals: empty_buckets(alloc, &known.ranges)?,
-            stage: Stage::LoadingSingle,
+            stage: SnapshotStage::LoadingSingle,
         })
     }
 
@@ -106,10 +107,10 @@ impl SnapshotCall {
     {
         let (packed, kept) = packed_in(self.version, word, self.totals.len());
         if word >= DISABLED_BIT {
-            self.stage = Stage::LoadingCounts { packed, kept };
+            self.stage = SnapshotStage::LoadingCounts { packed, kept };
             return;
         }
-        self.stage = Stage::LoadingSum;
+        self.stage = SnapshotStage::LoadingSum;
         if let Some(bucket) = packed {
             self.put(bucket, kept);
         }
@@ -117,8 +118,7 @@ impl SnapshotCall {
 
     // It loads the single word.
     fn load_single(&mut self, words: &[u64]) -> SnapshotCallStep
-        requires loads { self.old.stage ≡ LoadingSingle }
-        requires stands { ∥ IsSomeSnapshotCall (length words.now) self.old ∥₁ }
+        requires { IsAtStage LoadingSingle (length words.now) self.old }
         ensures steps { SnapshotCallSteps self.old words.now self.new words.now result }
         ensures of { self.new.histogram ≡ self.old.histogram }
     {
@@ -129,8 +129,7 @@ impl SnapshotCall {
 
     // It loads the counts reference. The counts are in use, so they lie within the segment.
     fn load_counts(&mut self, words: &[u64], packed: Option<usize>, kept: u64) -> SnapshotCallStep
-        requires loads { self.old.stage ≡ LoadingCounts packed kept }
-        requires stands { ∥ IsSomeSnapshotCall (length words.now) self.old ∥₁ }
+        requires { IsAtStage (LoadingCounts packed kept) (length words.now) self.old }
         ensures steps { SnapshotCallSteps self.old words.now self.new words.now result }
         ensures of { self.new.histogram ≡ self.old.histogram }
     {
@@ -140,29 +139,28 @@ impl SnapshotCall {
             packed,
             kept,
         };
-        self.stage = Stage::LoadingCount { mounted, bucket: 0 };
+        self.stage = SnapshotStage::LoadingCount { mounted, bucket: 0 };
         SnapshotCallStep::More
     }
 
     // What it does behind a bucket: it goes on to the next, or to the sum.
-    fn behind_bucket(&self, mounted: Mounted, bucket: usize) -> Stage
+    fn behind_bucket(&self, mounted: Mounted, bucket: usize) -> SnapshotStage
         requires { bucket ≤ 65535 }
         ensures { result ≡ behind_bucket (length self.now.totals.items) mounted bucket }
     {
         if bucket + 1 < self.totals.len() {
-            Stage::LoadingCount {
+            SnapshotStage::LoadingCount {
                 mounted,
                 bucket: bucket + 1,
             }
         } else {
-            Stage::LoadingSum
+            SnapshotStage::LoadingSum
         }
     }
 
     // It loads the count of a bucket.
     fn load_count(&mut self, words: &[u64], mounted: Mounted, bucket: usize) -> SnapshotCallStep
-        requires loads { self.old.stage ≡ LoadingCount mounted bucket }
-        requires stands { ∥ IsSomeSnapshotCall (length words.now) self.old ∥₁ }
+        requires { IsAtStage (LoadingCount mounted bucket) (length words.now) self.old }
         ensures steps { SnapshotCallSteps self.old words.now self.new words.now result }
         ensures of { self.new.histogram ≡ self.old.histogram }
     {
@@ -177,19 +175,18 @@ impl SnapshotCall {
         ensures { IsBehindWalk self.old met self.new }
     {
         self.stage = match met {
-            Met::Nothing(walk) => Stage::Walking { walk },
-            Met::Sample { at, value } => Stage::LoadingSample { at, value },
+            Met::Nothing(walk) => SnapshotStage::Walking { walk },
+            Met::Sample { at, value } => SnapshotStage::LoadingSample { at, value },
             Met::End => {
                 sort_by_key(&mut self.totals);
-                Stage::LoadingSum
+                SnapshotStage::LoadingSum
             }
         };
     }
 
     // It walks on.
-    fn walk_on(&mut self, words: &[u64], walk: Walk) -> SnapshotCallStep
-        requires loads { self.old.stage ≡ Walking walk }
-        requires stands { ∥ IsSomeSnapshotCall (length words.now) self.old ∥₁ }
+    fn walk_on(&mut self, words: &[u64], walk: SampleWalk) -> SnapshotCallStep
+        requires { IsAtStage (Walking walk) (length words.now) self.old }
         ensures steps { SnapshotCallSteps self.old words.now self.new words.now result }
         ensures of { self.new.histogram ≡ self.old.histogram }
     {
@@ -210,14 +207,13 @@ impl SnapshotCall {
 
     // It loads the count of a sample of its histogram.
     fn load_sample(&mut self, words: &[u64], at: u64, value: i32) -> SnapshotCallStep
-        requires loads { self.old.stage ≡ LoadingSample at value }
-        requires stands { ∥ IsSomeSnapshotCall (length words.now) self.old ∥₁ }
+        requires { IsAtStage (LoadingSample at value) (length words.now) self.old }
         ensures steps { SnapshotCallSteps self.old words.now self.new words.now result }
         ensures of { self.new.histogram ≡ self.old.histogram }
     {
         let count = words[at as usize + SAMPLE_COUNT];
-        self.stage = Stage::Walking {
-            walk: Walk::LoadingNext { at },
+        self.stage = SnapshotStage::Walking {
+            walk: SampleWalk::LoadingNext { at },
         };
         self.list(value, count);
         SnapshotCallStep::More
@@ -225,20 +221,18 @@ impl SnapshotCall {
 
     // It loads the sum.
     fn load_sum(&mut self, words: &[u64]) -> SnapshotCallStep
-        requires loads { self.old.stage ≡ LoadingSum }
-        requires stands { ∥ IsSomeSnapshotCall (length words.now) self.old ∥₁ }
+        requires { IsAtStage LoadingSum (length words.now) self.old }
         ensures steps { SnapshotCallSteps self.old words.now self.new words.now result }
         ensures of { self.new.histogram ≡ self.old.histogram }
     {
         let sum = words[self.histogram as usize + HISTOGRAM_SUM].cast_signed();
-        self.stage = Stage::LoadingRedundant { sum };
+        self.stage = SnapshotStage::LoadingRedundant { sum };
         SnapshotCallStep::More
     }
 
     // It loads the redundant count, and has ended.
     fn load_redundant(&mut self, words: &[u64], sum: i64) -> SnapshotCallStep
-        requires loads { self.old.stage ≡ LoadingRedundant sum }
-        requires stands { ∥ IsSomeSnapshotCall (length words.now) self.old ∥₁ }
+        requires { IsAtStage (LoadingRedundant sum) (length words.now) self.old }
         ensures steps { SnapshotCallSteps self.old words.now self.new words.now result }
         ensures of { self.new.histogram ≡ self.old.histogram }
     {
@@ -249,17 +243,20 @@ impl SnapshotCall {
     // Goes on by one event.
     pub(crate) fn step(&mut self, words: &[u64]) -> SnapshotCallStep
         requires stands { ∥ IsSomeSnapshotCall (length words.now) self.old ∥₁ }
+        requires inside { LiesWithin (length words.now) self.old.histogram }
         ensures steps { SnapshotCallSteps self.old words.now self.new words.now result }
         ensures of { self.new.histogram ≡ self.old.histogram }
     {
         match self.stage {
-            Stage::LoadingSingle => self.load_single(words),
-            Stage::LoadingCounts { packed, kept } => self.load_counts(words, packed, kept),
-            Stage::LoadingCount { mounted, bucket } => self.load_count(words, mounted, bucket),
-            Stage::Walking { walk } => self.walk_on(words, walk),
-            Stage::LoadingSample { at, value } => self.load_sample(words, at, value),
-            Stage::LoadingSum => self.load_sum(words),
-            Stage::LoadingRedundant { sum } => self.load_redundant(words, sum),
+            SnapshotStage::LoadingSingle => self.load_single(words),
+            SnapshotStage::LoadingCounts { packed, kept } => self.load_counts(words, packed, kept),
+            SnapshotStage::LoadingCount { mounted, bucket } => self.load_count(
+                words, mounted, bucket,
+            ),
+            SnapshotStage::Walking { walk } => self.walk_on(words, walk),
+            SnapshotStage::LoadingSample { at, value } => self.load_sample(words, at, value),
+            SnapshotStage::LoadingSum => self.load_sum(words),
+            SnapshotStage::LoadingRedundant { sum } => self.load_redundant(words, sum),
         }
     }
 }

@@ -9,7 +9,7 @@ use segment_image::layout::{
 
 /// What a walk does next.
 #[derive(Clone, Copy, Debug, PartialEq, Eq)]
-pub(crate) enum Walk {
+pub(crate) enum SampleWalk {
     /// It loads the next of the histogram's record.
     LoadingFirst,
     /// It loads the type of a record that it met behind the histogram's.
@@ -26,7 +26,7 @@ pub(crate) enum Walk {
 #[derive(Clone, Copy, Debug, PartialEq, Eq)]
 pub(crate) enum Met {
     /// Nothing yet, and it goes on.
-    Nothing(Walk),
+    Nothing(SampleWalk),
     /// A sample of its histogram.
     Sample { at: u64, value: i32 },
     /// The end of the list.
@@ -40,18 +40,18 @@ fn behind_next(next: u64) -> Met
     if next == QUEUE {
         Met::End
     } else {
-        Met::Nothing(Walk::LoadingType { at: next })
+        Met::Nothing(SampleWalk::LoadingType { at: next })
     }
 }
 
 // What the type of a record leads to: the histogram of a sample, or the next of another record.
-fn behind_type(at: u64, tag: u64) -> Walk
+fn behind_type(at: u64, tag: u64) -> SampleWalk
     ensures { result ≡ behind_type at tag }
 {
     if tag == TYPE_SAMPLE {
-        Walk::LoadingHistogram { at }
+        SampleWalk::LoadingHistogram { at }
     } else {
-        Walk::LoadingNext { at }
+        SampleWalk::LoadingNext { at }
     }
 }
 
@@ -60,15 +60,15 @@ fn behind_value(histogram: u64, at: u64, of: u64, word: u64) -> Met
     ensures { IsBehindValue histogram at of word result }
 {
     if of != histogram {
-        return Met::Nothing(Walk::LoadingNext { at });
+        return Met::Nothing(SampleWalk::LoadingNext { at });
     }
     match i32::try_from(word.cast_signed()) {
         Ok(value) => Met::Sample { at, value },
-        Err(_) => Met::Nothing(Walk::LoadingNext { at }),
+        Err(_) => Met::Nothing(SampleWalk::LoadingNext { at }),
     }
 }
 
-impl Walk {
+impl SampleWalk {
     ghost use Rattle.std.specs.Prelude.{◌≤◌, ◌<◌, length};
     ghost use Rattle.segment_image.specs.Words.{word_at};
     ghost use Rattle.hist_core.specs.Walk.{Meets, spot_of};
@@ -79,11 +79,11 @@ impl Walk {
         ensures { result ≡ spot_of histogram self }
     {
         match self {
-            Walk::LoadingFirst => histogram as usize + BLOCK_NEXT,
-            Walk::LoadingType { at } => at as usize + BLOCK_TYPE,
-            Walk::LoadingHistogram { at } => at as usize + SAMPLE_HISTOGRAM,
-            Walk::LoadingValue { at, .. } => at as usize + SAMPLE_VALUE,
-            Walk::LoadingNext { at } => at as usize + BLOCK_NEXT,
+            SampleWalk::LoadingFirst => histogram as usize + BLOCK_NEXT,
+            SampleWalk::LoadingType { at } => at as usize + BLOCK_TYPE,
+            SampleWalk::LoadingHistogram { at } => at as usize + SAMPLE_HISTOGRAM,
+            SampleWalk::LoadingValue { at, .. } => at as usize + SAMPLE_VALUE,
+            SampleWalk::LoadingNext { at } => at as usize + BLOCK_NEXT,
         }
     }
 
@@ -92,10 +92,13 @@ impl Walk {
         ensures { Meets self histogram word result }
     {
         match self {
-            Walk::LoadingFirst | Walk::LoadingNext { .. } => behind_next(word),
-            Walk::LoadingType { at } => Met::Nothing(behind_type(at, word)),
-            Walk::LoadingHistogram { at } => Met::Nothing(Walk::LoadingValue { at, of: word }),
-            Walk::LoadingValue { at, of } => behind_value(histogram, at, of, word),
+            SampleWalk::LoadingFirst | SampleWalk::LoadingNext { .. } => behind_next(word),
+            SampleWalk::LoadingType { at } => Met::Nothing(behind_type(at, word)),
+            SampleWalk::LoadingHistogram { at } => Met::Nothing(SampleWalk::LoadingValue {
+                at,
+                of: word,
+            }),
+            SampleWalk::LoadingValue { at, of } => behind_value(histogram, at, of, word),
         }
     }
 

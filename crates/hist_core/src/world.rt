@@ -156,10 +156,9 @@ impl World {
     pub fn begun(&self, actor: usize) -> &[Entry]
         ensures { result.now ≡ begun_of self.now.world_state actor }
     {
-        if actor >= self.world_state.actor_runs.len() {
+        let Some(actor_run) = self.world_state.run(actor) else {
             return &[];
-        }
-        let actor_run = &self.world_state.actor_runs[actor];
+        };
         &actor_run.entries[..actor_run.begun]
     }
 
@@ -167,10 +166,9 @@ impl World {
     pub fn ended(&self, actor: usize) -> &[Entry]
         ensures { result.now ≡ ended_of self.now.world_state actor }
     {
-        if actor >= self.world_state.actor_runs.len() {
+        let Some(actor_run) = self.world_state.run(actor) else {
             return &[];
-        }
-        let actor_run = &self.world_state.actor_runs[actor];
+        };
         &actor_run.entries[..actor_run.ended]
     }
 
@@ -210,44 +208,7 @@ impl World {
         ensures loads { OnOk result (HoldsNoPointer actor self.old.world_state) }
         ensures says { IfOk result (λ said. BeginSays actor call.now self.old.world_state self.new.world_state said) }
     {
-        let world_state = &mut self.world_state;
-        if actor >= world_state.actor_runs.len() {
-            return Err(WorldFault::NoActor);
-        }
-        if world_state.actor_runs[actor].running.is_some() {
-            return Err(WorldFault::Busy);
-        }
-        match call {
-            Call::Hist(name, spec) => Ok(world_state.begin_hist(actor, name, spec)?),
-            Call::Add(name, value, count) => {
-                let Some(place) = world_state.place_of(actor, name) else {
-                    return Err(WorldFault::Unknown);
-                };
-                Ok(world_state.begin_add(actor, place, *value, *count)?)
-            }
-            Call::Snapshot(name) => {
-                let Some(place) = world_state.place_of(actor, name) else {
-                    return Err(WorldFault::Unknown);
-                };
-                Ok(world_state.begin_snapshot(actor, place)?)
-            }
-            Call::Delta(name) => {
-                let Some(place) = world_state.place_of(actor, name) else {
-                    return Err(WorldFault::Unknown);
-                };
-                Ok(world_state.begin_delta(actor, place)?)
-            }
-            Call::Batch(name, items, sum) => {
-                let Some(place) = world_state.place_of(actor, name) else {
-                    return Err(WorldFault::Unknown);
-                };
-                Ok(world_state.begin_batch(actor, place, items, *sum)?)
-            }
-            Call::SetCorrupt => {
-                world_state.begin_set_corrupt(actor);
-                Ok(Begun::Going)
-            }
-        }
+        self.world_state.begin(actor, call)
     }
 
     /// Returns the exchange that the next event of an actor's call is, if it is one: of which word, and what is
@@ -256,10 +217,7 @@ impl World {
     pub fn next_exchange(&self, actor: usize) -> Option<Attempt>
         ensures { result ≡ next_attempt self.now.world_state actor }
     {
-        if actor >= self.world_state.actor_runs.len() {
-            return None;
-        }
-        self.world_state.actor_runs[actor].next_exchange()
+        self.world_state.run(actor)?.next_exchange()
     }
 
     /// An actor performs the next event of its call. `NoActor` where there is no such actor, then `Idle` where no
@@ -321,14 +279,13 @@ impl World {
         ensures word { OnOk result (∥ ChangesOneWord self.old.world_state.words.items self.new.world_state.words.items ∥₁) }
         ensures says { IfOk result (λ said. Says actor self.old.world_state self.new.world_state said) }
     {
-        let world_state = &mut self.world_state;
-        if actor >= world_state.actor_runs.len() {
+        let Some(actor_run) = self.world_state.run(actor) else {
             return Err(WorldFault::NoActor);
-        }
-        if world_state.actor_runs[actor].running.is_none() {
+        };
+        if actor_run.running.is_none() {
             return Err(WorldFault::Idle);
         }
-        Ok(world_state.step(actor))
+        Ok(self.world_state.step(actor))
     }
 
     // Makes a move: an actor begins a call, or goes on with it by one event.
@@ -364,10 +321,10 @@ impl World {
         ensures items { result.now ≡ taken_of self.now.world_state actor }
         ensures ascending { ∥ All (λ taken. AreUnits taken.counts.items) result.now ∥₁ }
     {
-        if actor >= self.world_state.actor_runs.len() {
+        let Some(actor_run) = self.world_state.run(actor) else {
             return &[];
-        }
-        self.world_state.actor_runs[actor].taken.as_slice()
+        };
+        actor_run.taken.as_slice()
     }
 }
 

@@ -1,8 +1,9 @@
 //! The words of a segment, and the actors that call on it.
 
 use crate::actor_run::{ActorRun, Running};
-use crate::call::{Answer, Begun, Stepped};
-use crate::ghost_notes::{are_some, batch_cost};
+use crate::call::{Answer, Begun, Call, Stepped};
+use crate::call_entries::{are_some, batch_cost};
+use crate::fault::WorldFault;
 use bucket_ranges::Spec;
 use bucket_ranges::limits::MAX_UNITS;
 use image_adoption::Adoptable;
@@ -58,18 +59,14 @@ fn refused_batch(why: Refusal) -> Answer
 }
 
 impl WorldState {
-    ghost use Rattle.std.specs.Prelude.{◌≢◌, ◌≤◌, ◌<◌, ℕ, IsSome, None, length, true, List, IfSome, IfNone, OnErr};
-    ghost use mathlib.Core.Option.{some};
-    ghost use lib.ListN.{get_elem?};
-    ghost use Rattle.segment_machine.specs.Entry.{batch_cost as cost_of_batch};
+    ghost use Rattle.std.specs.Prelude.{◌<◌, ◌≤◌, Ok, Err, IfNone, IfSome, IsOk, MatchOption, ⊤};
+    ghost use mathlib.Core.Option.{some, none};
+    ghost use Rattle.segment_image.specs.Checks.{first_fault};
     ghost use Rattle.segment_machine.specs.State.{State};
-    ghost use Rattle.hist_core.specs.declared.actor_run.ActorRun.{ActorRun};
     ghost use Rattle.image_adoption.specs.Checking.{IsAdoption};
     ghost use Rattle.hist_core.specs.Start.{Start};
-    ghost use Rattle.hist_core.specs.WorldState.{IsAdoptedWorldState, IsNewWorldState, IsReached, IsReachedAs, StepsTo, Rests, IsBusy, IsAsBefore, OthersStay, BeginsFrom, HistBegins, AddBegins, IsAddBegun, IsBatchBegun, BatchBegins, AreSome, DeltaBegins, SnapshotBegins, SetCorruptBegins, IsKnownBy, IsPlaceOf, LacksName, Says};
-    ghost use Rattle.hist_core.specs.declared.call.Begun.TheVariants.{Going};
-    ghost use Rattle.hist_core.specs.declared.hist.Known.{Known};
-    ghost use Rattle.segment_machine.specs.Actor.{has_buckets};
+    ghost use Rattle.hist_core.specs.WorldState.{IsAdoptedWorldState, IsNewWorldState, IsReached, IsReachedAs, StepsTo, IsBusy, IsReady, IsResting, IsThere, OthersStay, HistBegins, AddBegins, BatchBegins, DeltaBegins, SnapshotBegins, SetCorruptBegins, Says};
+    ghost use Rattle.hist_core.specs.World.{BeginsCall, BeginSays, TakesMemory, name_checks, named_by, rest_checks};
 
     // A new segment with so many actors.
     pub(crate) fn new(
@@ -114,120 +111,120 @@ impl WorldState {
         })
     }
 
-    // An actor that rests begins to set the corrupt flag.
-    pub(crate) fn begin_set_corrupt(&mut self, actor: usize)
-        requires near { actor < vec_len self.old.actor_runs }
-        requires rests { Rests self.old actor }
-        ensures begins { (start : Start) (state : State) → IsReachedAs start self.old state → IsReachedAs start self.new state }
-        ensures others { OthersStay actor self.old self.new }
-        ensures runs { SetCorruptBegins actor self.new Going }
+    // An actor that is there.
+    pub(crate) fn run(&self, actor: usize) -> Option<&ActorRun>
+        ensures there { IfSome result (λ actor_run. IsThere self.now actor actor_run.now) }
+        ensures none { IfNone result (vec_len self.now.actor_runs ≤ actor) }
     {
-        let actor_run = &mut self.actor_runs[actor];
-        actor_run.running = Some(Running::SetCorrupt);
+        if actor >= self.actor_runs.len() {
+            return None;
+        }
+        Some(&self.actor_runs[actor])
     }
 
-    // An actor that rests begins to ask for a histogram of a name and a spec, or is answered at once.
-    pub(crate) fn begin_hist(
-        &mut self,
-        actor: usize,
-        name: &[u8],
-        spec: &Spec,
-    ) -> Result<Begun, AllocError>
-        requires near { actor < vec_len self.old.actor_runs }
-        requires rests { Rests self.old actor }
-        ensures begins { (start : Start) (state : State) → IsReachedAs start self.old state → IsReachedAs start self.new state }
-        ensures others { OthersStay actor self.old self.new }
-        ensures says { HistBegins actor name.now spec.now self.old self.new result }
+    // An actor that is there and rests.
+    fn resting(&self, actor: usize) -> Result<&ActorRun, WorldFault>
+        ensures faults { MatchOption (first_fault (rest_checks self.now actor)) (IsOk result) (λ fault. result ≡ Err fault) }
+        ensures rests { IfOk result (λ actor_run. IsResting self.now actor actor_run.now) }
     {
+        let Some(actor_run) = self.run(actor) else {
+            return Err(WorldFault::NoActor);
+        };
+        if actor_run.running.is_some() {
+            return Err(WorldFault::Busy);
+        }
+        Ok(actor_run)
+    }
+
+    // The place of the histogram of a name among those that an actor knows, which is there and rests.
+    fn known_place(&self, actor: usize, name: &[u8]) -> Result<usize, WorldFault>
+        ensures faults { MatchOption (first_fault (name_checks self.now actor (some name.now))) (IsOk result) (λ fault. result ≡ Err fault) }
+        ensures ready { IfOk result (IsReady self.now actor name.now) }
+    {
+        let Some(place) = self.resting(actor)?.place_of(name) else {
+            return Err(WorldFault::Unknown);
+        };
+        Ok(place)
+    }
+
+    // An actor begins a call, or the call is answered at once.
+    pub(crate) fn begin(&mut self, actor: usize, call: &Call) -> Result<Begun, WorldFault>
+        requires reached { ∥ IsReached self.old ∥₁ }
+        ensures { BeginsCall actor (named_by call.now) (TakesMemory call.now) (BeginSays actor call.now self.old self.new) self.old result self.new }
+    {
+        match call {
+            Call::Hist(name, spec) => self.begin_hist(actor, name, spec),
+            Call::Add(name, value, count) => self.begin_add(actor, name, *value, *count),
+            Call::Delta(name) => self.begin_delta(actor, name),
+            Call::Snapshot(name) => self.begin_snapshot(actor, name),
+            Call::Batch(name, items, sum) => self.begin_batch(actor, name, items, *sum),
+            Call::SetCorrupt => self.begin_set_corrupt(actor),
+        }
+    }
+
+    // It sets the corrupt flag.
+    fn begin_set_corrupt(&mut self, actor: usize) -> Result<Begun, WorldFault>
+        requires reached { ∥ IsReached self.old ∥₁ }
+        ensures { BeginsCall actor none ⊥ (SetCorruptBegins actor self.new) self.old result self.new }
+    {
+        self.resting(actor)?;
+        let actor_run = &mut self.actor_runs[actor];
+        actor_run.running = Some(Running::SetCorrupt);
+        Ok(Begun::Going)
+    }
+
+    // It asks for a histogram of a name and a spec.
+    fn begin_hist(&mut self, actor: usize, name: &[u8], spec: &Spec) -> Result<Begun, WorldFault>
+        requires reached { ∥ IsReached self.old ∥₁ }
+        ensures { BeginsCall actor none ⊤ (λ said. HistBegins actor name.now spec.now self.old self.new (Ok said)) self.old result self.new }
+    {
+        self.resting(actor)?;
         match Asked::of(self.alloc, self.shape, name, spec) {
             Ok(asked) => {
                 let actor_run = &mut self.actor_runs[actor];
-                actor_run.begin_hist(self.shape, asked)
+                Ok(actor_run.begin_hist(self.shape, asked)?)
             }
-            Err(Refusal::NoMemory) => Err(AllocError),
+            Err(Refusal::NoMemory) => Err(WorldFault::NoMemory),
             Err(why) => Ok(Begun::Ended(Answer::Refused(why))),
         }
     }
 
-    // The place of the histogram of a name among those that an actor knows.
-    pub(crate) fn place_of(&self, actor: usize, name: &[u8]) -> Option<usize>
-        requires near { actor < vec_len self.now.actor_runs }
-        ensures found { IfSome result (λ place. IsPlaceOf self.now actor name.now place) }
-        ensures none { IfNone result (LacksName self.now actor name.now) }
-    {
-        self.actor_runs[actor].place_of(name)
-    }
-
-    // An actor that rests begins to count so many units of a value in a histogram that it knows. A count of 0, or of more units
-    // than the pool has, is refused at once.
-    pub(crate) fn begin_add(
+    // It counts so many units of a value in a histogram that it knows. They are taken from the pool.
+    fn begin_add(
         &mut self,
         actor: usize,
-        place: usize,
+        name: &[u8],
         value: i32,
         count: u32,
-    ) -> Result<Begun, AllocError>
+    ) -> Result<Begun, WorldFault>
         requires reached { ∥ IsReached self.old ∥₁ }
-        requires near { actor < vec_len self.old.actor_runs }
-        requires rests { Rests self.old actor }
-        requires known { (name : List ℕ) × IsPlaceOf self.old actor name place }
-        ensures fault { OnErr result (IsAsBefore self.old self.new) }
-        ensures begins { (start : Start) (state : State) → IsReachedAs start self.old state → BeginsFrom start state actor self.new }
-        ensures others { OthersStay actor self.old self.new }
-        ensures says { IfOk result (λ said. (name : List ℕ) → IsPlaceOf self.old actor name place → AddBegins actor name value count self.old self.new said) }
+        ensures { BeginsCall actor (some name.now) ⊤ (AddBegins actor name.now value count self.old self.new) self.old result self.new }
     {
+        let place = self.known_place(actor, name)?;
         if count == 0 {
             return Ok(Begun::Ended(Answer::Refused(Refusal::ZeroCount)));
         }
         if u64::from(count) > self.units {
             return Ok(Begun::Ended(Answer::Refused(Refusal::NoUnits)));
         }
-        self.start_add(actor, place, value, count)?;
-        Ok(Begun::Going)
-    }
-
-    // An actor that rests begins to count so many units of a value in a histogram that it knows. They are taken from the pool.
-    fn start_add(
-        &mut self,
-        actor: usize,
-        place: usize,
-        value: i32,
-        count: u32,
-    ) -> Result<(), AllocError>
-        requires reached { ∥ IsReached self.old ∥₁ }
-        requires near { actor < vec_len self.old.actor_runs }
-        requires rests { Rests self.old actor }
-        requires known { (name : List ℕ) × IsPlaceOf self.old actor name place }
-        requires some { (0 < count) × (count ≤ self.old.units) }
-        ensures fault { OnErr result (IsAsBefore self.old self.new) }
-        ensures begins { (start : Start) (state : State) → IsReachedAs start self.old state → BeginsFrom start state actor self.new }
-        ensures others { OthersStay actor self.old self.new }
-        ensures says { IfOk result (λ _. (name : List ℕ) → IsPlaceOf self.old actor name place → IsAddBegun actor name value count self.old self.new) }
-    {
         let actor_run = &mut self.actor_runs[actor];
         actor_run.begin_add(self.alloc, self.shape, self.version, place, value, count)?;
         self.units -= u64::from(count);
-        Ok(())
+        Ok(Begun::Going)
     }
 
-    // An actor that rests begins to count the items of a batch in a histogram that it knows. One that counts nothing has ended; with a
-    // count of 0, or where it costs more units than the pool has, it is refused at once.
-    pub(crate) fn begin_batch(
+    // It counts the items of a batch in a histogram that it knows. Their units are taken from the pool.
+    fn begin_batch(
         &mut self,
         actor: usize,
-        place: usize,
+        name: &[u8],
         items: &[(i32, u32)],
         sum: i64,
-    ) -> Result<Begun, AllocError>
+    ) -> Result<Begun, WorldFault>
         requires reached { ∥ IsReached self.old ∥₁ }
-        requires near { actor < vec_len self.old.actor_runs }
-        requires rests { Rests self.old actor }
-        requires known { (name : List ℕ) × IsPlaceOf self.old actor name place }
-        ensures fault { OnErr result (IsAsBefore self.old self.new) }
-        ensures begins { (start : Start) (state : State) → IsReachedAs start self.old state → BeginsFrom start state actor self.new }
-        ensures others { OthersStay actor self.old self.new }
-        ensures says { IfOk result (λ said. (name : List ℕ) → IsPlaceOf self.old actor name place → BatchBegins actor name items.now sum self.old self.new said) }
+        ensures { BeginsCall actor (some name.now) ⊤ (BatchBegins actor name.now items.now sum self.old self.new) self.old result self.new }
     {
+        let place = self.known_place(actor, name)?;
         if !are_some(items) {
             return Ok(Begun::Ended(refused_batch(Refusal::ZeroCount)));
         }
@@ -238,29 +235,6 @@ impl WorldState {
         if cost == 0 {
             return Ok(Begun::Ended(Answer::Added));
         }
-        self.start_batch(actor, place, items, sum, cost as u32)?;
-        Ok(Begun::Going)
-    }
-
-    // An actor that rests begins to count the items of a batch in a histogram that it knows. Its units are taken from the pool.
-    fn start_batch(
-        &mut self,
-        actor: usize,
-        place: usize,
-        items: &[(i32, u32)],
-        sum: i64,
-        cost: u32,
-    ) -> Result<(), AllocError>
-        requires reached { ∥ IsReached self.old ∥₁ }
-        requires near { actor < vec_len self.old.actor_runs }
-        requires rests { Rests self.old actor }
-        requires known { (name : List ℕ) × IsPlaceOf self.old actor name place }
-        requires some { AreSome items.now × (0 < cost) × (cost ≤ self.old.units) × (cost ≡ cost_of_batch items.now sum) }
-        ensures fault { OnErr result (IsAsBefore self.old self.new) }
-        ensures begins { (start : Start) (state : State) → IsReachedAs start self.old state → BeginsFrom start state actor self.new }
-        ensures others { OthersStay actor self.old self.new }
-        ensures says { IfOk result (λ _. (name : List ℕ) → IsPlaceOf self.old actor name place → IsBatchBegun actor name items.now sum self.old self.new) }
-    {
         let actor_run = &mut self.actor_runs[actor];
         actor_run.begin_batch(
             self.alloc,
@@ -269,39 +243,29 @@ impl WorldState {
             place,
             items,
             sum,
-            cost,
+            cost as u32,
         )?;
-        self.units -= u64::from(cost);
-        Ok(())
+        self.units -= cost;
+        Ok(Begun::Going)
     }
 
-    // An actor that rests begins to look at a histogram that it knows.
-    pub(crate) fn begin_snapshot(&mut self, actor: usize, place: usize) -> Result<Begun, AllocError>
+    // It looks at a histogram that it knows.
+    fn begin_snapshot(&mut self, actor: usize, name: &[u8]) -> Result<Begun, WorldFault>
         requires reached { ∥ IsReached self.old ∥₁ }
-        requires near { actor < vec_len self.old.actor_runs }
-        requires rests { Rests self.old actor }
-        requires known { (name : List ℕ) × IsPlaceOf self.old actor name place }
-        ensures fault { OnErr result (IsAsBefore self.old self.new) }
-        ensures begins { (start : Start) (state : State) → IsReachedAs start self.old state → IsReachedAs start self.new state }
-        ensures others { OthersStay actor self.old self.new }
-        ensures says { IfOk result (λ said. (name : List ℕ) → IsPlaceOf self.old actor name place → SnapshotBegins actor name self.old self.new said) }
+        ensures { BeginsCall actor (some name.now) ⊤ (SnapshotBegins actor name.now self.old self.new) self.old result self.new }
     {
+        let place = self.known_place(actor, name)?;
         let actor_run = &mut self.actor_runs[actor];
         actor_run.begin_snapshot(self.alloc, self.shape, self.version, place)?;
         Ok(Begun::Going)
     }
 
-    // An actor that rests begins to take of a histogram that it knows.
-    pub(crate) fn begin_delta(&mut self, actor: usize, place: usize) -> Result<Begun, AllocError>
+    // It takes of a histogram that it knows.
+    fn begin_delta(&mut self, actor: usize, name: &[u8]) -> Result<Begun, WorldFault>
         requires reached { ∥ IsReached self.old ∥₁ }
-        requires near { actor < vec_len self.old.actor_runs }
-        requires rests { Rests self.old actor }
-        requires known { (name : List ℕ) × IsPlaceOf self.old actor name place }
-        ensures fault { OnErr result (IsAsBefore self.old self.new) }
-        ensures begins { (start : Start) (state : State) → IsReachedAs start self.old state → IsReachedAs start self.new state }
-        ensures others { OthersStay actor self.old self.new }
-        ensures says { IfOk result (λ said. (name : List ℕ) → IsPlaceOf self.old actor name place → DeltaBegins actor name self.old self.new said) }
+        ensures { BeginsCall actor (some name.now) ⊤ (DeltaBegins actor name.now self.old self.new) self.old result self.new }
     {
+        let place = self.known_place(actor, name)?;
         let actor_run = &mut self.actor_runs[actor];
         actor_run.begin_delta(self.alloc, self.shape, self.version, place)?;
         Ok(Begun::Going)

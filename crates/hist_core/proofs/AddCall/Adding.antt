@@ -15,8 +15,8 @@ use Rattle.segment_machine.specs.Note.{Note, Notes, is_untouched, noted, refused
 use Rattle.hist_core.specs.declared.add.Add.{Add as AddCall}
 use Rattle.hist_core.specs.declared.add.AddStep.{AddStep}
 use Rattle.hist_core.specs.declared.add.AddStep.TheVariants.{More, Done, Refused}
-use Rattle.hist_core.specs.declared.add.Stage.{Stage}
-use Rattle.hist_core.specs.declared.add.Stage.TheVariants as stage
+use Rattle.hist_core.specs.declared.add.AddStage.{AddStage}
+use Rattle.hist_core.specs.declared.add.AddStage.TheVariants as stage
 use Rattle.hist_core.specs.declared.call.Answer.TheVariants as answer
 use Rattle.hist_core.specs.declared.call.Stepped.{Stepped}
 use Rattle.hist_core.specs.declared.call.Stepped.TheVariants as stepped
@@ -40,7 +40,7 @@ use Rattle.hist_core.proofs.Worlds.Quiet.{takes_none, takes_not}
 use Rattle.hist_core.proofs.AddCall.GhostNotes.{Counts, goes_from, counts_somewhere, still_counts, has_counted, is_cut}
 
 -- its entry is there, whatever has happened of it
-pub has_entry : (shape : Dimensions) (known : MachineKnown) (amid : Amid) (add : AddCall) (a : Actor) (at : Stage) → StandsAtStage shape known amid add a at
+pub has_entry : (shape : Dimensions) (known : MachineKnown) (amid : Amid) (add : AddCall) (a : Actor) (at : AddStage) → StandsAtStage shape known amid add a at
     → (counted summed : Bool) × HasEntry known amid add a counted summed
 has_entry shape known amid add a stage.LoadingSingle stands = (false, false, stands.1)
 has_entry shape known amid add a (stage.Packing old new) stands = (false, false, stands.1)
@@ -79,7 +79,7 @@ module _ (shape : Dimensions) (version : ℕ) (old : ActorRun) (add : AddCall) (
 
     -- ---- what a step makes of it
 
-    module _ (at : Stage) (a : Actor) (counts : Tells a) where
+    module _ (at : AddStage) (a : Actor) (counts : Tells a) where
       abbrev now : AddCall
       now = record add { stage = at }
 
@@ -146,7 +146,7 @@ module _ (shape : Dimensions) (version : ℕ) (old : ActorRun) (add : AddCall) (
           (sym counts.counting.version ∙ ap (λ s. s.version) counts.run.segment) (steps shape known (alone add) a long counts.counting)
 
   -- what the machine's actor does, and what becomes of that at run time
-  module _ (a : Actor) (run : IsRun shape version old a) (at : Stage) (words new_words : List ℕ) (long : length words ≡ shape.size) (new : ActorRun) where
+  module _ (a : Actor) (run : IsRun shape version old a) (at : AddStage) (words new_words : List ℕ) (long : length words ≡ shape.size) (new : ActorRun) where
     abbrev its : MachineKnown
     its = (adding a run).0
 

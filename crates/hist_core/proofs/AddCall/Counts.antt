@@ -17,18 +17,19 @@ use Rattle.bucket_ranges.specs.declared.spec.Spec.{Spec}
 use Rattle.segment_machine.specs.Made.{IsFirstSample}
 use Rattle.segment_machine.specs.Entry.{fresh, key_of, has_ended, is_counted}
 use Rattle.segment_machine.specs.Event.{Event, next, counting_event}
+use Rattle.hist_core.proofs.Parts.Alone.{by_event}
 use Rattle.hist_core.specs.declared.add.Add.{Add}
 use Rattle.hist_core.specs.declared.add.AddStep.TheVariants.{More}
-use Rattle.hist_core.specs.declared.add.Stage.{Stage}
-use Rattle.hist_core.specs.declared.add.Stage.TheVariants.{Counting, Summing, Noting}
-use Rattle.hist_core.specs.StepsBy.{StepsBy}
+use Rattle.hist_core.specs.declared.add.AddStage.{AddStage}
+use Rattle.hist_core.specs.declared.add.AddStage.TheVariants.{Counting, Summing, Noting}
+use Rattle.hist_core.specs.StepsBy.{StepsBy, LiesWithin}
 use Rattle.hist_core.specs.Add.{Amid, IsCounting, HasEntry, IsSomeAdd, StandsAtStage, IsAdd, AddGives, behind_count, serves_counted}
 use Rattle.hist_core.proofs.Parts.Deeds.{does_nothing}
 use Rattle.hist_core.proofs.AddCall.Entries.{still_open, only_open, only_changed, counting_of}
 use Rattle.segment_machine.specs.Packing.{CountsIn}
 
 -- it counts the same at whatever stage
-pub counts_on : (shape : Dimensions) (known : Known) (add : Add) (stage : Stage) → IsCounting shape known add → IsCounting shape known (record add { stage = stage })
+pub counts_on : (shape : Dimensions) (known : Known) (add : Add) (stage : AddStage) → IsCounting shape known add → IsCounting shape known (record add { stage = stage })
 counts_on shape known add stage counting = record {
   shaped = counting.shaped;
   versions = counting.versions;
@@ -100,33 +101,24 @@ module _ (shape : Dimensions) (known : Known) (amid : Amid) (add : Add) (a : Act
 
     pub counts_so : (new_words : List ℕ) → new_words ≡ slice_set words at ((word_at words at + add.units) % 2 ^ 64)
         → StepsBy shape.size add.version a words new_words (AddGives shape known amid (record add { stage = behind_count add.amount }) More a)
-    counts_so new_words are = record {
-      before = [];
-      at = a;
-      told = refl;
-      event = event;
-      ready = (
-        counting_of known add false false,
-        known,
-        (next_is shape known amid add a is false false stands.0, is.counting.some),
-        refl,
-        refl,
-        ⊎_elim (λ (look, (place, some, off, (knows, here, has)), there). inl (look, add.bucket, (place, some, off, (knows, here, has)), is.counting.bucket has, there))
-            (λ (sample, turns, (knows, here, sparse), first, there). inr (
-              sample,
-              turns,
-              (knows, here, sparse),
-              subst (λ (key : ℤ). IsFirstSample a.seen known.reference key sample) (ap (λ (kind : Spec). key_of (boundaries_of kind) add.value) (sym sparse)) first,
-              there,
-            ))
-            stands.1,
-      );
-      words_are = are;
-      goes = λ learned apart ordered. (
-        [],
-        acted,
-        refl,
-        (
+    counts_so new_words are = by_event event (
+      counting_of known add false false,
+      known,
+      (next_is shape known amid add a is false false stands.0, is.counting.some),
+      refl,
+      refl,
+      ⊎_elim (λ (look, (place, some, off, (knows, here, has)), there). inl (look, add.bucket, (place, some, off, (knows, here, has)), is.counting.bucket has, there))
+          (λ (sample, turns, (knows, here, sparse), first, there). inr (
+            sample,
+            turns,
+            (knows, here, sparse),
+            subst (λ (key : ℤ). IsFirstSample a.seen known.reference key sample) (ap (λ (kind : Spec). key_of (boundaries_of kind) add.value) (sym sparse)) first,
+            there,
+          ))
+          stands.1,
+    )
+        are
+        (λ learned apart ordered. (
           record {
             role = refl;
             segment = refl;
@@ -149,10 +141,9 @@ module _ (shape : Dimensions) (known : Known) (amid : Amid) (add : Add) (a : Act
             over = is.over;
             stands = behind_stands shape known amid add acted refl is_counted_then;
           },
-        ),
-      );
-    }
+        ))
 
 -- the record of an `add` that stands somewhere lies in so many words, which are few
-pub some_inside : (add : Add) (words : List ℕ) → ∥ IsSomeAdd (length words) add ∥₁ → (add.histogram + 15 ≤ length words) × (length words ≤ 1048576)
-some_inside add words stands = ∥∥₁_elim stands (hlevel props) (λ (shape, known, amid, a, long, is). is_inside shape known amid add a words is long)
+pub lies_within : (add : Add) (words : List ℕ) → ∥ IsSomeAdd (length words) add ∥₁ → LiesWithin (length words) add.histogram
+lies_within add words stands = ∥∥₁_elim stands (hlevel props) (λ (shape, known, amid, a, long, is).
+    let inside = is_inside shape known amid add a words is long in record { within = inside.0; few = inside.1 })

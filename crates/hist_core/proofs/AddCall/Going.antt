@@ -8,9 +8,10 @@ use Rattle.segment_machine.specs.declared.actor.Known.{Known}
 use Rattle.segment_machine.specs.Calls.{sight_counts}
 use Rattle.segment_machine.specs.Event.{spot, after, next, Ready, Learned, packing_event, Event}
 use Rattle.segment_machine.specs.Packing.{PackingEvent, load_single, pack, mount_counts, purge_block, disable, add_moved, after_pack, after_mount, after_disable}
+use Rattle.hist_core.proofs.Parts.Alone.{by_event}
 use Rattle.hist_core.specs.declared.add.Add.{Add}
 use Rattle.hist_core.specs.declared.add.AddStep.TheVariants.{More}
-use Rattle.hist_core.specs.declared.add.Stage.{Stage}
+use Rattle.hist_core.specs.declared.add.AddStage.{AddStage}
 use Rattle.hist_core.specs.StepsBy.{DoesOnly, StepsBy}
 use Rattle.hist_core.specs.Add.{Amid, FrameOfAdd, StaysOpen, StandsAtStage, IsAdd, AddGives, serves_counted}
 use Rattle.hist_core.proofs.Parts.Deeds.{does_nothing}
@@ -71,7 +72,7 @@ packing_aside a (add_moved counts bucket units) found =
 
 -- ---- a step
 
-module _ (shape : Dimensions) (known : Known) (amid : Amid) (add : Add) (a : Actor) (is : IsAdd shape known amid add a) (stage : Stage) where
+module _ (shape : Dimensions) (known : Known) (amid : Amid) (add : Add) (a : Actor) (is : IsAdd shape known amid add a) (stage : AddStage) where
   -- it goes on from another stage
   pub goes_still : (b : Actor) → FrameOfAdd a b → StaysOpen a b → DoesOnly false false (serves_counted known add a) a b → StandsAtStage shape known amid (record add { stage = stage }) b stage
       → AddGives shape known amid (record add { stage = stage }) More a b
@@ -104,15 +105,9 @@ module _ (shape : Dimensions) (known : Known) (amid : Amid) (add : Add) (a : Act
     pub acts_on : Ready a event → new_words ≡ after shape.size add.version event words → FrameOfAdd a acted × StaysOpen a acted × (acted.done ≡ a.done)
         → (Learned a event found → StandsAtStage shape known amid (record add { stage = stage }) acted stage)
         → StepsBy shape.size add.version a words new_words (AddGives shape known amid (record add { stage = stage }) More a)
-    acts_on ready are beside stands = record {
-      before = [];
-      at = a;
-      told = refl;
-      event = event;
-      ready = ready;
-      words_are = are;
-      goes = λ learned apart ordered. ([], acted, refl, goes_still acted beside.0 beside.1 (does_nothing (serves_counted known add a) a acted beside.2) (stands learned));
-    }
+    acts_on ready are beside stands = by_event event ready
+        are
+        (λ learned apart ordered. goes_still acted beside.0 beside.1 (does_nothing (serves_counted known add a) a acted beside.2) (stands learned))
 
   pub packs_on : (words new_words : List ℕ) (e : PackingEvent) → Ready a (packing_event e) → new_words ≡ after shape.size add.version (packing_event e) words
       → (Learned a (packing_event e) (word_at words (spot shape.size (packing_event e)))

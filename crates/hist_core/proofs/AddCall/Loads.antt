@@ -1,5 +1,5 @@
 -- An `add` loads the counts reference.
-use Rattle.std.proofs.Common.{◌≡◌, ◌<◌, ◌≤◌, ℕ, ◌+◌, ◌*◌, ◌%◌, ◌^◌, Bool, List, [], refl, sym, ap, subst, ◌∙◌, arith, inl}
+use Rattle.std.proofs.Common.{◌≡◌, ◌<◌, ◌≤◌, ℕ, ◌+◌, ◌*◌, ◌%◌, ◌^◌, Bool, List, refl, sym, ap, subst, ◌∙◌, arith, inl}
 use Rattle.std.specs.Prelude.{◌≢◌, Some, if◌then◌else◌}
 use Rattle.std.proofs.lemmas.Bool.{eq-eqb}
 use lib.Seq.{set-get_or}
@@ -15,14 +15,12 @@ use Rattle.segment_machine.specs.Actor.{is_bound, Buckets}
 use Rattle.segment_machine.specs.Calls.{MayTurn, look_of, nothing_of, AreCountsOf, CountsStay}
 use Rattle.segment_machine.specs.Counting.{load_counts}
 use Rattle.segment_machine.specs.Event.{Event, next, counting_event}
-use Rattle.hist_core.proofs.AddCall.Going.{aside_counts}
+use Rattle.hist_core.proofs.AddCall.Going.{aside_counts, acts_on}
 use Rattle.hist_core.specs.declared.add.Add.{Add}
 use Rattle.hist_core.specs.declared.add.AddStep.TheVariants.{More}
-use Rattle.hist_core.specs.declared.add.Stage.TheVariants.{LoadingCounts, Counting}
+use Rattle.hist_core.specs.declared.add.AddStage.TheVariants.{LoadingCounts, Counting}
 use Rattle.hist_core.specs.StepsBy.{StepsBy}
-use Rattle.hist_core.specs.Add.{Amid, StandsAtStage, IsAdd, AddGives, serves_counted}
-use Rattle.hist_core.proofs.Parts.Deeds.{does_nothing}
-use Rattle.hist_core.proofs.AddCall.Counts.{counts_on}
+use Rattle.hist_core.specs.Add.{Amid, StandsAtStage, IsAdd, AddGives}
 
 module _ (shape : Dimensions) (known : Known) (amid : Amid) (add : Add) (a : Actor) (words : List ℕ) (is : IsAdd shape known amid add a) (loads : add.stage ≡ LoadingCounts) where
   stands : StandsAtStage shape known amid add a LoadingCounts
@@ -79,33 +77,6 @@ module _ (shape : Dimensions) (known : Known) (amid : Amid) (add : Add) (a : Act
 
   pub loads_so : (at : ℕ) → at ≡ (word_at words (add.histogram + 8) + (4 + add.bucket)) % 2 ^ 64
       → StepsBy shape.size add.version a words words (AddGives shape known amid (record add { stage = Counting at }) More a)
-  loads_so at is_sum = record {
-    before = [];
-    at = a;
-    told = refl;
-    event = event;
-    ready = (may_turn, (known, has_them));
-    words_are = sym (set-get_or words (known.reference + 8) 0);
-    goes = λ learned apart ordered. (
-      [],
-      acted,
-      refl,
-      (
-        aside_counts a acted known.reference found refl refl refl refl refl refl,
-        (refl, refl),
-        does_nothing (serves_counted known add a) a acted refl,
-        record {
-          counting = counts_on shape known add (Counting at) is.counting;
-          segment = is.segment;
-          version = is.version;
-          lawful_shape = is.lawful_shape;
-          knows = is.knows;
-          alone = is.alone;
-          rests = is.rests;
-          held = is.held;
-          over = is.over;
-          stands = then_stands learned at (is_sum ∙ ap (λ (r : ℕ). (word_at words (r + 8) + (4 + add.bucket)) % 2 ^ 64) (sym is.counting.reference));
-        },
-      ),
-    );
-  }
+  loads_so at is_sum = acts_on shape known amid add a is (Counting at) words words event (may_turn, (known, has_them)) (sym (set-get_or words (known.reference + 8) 0))
+      (aside_counts a acted known.reference found refl refl refl refl refl refl, (refl, refl), refl)
+      (λ learned. then_stands learned at (is_sum ∙ ap (λ (r : ℕ). (word_at words (r + 8) + (4 + add.bucket)) % 2 ^ 64) (sym is.counting.reference)))

@@ -32,8 +32,8 @@ use Rattle.segment_promises.proofs.Calls.Places.{looks_there}
 use Rattle.hist_core.specs.declared.add.Add.{Add}
 use Rattle.hist_core.specs.declared.add.AddStep.{AddStep}
 use Rattle.hist_core.specs.declared.add.AddStep.TheVariants.{More, Done, Refused}
-use Rattle.hist_core.specs.declared.add.Stage.{Stage}
-use Rattle.hist_core.specs.declared.add.Stage.TheVariants.{SeekingCounts, Allocating, Mounting, Purging, LoadingAgain}
+use Rattle.hist_core.specs.declared.add.AddStage.{AddStage}
+use Rattle.hist_core.specs.declared.add.AddStage.TheVariants.{SeekingCounts, Allocating, Mounting, Purging, LoadingAgain}
 use Rattle.segment_calls.specs.declared.refusal.Refusal.{Refusal}
 use Rattle.segment_calls.specs.declared.refusal.Refusal.TheVariants as why
 use Rattle.hist_core.specs.StepsBy.{DoesOnly, FrameOfStep, SeesNoMore, StepsBy, is_tied}
@@ -77,7 +77,7 @@ module _ (shape : Dimensions) (known : Known) (amid : Amid) (add : Add) (a : Act
     looks_loaded : loaded.hand.place ≡ Looking (record { histogram = known.reference; single = (look_of a.hand.place known.reference).single; counts = sought })
     looks_loaded = ap (λ (n : ℕ). Looking (record { histogram = n; single = (look_of a.hand.place known.reference).single; counts = sought })) (looks_there a.hand.place known.reference)
 
-    seeks_on : (stage : Stage) → (AreCountsOf a known.reference sought → CountsStay a.seen known.reference sought → StandsAtStage shape known amid (record add { stage = stage }) loaded stage)
+    seeks_on : (stage : AddStage) → (AreCountsOf a known.reference sought → CountsStay a.seen known.reference sought → StandsAtStage shape known amid (record add { stage = stage }) loaded stage)
         → StepsBy shape.size add.version a words words (AddGives shape known amid (record add { stage = stage }) More a)
     seeks_on stage stands = acts_on shape known amid add a is stage words words load
         (stood_seeking.2.0, (known, has_them shape known amid add a words is stood_seeking.0))
@@ -191,7 +191,7 @@ module _ (shape : Dimensions) (known : Known) (amid : Amid) (add : Add) (a : Act
         value = λ sparse. absurd (true≢false (sym stood_allocating.0 ∙ ap has_buckets sparse));
       }
 
-      still : (b : Actor) → FrameOfStep a b → DoesOnly false false (serves_counted known add a) a b → (stage : Stage) → StandsAtStage shape known amid (record add { stage = stage }) b stage
+      still : (b : Actor) → FrameOfStep a b → DoesOnly false false (serves_counted known add a) a b → (stage : AddStage) → StandsAtStage shape known amid (record add { stage = stage }) b stage
           → AddGives shape known amid (record add { stage = stage }) More a b
       still b beside does stage stands =
           goes_still shape known amid add a is stage b (beside_aside a b beside) (beside.units, beside.entries ∙ ap (λ e. record a.entries { running = e.running }) (sym beside.entries)) does stands

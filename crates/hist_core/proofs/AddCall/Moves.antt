@@ -22,8 +22,8 @@ use Rattle.segment_machine.specs.Packing.{PackingEvent, load_single, disable, ad
 use Rattle.segment_promises.proofs.Calls.Places.{looks_again}
 use Rattle.hist_core.specs.declared.add.Add.{Add}
 use Rattle.hist_core.specs.declared.add.AddStep.TheVariants.{More}
-use Rattle.hist_core.specs.declared.add.Stage.{Stage}
-use Rattle.hist_core.specs.declared.add.Stage.TheVariants.{LoadingAgain, Disabling, Moving, Counting}
+use Rattle.hist_core.specs.declared.add.AddStage.{AddStage}
+use Rattle.hist_core.specs.declared.add.AddStage.TheVariants.{LoadingAgain, Disabling, Moving, Counting}
 use Rattle.hist_core.specs.StepsBy.{StepsBy}
 use Rattle.hist_core.specs.Add.{Amid, HasEntry, AreCounts, StandsAtStage, IsAdd, AddGives, behind_disabling, count_in}
 use Rattle.hist_core.proofs.AddCall.Counts.{counts_in}
@@ -79,7 +79,7 @@ module _ (shape : Dimensions) (known : Known) (amid : Amid) (add : Add) (a : Act
     looks_on : looking.hand.place ≡ Looking (look_at (Some found) counts)
     looks_on = ap (λ (l : Look). Looking (record l { single = Some found })) (looks_again a.hand.place (look_at stood_loading.2.1.0 counts) known.reference stood_loading.2.1.1 refl)
 
-    loads_on : (stage : Stage) → (IsSingleOf a known.reference found → StandsAtStage shape known amid (record add { stage = stage }) looking stage)
+    loads_on : (stage : AddStage) → (IsSingleOf a known.reference found → StandsAtStage shape known amid (record add { stage = stage }) looking stage)
         → StepsBy shape.size add.version a words words (AddGives shape known amid (record add { stage = stage }) More a)
     loads_on stage stands = packs_on shape known amid add a is stage words words load
         (ap is_bound stood_loading.2.1.1, (known, has_them shape known amid add a words is stood_loading.0))

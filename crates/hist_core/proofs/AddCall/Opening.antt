@@ -1,6 +1,6 @@
 -- A call of an actor that counts begins: what it counts, and that it may.
-use Rattle.std.proofs.Common.{◌≡◌, ◌≢◌, ◌≤◌, ◌<◌, ◌+◌, ◌*◌, ℕ, zero, suc, ℤ, pos, ◌+ℤ◌, Bool, true, false, not, ◌==◌, ◌⊎◌, List, [], ◌∷◌, ◌++◌, map, length, take, drop, set, fold, Contains, inl, refl, sym, ap, subst, ◌∙◌, arith, length-append}
-use Rattle.std.specs.Prelude.{Option, Some, None, IfSome, IfNone, Result, Ok, Err, OnErr, unsigned_abs, if◌then◌else◌, vec_len, vec_capacity}
+use Rattle.std.proofs.Common.{◌≡◌, ◌≢◌, ◌≤◌, ◌<◌, ◌+◌, ◌*◌, ℕ, zero, suc, ℤ, pos, ◌+ℤ◌, Bool, true, false, not, ◌==◌, ◌⊎◌, List, [], ◌∷◌, ◌++◌, map, length, take, drop, fold, Contains, inl, refl, sym, ap, subst, ◌∙◌, arith, length-append}
+use Rattle.std.specs.Prelude.{Option, Some, None, unsigned_abs, if◌then◌else◌, vec_len, vec_capacity}
 use Rattle.std.proofs.lemmas.List.Elements.{All-nil, Contains-append_left}
 use Rattle.std.specs.Str.{bytes_eq}
 use Rattle.std.specs.Ordering.{int_eq}
@@ -38,13 +38,13 @@ use Rattle.hist_core.specs.declared.actor_run.Running.TheVariants.{Add}
 use Rattle.hist_core.specs.declared.actor_run.ActorRun.{ActorRun}
 use Rattle.hist_core.specs.declared.world_state.WorldState.{WorldState}
 use Rattle.hist_core.specs.Start.{Start}
-use Rattle.hist_core.specs.WorldState.{IsReached, IsReachedAs, BeginsFrom, IsPlaceOf, LacksName, IsCountBegun}
+use Rattle.hist_core.specs.WorldState.{IsReached, IsReachedAs, BeginsFrom, IsCountBegun}
 use Rattle.hist_core.proofs.Worlds.Starts.{kept_there, shape_there, versions_there}
-use Rattle.hist_core.proofs.Worlds.WorldStates.{lends, is_long}
+use Rattle.hist_core.proofs.Worlds.Beginnings.{IsPlaced, IsTurned, is_now}
+use Rattle.hist_core.proofs.Worlds.WorldStates.{lends, is_long, quiet_now}
 use Rattle.hist_core.proofs.HistCall.Asking.{place_below}
-use Rattle.atomic_table.proofs.Lists.{set_here}
 use Rattle.hist_core.specs.Add.{alone, counted_entry, IsAdd, IsCounting, IsStarted}
-use Rattle.hist_core.specs.ActorRun.{entry_of, known_of, pending_by, IsKnown, NoneHasName, HaveOwnNames, IsKnownAt, IsQuiet, HasDraft, HasRoom, StandsIn, IsRun, IsGhostNoting, BeginsToCount, BeginsAdd}
+use Rattle.hist_core.specs.ActorRun.{entry_of, known_of, pending_by, IsKnown, HaveOwnNames, IsQuiet, HasDraft, HasRoom, StandsIn, IsRun, IsGhostNoting, BeginsToCount, BeginsAdd}
 use Rattle.hist_core.proofs.Worlds.Free.{free_turns}
 use Rattle.hist_core.proofs.AddCall.Samples.{stands_first}
 use Rattle.hist_core.specs.StepsBy.{IsFree}
@@ -237,62 +237,52 @@ module _ (shape : Dimensions) (version : ℕ) (known : Known) (value : ℤ) (uni
 
 -- ---- on a world_state
 
-module _ (world_state : WorldState) (actor : ℕ) (r : ActorRun) (here : get_elem? world_state.actor_runs.items actor ≡ some r) (name : List ℕ) where
-  pub place_found : (place : Option ℕ) → IfSome place (λ i. IsKnownAt r.known.items i name) → IfSome place (λ i. IsPlaceOf world_state actor name i)
-  place_found (Some i) (known, at, named) = (known, (r, here, at), named)
-  place_found None none = tt
-
-  pub place_none : (place : Option ℕ) → IfNone place (NoneHasName r.known.items name) → IfNone place (LacksName world_state actor name)
-  place_none (Some i) none = tt
-  place_none None none = λ actor_run is. subst (λ (x : ActorRun). NoneHasName x.known.items name) (some-injective r actor_run (sym here ∙ is)) none
-
--- where nothing is answered but an error, what is said of errors holds if it holds
-pub on_err : {A E X : Type 0} (result : Result A E) → X → OnErr result X
-on_err (Ok a) x = tt
-on_err (Err e) x = x
-
 -- one actor begins a call that counts, in a histogram that it knows
-module _ (old new : WorldState) (actor : ℕ) (r now : ActorRun) (here : get_elem? old.actor_runs.items actor ≡ some r) (place : ℕ) (known : Known)
-    (at : get_elem? r.known.items place ≡ some known) (entries : List MachineEntry) (running : Running) (cost : ℕ) (starts : BeginsToCount entries running r now)
-    (rests : r.running ≡ None) (shaped : new.shape ≡ old.shape) (versioned : new.version ≡ old.version) (worded : new.words ≡ old.words)
-    (pooled : new.units + cost ≡ old.units) (actor_runs : new.actor_runs.items ≡ set old.actor_runs.items actor now) where
-  pub count_begins : ∥ IsReached old ∥₁ → HasRoom (Some running) (vec_len r.known) (vec_capacity r.known) → HasDraft (Some running) r.taken
+module _ (old new : WorldState) (reached : ∥ IsReached old ∥₁) (actor : ℕ) (name : List ℕ) (place : ℕ) (r now : ActorRun) (its : IsPlaced old actor name place r)
+    (turned : IsTurned old new actor now) (entries : List MachineEntry) (running : Running) (cost : ℕ) (starts : BeginsToCount entries running r now)
+    (pooled : new.units + cost ≡ old.units) where
+  abbrev known : Known
+  known = its.known
+
+  pub count_begins : HasRoom (Some running) (vec_len r.known) (vec_capacity r.known) → HasDraft (Some running) r.taken
       → ((a : Actor) → IsRun old.shape old.version r a → IsShape old.shape → (old.version ≡ 1) ⊎ (old.version ≡ 2)
       → known_at a.answers.names known.reference ≡ Some (known_of known) → is_reference old.shape.size known.reference ≡ true → StandsIn old.shape r.known.items starts.pending (Some running) (getter a cost))
       → (start : Start) (state : State) → IsReachedAs start old state → BeginsFrom start state actor new
-  count_begins reached room draft stood start state reach =
+  count_begins room draft stood start state reach =
       let kept = kept_there start old state reach in
-      lends start old state reach (is_long old reached) actor r now new here shaped versioned actor_runs cost (ap (λ w. w.items) worded) pooled (λ a there run.
-      let free = free_turns a.hand.place (subst (λ running. StandsIn old.shape r.known.items (pending_by r) running a) rests run.stands).0 in
+      lends start old state reach (is_long old reached) actor r now new its.resting.at turned.shape turned.version turned.actor_runs cost (ap (λ w. w.items) turned.words) pooled (λ a there run.
+      let free = free_turns a.hand.place (subst (λ running. StandsIn old.shape r.known.items (pending_by r) running a) its.resting.rests run.stands).0 in
       let lives = not_spent a.hand.place free in (
         lives,
-        begins_with old.shape old.version r now entries running starts rests a run cost (stood a run (shape_there start old state reach) (versions_there start old state reach)
-            (alone_there old.shape start.opened state kept (actor + 1) a there lives r.known.items run.once run.names place known at)
-            (reference_there old.shape start.opened state kept (actor + 1) a there lives known.reference (run.met (known_of known) (known_inside r.known.items a.answers.names known run.names place at)))) room draft,
+        begins_with old.shape old.version r now entries running starts its.resting.rests a run cost (stood a run (shape_there start old state reach) (versions_there start old state reach)
+            (alone_there old.shape start.opened state kept (actor + 1) a there lives r.known.items run.once run.names place known its.there)
+            (reference_there old.shape start.opened state kept (actor + 1) a there lives known.reference (run.met (known_of known) (known_inside r.known.items a.answers.names known run.names place its.there)))) room draft,
       ))
 
-  pub count_begun : (name : List ℕ) → known.name.items ≡ name → (all : length r.entries.items ≡ r.ended) → (begun : r.begun ≡ r.ended)
-      → (runs : Option Running → Type 0) → runs (Some running) → (told : List ℕ → List MachineEntry) → entries ≡ told (boundaries_of known.spec)
+  pub count_begun : (runs : Option Running → Type 0) → runs (Some running) → (told : List ℕ → List MachineEntry) → entries ≡ told (boundaries_of known.spec)
       → (price : ℕ) → cost ≡ price → IsCountBegun actor name price told runs old new
-  count_begun name named all begun runs runs_so told told_are price price_is = record {
-    words = worded;
+  count_begun runs runs_so told told_are price price_is = record {
+    words = turned.words;
     pool = ap (λ (n : ℕ). new.units + n) (sym price_is) ∙ pooled;
     before = r;
     behind = now;
-    was = here;
-    is = ap (λ (l : List ActorRun). get_elem? l actor) actor_runs ∙ set_here old.actor_runs.items actor now (place_below old.actor_runs.items actor r here);
+    was = its.resting.at;
+    is = is_now old new actor r now its.resting turned;
     known = known;
-    knows = contains_at r.known.items place known at;
-    named = named;
+    knows = contains_at r.known.items place known its.there;
+    named = its.named;
     counts = subst runs (sym (ap (λ (x : ActorRun). x.running) starts.is)) runs_so;
     pending = ap (map entry_of) pending_is ∙ (starts.pending_are ∙ told_are);
     ended = (λ j. take (starts.is j).ended now.entries.items)
-        ∙ (ap (take r.ended) starts.entries_are ∙ take-append-le r.ended r.entries.items starts.pending (omega (arith, all)));
+        ∙ (ap (take r.ended) starts.entries_are ∙ take-append-le r.ended r.entries.items starts.pending (let all = quiet.0 in omega (arith, all)));
     begun = (λ j. take (starts.is j).begun now.entries.items)
-        ∙ (ap (take r.begun) starts.entries_are ∙ take-append-le r.begun r.entries.items starts.pending (omega (arith, all, begun)));
+        ∙ (ap (take r.begun) starts.entries_are ∙ take-append-le r.begun r.entries.items starts.pending (let all = quiet.0 in let begun = quiet.1 in omega (arith, all, begun)));
   }
     where
+      quiet : (length r.entries.items ≡ r.ended) × (r.begun ≡ r.ended)
+      quiet = quiet_now old reached actor r its.resting.at its.resting.rests
+
       pending_is : pending_by now ≡ starts.pending
       pending_is = (λ j. drop (starts.is j).ended now.entries.items)
-          ∙ (ap (drop r.ended) starts.entries_are ∙ (drop-append-le r.ended r.entries.items starts.pending (omega (arith, all))
-          ∙ ap (λ l. l ++ starts.pending) (drop_all r.ended r.entries.items (omega (arith, all)))))
+          ∙ (ap (drop r.ended) starts.entries_are ∙ (drop-append-le r.ended r.entries.items starts.pending (let all = quiet.0 in omega (arith, all))
+          ∙ ap (λ l. l ++ starts.pending) (drop_all r.ended r.entries.items (let all = quiet.0 in omega (arith, all)))))

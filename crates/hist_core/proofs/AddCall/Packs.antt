@@ -22,8 +22,8 @@ use Rattle.segment_promises.proofs.Calls.SpecBuckets.{apart}
 use Rattle.segment_invariant.proofs.Consistency.Keys.{one_key}
 use Rattle.hist_core.specs.declared.add.Add.{Add}
 use Rattle.hist_core.specs.declared.add.AddStep.TheVariants.{More}
-use Rattle.hist_core.specs.declared.add.Stage.{Stage}
-use Rattle.hist_core.specs.declared.add.Stage.TheVariants.{LoadingSingle, Packing, LoadingCounts, SeekingCounts, Allocating, Mounting, Purging, LoadingAgain, Disabling, Moving, Sampling, Counting, Summing, Noting}
+use Rattle.hist_core.specs.declared.add.AddStage.{AddStage}
+use Rattle.hist_core.specs.declared.add.AddStage.TheVariants.{LoadingSingle, Packing, LoadingCounts, SeekingCounts, Allocating, Mounting, Purging, LoadingAgain, Disabling, Moving, Sampling, Counting, Summing, Noting}
 use Rattle.hist_core.specs.StepsBy.{StepsBy}
 use Rattle.hist_core.specs.Add.{Amid, IsCounting, Looks, HasSeenSingle, HasEntry, IsBehindSingle, StandsAtStage, IsAdd, AddGives, IsSomeAdd, behind_count}
 use Rattle.hist_core.proofs.AddCall.Going.{packs_on}
@@ -77,7 +77,7 @@ module _ (shape : Dimensions) (known : Known) (amid : Amid) (add : Add) (a : Act
 
     -- where it goes on to a stage of which nothing has happened yet
     module _ (entry : HasEntry known amid add a false false) where
-      stood : (stage : Stage) → IsBehindSingle add found stage → IsSingleOf a known.reference found → StandsAtStage shape known amid (record add { stage = stage }) looking stage
+      stood : (stage : AddStage) → IsBehindSingle add found stage → IsSingleOf a known.reference found → StandsAtStage shape known amid (record add { stage = stage }) looking stage
       stood LoadingCounts off learned = (has, entry, (found, (look_of a.hand.place known.reference).counts, looks_then, seen_then, off))
       stood (Packing old new) (on, same, packs) learned = (
         has,
@@ -120,7 +120,7 @@ module _ (shape : Dimensions) (known : Known) (amid : Amid) (add : Add) (a : Act
     stands : StandsAtStage shape known amid add a LoadingSingle
     stands = subst (StandsAtStage shape known amid add a) loads is.stands
 
-    pub loads_single_so : (stage : Stage) → IsBehindSingle add (word_at words (add.histogram + 9)) stage
+    pub loads_single_so : (stage : AddStage) → IsBehindSingle add (word_at words (add.histogram + 9)) stage
         → StepsBy shape.size add.version a words words (AddGives shape known amid (record add { stage = stage }) More a)
     loads_single_so stage behind = packs_on shape known amid add a is stage words words load (stands.2, (known, has_them stands.0)) (sym (set-get_or words (known.reference + 9) 0))
         (λ learned. stood stands.0 stands.1 stage (subst (λ (r : ℕ). IsBehindSingle add (word_at words (r + 9)) stage) (sym is.counting.reference) behind) learned)

@@ -1,5 +1,5 @@
 -- An `add` adds its units to the redundant count, and all of its entry has happened.
-use Rattle.std.proofs.Common.{◌≡◌, ℕ, ◌+◌, ◌%◌, ◌^◌, pos, Bool, true, false, not, List, [], refl, subst}
+use Rattle.std.proofs.Common.{◌≡◌, ℕ, ◌+◌, ◌%◌, ◌^◌, pos, Bool, true, false, not, List, refl, subst}
 use Rattle.std.specs.Prelude.{◌||◌, slice_set}
 use Rattle.std.specs.Ordering.{int_eq}
 use Rattle.segment_image.specs.Shape.{Dimensions}
@@ -8,10 +8,11 @@ use Rattle.segment_machine.specs.declared.actor.Actor.{Actor}
 use Rattle.segment_machine.specs.declared.actor.Known.{Known}
 use Rattle.segment_machine.specs.Counting.{add_redundant}
 use Rattle.segment_machine.specs.Event.{Event, next, counting_event}
+use Rattle.hist_core.proofs.Parts.Alone.{by_event}
 use Rattle.hist_core.proofs.AddCall.Going.{aside_still}
 use Rattle.hist_core.specs.declared.add.Add.{Add}
 use Rattle.hist_core.specs.declared.add.AddStep.TheVariants.{Done}
-use Rattle.hist_core.specs.declared.add.Stage.TheVariants.{Noting}
+use Rattle.hist_core.specs.declared.add.AddStage.TheVariants.{Noting}
 use Rattle.hist_core.specs.StepsBy.{StepsBy}
 use Rattle.hist_core.specs.Add.{Amid, StandsAtStage, IsAdd, AddGives, serves_counted}
 use Rattle.hist_core.proofs.Parts.Deeds.{does_nothing}
@@ -41,32 +42,21 @@ module _ (shape : Dimensions) (known : Known) (amid : Amid) (add : Add) (a : Act
   pub notes_so : (new_words : List ℕ)
       → new_words ≡ slice_set words (add.histogram + 13) ((word_at words (add.histogram + 13) + add.units) % 2 ^ 64)
       → StepsBy shape.size add.version a words new_words (AddGives shape known amid add Done a)
-  notes_so new_words are = record {
-    before = [];
-    at = a;
-    told = refl;
-    event = event;
-    ready = (
-      stands.0,
-      counting_of known add true summed,
-      known,
-      (next_is shape known amid add a is true summed stands.1, refl, is_summed_so),
-      refl,
-      is.knows,
-      is.counting.reference,
-      refl,
-    );
-    words_are = are;
-    goes = λ learned apart ordered. (
-      [],
-      acted,
-      refl,
-      (
+  notes_so new_words are = by_event event (
+    stands.0,
+    counting_of known add true summed,
+    known,
+    (next_is shape known amid add a is true summed stands.1, refl, is_summed_so),
+    refl,
+    is.knows,
+    is.counting.reference,
+    refl,
+  )
+      are
+      (λ learned apart ordered. (
         aside_still a acted refl refl refl refl refl refl,
         (refl, refl),
         does_nothing (serves_counted known add a) a acted refl,
         refl,
         changed_is shape known amid add a is true summed stands.1 (λ c. record c { noted = true }),
-      ),
-    );
-  }
+      ))

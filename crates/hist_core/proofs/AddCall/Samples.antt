@@ -12,8 +12,8 @@ use Rattle.segment_machine.specs.Actor.{has_buckets}
 use Rattle.segment_machine.specs.Made.{IsFirstSample}
 use Rattle.hist_core.specs.declared.add.Add.{Add}
 use Rattle.hist_core.specs.declared.add.AddStep.{AddStep}
-use Rattle.hist_core.specs.declared.add.Stage.{Stage}
-use Rattle.hist_core.specs.declared.add.Stage.TheVariants as stage
+use Rattle.hist_core.specs.declared.add.AddStage.{AddStage}
+use Rattle.hist_core.specs.declared.add.AddStage.TheVariants as stage
 use Rattle.hist_core.specs.declared.sampling.Sampling.{Sampling}
 use Rattle.hist_core.specs.declared.sampling.SamplingStep.{SamplingStep}
 use Rattle.hist_core.specs.declared.sampling.SamplingStep.TheVariants as found
@@ -33,7 +33,7 @@ use Rattle.hist_core.proofs.AddCall.Searches.{begins_at}
 -- ---- it begins
 
 -- an actor that is free, knows the histogram and has met its record stands where an `add` begins
-pub stands_first : (shape : Dimensions) (known : Known) (amid : Amid) (add : Add) (a : Actor) (at : Stage) → OpensWith shape known add at → a.segment.shape ≡ shape
+pub stands_first : (shape : Dimensions) (known : Known) (amid : Amid) (add : Add) (a : Actor) (at : AddStage) → OpensWith shape known add at → a.segment.shape ≡ shape
     → IsShape shape → Contains a.answers.names known → is_reference shape.size known.reference ≡ true
     → (front behind : List ℕ) × (a.seen.chain ≡ front ++ known.reference ∷ behind) → HasEntry known amid add a false false → IsFree a
     → StandsAtStage shape known amid add a at

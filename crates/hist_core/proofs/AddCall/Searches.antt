@@ -24,14 +24,15 @@ use Rattle.segment_machine.specs.Made.{SawOther}
 use Rattle.segment_machine.specs.Walking.{IsFixed, WalkingEvent, load_published}
 use Rattle.segment_promises.proofs.Growing.{others_still, reference_within, still}
 use Rattle.segment_promises.proofs.Calls.SeenWords.{seen_now}
+use Rattle.hist_core.proofs.Parts.Alone.{by_event}
 use Rattle.hist_core.specs.declared.making.Making.{Making as MakingOf}
 use Rattle.hist_core.specs.declared.making.MakingStep.{MakingStep}
 use Rattle.hist_core.specs.declared.making.MakingStep.TheVariants as made
 use Rattle.hist_core.specs.declared.sampling.Sampling.{Sampling}
 use Rattle.hist_core.specs.declared.sampling.SamplingStep.{SamplingStep}
 use Rattle.hist_core.specs.declared.sampling.SamplingStep.TheVariants.{More, Found}
-use Rattle.hist_core.specs.declared.sampling.Stage.{Stage}
-use Rattle.hist_core.specs.declared.sampling.Stage.TheVariants.{Walking, LoadingType, LoadingHistogram, LoadingValue, Making}
+use Rattle.hist_core.specs.declared.sampling.SamplingStage.{SamplingStage}
+use Rattle.hist_core.specs.declared.sampling.SamplingStage.TheVariants.{Walking, LoadingType, LoadingHistogram, LoadingValue, Making}
 use Rattle.hist_core.specs.StepsBy.{Deed, links, raises, DoesOnly, FrameOfStep, SawEnd, SeesNoMore, StepsBy, IsFree}
 use Rattle.hist_core.specs.Making.{MakingGives, MayMake, is_full, serves_wanted}
 use Rattle.hist_core.specs.Making as making
@@ -79,7 +80,7 @@ module _ (shape : Dimensions) (version : ℕ) (s : Sampling) (a : Actor) (words 
   others_on b beside records others = others_still a.seen b.seen beside.words s.histogram s.value records others
 
   -- it goes on, where its walk may have gone on too
-  goes_further : (walk : ℕ) (behind : List ℕ) (stage : Stage) (b : Actor) → FrameOfStep a b → walk ≡ stands_behind (is.front ++ s.histogram ∷ behind)
+  goes_further : (walk : ℕ) (behind : List ℕ) (stage : SamplingStage) (b : Actor) → FrameOfStep a b → walk ≡ stands_behind (is.front ++ s.histogram ∷ behind)
       → is_reference shape.size walk ≡ true → IsPrefix (is.front ++ s.histogram ∷ behind) b.seen.chain
       → (IsMakingSample stage → (is.front ++ s.histogram ∷ behind ≡ b.seen.chain) × SawEnd b.seen)
       → StandsAtStage shape (record s { walk = walk; stage = stage }) b behind stage → IsSampling shape (record s { walk = walk; stage = stage }) b
@@ -99,7 +100,7 @@ module _ (shape : Dimensions) (version : ℕ) (s : Sampling) (a : Actor) (words 
     stands = stands;
   }
 
-  goes_still : (stage : Stage) (b : Actor) → FrameOfStep a b → (IsMakingSample stage → (given ≡ b.seen.chain) × SawEnd b.seen)
+  goes_still : (stage : SamplingStage) (b : Actor) → FrameOfStep a b → (IsMakingSample stage → (given ≡ b.seen.chain) × SawEnd b.seen)
       → StandsAtStage shape (record s { stage = stage }) b is.behind stage
       → IsSampling shape (record s { stage = stage }) b
   goes_still stage b beside whole stands =
@@ -210,7 +211,7 @@ module _ (shape : Dimensions) (version : ℕ) (s : Sampling) (a : Actor) (words 
       seen_still other word saw = still a.seen.words acted.seen.words beside.words other word saw
 
       -- it stands there still
-      met_still : (stage : Stage) → MetRecord shape (record s { stage = stage }) at acted is.behind
+      met_still : (stage : SamplingStage) → MetRecord shape (record s { stage = stage }) at acted is.behind
       met_still stage = record { free = met.free; passed = met.passed; are = met.are; others = others_on acted beside met.passed met.others; within = met.within }
 
       -- it is no sample of the value
@@ -223,15 +224,9 @@ module _ (shape : Dimensions) (version : ℕ) (s : Sampling) (a : Actor) (words 
 
       does_load : (new : Sampling) (said : SamplingStep) → (Learned a (walking_event event) found → SamplingGives shape new said a acted)
           → StepsBy shape.size version a words words (SamplingGives shape new said a)
-      does_load new said gives = record {
-        before = [];
-        at = a;
-        told = refl;
-        event = walking_event event;
-        ready = (free_turns a.hand.place met.free, there, fixed);
-        words_are = sym (set-get_or words (at + index) 0);
-        goes = λ learned apart ordered. ([], acted, refl, gives learned);
-      }
+      does_load new said gives = by_event (walking_event event) (free_turns a.hand.place met.free, there, fixed)
+          (sym (set-get_or words (at + index) 0))
+          (λ learned apart ordered. gives learned)
 
   -- the type
   module _ (at : ℕ) (loads : s.stage ≡ LoadingType at) where

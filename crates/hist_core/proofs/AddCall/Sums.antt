@@ -1,5 +1,5 @@
 -- An `add` adds its amount to the sum.
-use Rattle.std.proofs.Common.{◌≡◌, ℕ, ◌+◌, ◌%◌, ◌^◌, Bool, true, false, not, List, [], ◌∷◌, ◌++◌, map, refl, sym, ap, subst, ◌∙◌}
+use Rattle.std.proofs.Common.{◌≡◌, ℕ, ◌+◌, ◌%◌, ◌^◌, Bool, true, false, not, List, ◌∷◌, ◌++◌, map, refl, sym, ap, subst, ◌∙◌}
 use Rattle.std.specs.Prelude.{slice_set}
 use Rattle.std.specs.Int.{cast_unsigned, w64}
 use Rattle.segment_image.specs.Shape.{Dimensions}
@@ -9,14 +9,13 @@ use Rattle.segment_machine.specs.declared.actor.Known.{Known}
 use Rattle.segment_machine.specs.Counting.{add_sum}
 use Rattle.segment_machine.specs.Entry.{fresh}
 use Rattle.segment_machine.specs.Event.{Event, next, counting_event}
-use Rattle.hist_core.proofs.AddCall.Going.{aside_still}
+use Rattle.hist_core.proofs.AddCall.Going.{aside_still, acts_on}
 use Rattle.hist_core.specs.declared.add.Add.{Add}
 use Rattle.hist_core.specs.declared.add.AddStep.TheVariants.{More}
-use Rattle.hist_core.specs.declared.add.Stage.TheVariants.{Summing, Noting}
+use Rattle.hist_core.specs.declared.add.AddStage.TheVariants.{Summing, Noting}
 use Rattle.hist_core.specs.StepsBy.{StepsBy}
-use Rattle.hist_core.specs.Add.{Amid, StandsAtStage, IsAdd, AddGives, serves_counted}
-use Rattle.hist_core.proofs.Parts.Deeds.{does_nothing}
-use Rattle.hist_core.proofs.AddCall.Counts.{counts_on, next_is, changed_is}
+use Rattle.hist_core.specs.Add.{Amid, StandsAtStage, IsAdd, AddGives}
+use Rattle.hist_core.proofs.AddCall.Counts.{next_is, changed_is}
 use Rattle.hist_core.proofs.AddCall.Entries.{counting_of}
 
 module _ (shape : Dimensions) (known : Known) (amid : Amid) (add : Add) (a : Actor) (words : List ℕ) (is : IsAdd shape known amid add a) (sums : add.stage ≡ Summing) where
@@ -32,46 +31,18 @@ module _ (shape : Dimensions) (known : Known) (amid : Amid) (add : Add) (a : Act
   pub sums_so : (new_words : List ℕ)
       → new_words ≡ slice_set words (add.histogram + 11) ((word_at words (add.histogram + 11) + cast_unsigned w64 add.amount) % 2 ^ 64)
       → StepsBy shape.size add.version a words new_words (AddGives shape known amid (record add { stage = Noting }) More a)
-  sums_so new_words are = record {
-    before = [];
-    at = a;
-    told = refl;
-    event = event;
-    ready = (
-      stands.0,
-      counting_of known add true false,
-      known,
-      (next_is shape known amid add a is true false stands.1, refl, stands.2),
-      refl,
-      is.knows,
-      is.counting.reference,
-      refl,
-    );
-    words_are = are;
-    goes = λ learned apart ordered. (
-      [],
-      acted,
-      refl,
-      (
-        aside_still a acted refl refl refl refl refl refl,
-        (refl, refl),
-        does_nothing (serves_counted known add a) a acted refl,
-        record {
-          counting = counts_on shape known add Noting is.counting;
-          segment = is.segment;
-          version = is.version;
-          lawful_shape = is.lawful_shape;
-          knows = is.knows;
-          alone = is.alone;
-          rests = is.rests;
-          held = is.held;
-          over = is.over;
-          stands = (
-            refl,
-            changed_is shape known amid add a is true false stands.1 (λ c. record c { summed = true })
-                ∙ ap (λ (b : Bool). amid.before ++ counting_of known add true (not b) ∷ map fresh amid.behind) (sym stands.2),
-          );
-        },
-      ),
-    );
-  }
+  sums_so new_words are = acts_on shape known amid add a is Noting words new_words event (
+    stands.0,
+    counting_of known add true false,
+    known,
+    (next_is shape known amid add a is true false stands.1, refl, stands.2),
+    refl,
+    is.knows,
+    is.counting.reference,
+    refl,
+  )
+      are (aside_still a acted refl refl refl refl refl refl, (refl, refl), refl) (λ learned. (
+        refl,
+        changed_is shape known amid add a is true false stands.1 (λ c. record c { summed = true })
+            ∙ ap (λ (b : Bool). amid.before ++ counting_of known add true (not b) ∷ map fresh amid.behind) (sym stands.2),
+      ))

@@ -14,6 +14,7 @@ use Rattle.segment_machine.specs.Calls.{IsNext}
 use Rattle.segment_machine.specs.Counting.{add_sum, sum_next}
 use Rattle.segment_machine.specs.Entry.{fresh, has_ended, sum_entry}
 use Rattle.segment_machine.specs.Event.{Event, next, counting_event}
+use Rattle.hist_core.proofs.Parts.Alone.{by_event}
 use Rattle.hist_core.proofs.AddCall.Going.{aside_still}
 use Rattle.hist_core.specs.declared.batch.Batch.{Batch}
 use Rattle.hist_core.specs.declared.batch.BatchStep.TheVariants.{Done}
@@ -53,18 +54,9 @@ module _ (shape : Dimensions) (known : Known) (batch : Batch) (a : Actor) (words
   pub adds_sum : (new_words : List ℕ)
       → new_words ≡ slice_set words (batch.histogram + 11) ((word_at words (batch.histogram + 11) + cast_unsigned w64 batch.sum) % 2 ^ 64)
       → StepsBy shape.size a.segment.version a words new_words (BatchGives shape known batch Done a)
-  adds_sum new_words are = record {
-    before = [];
-    at = a;
-    told = refl;
-    event = event;
-    ready = (sums.turns, its, known, (its_next, refl, sums.some), refl, is.knows, is.reference, refl);
-    words_are = are;
-    goes = λ learned apart ordered. (
-      [],
-      acted,
-      refl,
-      (
+  adds_sum new_words are = by_event event (sums.turns, its, known, (its_next, refl, sums.some), refl, is.knows, is.reference, refl)
+      are
+      (λ learned apart ordered. (
         aside_still a acted refl refl refl refl refl refl,
         (refl, refl),
         does_nothing (serves_counted known batch a) a acted refl,
@@ -78,6 +70,4 @@ module _ (shape : Dimensions) (known : Known) (batch : Batch) (a : Actor) (words
               (All-append (λ c. has_ended c ≡ true) before (last ∷ []) (all_over known batch.items.items)
               (All-cons (λ c. has_ended c ≡ true) last [] refl (All-nil (λ c. has_ended c ≡ true)))),
         ),
-      ),
-    );
-  }
+      ))

@@ -24,7 +24,7 @@ use Rattle.std.specs.List.{Contains}
 use Rattle.hist_core.specs.declared.add.Add.{Add}
 use Rattle.hist_core.specs.declared.add.AddStep.{AddStep}
 use Rattle.hist_core.specs.declared.add.AddStep.TheVariants as said
-use Rattle.hist_core.specs.declared.add.Stage.{Stage}
+use Rattle.hist_core.specs.declared.add.AddStage.{AddStage}
 use Rattle.hist_core.specs.declared.batch.Batch.{Batch}
 use Rattle.hist_core.specs.declared.batch.BatchStep.{BatchStep}
 use Rattle.hist_core.specs.declared.batch.BatchStep.TheVariants.{More, Done, Refused}
@@ -73,7 +73,7 @@ parts_are known name sum done rest item c is =
     ∙ (sym (append_assoc (map (counted_entry known) done) (map (counted_entry known) (item ∷ rest)) (sum_entries name sum))
     ∙ ap (λ (l : List Entry). l ++ sum_entries name sum) (sym (map-append (counted_entry known) done (item ∷ rest)))))
 
-module _ (shape : Dimensions) (known : Known) (batch : Batch) (a : Actor) (is : IsBatch shape known batch a) (c : CountsItem shape known batch a) (at : Stage) (mid : Batch)
+module _ (shape : Dimensions) (known : Known) (batch : Batch) (a : Actor) (is : IsBatch shape known batch a) (c : CountsItem shape known batch a) (at : AddStage) (mid : Batch)
     (stored : mid.items.items ≡ set batch.items.items batch.added (record c.item { stage = at })) where
   abbrev item : Add
   item = record c.item { stage = at }

@@ -11,7 +11,7 @@ use Rattle.std.proofs.lemmas.List.Elements.{Contains-append_right}
 use lib.Seq.{set-get_or}
 use mathlib.Core.Logic.{dite}
 use native.Mathlib.Decide.{ℕ_discrete}
-use Rattle.bucket_ranges.specs.Ranges.{boundaries_of}
+use Rattle.bucket_ranges.specs.Ranges.{boundaries_of, IsSplit}
 use Rattle.bucket_ranges.specs.Spec.{buckets_of}
 use Rattle.bucket_ranges.specs.Single.{single_of, units_packed}
 use Rattle.bucket_ranges.specs.declared.single.SingleWord.{SingleWord}
@@ -36,8 +36,10 @@ use Rattle.segment_promises.proofs.Calls.BucketLists.{still_below}
 use Rattle.segment_promises.specs.Calls.{AreBelow}
 use Rattle.segment_promises.proofs.Calls.Sights.{seen_here, took_bucket}
 use Rattle.segment_promises.proofs.Calls.Places.{looks_again}
+use Rattle.bucket_ranges.specs.declared.spec.Spec.{Spec}
+use Rattle.hist_core.proofs.Parts.Alone.{by_event}
 use Rattle.hist_core.specs.declared.mounted.Mounted.{Mounted}
-use Rattle.hist_core.specs.declared.delta_call.Stage.TheVariants.{LoadingCounts, LoadingCount, Raising, LoadingSum}
+use Rattle.hist_core.specs.declared.delta_call.DeltaStage.TheVariants.{LoadingCounts, LoadingCount, Raising, LoadingSum}
 use Rattle.hist_core.specs.declared.delta_call.DeltaCall.{DeltaCall}
 use Rattle.hist_core.specs.declared.delta_call.DeltaCallStep.TheVariants.{More}
 use Rattle.hist_core.specs.StepsBy.{StepsBy}
@@ -173,6 +175,14 @@ module _ (known : Known) (mounted : Mounted) (word : ℕ) (a : Actor) (are : Are
 
 -- ---- a delta
 
+-- a spec that has boundaries has some bucket
+pub some_buckets : (spec : Spec) → IsSplit (buckets_of spec) (boundaries_of spec) → 0 < buckets_of spec
+some_buckets spec split = by (buckets_of spec) refl split.first split.last
+  where
+    by : (n : ℕ) → buckets_of spec ≡ n → slice_index (boundaries_of spec) 0 ≡ 0 → slice_index (boundaries_of spec) (buckets_of spec) ≡ 2147483647 → 0 < n
+    by zero none first last = let same = ap (slice_index (boundaries_of spec)) none in absurd (omega (arith, first, last, same))
+    by (suc n) e first last = omega arith
+
 module _ (shape : Dimensions) (known : Known) (earlier : List Taken) (delta_call : DeltaCall) (a : Actor) (words : List ℕ) (is : IsDeltaCall shape known earlier delta_call a) where
   -- behind a bucket
   pub stands_behind : (mounted : Mounted) (word bucket : ℕ) (new : DeltaCall) (b : Actor) → new.ranges ≡ delta_call.ranges → new.stage ≡ behind_bucket delta_call mounted bucket
@@ -225,48 +235,27 @@ module _ (shape : Dimensions) (known : Known) (earlier : List Taken) (delta_call
           chain = ([], sym (append-nil a.seen.chain));
           words = (sight_counts known.reference found, refl);
           done = refl;
-        } in record {
-          before = [];
-          at = a;
-          told = refl;
-          event = event;
-          ready = (is.turns, (known, knows_it shape known earlier delta_call a is before_counts.4.0));
-          words_are = sym (set-get_or words (known.reference + 8) 0);
-          goes = λ learned apart ordered. (
-            [],
-            acted,
-            refl,
+        } in by_event event (is.turns, (known, knows_it shape known earlier delta_call a is before_counts.4.0))
+        (sym (set-get_or words (known.reference + 8) 0))
+        (λ learned apart ordered. (
+          beside,
+          goes_still shape known earlier delta_call a is new acted (record { version = refl; histogram = refl; ranges = refl; room = refl }) beside refl is.units (
+            let way = before_counts.0 in record { taking = way.taking; last = way.last; taken = way.taken; name = way.name; counts = way.counts; sum = way.sum },
+            record {
+              took = λ i lt. absurd (omega (arith, lt));
+              below = subst (AreBelow known 0) (sym before_counts.1) tt;
+              few = let e = ap length before_counts.1 in omega (arith, e);
+              inside = some_buckets known.spec (split shape known earlier delta_call a is before_counts.4.0);
+            },
             (
-              beside,
-              goes_still shape known earlier delta_call a is new acted (record { version = refl; histogram = refl; ranges = refl; room = refl }) beside refl is.units (
-                let way = before_counts.0 in record { taking = way.taking; last = way.last; taken = way.taken; name = way.name; counts = way.counts; sum = way.sum },
-                record {
-                  took = λ i lt. absurd (omega (arith, lt));
-                  below = subst (AreBelow known 0) (sym before_counts.1) tt;
-                  few = let e = ap length before_counts.1 in omega (arith, e);
-                  inside = some_buckets;
-                },
-                (
-                  before_counts.3.0,
-                  subst (λ (n : ℕ). AreMounted known (record { counts = n; packed = packed; kept = kept }) before_counts.3.0 acted) same
-                      (are_mounted known before_counts.3.0 a before_counts.3.1 before_counts.3.2 (knows_it shape known earlier delta_call a is before_counts.4.0) found packed kept
-                      (subst (λ (v : ℕ). SaysPacked v (buckets_of known.spec) before_counts.3.0 packed kept) (sym is.version) before_counts.3.3) before_counts.2 learned),
-                ),
-                before_counts.4,
-              ),
+              before_counts.3.0,
+              subst (λ (n : ℕ). AreMounted known (record { counts = n; packed = packed; kept = kept }) before_counts.3.0 acted) same
+                  (are_mounted known before_counts.3.0 a before_counts.3.1 before_counts.3.2 (knows_it shape known earlier delta_call a is before_counts.4.0) found packed kept
+                  (subst (λ (v : ℕ). SaysPacked v (buckets_of known.spec) before_counts.3.0 packed kept) (sym is.version) before_counts.3.3) before_counts.2 learned),
             ),
-          );
-        }
-      where
-        some_buckets : 0 < buckets_of known.spec
-        some_buckets = by (buckets_of known.spec) refl
-          where
-            by : (n : ℕ) → buckets_of known.spec ≡ n → 0 < n
-            by zero none =
-                let both = split shape known earlier delta_call a is before_counts.4.0 in
-                let first = both.first in let last = both.last in let same = ap (slice_index (boundaries_of known.spec)) none in
-                absurd (omega (arith, first, last, same))
-            by (suc n) e = omega arith
+            before_counts.4,
+          ),
+        ))
 
   -- it has loaded the count of a bucket
   module _ (mounted : Mounted) (bucket : ℕ) (loads : delta_call.stage ≡ LoadingCount mounted bucket) where

@@ -1,5 +1,5 @@
 -- A `delta` of an actor goes on, what it is shown as, and what it is answered with.
-use Rattle.std.proofs.Common.{◌≡◌, ◌⊎◌, inl, inr, ◌<◌, ◌≤◌, ◌+◌, ◌-◌, ℕ, zero, suc, ℤ, pos, arith, set, List, [], ◌∷◌, ◌++◌, length, map, take, refl, sym, ap, subst, ◌∙◌, vec_len}
+use Rattle.std.proofs.Common.{◌≡◌, ◌⊎◌, inl, inr, ⊎_elim, ◌<◌, ◌≤◌, ◌+◌, ◌-◌, ℕ, zero, suc, ℤ, pos, arith, set, List, [], ◌∷◌, ◌++◌, length, map, take, refl, sym, ap, subst, ◌∙◌, vec_len}
 use Rattle.std.specs.Prelude.{Option, Some, None, option_to_list, slice_index_or, slice_set, vec_capacity}
 use Rattle.std.specs.declared.alloc.Global.{Global}
 use Rattle.std.specs.declared.vec.Vec.{Vec}
@@ -25,6 +25,8 @@ use Rattle.segment_promises.specs.Values.{ListsValues}
 use Rattle.segment_promises.proofs.ListedValues.{lists_nothing}
 use Rattle.segment_promises.specs.Calls.{AreUnits}
 use Rattle.segment_machine.specs.State.{State}
+use Rattle.hist_core.proofs.HistCall.Asking.{as_it_stood, runs_on}
+use Rattle.hist_core.proofs.Parts.Alone.{alike}
 use Rattle.hist_core.specs.declared.world_state.WorldState.{WorldState}
 use Rattle.hist_core.specs.declared.call.Answer.TheVariants as answer
 use Rattle.hist_core.specs.declared.call.Stepped.{Stepped}
@@ -34,23 +36,23 @@ use Rattle.hist_core.specs.declared.hist.Known.{Known}
 use Rattle.hist_core.specs.declared.actor_run.Running.{Running}
 use Rattle.hist_core.specs.declared.actor_run.Running.TheVariants.{SetCorrupt, Hist, Add, Delta, Snapshot, Batch}
 use Rattle.hist_core.specs.declared.actor_run.ActorRun.{ActorRun}
-use Rattle.hist_core.specs.declared.delta_call.Stage.{Stage}
-use Rattle.hist_core.specs.declared.delta_call.Stage.TheVariants.{LoadingSingle, TakingPacked, LoadingCounts, LoadingCount, Raising, Walking, LoadingSample, RaisingSample, LoadingSum, Swapping}
+use Rattle.hist_core.specs.declared.delta_call.DeltaStage.{DeltaStage}
+use Rattle.hist_core.specs.declared.delta_call.DeltaStage.TheVariants.{LoadingSingle, TakingPacked, LoadingCounts, LoadingCount, Raising, Walking, LoadingSample, RaisingSample, LoadingSum, Swapping}
 use Rattle.hist_core.specs.declared.delta_call.DeltaCall.{DeltaCall}
 use Rattle.hist_core.specs.declared.delta_call.DeltaCallStep.{DeltaCallStep}
 use Rattle.hist_core.specs.declared.delta_call.DeltaCallStep.TheVariants.{More, Took, Done}
 use Rattle.hist_core.specs.Start.{Start}
-use Rattle.hist_core.specs.WorldState.{IsReached, IsReachedAs, TakesOf}
+use Rattle.hist_core.specs.declared.call.Begun.TheVariants.{Going}
+use Rattle.hist_core.specs.WorldState.{BeginsFrom, DeltaBegins, IsReached, IsReachedAs, TakesOf}
 use Rattle.hist_core.specs.StepsBy.{StepsBy, IsFree, WalksInOrder}
-use Rattle.hist_core.specs.declared.walk.Walk.{Walk}
-use Rattle.hist_core.specs.declared.walk.Walk.TheVariants.{LoadingFirst, LoadingType, LoadingHistogram, LoadingValue, LoadingNext}
 use Rattle.hist_core.specs.Walk.{HasSetOut}
 use Rattle.hist_core.proofs.Worlds.Landing.{Landing}
 use Rattle.hist_core.specs.ActorRun.{Answers, AreShown, BeginsDelta, Becomes, Fits, HasDraft, HasPlace, HasRoom, IsDeltaAnnounced, IsDraft, IsDrawing, IsKnown, IsLast, IsQuiet, IsRun, IsShown, IsSomeRun, IsTimely, IsTook, Serves, StandsIn, TakenGoes, apart_from_delta, begun_by, ended_by, ended_deltas, known_of, looked_by, pending_by}
-use Rattle.hist_core.specs.DeltaCall.{HasBegun, HasEnded, IsFirst, IsSomeDeltaCall, IsDeltaCall, IsUnderWay, Lists, OpensWith, StandsAtStage, DeltaCallGives, DeltaCallSteps, TakesAlong, FrameOfDelta, insert_by_key, place_of}
+use Rattle.hist_core.specs.DeltaCall.{HasBegun, HasEnded, IsFirst, IsSomeDeltaCall, IsDeltaCall, IsUnderWay, Lists, OpensWith, StandsAtStage, DeltaCallGives, DeltaCallSteps, FrameOfDelta, insert_by_key, place_of}
 use Rattle.hist_core.proofs.Parts.Allocations.{goes_with}
 use Rattle.hist_core.proofs.Parts.Deeds.{does_nothing}
 use Rattle.hist_core.proofs.Worlds.Apart.{asks_not, adds_not, looks_not, batches_not, sets_not}
+use Rattle.hist_core.proofs.Worlds.Beginnings.{IsPlaced, IsTurned}
 use Rattle.hist_core.proofs.Worlds.WorldStates.{each_runs, is_there}
 use Rattle.hist_core.proofs.Worlds.Free.{free_apart, free_turns}
 use Rattle.hist_core.proofs.Worlds.Quiet.{begun_there, met_on, met_split}
@@ -133,43 +135,25 @@ taken_ascends world_state reached i r at = ∥∥₁_elim reached (hlevel props)
 -- ---- it goes on
 
 -- once its first event has happened it is under way
-way_of : (shape : Dimensions) (known : MachineKnown) (earlier : List MachineTaken) (delta_call : DeltaCall) (a : Actor) (stage : Stage) → HasBegun stage
+way_of : (shape : Dimensions) (known : MachineKnown) (earlier : List MachineTaken) (delta_call : DeltaCall) (a : Actor) (stage : DeltaStage) → HasBegun stage
     → StandsAtStage shape known earlier delta_call a stage → IsUnderWay known earlier delta_call a
 way_of shape known earlier delta_call a LoadingSingle begun stands = absurd begun
 way_of shape known earlier delta_call a (TakingPacked bucket units) begun stands = stands.0
 way_of shape known earlier delta_call a (LoadingCounts packed kept) begun stands = stands.0
 way_of shape known earlier delta_call a (LoadingCount mounted bucket) begun stands = stands.0
 way_of shape known earlier delta_call a (Raising mounted bucket total) begun stands = stands.0
-way_of shape known earlier delta_call a (Walking walk) begun stands = by walk begun stands.0
-  where
-    by : (walk : Walk) → HasSetOut walk → TakesAlong known earlier delta_call a walk → IsUnderWay known earlier delta_call a
-    by LoadingFirst begun way = absurd begun
-    by (LoadingType at) begun way = way
-    by (LoadingHistogram at) begun way = way
-    by (LoadingValue at of) begun way = way
-    by (LoadingNext at) begun way = way
+way_of shape known earlier delta_call a (Walking walk) begun stands = ⊎_elim (λ first. absurd (subst HasSetOut first.0 begun)) (λ way. way.1) stands.0
 way_of shape known earlier delta_call a (LoadingSample at value) begun stands = stands.0
 way_of shape known earlier delta_call a (RaisingSample at value count) begun stands = stands.0
 way_of shape known earlier delta_call a LoadingSum begun stands = stands.0
 way_of shape known earlier delta_call a (Swapping sum) begun stands = stands.0
 
 -- before that its actor's deltas took what they took
-taken_first : (shape : Dimensions) (known : MachineKnown) (earlier : List MachineTaken) (delta_call : DeltaCall) (a : Actor) (stage : Stage) → IsFirst stage
+taken_first : (shape : Dimensions) (known : MachineKnown) (earlier : List MachineTaken) (delta_call : DeltaCall) (a : Actor) (stage : DeltaStage) → IsFirst stage
     → StandsAtStage shape known earlier delta_call a stage → a.deltas.taken ≡ earlier
-taken_first shape known earlier delta_call a LoadingSingle first stands = stands.1
-taken_first shape known earlier delta_call a (Walking LoadingFirst) first stands = stands.0.1
-taken_first shape known earlier delta_call a (Walking (LoadingType at)) first stands = absurd first
-taken_first shape known earlier delta_call a (Walking (LoadingHistogram at)) first stands = absurd first
-taken_first shape known earlier delta_call a (Walking (LoadingValue at of)) first stands = absurd first
-taken_first shape known earlier delta_call a (Walking (LoadingNext at)) first stands = absurd first
-taken_first shape known earlier delta_call a (TakingPacked bucket units) first stands = absurd first
-taken_first shape known earlier delta_call a (LoadingCounts packed kept) first stands = absurd first
-taken_first shape known earlier delta_call a (LoadingCount mounted bucket) first stands = absurd first
-taken_first shape known earlier delta_call a (Raising mounted bucket total) first stands = absurd first
-taken_first shape known earlier delta_call a (LoadingSample at value) first stands = absurd first
-taken_first shape known earlier delta_call a (RaisingSample at value count) first stands = absurd first
-taken_first shape known earlier delta_call a LoadingSum first stands = absurd first
-taken_first shape known earlier delta_call a (Swapping sum) first stands = absurd first
+taken_first shape known earlier delta_call a stage (inl is) stands = (subst (StandsAtStage shape known earlier delta_call a) is stands).1
+taken_first shape known earlier delta_call a stage (inr is) stands =
+    ⊎_elim (λ before. before.1.1) (λ way. absurd way.0) (subst (StandsAtStage shape known earlier delta_call a) is stands).0
 
 pub some_delta_call : (n : ℕ) (actor_run : ActorRun) (delta_call : DeltaCall) (fresh : Option Taken) → actor_run.running ≡ Some (Delta delta_call fresh) → IsSomeRun n actor_run → IsSomeDeltaCall n delta_call
 some_delta_call n actor_run delta_call fresh is (shape, version, a, long, wide, run) =
@@ -475,21 +459,9 @@ no_units : AreUnits []
 no_units = record { ascending = no_keys; some = λ k d below. absurd (omega (arith, below)) }
 
 -- so it is before its first event
-opens_first : (shape : Dimensions) (known : MachineKnown) (delta_call : DeltaCall) (stage : Stage) → OpensWith shape known delta_call stage → IsFirst stage
-opens_first shape known delta_call LoadingSingle opens = tt
-opens_first shape known delta_call (Walking LoadingFirst) opens = tt
-opens_first shape known delta_call (Walking (LoadingType at)) none = absurd none
-opens_first shape known delta_call (Walking (LoadingHistogram at)) none = absurd none
-opens_first shape known delta_call (Walking (LoadingValue at of)) none = absurd none
-opens_first shape known delta_call (Walking (LoadingNext at)) none = absurd none
-opens_first shape known delta_call (TakingPacked bucket units) none = absurd none
-opens_first shape known delta_call (LoadingCounts packed kept) none = absurd none
-opens_first shape known delta_call (LoadingCount mounted bucket) none = absurd none
-opens_first shape known delta_call (Raising mounted bucket total) none = absurd none
-opens_first shape known delta_call (LoadingSample at value) none = absurd none
-opens_first shape known delta_call (RaisingSample at value count) none = absurd none
-opens_first shape known delta_call LoadingSum none = absurd none
-opens_first shape known delta_call (Swapping sum) none = absurd none
+opens_first : (shape : Dimensions) (known : MachineKnown) (delta_call : DeltaCall) (stage : DeltaStage) → OpensWith shape known delta_call stage → IsFirst stage
+opens_first _ _ _ stage (inl opens) = inl opens.0
+opens_first _ _ _ stage (inr opens) = inr opens.0
 
 -- who rests begins it, which is no event
 module _ (shape : Dimensions) (version : ℕ) (known : Known) (old new : ActorRun) (starts : BeginsDelta shape version known old new) (i : ℕ)
@@ -508,10 +480,10 @@ module _ (shape : Dimensions) (version : ℕ) (known : Known) (old new : ActorRu
     knows = subst (λ (l : List MachineKnown). Contains l (known_of known)) run.names (contains_map known_of old.known.items known (contains_at old.known.items i known at))
 
     -- of a histogram with buckets it stands before the single word, of a sparse one at the record
-    stands_first : (stage : Stage) → OpensWith shape (known_of known) delta_call stage → StandsAtStage shape (known_of known) a.deltas.taken delta_call a stage
-    stands_first LoadingSingle has = (stood.1.takes, refl, starts.started.none, has)
-    stands_first (Walking LoadingFirst) (sparse, room) = (
-      (stood.1.takes, refl, starts.started.none),
+    stands_first : (stage : DeltaStage) → OpensWith shape (known_of known) delta_call stage → StandsAtStage shape (known_of known) a.deltas.taken delta_call a stage
+    stands_first stage (inl (is, has)) = subst (StandsAtStage shape (known_of known) a.deltas.taken delta_call a) (sym is) (stood.1.takes, refl, starts.started.none, has)
+    stands_first stage (inr (is, sparse, room)) = subst (StandsAtStage shape (known_of known) a.deltas.taken delta_call a) (sym is) (
+      inl (refl, (stood.1.takes, refl, starts.started.none)),
       (
         record { sparse = sparse; apart = free_apart a.hand.place stood.0; met = met_split a.seen.chain known.reference (run.met (known_of known) knows) },
         λ b. subst (λ (l : List (ℤ × ℕ)). ListsValues (λ value sample. TookSample b sample) (λ sample units. 1 ≤ units) known.reference [] l b.seen)
@@ -519,18 +491,6 @@ module _ (shape : Dimensions) (version : ℕ) (known : Known) (old new : ActorRu
       ),
       room,
     )
-    stands_first (Walking (LoadingType at)) none = absurd none
-    stands_first (Walking (LoadingHistogram at)) none = absurd none
-    stands_first (Walking (LoadingValue at of)) none = absurd none
-    stands_first (Walking (LoadingNext at)) none = absurd none
-    stands_first (TakingPacked bucket units) none = absurd none
-    stands_first (LoadingCounts packed kept) none = absurd none
-    stands_first (LoadingCount mounted bucket) none = absurd none
-    stands_first (Raising mounted bucket total) none = absurd none
-    stands_first (LoadingSample at value) none = absurd none
-    stands_first (RaisingSample at value count) none = absurd none
-    stands_first LoadingSum none = absurd none
-    stands_first (Swapping sum) none = absurd none
 
     begins_taking : IsDeltaCall shape (known_of known) a.deltas.taken delta_call a
     begins_taking = record {
@@ -554,38 +514,20 @@ module _ (shape : Dimensions) (version : ℕ) (known : Known) (old new : ActorRu
     quiet = let q = stood.1 in record { none = q.none; runs = q.runs; holds = q.holds; share = q.share; takes = refl }
 
     pub begins_with : IsRun shape version new a
-    begins_with = subst (λ (r : ActorRun). IsRun shape version r a) (sym starts.is) (record {
-      records = run.records;
-      segment = run.segment;
-      first = run.first;
-      within = run.within;
-      ended = run.ended;
-      begun = run.begun;
-      taken = subst (λ (l : List Taken). AreShown l a.deltas.taken) (sym starts.taken) run.taken;
-      names = run.names;
-      lawful = run.lawful;
-      once = run.once;
-      met = run.met;
-      stands = (quiet, (known_of known, a.deltas.taken, begins_taking, (opens_first shape (known_of known) delta_call delta_call.stage starts.started.opens, starts.named)));
-      room = tt;
-      draft = (starts.room, starts.draft);
-    })
+    begins_with = subst (λ (r : ActorRun). IsRun shape version r a) (sym starts.is)
+        (runs_on shape version roomy a (as_it_stood shape version old roomy a rests (refl, refl, refl, starts.taken) run) a (Some (Delta delta_call (Some starts.fresh))) (alike a)
+        (quiet, (known_of known, a.deltas.taken, begins_taking, (opens_first shape (known_of known) delta_call delta_call.stage starts.started.opens, starts.named)))
+        tt (starts.room, starts.draft))
+      where
+        roomy : ActorRun
+        roomy = record old { taken = new.taken }
 
 -- on a world_state
-module _ (old new : WorldState) (actor : ℕ) (r now : ActorRun) (here : get_elem? old.actor_runs.items actor ≡ some r) (place : ℕ) (known : Known)
-    (at : get_elem? r.known.items place ≡ some known) (starts : BeginsDelta old.shape old.version known r now) where
-  pub delta_begins : r.running ≡ None → new.shape ≡ old.shape → new.version ≡ old.version → new.words ≡ old.words → new.units ≡ old.units
-      → new.actor_runs.items ≡ set old.actor_runs.items actor now → (start : Start) (state : State) → IsReachedAs start old state → IsReachedAs start new state
-  delta_begins rests shaped versioned worded pooled actor_runs =
-      call_begins old new actor r now here place known at rests shaped versioned worded pooled actor_runs
-      (begins_with old.shape old.version known r now starts place at rests)
+module _ (old new : WorldState) (actor : ℕ) (name : List ℕ) (place : ℕ) (r now : ActorRun) (its : IsPlaced old actor name place r) (turned : IsTurned old new actor now)
+    (starts : BeginsDelta old.shape old.version its.known r now) (pooled : new.units ≡ old.units) where
+  pub delta_begins : (start : Start) (state : State) → IsReachedAs start old state → BeginsFrom start state actor new
+  delta_begins = call_begins old new actor name place r now its turned pooled (begins_with old.shape old.version its.known r now starts place its.there its.resting.rests)
 
--- so it is among the actors
-pub delta_begun : {shape : Dimensions} {version : ℕ} (actor_runs : List ActorRun) (actor : ℕ) (r now : ActorRun) → get_elem? actor_runs actor ≡ some r → (place : ℕ) (known : Known)
-    → get_elem? r.known.items place ≡ some known → BeginsDelta shape version known r now → (name : List ℕ) → known.name.items ≡ name
-    → (before behind : ActorRun) × (get_elem? actor_runs actor ≡ some before) × (get_elem? (set actor_runs actor now) actor ≡ some behind)
-    × (behind.taken.items ≡ before.taken.items)
-    × ((k : Known) × Contains behind.known.items k × (k.name.items ≡ name) × TakesOf k.reference behind.running)
-delta_begun actor_runs actor r now here place known at starts =
-    call_begun TakesOf actor_runs actor r now here place known at (ap (λ (x : ActorRun). x.known.items) starts.is) starts.taken
-    (subst (TakesOf known.reference) (sym (ap (λ (x : ActorRun). x.running) starts.is)) starts.started.reference)
+  pub delta_begun : DeltaBegins actor name old new Going
+  delta_begun = call_begun old new actor name place r now its turned pooled TakesOf (ap (λ (x : ActorRun). x.known.items) starts.is) starts.taken
+      (subst (TakesOf (its.known).reference) (sym (ap (λ (x : ActorRun). x.running) starts.is)) starts.started.reference)

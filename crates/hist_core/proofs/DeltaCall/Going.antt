@@ -1,5 +1,5 @@
 -- A delta goes on by one event of its actor.
-use Rattle.std.proofs.Common.{◌≡◌, ℕ, ◌+◌, ◌-◌, ◌≤◌, true, true≢false, List, [], length, refl, sym, ap, ◌∙◌, subst, arith}
+use Rattle.std.proofs.Common.{◌≡◌, ℕ, ◌+◌, ◌-◌, ◌≤◌, true, true≢false, List, length, refl, sym, ap, ◌∙◌, subst, arith}
 use Rattle.std.specs.Prelude.{None, vec_capacity}
 use Rattle.std.proofs.Props.{props}
 use Rattle.std.proofs.Math.Logic.{∥∥₁_elim}
@@ -21,9 +21,10 @@ use Rattle.segment_machine.specs.Event.{Event, spot, after, next, Ready, Learned
 use Rattle.segment_machine.specs.Taking.{TakingEvent, Takes, load_count, raise_mark, raise_single_mark, load_sum, swap_sum_mark, load_redundant}
 use Rattle.segment_promises.proofs.Growing.{grows_not}
 use Rattle.segment_promises.specs.Calls.{AreUnits, SeesMore}
-use Rattle.hist_core.specs.declared.delta_call.Stage.{Stage}
+use Rattle.hist_core.proofs.Parts.Alone.{by_event}
+use Rattle.hist_core.specs.declared.delta_call.DeltaStage.{DeltaStage}
 use Rattle.hist_core.specs.declared.delta_call.DeltaCall.{DeltaCall}
-use Rattle.hist_core.specs.StepsBy.{StepsBy}
+use Rattle.hist_core.specs.StepsBy.{StepsBy, LiesWithin}
 use Rattle.hist_core.specs.DeltaCall.{IsSomeDeltaCall, IsDeltaCall, IsUnderWay, StandsAtStage, FrameOfDelta}
 
 -- ---- what stays as it was
@@ -125,15 +126,9 @@ module _ (shape : Dimensions) (known : Known) (earlier : List Taken) (delta_call
     pub acts_on : Ready a event → new_words ≡ after shape.size delta_call.version event words → MayTurn acted → AreUnits new.counts.items
         → (Learned a event found → StandsAtStage shape known earlier new acted new.stage)
         → StepsBy shape.size delta_call.version a words new_words (λ b. FrameOfDelta a b × IsDeltaCall shape known earlier new b)
-    acts_on ready are turns units stands = record {
-      before = [];
-      at = a;
-      told = refl;
-      event = event;
-      ready = ready;
-      words_are = are;
-      goes = λ learned apart ordered. ([], acted, refl, (taking_aside a e found, goes_still new acted same (taking_aside a e found) turns units (stands learned)));
-    }
+    acts_on ready are turns units stands = by_event event ready
+        are
+        (λ learned apart ordered. (taking_aside a e found, goes_still new acted same (taking_aside a e found) turns units (stands learned)))
 
 -- the boundaries of a lawful spec are few
 few_of : (s : Spec) → spec_fault s ≡ None → has_buckets s ≡ true → length (boundaries_of s) ≤ 1001
@@ -148,16 +143,17 @@ few_boundaries spec.Boolean lawful = few_of spec.Boolean lawful refl
 few_boundaries (spec.Custom values) lawful = few_of (spec.Custom values) lawful refl
 
 -- the record of a delta that stands somewhere lies in so many words, which are few
-pub some_inside : (delta_call : DeltaCall) (words : List ℕ) → ∥ IsSomeDeltaCall (length words) delta_call ∥₁
-    → (delta_call.histogram + 15 ≤ length words) × (length words ≤ 1048576) × (length delta_call.ranges ≤ 1001)
-some_inside delta_call words stands = ∥∥₁_elim stands (hlevel props) (λ (shape, known, earlier, a, long, is).
-    let inside = is_inside shape known earlier delta_call a is (length words) long in
-    let ranges = ap length is.ranges in
-    let some = few_boundaries known.spec is.lawful in
-    (inside.0, inside.1, omega (arith, ranges, some)))
+pub lies_within : (delta_call : DeltaCall) (words : List ℕ) → ∥ IsSomeDeltaCall (length words) delta_call ∥₁ → LiesWithin (length words) delta_call.histogram
+lies_within delta_call words stands = ∥∥₁_elim stands (hlevel props) (λ (shape, known, earlier, a, long, is).
+    let inside = is_inside shape known earlier delta_call a is (length words) long in record { within = inside.0; few = inside.1 })
+
+-- and it has few ranges
+pub some_ranges : (delta_call : DeltaCall) (n : ℕ) → ∥ IsSomeDeltaCall n delta_call ∥₁ → length delta_call.ranges ≤ 1001
+some_ranges delta_call n stands = ∥∥₁_elim stands (hlevel props) (λ (shape, known, earlier, a, long, is).
+    let ranges = ap length is.ranges in let some = few_boundaries known.spec is.lawful in omega (arith, ranges, some))
 
 -- it goes on with another stage, with what it lists as it was or with more
-pub same_still : (old : DeltaCall) (stage : Stage) (new : DeltaCall) → new ≡ record old { stage = stage } → IsSame old new
+pub same_still : (old : DeltaCall) (stage : DeltaStage) (new : DeltaCall) → new ≡ record old { stage = stage } → IsSame old new
 same_still old stage new same = record {
   version = ap (λ (t : DeltaCall). t.version) same;
   histogram = ap (λ (t : DeltaCall). t.histogram) same;
@@ -165,7 +161,7 @@ same_still old stage new same = record {
   room = ap (λ (t : DeltaCall). vec_capacity t.counts) same;
 }
 
-pub same_taken : (old : DeltaCall) (stage : Stage) (new : DeltaCall) → new ≡ record old { stage = stage; counts = new.counts } → vec_capacity new.counts ≡ vec_capacity old.counts
+pub same_taken : (old : DeltaCall) (stage : DeltaStage) (new : DeltaCall) → new ≡ record old { stage = stage; counts = new.counts } → vec_capacity new.counts ≡ vec_capacity old.counts
     → IsSame old new
 same_taken old stage new same room = record {
   version = ap (λ (t : DeltaCall). t.version) same;

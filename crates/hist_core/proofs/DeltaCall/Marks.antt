@@ -27,8 +27,8 @@ use Rattle.segment_machine.specs.Taking.{TakingEvent, raise_mark, raise_single_m
 use Rattle.segment_promises.specs.Calls.{AreUnits}
 use Rattle.segment_promises.proofs.Calls.Sights.{saw_bucket, seen_here, took_bucket}
 use Rattle.hist_core.specs.declared.mounted.Mounted.{Mounted}
-use Rattle.hist_core.specs.declared.delta_call.Stage.{Stage}
-use Rattle.hist_core.specs.declared.delta_call.Stage.TheVariants.{Raising}
+use Rattle.hist_core.specs.declared.delta_call.DeltaStage.{DeltaStage}
+use Rattle.hist_core.specs.declared.delta_call.DeltaStage.TheVariants.{Raising}
 use Rattle.hist_core.specs.declared.delta_call.DeltaCall.{DeltaCall}
 use Rattle.hist_core.specs.declared.delta_call.DeltaCallStep.{DeltaCallStep}
 use Rattle.hist_core.specs.declared.delta_call.DeltaCallStep.TheVariants.{More, Took, Done}
@@ -64,7 +64,7 @@ module _ (shape : Dimensions) (known : Known) (earlier : List Taken) (delta_call
   abbrev held : Option SingleWord
   held = single_of a.segment.version (buckets_of known.spec) word
 
-  abbrev next_stage : Stage
+  abbrev next_stage : DeltaStage
   next_stage = behind_bucket delta_call mounted bucket
 
   abbrev resting : DeltaCall

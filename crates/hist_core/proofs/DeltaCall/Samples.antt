@@ -1,5 +1,5 @@
 -- A delta takes of the samples of a sparse histogram, event by event.
-use Rattle.std.proofs.Common.{◌≡◌, ◌≢◌, ℕ, ◌+◌, ◌-◌, ◌/◌, ◌<◌, ◌≤◌, ◌==◌, ℤ, max, Bool, true, false, true≢false, if◌then◌else◌, List, [], ◌∷◌, ◌++◌, length, inl, inr, refl, sym, ap, subst, ◌∙◌, arith, eqb-true, eq-eqb}
+use Rattle.std.proofs.Common.{◌≡◌, ◌≢◌, ℕ, ◌+◌, ◌-◌, ◌/◌, ◌<◌, ◌≤◌, ◌==◌, ℤ, max, Bool, true, false, true≢false, if◌then◌else◌, List, [], ◌∷◌, ◌++◌, length, inl, inr, ⊎_elim, refl, sym, ap, subst, ◌∙◌, arith, eqb-true, eq-eqb}
 use Rattle.std.specs.Prelude.{Option, slice_set, unwrap_or, vec_capacity, vec_len}
 use Rattle.std.specs.Int.{cast_signed, w64}
 use Rattle.std.specs.List.{Contains}
@@ -28,17 +28,17 @@ use Rattle.segment_promises.proofs.ValueWalks.{behind_it, split_at_it}
 use Rattle.segment_promises.specs.Calls.{AreUnits, SeesMore}
 use Rattle.segment_promises.proofs.Calls.SampleLists.{not_before}
 use Rattle.segment_promises.proofs.Calls.Sights.{saw_count, seen_here}
-use Rattle.hist_core.specs.declared.delta_call.Stage.{Stage}
-use Rattle.hist_core.specs.declared.delta_call.Stage.TheVariants.{Walking, LoadingSample, RaisingSample}
+use Rattle.hist_core.specs.declared.delta_call.DeltaStage.{DeltaStage}
+use Rattle.hist_core.specs.declared.delta_call.DeltaStage.TheVariants.{Walking, LoadingSample, RaisingSample}
 use Rattle.hist_core.specs.declared.delta_call.DeltaCall.{DeltaCall}
 use Rattle.hist_core.specs.declared.delta_call.DeltaCallStep.{DeltaCallStep}
 use Rattle.hist_core.specs.declared.delta_call.DeltaCallStep.TheVariants.{More, Took, Done}
 use Rattle.hist_core.specs.declared.walk.Met.{Met}
 use Rattle.hist_core.specs.declared.walk.Met.TheVariants.{Nothing, Sample, End}
-use Rattle.hist_core.specs.declared.walk.Walk.{Walk}
-use Rattle.hist_core.specs.declared.walk.Walk.TheVariants.{LoadingFirst, LoadingType, LoadingHistogram, LoadingValue, LoadingNext}
+use Rattle.hist_core.specs.declared.walk.SampleWalk.{SampleWalk}
+use Rattle.hist_core.specs.declared.walk.SampleWalk.TheVariants.{LoadingFirst, LoadingType, LoadingHistogram, LoadingValue, LoadingNext}
 use Rattle.hist_core.specs.StepsBy.{FrameOfStep, StepsBy, IsInOrder, WalksInOrder}
-use Rattle.hist_core.specs.DeltaCall.{HasBegun, HasCounted, HoldsValues, IsSomeDeltaCall, IsDeltaCall, IsUnderWay, ListsTaken, StandsAtStage, DeltaCallGives, TakesAlong, FrameOfDelta, TakesUnits, behind_sample, behind_walk, insert_by_key}
+use Rattle.hist_core.specs.DeltaCall.{HasBegun, HasCounted, HoldsValues, IsBeforeAll, IsSomeDeltaCall, IsDeltaCall, IsUnderWay, ListsTaken, StandsAtStage, DeltaCallGives, FrameOfDelta, TakesUnits, behind_sample, behind_walk, insert_by_key}
 use Rattle.hist_core.specs.Walk.{HasComeTo, HasSetOut, IsWalkProgress, Meets, MetRecord, MetSample, WalksAt, spot_of}
 use Rattle.hist_core.proofs.Parts.Allocations.{goes_with}
 use Rattle.hist_core.proofs.Walks.Passing.{way_still}
@@ -52,7 +52,7 @@ use Rattle.hist_core.proofs.Walks.Walking.{began_before, few_passed, spot_inside
 -- ---- its first event has happened
 
 -- whatever its walk met
-pub begun_behind : (walk : Walk) (histogram word : ℕ) (met : Met) → Meets walk histogram word met → HasBegun (behind_walk met)
+pub begun_behind : (walk : SampleWalk) (histogram word : ℕ) (met : Met) → Meets walk histogram word met → HasBegun (behind_walk met)
 begun_behind LoadingFirst histogram word met is = subst (λ (m : Met). HasBegun (behind_walk m)) (sym is) (by (word == 12))
   where
     by : (ends : Bool) → HasBegun (behind_walk (if ends then End else Nothing (LoadingType word)))
@@ -98,14 +98,6 @@ way_beside known earlier delta_call a b deltas way = record {
   sum = way.sum;
 }
 
-along : (known : Known) (earlier : List Taken) (delta_call : DeltaCall) (a : Actor) (walk : Walk) → HasSetOut walk → IsUnderWay known earlier delta_call a
-    → TakesAlong known earlier delta_call a walk
-along known earlier delta_call a LoadingFirst set_out way = absurd set_out
-along known earlier delta_call a (LoadingType at) set_out way = way
-along known earlier delta_call a (LoadingHistogram at) set_out way = way
-along known earlier delta_call a (LoadingValue at of) set_out way = way
-along known earlier delta_call a (LoadingNext at) set_out way = way
-
 -- where it stands that has loaded the count of a sample
 at_sample : (p : Place) (at found : ℕ) → is_looking p ≡ false → at_count p at found ≡ place.SampleLoaded (at - 6) found
 at_sample (place.Looking look) at found apart = absurd (cc apart)
@@ -122,9 +114,9 @@ module _ (shape : Dimensions) (known : Known) (earlier : List Taken) (delta_call
   stands_behind : (met : Met) (b : Actor) → IsUnderWay known earlier delta_call b → HoldsValues shape delta_call → HasComeTo shape known (ListsTaken known delta_call) met b
       → StandsAtStage shape known earlier (behind met) b (behind_walk met)
   stands_behind (Nothing walk) b way room (set_out, stands) =
-      (along known earlier (behind (Nothing walk)) b walk set_out (same_way known earlier delta_call (behind (Nothing walk)) b refl way), still_at walk stands, room)
+      (inr (set_out, same_way known earlier delta_call (behind (Nothing walk)) b refl way), still_at walk stands, room)
     where
-      still_at : (walk : Walk) → WalksAt shape known (ListsTaken known delta_call) walk b → WalksAt shape known (ListsTaken known (behind (Nothing walk))) walk b
+      still_at : (walk : SampleWalk) → WalksAt shape known (ListsTaken known delta_call) walk b → WalksAt shape known (ListsTaken known (behind (Nothing walk))) walk b
       still_at walk stands = stands
   stands_behind (Sample at value) b way room met = (same_way known earlier delta_call (behind (Sample at value)) b refl way, met, room)
   stands_behind End b way room all =
@@ -156,7 +148,7 @@ module _ (shape : Dimensions) (known : Known) (earlier : List Taken) (delta_call
     )
 
     -- behind its first event
-    further : (walk : Walk) → IsUnderWay known earlier delta_call a → WalksAt shape known (ListsTaken known delta_call) walk a → HoldsValues shape delta_call → HasSetOut walk
+    further : (walk : SampleWalk) → IsUnderWay known earlier delta_call a → WalksAt shape known (ListsTaken known delta_call) walk a → HoldsValues shape delta_call → HasSetOut walk
         → Meets walk known.reference (word_at words (spot_of known.reference walk)) met
         → StepsBy shape.size delta_call.version a words words (DeltaCallGives shape known earlier (behind met) More a)
     further walk way stands room set_out meets =
@@ -165,43 +157,40 @@ module _ (shape : Dimensions) (known : Known) (earlier : List Taken) (delta_call
         goes_behind b (aside_of a b refl refl refl beside done) turns (way_beside known earlier delta_call a b beside.deltas way) room comes)
 
     -- with its first event it begins to take
-    sets_out : StandsAtStage shape known earlier delta_call a (Walking LoadingFirst)
+    sets_out : IsBeforeAll earlier delta_call a → WalksAt shape known (ListsTaken known delta_call) LoadingFirst a → HoldsValues shape delta_call
         → Meets LoadingFirst known.reference (word_at words (known.reference + 3)) met
         → StepsBy shape.size delta_call.version a words words (DeltaCallGives shape known earlier (behind met) More a)
-    sets_out stands meets =
+    sets_out before stands room meets =
         let begun : Actor = noted a (takes known.name) in
         let way : IsUnderWay known earlier delta_call begun = record {
           taking = refl;
           last = nothing_taken a known.name;
-          taken = ap (λ (l : List Taken). l ++ nothing_taken a known.name ∷ []) stands.0.1;
+          taken = ap (λ (l : List Taken). l ++ nothing_taken a known.name ∷ []) before.1;
           name = refl;
-          counts = λ key. ap (λ (l : List (ℤ × ℕ)). units_listed l key) stands.0.2;
+          counts = λ key. ap (λ (l : List (ℤ × ℕ)). units_listed l key) before.2;
           sum = refl;
         } in
         goes_after (takes known.name) (
           λ e. true≢false (sym (ap is_bound e) ∙ is.turns),
           is.recorder,
           is.counts_nothing,
-          stands.0.0,
+          before.0,
           contains_map (λ (k : Known). k.name) a.answers.names known is.knows,
         )
         (goes_with (walks_so shape delta_call.version known (ListsTaken known delta_call) (taken_along known delta_call) begun words is.segment is.turns LoadingFirst
-        (record { sparse = stands.1.0.sparse; apart = stands.1.0.apart; met = stands.1.0.met }, stands.1.1)
+        (record { sparse = stands.0.sparse; apart = stands.0.apart; met = stands.0.met }, stands.1)
         (record { singles = omega arith; counts = omega arith }) met meets) (λ b (beside, since, done, turns, comes).
-        goes_behind b (aside_of begun b refl refl refl beside done) turns (way_beside known earlier delta_call begun b beside.deltas way) stands.2 comes))
+        goes_behind b (aside_of begun b refl refl refl beside done) turns (way_beside known earlier delta_call begun b beside.deltas way) room comes))
 
-    pub walks_further : (walk : Walk) → delta_call.stage ≡ Walking walk → Meets walk delta_call.histogram (word_at words (spot_of delta_call.histogram walk)) met
+    pub walks_further : (walk : SampleWalk) → delta_call.stage ≡ Walking walk → Meets walk delta_call.histogram (word_at words (spot_of delta_call.histogram walk)) met
         → StepsBy shape.size delta_call.version a words words (DeltaCallGives shape known earlier (behind met) More a)
-    walks_further walk loads meets = by walk (subst (StandsAtStage shape known earlier delta_call a) loads is.stands)
-        (subst (λ (h : ℕ). Meets walk h (word_at words (spot_of h walk)) met) (sym is.reference) meets)
-      where
-        by : (walk : Walk) → StandsAtStage shape known earlier delta_call a (Walking walk) → Meets walk known.reference (word_at words (spot_of known.reference walk)) met
-            → StepsBy shape.size delta_call.version a words words (DeltaCallGives shape known earlier (behind met) More a)
-        by LoadingFirst stands meets = sets_out stands meets
-        by (LoadingType at) stands meets = further (LoadingType at) stands.0 stands.1 stands.2 tt meets
-        by (LoadingHistogram at) stands meets = further (LoadingHistogram at) stands.0 stands.1 stands.2 tt meets
-        by (LoadingValue at of) stands meets = further (LoadingValue at of) stands.0 stands.1 stands.2 tt meets
-        by (LoadingNext at) stands meets = further (LoadingNext at) stands.0 stands.1 stands.2 tt meets
+    walks_further walk loads meets =
+        let stands : StandsAtStage shape known earlier delta_call a (Walking walk) = subst (StandsAtStage shape known earlier delta_call a) loads is.stands in
+        let it_meets : Meets walk known.reference (word_at words (spot_of known.reference walk)) met =
+        subst (λ (h : ℕ). Meets walk h (word_at words (spot_of h walk)) met) (sym is.reference) meets in
+        ⊎_elim (λ (first, before). sets_out before (subst (λ (w : SampleWalk). WalksAt shape known (ListsTaken known delta_call) w a) first stands.1) stands.2
+        (subst (λ (w : SampleWalk). Meets w known.reference (word_at words (spot_of known.reference w)) met) first it_meets))
+        (λ (set_out, way). further walk way stands.1 stands.2 set_out it_meets) stands.0
 
   -- ---- the count of a sample is loaded
 
@@ -252,10 +241,10 @@ module _ (shape : Dimensions) (known : Known) (earlier : List Taken) (delta_call
 
     module _ (order : IsInOrder a) (learned : Learned a (taking_event (load_count (at + 6))) count) where
       stands_then : (none : Bool) → (count == 0) ≡ none
-          → let stage : Stage = if none then Walking (LoadingNext at) else RaisingSample at value count in
+          → let stage : DeltaStage = if none then Walking (LoadingNext at) else RaisingSample at value count in
           StandsAtStage shape known earlier (record delta_call { stage = stage }) counted stage
       stands_then true e = (
-        under_way (record delta_call { stage = Walking (LoadingNext at) }) refl,
+        inr (tt, under_way (record delta_call { stage = Walking (LoadingNext at) }) refl),
         record {
           passed = its_passed;
           way = way_counted;
@@ -369,8 +358,11 @@ module _ (shape : Dimensions) (known : Known) (earlier : List Taken) (delta_call
         (lists_then new said taken).1
         (λ learned.
         subst (StandsAtStage shape known earlier new raised) (sym stage) (
-          way_taken known earlier (taken_key a a.hand.place) count found resting new said a raised
-              (subst (λ (k : ℤ). TakesUnits k count found resting new said) (sym key) taken) (same_way known earlier delta_call resting a refl stood.0) refl,
+          inr (
+            tt,
+            way_taken known earlier (taken_key a a.hand.place) count found resting new said a raised
+                (subst (λ (k : ℤ). TakesUnits k count found resting new said) (sym key) taken) (same_way known earlier delta_call resting a refl stood.0) refl,
+          ),
           record {
             passed = passed;
             way = way_still known a raised raised_sees passed at refl (ap is_looking idle) met_before.way;
@@ -393,7 +385,7 @@ module _ (shape : Dimensions) (known : Known) (earlier : List Taken) (delta_call
 
 -- ---- words that are loaded lie within the words
 
-pub some_walk : (delta_call : DeltaCall) (words : List ℕ) (walk : Walk) → delta_call.stage ≡ Walking walk → ∥ IsSomeDeltaCall (length words) delta_call ∥₁
+pub some_walk : (delta_call : DeltaCall) (words : List ℕ) (walk : SampleWalk) → delta_call.stage ≡ Walking walk → ∥ IsSomeDeltaCall (length words) delta_call ∥₁
     → (spot_of delta_call.histogram walk < length words) × (length words ≤ 1048576)
 some_walk delta_call words walk loads stands = ∥∥₁_elim stands (hlevel props) (λ (shape, known, earlier, a, long, is).
     let many = (is_inside shape known earlier delta_call a is (length words) long).1 in

@@ -32,8 +32,8 @@ use Rattle.segment_machine.specs.Taking.{raise_single_mark, single_key}
 use Rattle.segment_promises.specs.Calls.{AreBelow, AreUnits}
 use Rattle.segment_promises.proofs.Calls.Sights.{seen_here}
 use Rattle.segment_promises.proofs.Calls.Places.{looks_there}
-use Rattle.hist_core.specs.declared.delta_call.Stage.{Stage}
-use Rattle.hist_core.specs.declared.delta_call.Stage.TheVariants.{LoadingSingle, TakingPacked, LoadingCounts, LoadingCount, Raising, Walking, LoadingSample, RaisingSample, LoadingSum, Swapping}
+use Rattle.hist_core.specs.declared.delta_call.DeltaStage.{DeltaStage}
+use Rattle.hist_core.specs.declared.delta_call.DeltaStage.TheVariants.{LoadingSingle, TakingPacked, LoadingCounts, LoadingCount, Raising, Walking, LoadingSample, RaisingSample, LoadingSum, Swapping}
 use Rattle.hist_core.specs.declared.delta_call.DeltaCall.{DeltaCall}
 use Rattle.hist_core.specs.declared.delta_call.DeltaCallStep.{DeltaCallStep}
 use Rattle.hist_core.specs.declared.delta_call.DeltaCallStep.TheVariants.{More, Took, Done}
@@ -118,7 +118,7 @@ module _ (shape : Dimensions) (known : Known) (earlier : List Taken) (delta_call
           → SaysPacked delta_call.version (buckets_of known.spec) found packed kept
       says_there packed kept says = subst (λ (n : ℕ). SaysPacked delta_call.version n found packed kept) (buckets_are shape known earlier delta_call a is begins.3.0) says
 
-      stands_behind : (stage : Stage) → IsBehindSingle delta_call found stage → StandsAtStage shape known earlier (record delta_call { stage = stage }) acted stage
+      stands_behind : (stage : DeltaStage) → IsBehindSingle delta_call found stage → StandsAtStage shape known earlier (record delta_call { stage = stage }) acted stage
       stands_behind (LoadingCounts packed kept) (off, says, few) =
           (way_begun (record delta_call { stage = LoadingCounts packed kept }) begins.2, begins.2, few, (found, has_word, off, says_there packed kept says), begins.3)
       stands_behind (TakingPacked bucket units) (on, says) =
@@ -140,7 +140,7 @@ module _ (shape : Dimensions) (known : Known) (earlier : List Taken) (delta_call
       stands_behind (LoadingSample at value) none = absurd none
       stands_behind (RaisingSample at value count) none = absurd none
 
-    pub loads_single : (stage : Stage) → IsBehindSingle delta_call (word_at words (delta_call.histogram + 9)) stage
+    pub loads_single : (stage : DeltaStage) → IsBehindSingle delta_call (word_at words (delta_call.histogram + 9)) stage
         → StepsBy shape.size delta_call.version a words words (DeltaCallGives shape known earlier (record delta_call { stage = stage }) More a)
     loads_single stage behind = record {
       before = takes known.name ∷ [];

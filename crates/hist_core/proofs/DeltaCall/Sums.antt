@@ -17,7 +17,7 @@ use Rattle.segment_machine.specs.Calls.{change_last}
 use Rattle.segment_machine.specs.Event.{Event, next, taking_event, Learned}
 use Rattle.segment_machine.specs.Note.{TookAll, has_taken, noted}
 use Rattle.segment_machine.specs.Taking.{load_sum, swap_sum, swap_sum_mark}
-use Rattle.hist_core.specs.declared.delta_call.Stage.TheVariants.{LoadingSum, Swapping}
+use Rattle.hist_core.specs.declared.delta_call.DeltaStage.TheVariants.{LoadingSum, Swapping}
 use Rattle.hist_core.specs.declared.delta_call.DeltaCall.{DeltaCall}
 use Rattle.hist_core.specs.declared.delta_call.DeltaCallStep.TheVariants.{More, Done}
 use Rattle.hist_core.specs.StepsBy.{StepsBy, WalksInOrder}

@@ -6,6 +6,7 @@ use Rattle.bucket_ranges.specs.declared.spec.Spec.{Spec}
 use Rattle.alloc_core.specs.Layout.{IsShape}
 use Rattle.segment_calls.specs.Asked.{payload_words, IsAskedFor}
 use Rattle.segment_calls.specs.declared.asked.Asked.{Asked}
+use Rattle.hist_core.proofs.Parts.Alone.{alike}
 use Rattle.hist_core.specs.declared.call.Begun.{Begun}
 use Rattle.hist_core.specs.declared.call.Begun.TheVariants.{Going, Ended}
 use Rattle.std.proofs.lemmas.List.{map-append}
@@ -19,7 +20,6 @@ use Rattle.atomic_table.proofs.Lists.{at_snoc}
 use Rattle.segment_image.specs.Shape.{Dimensions}
 use Rattle.segment_machine.specs.declared.actor.Actor.{Actor}
 use Rattle.segment_machine.specs.declared.actor.Known.{Known as MachineKnown}
-use Rattle.segment_machine.specs.declared.actor.Made.{Made}
 use Rattle.segment_machine.specs.declared.actor.Made.TheVariants.{Histogram}
 use Rattle.segment_machine.specs.Made.{AreNameWords}
 use Rattle.segment_machine.specs.Actor.{is_opener}
@@ -215,9 +215,6 @@ module _ (shape : Dimensions) (version : ℕ) (old : ActorRun) (a : Actor) (run 
 -- what is answered
 module _ (old : ActorRun) (h now : HistCall) (is : old.running ≡ Some (Hist h)) (same : now.asked ≡ h.asked) (words new_words : List ℕ)
     (all : length old.entries.items ≡ old.ended) (unbegun : old.begun ≡ old.ended) where
-  ended_on : (new : ActorRun) → new.entries ≡ old.entries → new.ended ≡ old.ended → ended_by new ≡ ended_by old
-  ended_on new entries ended i = take (ended i) (entries i).items
-
   begun_on : (new : ActorRun) → new.entries ≡ old.entries → new.ended ≡ old.ended → new.begun ≡ old.begun → begun_by new ≡ ended_by new
   begun_on new entries ended begun = ap (λ n. take n new.entries.items) (begun ∙ unbegun ∙ sym ended)
 
@@ -295,27 +292,14 @@ pub begins_hist : (shape : Dimensions) (version : ℕ) (name : List ℕ) (spec :
     → IsAskedFor shape name spec asked → IsShape shape → old.running ≡ None → BeginsHist shape asked old new result → IsRun shape version old a → IsRun shape version new a
 begins_hist shape version name spec asked old new (Ok Going) a asks lawful rests (hist, begun, new_is, items, room, none) run =
     let stands = subst (λ running. StandsIn shape old.known.items (pending_by old) running a) rests run.stands in
-    subst (λ (r : ActorRun). IsRun shape version r a) (sym new_is) (record {
-      records = run.records;
-      segment = run.segment;
-      first = run.first;
-      within = run.within;
-      ended = run.ended;
-      begun = run.begun;
-      taken = run.taken;
-      names = ap (map known_of) items ∙ run.names;
-      lawful = subst (All (IsKnown shape)) (sym items) run.lawful;
-      once = subst HaveOwnNames (sym items) run.once;
-      met = run.met;
-      stands = (
-        begun.stands name spec a asks lawful (ap (λ s. s.shape) run.segment) stands.0,
-        stands.1,
-        subst (λ (l : List Known). NoneHasName l hist.asked.name.items) (sym items)
-            (subst (NoneHasName old.known.items) (ap (λ n. n.items) (sym begun.named)) none),
-      );
-      room = room;
-      draft = tt;
-    })
+    let roomy : ActorRun = record old { known = new.known } in
+    subst (λ (r : ActorRun). IsRun shape version r a) (sym new_is)
+    (runs_on shape version roomy a (as_it_stood shape version old roomy a rests (refl, refl, items, refl) run) a (Some (Hist hist)) (alike a) (
+      begun.stands name spec a asks lawful (ap (λ s. s.shape) run.segment) stands.0,
+      stands.1,
+      subst (λ (l : List Known). NoneHasName l hist.asked.name.items) (sym items)
+          (subst (NoneHasName old.known.items) (ap (λ n. n.items) (sym begun.named)) none),
+    ) room tt)
 begins_hist shape version name spec asked old new (Ok (Ended answered)) a asks lawful rests (new_is, known) run = subst (λ (r : ActorRun). IsRun shape version r a) (sym new_is) run
 begins_hist shape version name spec asked old new (Err error) a asks lawful rests same run = as_it_stood shape version old new a rests same run
 

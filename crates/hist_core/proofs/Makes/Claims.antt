@@ -23,7 +23,7 @@ use Rattle.segment_calls.specs.declared.refusal.Refusal.TheVariants as why
 use Rattle.hist_core.specs.declared.making.Making.{Making}
 use Rattle.hist_core.specs.declared.making.MakingStep.{MakingStep}
 use Rattle.hist_core.specs.declared.making.MakingStep.TheVariants.{More, Refused}
-use Rattle.hist_core.specs.declared.making.Stage.TheVariants.{Allocating, Filling}
+use Rattle.hist_core.specs.declared.making.MakingStage.TheVariants.{Allocating, Filling}
 use Rattle.hist_core.specs.StepsBy.{DoesOnly, FrameOfStep, SeesNoMore, StepsBy, is_tied}
 use Rattle.hist_core.specs.Making.{Wanted, IsMaking, StandsAtStage, MakingGives, IsAllocated, IsCause, is_full, serves_wanted}
 use Rattle.hist_core.proofs.Makes.Drafts.{may_still}

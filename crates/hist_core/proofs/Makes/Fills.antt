@@ -17,12 +17,12 @@ use Rattle.segment_machine.specs.Event.{Event, next, allocating_event}
 use Rattle.segment_machine.specs.Publishing.{own_at}
 use Rattle.hist_core.specs.declared.making.Making.{Making}
 use Rattle.hist_core.specs.declared.making.MakingStep.TheVariants.{More}
-use Rattle.hist_core.specs.declared.making.Stage.TheVariants.{Filling, Publishing}
+use Rattle.hist_core.specs.declared.making.MakingStage.TheVariants.{Filling, Publishing}
 use Rattle.hist_core.specs.StepsBy.{FrameOfStep, StepsBy}
 use Rattle.hist_core.specs.Making.{Wanted, IsMaking, IsFilledTo, IsNextFilled, IsFilled, StandsAtStage, MakingGives, serves_wanted}
 use Rattle.hist_core.proofs.Worlds.Free.{free_turns}
 use Rattle.hist_core.proofs.Makes.Drafts.{is_wide, may_still}
-use Rattle.hist_core.proofs.Parts.Alone.{makes_so, allocating_beside}
+use Rattle.hist_core.proofs.Parts.Alone.{by_event, makes_so, allocating_beside}
 use Rattle.hist_core.proofs.Parts.Claims.{changed_at}
 use Rattle.hist_core.proofs.Parts.Deeds.{stores_payload}
 
@@ -107,24 +107,15 @@ module _ (shape : Dimensions) (version : ℕ) (wanted : Wanted) (m : Making) (a 
   -- the next word, or the publish
   pub fills_so : (new_words : List ℕ) (new : Making) → new_words ≡ atomic.after (atomic.store_payload at index value) words → IsFilled all at (index + 1) new
       → StepsBy shape.size version a words new_words (MakingGives shape wanted new More a)
-  fills_so new_words new are (then_at, goes, new_is) = record {
-    before = [];
-    at = a;
-    told = refl;
-    event = event;
-    ready = (
-      own,
-      ((own_there a.hand.own at own stands.4.1.0).0, stands.4.1.1),
-      (own_there a.hand.own at own stands.4.1.0).1,
-      stands.4.2.short,
-      (let size = stands.4.1.4 in let inside = stands.1 in let enough = is.draft.enough in omega (arith, size, inside, enough)),
-    );
-    words_are = are ∙ sym (makes_so shape.size version event (atomic.store_payload at index value) refl refl words);
-    goes = λ learned apart ordered. (
-      [],
-      acted,
-      refl,
-      (
+  fills_so new_words new are (then_at, goes, new_is) = by_event event (
+    own,
+    ((own_there a.hand.own at own stands.4.1.0).0, stands.4.1.1),
+    (own_there a.hand.own at own stands.4.1.0).1,
+    stands.4.2.short,
+    (let size = stands.4.1.4 in let inside = stands.1 in let enough = is.draft.enough in omega (arith, size, inside, enough)),
+  )
+      (are ∙ sym (makes_so shape.size version event (atomic.store_payload at index value) refl refl words))
+      (λ learned apart ordered. (
         beside,
         stores_payload (serves_wanted wanted) a at index value 0,
         (refl, refl, refl),
@@ -134,9 +125,7 @@ module _ (shape : Dimensions) (version : ℕ) (wanted : Wanted) (m : Making) (a 
           draft = may_still shape wanted a acted beside is.draft;
           stands = subst (StandsAtStage shape wanted acted) (sym new_is) (stood (nat_lt then_at (length all)) refl);
         },
-      ),
-    );
-  }
+      ))
     where
       beside : FrameOfStep a acted
       beside = allocating_beside a (store_payload at index value) 0

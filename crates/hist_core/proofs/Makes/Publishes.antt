@@ -15,7 +15,7 @@ use Rattle.segment_machine.specs.Stages.{PublishesAt}
 use Rattle.hist_core.specs.declared.making.Making.{Making}
 use Rattle.hist_core.specs.declared.making.MakingStep.{MakingStep}
 use Rattle.hist_core.specs.declared.making.MakingStep.TheVariants.{More, Done}
-use Rattle.hist_core.specs.declared.making.Stage.TheVariants.{Publishing}
+use Rattle.hist_core.specs.declared.making.MakingStage.TheVariants.{Publishing}
 use Rattle.hist_core.specs.StepsBy.{DoesOnly, FrameOfStep, SeesNoMore, StepsBy, IsFree, is_tied}
 use Rattle.hist_core.specs.Making.{Wanted, IsMaking, StandsAtStage, MakingGives, IsPublished, serves_wanted}
 use Rattle.hist_core.proofs.Makes.Drafts.{may_still}

@@ -29,7 +29,7 @@ use Rattle.segment_machine.specs.Stages.{Allocates, PublishesAt, Walks}
 use Rattle.segment_machine.proofs.Stages.Allocations.{allocations_agree}
 use Rattle.segment_machine.proofs.Stages.Publishes.{publishes_agree}
 use Rattle.segment_machine.proofs.Stages.Walks.{walks_agree}
-use Rattle.hist_core.proofs.Parts.Alone.{acts_there, makes_so, allocating_beside, allocating_list, allocating_words, publishing_beside, publishing_list}
+use Rattle.hist_core.proofs.Parts.Alone.{by_event, acts_there, makes_so, allocating_beside, allocating_list, allocating_words, publishing_beside, publishing_list}
 use Rattle.hist_core.specs.StepsBy.{Deed, links, raises, DoesOnly, FrameOfStep, SawEnd, SeesNoMore, StepsBy, IsFree}
 use Rattle.hist_core.proofs.Parts.Claims.{IsEnd, stage_ends}
 use Rattle.hist_core.proofs.Parts.Deeds.{is_full_end, publish_does, stage_does}
@@ -86,31 +86,20 @@ allocates_on may version a old new words new_words said goes its long step =
     let found : ℕ = word_at words (spot size (allocating_event act)) in
     let ends : answer (stage_after old found old.stage) ≡ said =
     ap (λ (n : ℕ). answer (alloc.moved old (word_at words n)).stage) there ∙ (ap (λ (y : Allocation). answer y.stage) (sym step.new_is) ∙ sym step.answers) in
-    record {
-      before = [];
-      at = a;
-      told = refl;
-      event = allocating_event act;
-      ready = agrees.3;
-      words_are = step.words_are ∙ sym (makes_so size version (allocating_event act) step.event acts changes words);
-      goes = λ learned apart ordered. (
-        [],
-        next a (allocating_event act) found,
-        refl,
-        (
-          allocating_beside a act found,
-          subst (λ (s : AllocStep). DoesOnly false (is_full_end s) may a (next a (allocating_event act) found)) ends (stage_does may a old found its old.stage act agrees.1),
-          apart,
-          subst (Allocates (next a (allocating_event act) found))
-              (ap (λ (n : ℕ). alloc.moved old (word_at words n)) there ∙ sym step.new_is) (agrees.4 found learned),
-          allocating_words a act found,
-          allocating_list a act found,
-          subst (λ (s : AllocStep). IsEnd s old.size a (next a (allocating_event act) found))
-              ends
-              (stage_ends a old goes.shape found old.stage act agrees.1 agrees.3 learned),
-        ),
-      );
-    }
+    by_event (allocating_event act) agrees.3
+    (step.words_are ∙ sym (makes_so size version (allocating_event act) step.event acts changes words))
+    (λ learned apart ordered. (
+      allocating_beside a act found,
+      subst (λ (s : AllocStep). DoesOnly false (is_full_end s) may a (next a (allocating_event act) found)) ends (stage_does may a old found its old.stage act agrees.1),
+      apart,
+      subst (Allocates (next a (allocating_event act) found))
+          (ap (λ (n : ℕ). alloc.moved old (word_at words n)) there ∙ sym step.new_is) (agrees.4 found learned),
+      allocating_words a act found,
+      allocating_list a act found,
+      subst (λ (s : AllocStep). IsEnd s old.size a (next a (allocating_event act) found))
+          ends
+          (stage_ends a old goes.shape found old.stage act agrees.1 agrees.3 learned),
+    ))
 
 -- ---- a publish
 
@@ -131,26 +120,15 @@ publishes_on may version a made old new words new_words said its stands long ste
     let changes = publishing_alike act size version ∙ acts in
     let there = acts_there size version (publishing_event act) step.event acts changes in
     let found : ℕ = word_at words (spot size (publishing_event act)) in
-    record {
-      before = [];
-      at = a;
-      told = refl;
-      event = publishing_event act;
-      ready = agrees.3;
-      words_are = step.words_are ∙ sym (makes_so size version (publishing_event act) step.event acts changes words);
-      goes = λ learned apart ordered. (
-        [],
-        next a (publishing_event act) found,
-        refl,
-        (
-          publishing_beside a act found,
-          publish_does may a old.reference made its old.stage act found agrees.1 stands,
-          publishing_list a act found,
-          subst (λ (p : Publishing). PublishesAt (next a (publishing_event act) found) p.reference made p.stage)
-              ((λ i. publish.moved (sym long i) old (word_at words (there i))) ∙ sym step.new_is) (agrees.4 found learned),
-        ),
-      );
-    }
+    by_event (publishing_event act) agrees.3
+    (step.words_are ∙ sym (makes_so size version (publishing_event act) step.event acts changes words))
+    (λ learned apart ordered. (
+      publishing_beside a act found,
+      publish_does may a old.reference made its old.stage act found agrees.1 stands,
+      publishing_list a act found,
+      subst (λ (p : Publishing). PublishesAt (next a (publishing_event act) found) p.reference made p.stage)
+          ((λ i. publish.moved (sym long i) old (word_at words (there i))) ∙ sym step.new_is) (agrees.4 found learned),
+    ))
 
 -- ---- a walk
 
@@ -208,35 +186,24 @@ walks_on version a given words walks long =
     let agrees = walks_agree size 1 a given walks in
     let event = walking_event (load_next (stands_behind given)) in
     let found : ℕ = word_at words (stands_behind given + 3) in
-    record {
-      before = [];
-      at = a;
-      told = refl;
-      event = event;
-      ready = agrees.1;
-      words_are = sym (set-get_or words (stands_behind given + 3) 0);
-      goes = λ learned apart ordered. (
-        [],
-        next a event found,
-        refl,
-        (
-          record {
-            role = refl;
-            segment = refl;
-            units = refl;
-            entries = refl;
-            deltas = refl;
-            names = refl;
-            chain = extended_behind a.seen.chain (stands_behind given) found;
-            words = ([], sym (append-nil a.seen.words));
-          },
-          refl,
-          ends_with a given walks found learned (ordered (λ spent. true≢false (sym (ap is_bound spent) ∙ behind_free a.hand.place (stands_behind given) found walks.0))).once (found == 12) (is_reference (length words) found) refl,
-          free_behind a.hand.place (stands_behind given) found,
-          subst (λ (n : ℕ). Walks (next a event found) (given_after given (said_of n found))) (sym long) (agrees.2 found learned),
-        ),
-      );
-    }
+    by_event event agrees.1
+    (sym (set-get_or words (stands_behind given + 3) 0))
+    (λ learned apart ordered. (
+      record {
+        role = refl;
+        segment = refl;
+        units = refl;
+        entries = refl;
+        deltas = refl;
+        names = refl;
+        chain = extended_behind a.seen.chain (stands_behind given) found;
+        words = ([], sym (append-nil a.seen.words));
+      },
+      refl,
+      ends_with a given walks found learned (ordered (λ spent. true≢false (sym (ap is_bound spent) ∙ behind_free a.hand.place (stands_behind given) found walks.0))).once (found == 12) (is_reference (length words) found) refl,
+      free_behind a.hand.place (stands_behind given) found,
+      subst (λ (n : ℕ). Walks (next a event found) (given_after given (said_of n found))) (sym long) (agrees.2 found learned),
+    ))
 
 -- whatever a walk says that stands behind these records
 pub walks_saying : (shape : Dimensions) (version : ℕ) (a : Actor) (given words : List ℕ) (walk : ℕ) → a.segment.shape ≡ shape → length words ≡ shape.size

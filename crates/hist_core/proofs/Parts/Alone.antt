@@ -7,8 +7,9 @@ use Rattle.alloc_core.specs.Event as atomic
 use Rattle.segment_machine.specs.declared.actor.Actor.{Actor}
 use Rattle.segment_machine.specs.declared.seen.Sighting.{Sighting}
 use Rattle.segment_machine.specs.Operation.{single, spot_of, change_of}
-use Rattle.hist_core.specs.StepsBy.{FrameOfStep, SeesNoMore}
-use Rattle.segment_machine.specs.Event.{Event, operation, spot, after, next, allocating_event, publishing_event}
+use Rattle.segment_machine.specs.Actor.{AreApart}
+use Rattle.hist_core.specs.StepsBy.{FrameOfStep, SeesNoMore, StepsBy, WalksInOrder}
+use Rattle.segment_machine.specs.Event.{Event, Learned, Ready, operation, spot, after, next, allocating_event, publishing_event}
 use Rattle.segment_machine.specs.Allocating.{AllocatingEvent, load_flags, load_free, exchange_free, store_size, store_cookie, store_type, store_payload, set_corrupt, set_full, after_free}
 use Rattle.segment_machine.specs.Publishing.{PublishingEvent, store_own_next, load_tail, link, move_tail, after_link}
 
@@ -21,6 +22,21 @@ module _ (size version : ℕ) (event : Event) (does : atomic.Event) (acts : oper
 
   pub makes_so : (words : List ℕ) → after size version event words ≡ atomic.after does words
   makes_so words i = slice_set words (spot_of (acts i)) (change_of (changes i) (word_at words (spot_of (acts i))))
+
+-- an actor goes on by an event that it may do, and notes nothing
+pub by_event : {size version : ℕ} {a : Actor} {words new_words : List ℕ} {holds : Actor → Type 0} (event : Event) → Ready a event → new_words ≡ after size version event words
+    → (Learned a event (word_at words (spot size event)) → AreApart (next a event (word_at words (spot size event)))
+    → WalksInOrder (next a event (word_at words (spot size event))) → holds (next a event (word_at words (spot size event))))
+    → StepsBy size version a words new_words holds
+by_event {size = size} {a = a} {words = words} event ready are then_is = record {
+  before = [];
+  at = a;
+  told = refl;
+  event = event;
+  ready = ready;
+  words_are = are;
+  goes = λ learned apart ordered. ([], next a event (word_at words (spot size event)), refl, then_is learned apart ordered);
+}
 
 -- ---- of its actor
 
@@ -43,6 +59,10 @@ pub seen_alike : (a b : Actor) → b.role ≡ a.role → b.segment ≡ a.segment
     → b.answers.names ≡ a.answers.names → b.seen.chain ≡ a.seen.chain → b.seen.words ≡ a.seen.words → FrameOfStep a b
 seen_alike a b role segment units entries deltas names chain words =
     seen_words a b [] role segment units entries deltas names chain (words ∙ sym (append-nil a.seen.words))
+
+-- it stands as it stood
+pub alike : (a : Actor) → FrameOfStep a a
+alike a = seen_alike a a refl refl refl refl refl refl refl refl
 
 freed : (b : Bool) (a : Actor) (old new wanted found : ℕ) → FrameOfStep a (after_free b a old new wanted found)
 freed true a old new wanted found = seen_alike a (after_free true a old new wanted found) refl refl refl refl refl refl refl refl

@@ -1,5 +1,5 @@
 -- A `hist` loads one more word of the record where its walk stands, and compares it with its own.
-use Rattle.std.proofs.Common.{◌≡◌, ◌≢◌, ◌⊎◌, ℕ, ◌+◌, ◌-◌, ◌<◌, ◌≤◌, ◌^◌, Bool, false, List, [], ◌∷◌, ◌++◌, length, inl, inr, refl, sym, ap, subst, ◌∙◌, arith}
+use Rattle.std.proofs.Common.{◌≡◌, ◌≢◌, ◌⊎◌, ℕ, ◌+◌, ◌-◌, ◌<◌, ◌≤◌, ◌^◌, false, List, [], ◌∷◌, ◌++◌, length, inl, inr, refl, sym, ap, subst, ◌∙◌, arith}
 use Rattle.std.specs.Prelude.{Some, slice_index}
 use Rattle.std.specs.List.{Contains}
 use Rattle.std.proofs.lemmas.List.Elements.{All-push, Contains-append_left, Contains-append_right}
@@ -19,12 +19,12 @@ use Rattle.segment_machine.specs.Event.{Event, next, walking_event}
 use Rattle.segment_machine.specs.Walking.{load_published, IsFixed, EndsWithin, IsSame}
 use Rattle.segment_promises.proofs.Calls.SeenWords.{seen_now}
 use Rattle.hist_core.specs.Making.{is_full}
-use Rattle.hist_core.proofs.Parts.Alone.{seen_words}
+use Rattle.hist_core.proofs.Parts.Alone.{by_event, seen_words}
 use Rattle.hist_core.proofs.Parts.Deeds.{does_nothing}
 use Rattle.hist_core.specs.declared.hist.Hist.{Hist}
 use Rattle.hist_core.specs.declared.hist.HistStep.{HistStep}
 use Rattle.hist_core.specs.declared.hist.HistStep.TheVariants.{More, Done, Refused}
-use Rattle.hist_core.specs.declared.hist.Stage.TheVariants.{Walking, Comparing}
+use Rattle.hist_core.specs.declared.hist.HistStage.TheVariants.{Walking, Comparing}
 use Rattle.segment_calls.specs.declared.refusal.Refusal.{Refusal}
 use Rattle.hist_core.specs.StepsBy.{DoesOnly, FrameOfStep, StepsBy}
 use Rattle.hist_core.proofs.Worlds.Free.{free_turns}
@@ -242,15 +242,9 @@ module _ (shape : Dimensions) (h : Hist) (a : Actor) (is : IsHist shape h a) (k 
     saw_found learned = seen_now a.seen.words (h.reference + compared_index h.letters k) found learned.1
 
     does : (new : Hist) (said : HistStep) → (Learns → HistGives shape new said a acted) → StepsBy shape.size version a words words (HistGives shape new said a)
-    does new said gives = record {
-      before = [];
-      at = a;
-      told = refl;
-      event = event;
-      ready = (free_turns a.hand.place stands.0, is_met, is_fixed);
-      words_are = sym (set-get_or words (h.reference + compared_index h.letters k) 0);
-      goes = λ learned apart ordered. ([], acted, refl, gives learned);
-    }
+    does new said gives = by_event event (free_turns a.hand.place stands.0, is_met, is_fixed)
+        (sym (set-get_or words (h.reference + compared_index h.letters k) 0))
+        (λ learned apart ordered. gives learned)
 
     -- it was the same: the next is compared, or all were the same
     pub matches_so : (new : Hist) (said : HistStep) → found ≡ compared_word h k → IsMatched h k new said → StepsBy shape.size version a words words (HistGives shape new said a)

@@ -116,9 +116,6 @@ module _ (shape : Dimensions) (h : Hist) (asking : IsAsking shape h) where
 
   -- ---- the k-th of them
 
-  pub type_first : (compared_index h.letters 0 ≡ 2) × (compared_word h 0 ≡ 1)
-  type_first = (refl, refl)
-
   pub then_length : (compared_index h.letters 1 ≡ 14) × (compared_word h 1 ≡ length h.asked.name.items)
   then_length = (refl, behind_fields 6)
 

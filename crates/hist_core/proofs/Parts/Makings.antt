@@ -5,8 +5,8 @@ use Rattle.list_core.proofs.Prefixes.{prefix_of_prefix}
 use Rattle.segment_machine.specs.declared.actor.Actor.{Actor}
 use Rattle.hist_core.specs.declared.hist.Hist.{Hist}
 use Rattle.hist_core.specs.declared.hist.HistStep.{HistStep}
-use Rattle.hist_core.specs.declared.hist.Stage.{Stage}
-use Rattle.hist_core.specs.declared.hist.Stage.TheVariants.{Making, Walking}
+use Rattle.hist_core.specs.declared.hist.HistStage.{HistStage}
+use Rattle.hist_core.specs.declared.hist.HistStage.TheVariants.{Making, Walking}
 use Rattle.hist_core.specs.declared.making.Making.{Making as MakingOf}
 use Rattle.hist_core.specs.declared.making.MakingStep.{MakingStep}
 use Rattle.hist_core.specs.declared.making.MakingStep.TheVariants as made
@@ -25,7 +25,7 @@ module _ (shape : Dimensions) (version : ℕ) (h : Hist) (a : Actor) (words : Li
   stood_making = subst (StandsAtStage shape h a is.given) makes is.stands
 
   -- it goes on from another stage
-  on : (stage : Stage) (b : Actor) → FrameOfStep a b → StandsAtStage shape (record h { stage = stage }) b is.given stage → IsHist shape (record h { stage = stage }) b
+  on : (stage : HistStage) (b : Actor) → FrameOfStep a b → StandsAtStage shape (record h { stage = stage }) b is.given stage → IsHist shape (record h { stage = stage }) b
   on stage b beside stands = record {
     asking = asks_on shape h is.asking h.reference h.walk stage;
     segment = ap (λ s. s.shape) beside.segment ∙ is.segment;

@@ -15,8 +15,8 @@ use Rattle.segment_machine.specs.Made.{SawOtherName}
 use Rattle.segment_invariant.proofs.Walking.Words.{word_still}
 use Rattle.hist_core.specs.declared.hist.Hist.{Hist}
 use Rattle.hist_core.specs.declared.hist.HistStep.TheVariants.{More}
-use Rattle.hist_core.specs.declared.hist.Stage.{Stage}
-use Rattle.hist_core.specs.declared.hist.Stage.TheVariants.{Walking, Comparing, Making}
+use Rattle.hist_core.specs.declared.hist.HistStage.{HistStage}
+use Rattle.hist_core.specs.declared.hist.HistStage.TheVariants.{Walking, Comparing, Making}
 use Rattle.hist_core.specs.declared.making.Making.{Making as MakingOf}
 use Rattle.hist_core.specs.Making.{IsStarted}
 use Rattle.hist_core.proofs.Makes.Drafts.{begins, is_wide}
@@ -59,7 +59,7 @@ reference_within n r wide is = by (r == 12) refl is
 
 module _ (shape : Dimensions) (h : Hist) (asking : IsAsking shape h) where
   -- it asks for the same, wherever its walk stands
-  pub asks_on : (reference walk : ℕ) (stage : Stage) → IsAsking shape (record h { reference = reference; walk = walk; stage = stage })
+  pub asks_on : (reference walk : ℕ) (stage : HistStage) → IsAsking shape (record h { reference = reference; walk = walk; stage = stage })
   asks_on reference walk stage = record {
     shaped = asking.shaped;
     name = asking.name;

@@ -31,13 +31,13 @@ use Rattle.segment_machine.specs.Event.{Event, next, counting_event, packing_eve
 use Rattle.segment_machine.specs.Note.{SawAll, SawBucket, answers, looks, moment_of, noted}
 use Rattle.segment_machine.specs.Packing.{IsSingleOf, load_single}
 use Rattle.segment_machine.specs.Taking.{load_count, load_redundant, load_sum}
-use Rattle.hist_core.proofs.Parts.Alone.{seen_alike, seen_words}
+use Rattle.hist_core.proofs.Parts.Alone.{by_event, seen_alike, seen_words}
 use Rattle.hist_core.specs.declared.snapshot_call.SnapshotCall.{SnapshotCall}
 use Rattle.hist_core.specs.declared.snapshot_call.SnapshotCallStep.TheVariants.{More, Done}
-use Rattle.hist_core.specs.declared.snapshot_call.Stage.{Stage}
-use Rattle.hist_core.specs.declared.snapshot_call.Stage.TheVariants.{LoadingSingle, LoadingCounts, LoadingCount, Walking, LoadingSample, LoadingSum, LoadingRedundant}
+use Rattle.hist_core.specs.declared.snapshot_call.SnapshotStage.{SnapshotStage}
+use Rattle.hist_core.specs.declared.snapshot_call.SnapshotStage.TheVariants.{LoadingSingle, LoadingCounts, LoadingCount, Walking, LoadingSample, LoadingSum, LoadingRedundant}
 use Rattle.hist_core.specs.declared.mounted.Mounted.{Mounted}
-use Rattle.hist_core.specs.StepsBy.{FrameOfStep, StepsBy, IsInOrder, WalksInOrder, is_tied}
+use Rattle.hist_core.specs.StepsBy.{FrameOfStep, StepsBy, IsInOrder, WalksInOrder, is_tied, LiesWithin}
 use Rattle.hist_core.specs.SnapshotCall.{HasKeys, IsBehindSingle, IsSnapshotCall, IsPut, IsSomeSnapshotCall, LooksAnew, SnapshotCallGives, SawBefore, SawTotalsOf, StandsAtStage, behind_bucket}
 use Rattle.hist_core.specs.Mounted.{AreMounted, HasWord, total_at}
 use Rattle.segment_machine.specs.Form.{SaysPacked}
@@ -45,7 +45,7 @@ use Rattle.segment_promises.specs.Calls.{SeesMore}
 use Rattle.segment_promises.proofs.Calls.Sights.{began_still, saw_bucket, saw_count, seen_here}
 use Rattle.segment_promises.proofs.Calls.Places.{looks_there}
 use Rattle.hist_core.proofs.Worlds.Quiet.{not_spent}
-use Rattle.hist_core.proofs.DeltaCall.Counts.{are_mounted, count_placed, may_load, saw_total, still_mounted, total_is}
+use Rattle.hist_core.proofs.DeltaCall.Counts.{are_mounted, count_placed, may_load, saw_total, some_buckets, still_mounted, total_is}
 use Rattle.hist_core.proofs.DeltaCall.Going.{taking_sees}
 use Rattle.hist_core.proofs.Walks.Passing.{all_still, are_all, are_first, are_once, are_units}
 use Rattle.hist_core.proofs.DeltaCall.Singles.{none_packed}
@@ -139,7 +139,7 @@ module _ (shape : Dimensions) (known : Known) (snapshot_call : SnapshotCall) (a 
         stands = ap (λ (n : ℕ). Looking (record { histogram = n; single = Some found; counts = (look_of a.hand.place known.reference).counts })) (looks_there a.hand.place known.reference);
       }
 
-      same_behind : (stage : Stage) → IsBehindSingle snapshot_call found new stage → IsSame snapshot_call new
+      same_behind : (stage : SnapshotStage) → IsBehindSingle snapshot_call found new stage → IsSame snapshot_call new
       same_behind (LoadingCounts packed kept) (off, says, small, same) = record {
         version = ap (λ (l : SnapshotCall). l.version) same;
         histogram = ap (λ (l : SnapshotCall). l.histogram) same;
@@ -158,7 +158,7 @@ module _ (shape : Dimensions) (known : Known) (snapshot_call : SnapshotCall) (a 
       same_behind (Walking walk) none = absurd none
       same_behind (LoadingSample at value) none = absurd none
 
-      stands_behind : (stage : Stage) → IsBehindSingle snapshot_call found new stage → StandsAtStage shape known new acted stage
+      stands_behind : (stage : SnapshotStage) → IsBehindSingle snapshot_call found new stage → StandsAtStage shape known new acted stage
       stands_behind (LoadingCounts packed kept) (off, says, small, same) = (
         keys_still known snapshot_call new (same_behind (LoadingCounts packed kept) (off, says, small, same)) has_single,
         small,
@@ -207,7 +207,7 @@ module _ (shape : Dimensions) (known : Known) (snapshot_call : SnapshotCall) (a 
       goes = λ learned apart ordered.
           let there : IsBehindSingle snapshot_call found new new.stage = subst (λ (h : ℕ). IsBehindSingle snapshot_call (word_at words (h + 9)) new new.stage) (sym is.reference) behind in
           let same = same_behind learned new new.stage there in
-          ([], acted, refl, (beside, refl, subst (λ (stage : Stage). LooksAnew stage a acted) (sym loads) refl, goes_still new acted same.version same.histogram beside refl (stands_behind learned new new.stage there)));
+          ([], acted, refl, (beside, refl, subst (λ (stage : SnapshotStage). LooksAnew stage a acted) (sym loads) refl, goes_still new acted same.version same.histogram beside refl (stands_behind learned new new.stage there)));
     }
 
   -- ---- the counts reference is loaded
@@ -218,14 +218,6 @@ module _ (shape : Dimensions) (known : Known) (snapshot_call : SnapshotCall) (a 
     abbrev has_counts : HasKeys known snapshot_call
     has_counts = before_counts.0
 
-    some_buckets : 0 < buckets_of known.spec
-    some_buckets = by (buckets_of known.spec) refl (split has_counts).first (split has_counts).last
-      where
-        by : (n : ℕ) → buckets_of known.spec ≡ n → slice_index (boundaries_of known.spec) 0 ≡ 0
-            → slice_index (boundaries_of known.spec) (buckets_of known.spec) ≡ 2147483647 → 0 < n
-        by zero none first last = let same = ap (slice_index (boundaries_of known.spec)) none in absurd (omega (arith, first, last, same))
-        by (suc n) e first last = omega arith
-
     pub loads_counts : (counts : ℕ) → counts ≡ word_at words (snapshot_call.histogram + 8)
         → let new : SnapshotCall = record snapshot_call { stage = LoadingCount (record { counts = counts; packed = packed; kept = kept }) 0 } in
         StepsBy shape.size snapshot_call.version a words words (SnapshotCallGives shape known snapshot_call.stage new More a)
@@ -235,35 +227,24 @@ module _ (shape : Dimensions) (known : Known) (snapshot_call : SnapshotCall) (a 
         let event : Event = counting_event (load_counts known.reference) in
         let acted : Actor = next a event found in
         let new : SnapshotCall = record snapshot_call { stage = LoadingCount (record { counts = counts; packed = packed; kept = kept }) 0 } in
-        let beside : FrameOfStep a acted = seen_words a acted (sight_counts known.reference found) refl refl refl refl refl refl refl refl in record {
-          before = [];
-          at = a;
-          told = refl;
-          event = event;
-          ready = (is.turns, (known, knows_it has_counts));
-          words_are = sym (set-get_or words (known.reference + 8) 0);
-          goes = λ learned apart ordered. (
-            [],
-            acted,
-            refl,
+        let beside : FrameOfStep a acted = seen_words a acted (sight_counts known.reference found) refl refl refl refl refl refl refl refl in by_event event (is.turns, (known, knows_it has_counts))
+        (sym (set-get_or words (known.reference + 8) 0))
+        (λ learned apart ordered. (
+          beside,
+          refl,
+          subst (λ (stage : SnapshotStage). LooksAnew stage a acted) (sym loads) refl,
+          goes_still new acted refl refl beside refl (
+            keys_still known snapshot_call new (record { version = refl; histogram = refl; keys = refl; long = refl }) has_counts,
+            (λ i total lt there. absurd (omega (arith, lt))),
+            some_buckets known.spec (split has_counts),
             (
-              beside,
-              refl,
-              subst (λ (stage : Stage). LooksAnew stage a acted) (sym loads) refl,
-              goes_still new acted refl refl beside refl (
-                keys_still known snapshot_call new (record { version = refl; histogram = refl; keys = refl; long = refl }) has_counts,
-                (λ i total lt there. absurd (omega (arith, lt))),
-                some_buckets,
-                (
-                  before_counts.2.0,
-                  subst (λ (n : ℕ). AreMounted known (record { counts = n; packed = packed; kept = kept }) before_counts.2.0 acted) same
-                      (are_mounted known before_counts.2.0 a before_counts.2.1 before_counts.2.2 (knows_it has_counts) found packed kept
-                      (subst (λ (v : ℕ). SaysPacked v (buckets_of known.spec) before_counts.2.0 packed kept) (sym is.version) before_counts.2.3) before_counts.1 learned),
-                ),
-              ),
+              before_counts.2.0,
+              subst (λ (n : ℕ). AreMounted known (record { counts = n; packed = packed; kept = kept }) before_counts.2.0 acted) same
+                  (are_mounted known before_counts.2.0 a before_counts.2.1 before_counts.2.2 (knows_it has_counts) found packed kept
+                  (subst (λ (v : ℕ). SaysPacked v (buckets_of known.spec) before_counts.2.0 packed kept) (sym is.version) before_counts.2.3) before_counts.1 learned),
             ),
-          );
-        }
+          ),
+        ))
 
   -- ---- the count of a bucket is loaded
   module _ (mounted : Mounted) (bucket : ℕ) (loads : snapshot_call.stage ≡ LoadingCount mounted bucket) where
@@ -337,26 +318,15 @@ module _ (shape : Dimensions) (known : Known) (snapshot_call : SnapshotCall) (a 
 
       pub puts_count : StepsBy shape.size snapshot_call.version a words words (SnapshotCallGives shape known snapshot_call.stage new More a)
       puts_count =
-          let beside : FrameOfStep a counted = seen_alike a counted refl refl refl refl refl refl refl refl in record {
-            before = [];
-            at = a;
-            told = refl;
-            event = taking_event (load_count at);
-            ready = may_load known mounted word a are bucket stands.2 count;
-            words_are = sym (set-get_or words at 0);
-            goes = λ learned apart ordered. (
-              [],
-              counted,
-              refl,
-              (
-                beside,
-                refl,
-                subst (λ (stage : Stage). LooksAnew stage a counted) (sym loads) refl,
-                goes_still new counted same.version same.histogram beside (ap is_bound (count_placed known mounted word a are bucket stands.2 count))
-                    (subst (StandsAtStage shape known new counted) (sym (ap (λ (l : SnapshotCall). l.stage) put.same)) (stands_then learned.0)),
-              ),
-            );
-          }
+          let beside : FrameOfStep a counted = seen_alike a counted refl refl refl refl refl refl refl refl in by_event (taking_event (load_count at)) (may_load known mounted word a are bucket stands.2 count)
+          (sym (set-get_or words at 0))
+          (λ learned apart ordered. (
+            beside,
+            refl,
+            subst (λ (stage : SnapshotStage). LooksAnew stage a counted) (sym loads) refl,
+            goes_still new counted same.version same.histogram beside (ap is_bound (count_placed known mounted word a are bucket stands.2 count))
+                (subst (StandsAtStage shape known new counted) (sym (ap (λ (l : SnapshotCall). l.stage) put.same)) (stands_then learned.0)),
+          ))
 
   -- ---- the sum is loaded
   module _ (loads : snapshot_call.stage ≡ LoadingSum) where
@@ -369,30 +339,19 @@ module _ (shape : Dimensions) (known : Known) (snapshot_call : SnapshotCall) (a 
         let found : ℕ = word_at words (known.reference + 11) in
         let event : Event = taking_event (load_sum known.reference) in
         let acted : Actor = next a event found in
-        let beside : FrameOfStep a acted = seen_alike a acted refl refl refl refl refl refl refl refl in record {
-          before = [];
-          at = a;
-          told = refl;
-          event = event;
-          ready = (is.turns, (known, is.knows, refl));
-          words_are = sym (set-get_or words (known.reference + 11) 0);
-          goes = λ learned apart ordered. (
-            [],
-            acted,
-            refl,
-            (
-              beside,
-              refl,
-              subst (λ (stage : Stage). LooksAnew stage a acted) (sym loads) refl,
-              goes_still (record snapshot_call { stage = LoadingRedundant sum }) acted refl refl beside refl (
-                ⊎_elim (λ (has, totals). inl (keys_still known snapshot_call (record snapshot_call { stage = LoadingRedundant sum }) (record { version = refl; histogram = refl; keys = refl; long = refl }) has, totals))
-                    (λ all. inr (all_still known a acted (taking_sees a (load_sum known.reference) found) snapshot_call.totals.items refl refl all)) before_sum.0,
-                record { singles = before_sum.1.singles; counts = before_sum.1.counts },
-                ap (λ (h : ℕ). SumLoaded known.reference (cast_signed w64 (word_at words (h + 11)))) is.reference ∙ ap (SumLoaded known.reference) (sym is_sum),
-              ),
-            ),
-          );
-        }
+        let beside : FrameOfStep a acted = seen_alike a acted refl refl refl refl refl refl refl refl in by_event event (is.turns, (known, is.knows, refl))
+        (sym (set-get_or words (known.reference + 11) 0))
+        (λ learned apart ordered. (
+          beside,
+          refl,
+          subst (λ (stage : SnapshotStage). LooksAnew stage a acted) (sym loads) refl,
+          goes_still (record snapshot_call { stage = LoadingRedundant sum }) acted refl refl beside refl (
+            ⊎_elim (λ (has, totals). inl (keys_still known snapshot_call (record snapshot_call { stage = LoadingRedundant sum }) (record { version = refl; histogram = refl; keys = refl; long = refl }) has, totals))
+                (λ all. inr (all_still known a acted (taking_sees a (load_sum known.reference) found) snapshot_call.totals.items refl refl all)) before_sum.0,
+            record { singles = before_sum.1.singles; counts = before_sum.1.counts },
+            ap (λ (h : ℕ). SumLoaded known.reference (cast_signed w64 (word_at words (h + 11)))) is.reference ∙ ap (SumLoaded known.reference) (sym is_sum),
+          ),
+        ))
 
   -- ---- the redundant count is loaded, and the snapshot is answered
   module _ (sum : ℤ) (loads : snapshot_call.stage ≡ LoadingRedundant sum) (redundant : ℕ) (is_redundant : redundant ≡ word_at words (snapshot_call.histogram + 13)) where
@@ -464,7 +423,7 @@ module _ (shape : Dimensions) (known : Known) (snapshot_call : SnapshotCall) (a 
         (
           ap is_tied before_last.2,
           refl,
-          subst (λ (stage : Stage). LooksAnew stage a (noted loaded (answers answered))) (sym loads) refl,
+          subst (λ (stage : SnapshotStage). LooksAnew stage a (noted loaded (answers answered))) (sym loads) refl,
           record {
             beside = record {
               role = refl;
@@ -499,10 +458,9 @@ module _ (shape : Dimensions) (known : Known) (snapshot_call : SnapshotCall) (a 
     }
 
 -- the record of a snapshot that stands somewhere lies in so many words, which are few
-pub some_inside : (snapshot_call : SnapshotCall) (words : List ℕ) → ∥ IsSomeSnapshotCall (length words) snapshot_call ∥₁
-    → (snapshot_call.histogram + 15 ≤ length words) × (length words ≤ 1048576)
-some_inside snapshot_call words stands = ∥∥₁_elim stands (hlevel props) (λ (shape, known, a, long, is).
-    is_inside shape known snapshot_call a words is (length words) long)
+pub lies_within : (snapshot_call : SnapshotCall) (words : List ℕ) → ∥ IsSomeSnapshotCall (length words) snapshot_call ∥₁ → LiesWithin (length words) snapshot_call.histogram
+lies_within snapshot_call words stands = ∥∥₁_elim stands (hlevel props) (λ (shape, known, a, long, is).
+    let inside = is_inside shape known snapshot_call a words is (length words) long in record { within = inside.0; few = inside.1 })
 
 -- and of a histogram with buckets there are few
 pub some_few : (snapshot_call : SnapshotCall) (words : List ℕ) → snapshot_call.stage ≡ LoadingSingle → ∥ IsSomeSnapshotCall (length words) snapshot_call ∥₁ → length snapshot_call.totals.items ≤ 1000

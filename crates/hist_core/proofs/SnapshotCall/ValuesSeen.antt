@@ -25,16 +25,16 @@ use Rattle.segment_promises.proofs.ValueWalks.{behind_it, split_at_it}
 use Rattle.segment_promises.proofs.Calls.SampleLists.{not_before}
 use Rattle.segment_promises.specs.Calls.{SeesMore}
 use Rattle.segment_promises.proofs.Calls.Sights.{seen_here}
-use Rattle.hist_core.proofs.Parts.Alone.{seen_alike}
+use Rattle.hist_core.proofs.Parts.Alone.{by_event, seen_alike}
 use Rattle.hist_core.specs.declared.snapshot_call.SnapshotCall.{SnapshotCall}
 use Rattle.hist_core.specs.declared.snapshot_call.SnapshotCallStep.TheVariants.{More}
-use Rattle.hist_core.specs.declared.snapshot_call.Stage.{Stage}
-use Rattle.hist_core.specs.declared.snapshot_call.Stage.TheVariants.{Walking, LoadingSample}
+use Rattle.hist_core.specs.declared.snapshot_call.SnapshotStage.{SnapshotStage}
+use Rattle.hist_core.specs.declared.snapshot_call.SnapshotStage.TheVariants.{Walking, LoadingSample}
 use Rattle.hist_core.specs.StepsBy.{FrameOfStep, StepsBy, IsInOrder, WalksInOrder}
 use Rattle.hist_core.specs.declared.walk.Met.{Met}
 use Rattle.hist_core.specs.declared.walk.Met.TheVariants.{Nothing, Sample, End}
-use Rattle.hist_core.specs.declared.walk.Walk.{Walk}
-use Rattle.hist_core.specs.declared.walk.Walk.TheVariants.{LoadingFirst, LoadingType, LoadingHistogram, LoadingValue, LoadingNext}
+use Rattle.hist_core.specs.declared.walk.SampleWalk.{SampleWalk}
+use Rattle.hist_core.specs.declared.walk.SampleWalk.TheVariants.{LoadingFirst, LoadingType, LoadingHistogram, LoadingValue, LoadingNext}
 use Rattle.hist_core.specs.SnapshotCall.{HasListed, HasRoom, HasSeenValues, HasTotal, IsBehindWalk, IsListed, IsSnapshotCall, IsSomeSnapshotCall, ListsSeen, LooksAnew, SnapshotCallGives, StandsAtStage}
 use Rattle.hist_core.specs.Walk.{HasComeTo, HasSetOut, IsWalkProgress, Meets, MetSample, WalksAt, spot_of}
 use Rattle.hist_core.proofs.Parts.Allocations.{goes_with}
@@ -70,7 +70,7 @@ module _ (shape : Dimensions) (known : Known) (snapshot_call : SnapshotCall) (a 
     subst (λ (l : SnapshotCall). StandsAtStage shape known l b l.stage) (sym is_new) (room, still_at walk stands),
   )
     where
-      still_at : (walk : Walk) → WalksAt shape known (ListsSeen known snapshot_call) walk b → WalksAt shape known (ListsSeen known (record snapshot_call { stage = Walking walk })) walk b
+      still_at : (walk : SampleWalk) → WalksAt shape known (ListsSeen known snapshot_call) walk b → WalksAt shape known (ListsSeen known (record snapshot_call { stage = Walking walk })) walk b
       still_at walk stands = stands
   stands_behind (Sample at value) new b room is_new stands = (
     ap (λ (l : SnapshotCall). l.version) is_new,
@@ -88,7 +88,7 @@ module _ (shape : Dimensions) (known : Known) (snapshot_call : SnapshotCall) (a 
 
   module _ (met : Met) (new : SnapshotCall) (behind : IsBehindWalk snapshot_call met new) where
     -- behind its first event
-    further : (walk : Walk) → ((b : Actor) → b.since ≡ a.since → LooksAnew (Walking walk) a b) → StandsAtStage shape known snapshot_call a (Walking walk) → HasSetOut walk → Meets walk known.reference (word_at words (spot_of known.reference walk)) met
+    further : (walk : SampleWalk) → ((b : Actor) → b.since ≡ a.since → LooksAnew (Walking walk) a b) → StandsAtStage shape known snapshot_call a (Walking walk) → HasSetOut walk → Meets walk known.reference (word_at words (spot_of known.reference walk)) met
         → StepsBy shape.size snapshot_call.version a words words (SnapshotCallGives shape known (Walking walk) new More a)
     further walk anew stands set_out meets =
         goes_with (walks_so shape snapshot_call.version known (ListsSeen known snapshot_call) (lists_along known snapshot_call) a words is.segment is.turns walk stands.1
@@ -117,13 +117,13 @@ module _ (shape : Dimensions) (known : Known) (snapshot_call : SnapshotCall) (a 
         } in
         (aside, done, since, goes_still shape known snapshot_call a words is new b then_is.0 then_is.1 aside turns then_is.2)))
 
-    pub walks_further : (walk : Walk) → snapshot_call.stage ≡ Walking walk → Meets walk snapshot_call.histogram (word_at words (spot_of snapshot_call.histogram walk)) met
+    pub walks_further : (walk : SampleWalk) → snapshot_call.stage ≡ Walking walk → Meets walk snapshot_call.histogram (word_at words (spot_of snapshot_call.histogram walk)) met
         → StepsBy shape.size snapshot_call.version a words words (SnapshotCallGives shape known snapshot_call.stage new More a)
-    walks_further walk loads meets = subst (λ (stage : Stage). StepsBy shape.size snapshot_call.version a words words (SnapshotCallGives shape known stage new More a)) (sym loads)
+    walks_further walk loads meets = subst (λ (stage : SnapshotStage). StepsBy shape.size snapshot_call.version a words words (SnapshotCallGives shape known stage new More a)) (sym loads)
         (by walk (subst (StandsAtStage shape known snapshot_call a) loads is.stands)
         (subst (λ (h : ℕ). Meets walk h (word_at words (spot_of h walk)) met) (sym is.reference) meets))
       where
-        by : (walk : Walk) → StandsAtStage shape known snapshot_call a (Walking walk) → Meets walk known.reference (word_at words (spot_of known.reference walk)) met
+        by : (walk : SampleWalk) → StandsAtStage shape known snapshot_call a (Walking walk) → Meets walk known.reference (word_at words (spot_of known.reference walk)) met
             → StepsBy shape.size snapshot_call.version a words words (SnapshotCallGives shape known (Walking walk) new More a)
         by LoadingFirst stands meets = sets_out stands meets
         by (LoadingType at) stands meets = further (LoadingType at) (λ b since. since) stands tt meets
@@ -208,21 +208,12 @@ module _ (shape : Dimensions) (known : Known) (snapshot_call : SnapshotCall) (a 
 
     pub loads_sample : (new : SnapshotCall) → IsListed value count (record snapshot_call { stage = Walking (LoadingNext at) }) new → WalksInOrder a
         → StepsBy shape.size snapshot_call.version a words words (SnapshotCallGives shape known snapshot_call.stage new More a)
-    loads_sample new listed order = record {
-      before = [];
-      at = a;
-      told = refl;
-      event = loading;
-      ready = inr (known, at, value, sparse_there, met_there, met_count.2, refl, is.turns, its_way.apart);
-      words_are = sym (set-get_or words (at + 6) 0);
-      goes = λ learned apart ordered. (
-        [],
-        counted,
-        refl,
-        (
+    loads_sample new listed order = by_event loading (inr (known, at, value, sparse_there, met_there, met_count.2, refl, is.turns, its_way.apart))
+        (sym (set-get_or words (at + 6) 0))
+        (λ learned apart ordered. (
           counted_beside,
           refl,
-          subst (λ (stage : Stage). LooksAnew stage a counted) (sym loads) refl,
+          subst (λ (stage : SnapshotStage). LooksAnew stage a counted) (sym loads) refl,
           goes_still shape known snapshot_call a words is new counted (ap (λ (l : SnapshotCall). l.version) listed.same) (ap (λ (l : SnapshotCall). l.histogram) listed.same) counted_beside
               (at_sample a.hand.place (at + 6) count its_way.apart).1
               (subst (StandsAtStage shape known new counted) (sym (ap (λ (l : SnapshotCall). l.stage) listed.same)) (
@@ -234,13 +225,11 @@ module _ (shape : Dimensions) (known : Known) (snapshot_call : SnapshotCall) (a 
                   lists = subst (λ (l : List (ℤ × ℕ)). HasSeenValues known (its_passed ++ at ∷ []) l counted) (sym listed.items) (lists_then (order (not_spent a.hand.place is.turns)) learned (count == 0) refl);
                 },
               )),
-        ),
-      );
-    }
+        ))
 
 -- ---- words that are loaded lie within the words
 
-pub some_walk : (snapshot_call : SnapshotCall) (words : List ℕ) (walk : Walk) → snapshot_call.stage ≡ Walking walk → ∥ IsSomeSnapshotCall (length words) snapshot_call ∥₁
+pub some_walk : (snapshot_call : SnapshotCall) (words : List ℕ) (walk : SampleWalk) → snapshot_call.stage ≡ Walking walk → ∥ IsSomeSnapshotCall (length words) snapshot_call ∥₁
     → (spot_of snapshot_call.histogram walk < length words) × (length words ≤ 1048576)
 some_walk snapshot_call words walk loads stands = ∥∥₁_elim stands (hlevel props) (λ (shape, known, a, long, is).
     let many = (is_inside shape known snapshot_call a words is (length words) long).1 in

@@ -1,11 +1,12 @@
 -- A `snapshot` of an actor goes on, and what it is answered with.
-use Rattle.std.proofs.Common.{◌≡◌, ◌≤◌, ◌+◌, ℕ, ℤ, set, List, [], length, map, take, All, refl, sym, ap, subst, ◌∙◌}
+use Rattle.std.proofs.Common.{◌≡◌, ◌≤◌, ◌+◌, inl, inr, ℕ, ℤ, List, [], length, map, take, All, refl, sym, ap, subst, ◌∙◌}
 use Rattle.std.specs.Prelude.{Option, Some, None}
 use Rattle.std.specs.List.{Contains}
 use Rattle.segment_image.specs.Shape.{Dimensions}
 use Rattle.segment_machine.specs.declared.actor.Actor.{Actor}
 use Rattle.segment_machine.specs.declared.actor.Known.{Known as MachineKnown}
 use Rattle.segment_promises.proofs.Calls.BlankTotals.{keys_of_buckets, no_units}
+use Rattle.hist_core.proofs.Parts.Alone.{alike}
 use Rattle.hist_core.specs.declared.call.Stepped.{Stepped}
 use Rattle.hist_core.specs.declared.call.Answer.TheVariants as answer
 use Rattle.hist_core.specs.declared.call.Stepped.TheVariants as stepped
@@ -22,7 +23,6 @@ use Rattle.std.specs.List.{range_with_len}
 use mathlib.Core.Option.{some}
 use lib.ListN.{get_elem?}
 use Rattle.alloc_core.specs.Layout.{IsShape}
-use Rattle.atomic_table.proofs.Lists.{set_here}
 use Rattle.bucket_ranges.specs.Ranges.{boundaries_of}
 use Rattle.bucket_ranges.specs.Spec.{buckets_of}
 use Rattle.segment_invariant.proofs.Lists.Elements.{all_at, contains_at}
@@ -32,17 +32,16 @@ use Rattle.segment_machine.specs.Actor.{bucket_key, known_at}
 use Rattle.hist_core.specs.declared.world_state.WorldState.{WorldState}
 use Rattle.hist_core.specs.declared.hist.Known.{Known}
 use Rattle.hist_core.specs.Start.{Start}
-use Rattle.hist_core.specs.WorldState.{IsReachedAs, LooksAt}
+use Rattle.hist_core.specs.declared.call.Begun.TheVariants.{Going}
+use Rattle.hist_core.specs.WorldState.{BeginsFrom, GoesWith, IsReachedAs, LooksAt, SnapshotBegins}
 use Rattle.hist_core.proofs.Worlds.Starts.{kept_there, shape_there}
 use Rattle.hist_core.specs.SnapshotCall.{HasListed, HasSeenValues, HasTotal, IsStarted, OpensWith, StandsAtStage}
-use Rattle.hist_core.specs.declared.snapshot_call.Stage.{Stage}
-use Rattle.hist_core.specs.declared.snapshot_call.Stage.TheVariants.{LoadingSingle, LoadingCounts, LoadingCount, Walking, LoadingSample, LoadingSum, LoadingRedundant}
-use Rattle.hist_core.specs.declared.walk.Walk.TheVariants.{LoadingFirst, LoadingType, LoadingHistogram, LoadingValue, LoadingNext}
+use Rattle.hist_core.specs.declared.snapshot_call.SnapshotStage.{SnapshotStage}
 use Rattle.segment_promises.proofs.ListedValues.{lists_nothing}
 use Rattle.hist_core.proofs.Parts.Allocations.{goes_with}
 use Rattle.hist_core.proofs.Parts.Deeds.{does_nothing}
-use Rattle.hist_core.proofs.HistCall.Asking.{place_below, runs_on}
-use Rattle.hist_core.proofs.Worlds.WorldStates.{same_there}
+use Rattle.hist_core.proofs.HistCall.Asking.{runs_on}
+use Rattle.hist_core.proofs.Worlds.Beginnings.{IsPlaced, IsTurned, is_now, same_state}
 use Rattle.hist_core.proofs.AddCall.Opening.{alone_there}
 use Rattle.hist_core.proofs.Worlds.Apart.{asks_not, adds_not, batches_not, sets_not}
 use Rattle.hist_core.proofs.Worlds.Free.{free_apart, free_turns}
@@ -194,28 +193,19 @@ module _ (shape : Dimensions) (version : ℕ) (known : Known) (old new : ActorRu
     knows = subst (λ (l : List MachineKnown). Contains l (known_of known)) run.names (contains_map known_of old.known.items known (contains_at old.known.items i known at))
 
     -- of a histogram with buckets it stands before the single word, of a sparse one at the record
-    stands_first : (stage : Stage) → OpensWith shape (known_of known) snapshot_call stage → StandsAtStage shape (known_of known) snapshot_call a stage
-    stands_first LoadingSingle (has, blank) =
-        let keys : HasBlanks snapshot_call.totals.items = subst HasBlanks (sym blank) (keys_of_buckets (known_of known) (boundaries_of known.spec) its_known.lawful has refl) in (
+    stands_first : (stage : SnapshotStage) → OpensWith shape (known_of known) snapshot_call stage → StandsAtStage shape (known_of known) snapshot_call a stage
+    stands_first stage (inl (is, has, blank)) = subst (StandsAtStage shape (known_of known) snapshot_call a) (sym is)
+        (let keys : HasBlanks snapshot_call.totals.items = subst HasBlanks (sym blank) (keys_of_buckets (known_of known) (boundaries_of known.spec) its_known.lawful has refl) in (
           record { bucketed = has; keys = keys.0; buckets = keys.1 },
           subst (All (λ total. total.1 ≡ 0)) (sym blank) (no_units (boundaries_of known.spec)),
-        )
-    stands_first (Walking LoadingFirst) (sparse, none, room) = (
+        ))
+    stands_first stage (inr (is, sparse, none, room)) = subst (StandsAtStage shape (known_of known) snapshot_call a) (sym is) (
       room,
       (
         record { sparse = sparse; apart = free_apart a.hand.place stood.0; met = met_split a.seen.chain known.reference (run.met (known_of known) knows) },
         λ b. subst (λ (l : List (ℤ × ℕ)). HasSeenValues (known_of known) [] l b) (sym none) (lists_nothing (HasListed [] b) (HasTotal b) known.reference b.seen),
       ),
     )
-    stands_first (Walking (LoadingType at)) none = absurd none
-    stands_first (Walking (LoadingHistogram at)) none = absurd none
-    stands_first (Walking (LoadingValue at of)) none = absurd none
-    stands_first (Walking (LoadingNext at)) none = absurd none
-    stands_first (LoadingCounts packed kept) none = absurd none
-    stands_first (LoadingCount mounted bucket) none = absurd none
-    stands_first (LoadingSample at value) none = absurd none
-    stands_first LoadingSum none = absurd none
-    stands_first (LoadingRedundant sum) none = absurd none
 
     begins_looking : IsSnapshotCall shape (known_of known) snapshot_call a
     begins_looking = record {
@@ -235,76 +225,50 @@ module _ (shape : Dimensions) (version : ℕ) (known : Known) (old new : ActorRu
     }
 
     pub begins_with : IsRun shape version new a
-    begins_with = subst (λ (r : ActorRun). IsRun shape version r a) (sym starts.2) (record {
-      records = run.records;
-      segment = run.segment;
-      first = run.first;
-      within = run.within;
-      ended = run.ended;
-      begun = run.begun;
-      taken = run.taken;
-      names = run.names;
-      lawful = run.lawful;
-      once = run.once;
-      met = run.met;
-      stands = (stood.1, (known_of known, begins_looking));
-      room = tt;
-      draft = tt;
-    })
+    begins_with = subst (λ (r : ActorRun). IsRun shape version r a) (sym starts.2)
+        (runs_on shape version old a run a (Some (Snapshot snapshot_call)) (alike a) (stood.1, (known_of known, begins_looking)) tt tt)
 
 -- on a world_state
-module _ (old new : WorldState) (actor : ℕ) (r now : ActorRun) (here : get_elem? old.actor_runs.items actor ≡ some r) (place : ℕ) (known : Known)
-    (at : get_elem? r.known.items place ≡ some known) (rests : r.running ≡ None) (shaped : new.shape ≡ old.shape) (versioned : new.version ≡ old.version)
-    (worded : new.words ≡ old.words) (pooled : new.units ≡ old.units) (actor_runs : new.actor_runs.items ≡ set old.actor_runs.items actor now) where
+module _ (old new : WorldState) (actor : ℕ) (name : List ℕ) (place : ℕ) (r now : ActorRun) (its : IsPlaced old actor name place r) (turned : IsTurned old new actor now)
+    (pooled : new.units ≡ old.units) where
+  abbrev it : Known
+  it = its.known
+
   -- a call on a known histogram begins, which is no event
-  pub call_begins : ((a : Actor) → IsRun old.shape old.version r a → IsShape old.shape → known_at a.answers.names known.reference ≡ Some (known_of known)
-      → IsRun old.shape old.version now a) → (start : Start) (state : State) → IsReachedAs start old state → IsReachedAs start new state
-  call_begins begins start state reach =
+  pub call_begins : ((a : Actor) → IsRun old.shape old.version r a → IsShape old.shape → known_at a.answers.names it.reference ≡ Some (known_of it)
+      → IsRun old.shape old.version now a) → (start : Start) (state : State) → IsReachedAs start old state → BeginsFrom start state actor new
+  call_begins begins = same_state old new actor r now its.resting turned pooled (λ start state reach a there run.
       let kept = kept_there start old state reach in
-      same_there start old state reach actor r now new here (λ a there run.
-      let free = free_turns a.hand.place (subst (λ running. StandsIn old.shape r.known.items (pending_by r) running a) rests run.stands).0 in
+      let free = free_turns a.hand.place (subst (λ running. StandsIn old.shape r.known.items (pending_by r) running a) its.resting.rests run.stands).0 in
       begins a run (shape_there start old state reach)
-      (alone_there old.shape start.opened state kept (actor + 1) a there (not_spent a.hand.place free) r.known.items run.once run.names place known at))
-      shaped versioned pooled (ap (λ w. w.items) worded) actor_runs
+      (alone_there old.shape start.opened state kept (actor + 1) a there (not_spent a.hand.place free) r.known.items run.once run.names place it its.there))
 
-  pub snapshot_begins : BeginsSnapshot old.shape old.version known r now → (start : Start) (state : State) → IsReachedAs start old state → IsReachedAs start new state
-  snapshot_begins starts = call_begins (begins_with old.shape old.version known r now starts place at rests)
+  -- it goes with a histogram of the name
+  pub call_begun : (IsOf : ℕ → Option Running → Type 0) → now.known.items ≡ r.known.items → now.taken.items ≡ r.taken.items → IsOf it.reference now.running
+      → GoesWith IsOf actor name old new Going
+  call_begun IsOf same taken is = (
+    turned.words,
+    (
+      r,
+      now,
+      its.resting.at,
+      is_now old new actor r now its.resting turned,
+      taken,
+      (it, subst (λ (l : List Known). Contains l it) (sym same) (contains_at r.known.items place it its.there), its.named, is),
+    ),
+  )
 
--- so it is among the actors
-pub call_begun : (IsOf : ℕ → Option Running → Type 0) (actor_runs : List ActorRun) (actor : ℕ) (r now : ActorRun) → get_elem? actor_runs actor ≡ some r → (place : ℕ) (known : Known)
-    → get_elem? r.known.items place ≡ some known → now.known.items ≡ r.known.items → now.taken.items ≡ r.taken.items → IsOf known.reference now.running
-    → (name : List ℕ) → known.name.items ≡ name
-    → (before behind : ActorRun) × (get_elem? actor_runs actor ≡ some before) × (get_elem? (set actor_runs actor now) actor ≡ some behind)
-    × (behind.taken.items ≡ before.taken.items)
-    × ((k : Known) × Contains behind.known.items k × (k.name.items ≡ name) × IsOf k.reference behind.running)
-call_begun IsOf actor_runs actor r now here place known at same taken is name named = (
-  r,
-  now,
-  here,
-  set_here actor_runs actor now (place_below actor_runs actor r here),
-  taken,
-  (known, subst (λ (l : List Known). Contains l known) (sym same) (contains_at r.known.items place known at), named, is),
-)
+  pub snapshot_begins : BeginsSnapshot old.shape old.version it r now → (start : Start) (state : State) → IsReachedAs start old state → BeginsFrom start state actor new
+  snapshot_begins starts = call_begins (begins_with old.shape old.version it r now starts place its.there its.resting.rests)
 
 -- it has done no event yet
-just_begun : (shape : Dimensions) (known : MachineKnown) (snapshot_call : SnapshotCall) (stage : Stage) → OpensWith shape known snapshot_call stage → HasJustBegun stage
-just_begun shape k d LoadingSingle opens = tt
-just_begun shape k d (Walking LoadingFirst) opens = tt
-just_begun shape k d (Walking (LoadingType at)) none = absurd none
-just_begun shape k d (Walking (LoadingHistogram at)) none = absurd none
-just_begun shape k d (Walking (LoadingValue at of)) none = absurd none
-just_begun shape k d (Walking (LoadingNext at)) none = absurd none
-just_begun shape k d (LoadingCounts packed kept) none = absurd none
-just_begun shape k d (LoadingCount mounted bucket) none = absurd none
-just_begun shape k d (LoadingSample at value) none = absurd none
-just_begun shape k d LoadingSum none = absurd none
-just_begun shape k d (LoadingRedundant sum) none = absurd none
+just_begun : (shape : Dimensions) (known : MachineKnown) (snapshot_call : SnapshotCall) (stage : SnapshotStage) → OpensWith shape known snapshot_call stage → HasJustBegun stage
+just_begun _ _ _ stage (inl opens) = inl opens.0
+just_begun _ _ _ stage (inr opens) = inr opens.0
 
-pub snapshot_begun : {shape : Dimensions} {version : ℕ} (actor_runs : List ActorRun) (actor : ℕ) (r now : ActorRun) → get_elem? actor_runs actor ≡ some r → (place : ℕ) (known : Known)
-    → get_elem? r.known.items place ≡ some known → BeginsSnapshot shape version known r now → (name : List ℕ) → known.name.items ≡ name
-    → (before behind : ActorRun) × (get_elem? actor_runs actor ≡ some before) × (get_elem? (set actor_runs actor now) actor ≡ some behind)
-    × (behind.taken.items ≡ before.taken.items)
-    × ((k : Known) × Contains behind.known.items k × (k.name.items ≡ name) × LooksAt k.reference behind.running)
-snapshot_begun {shape = shape} actor_runs actor r now here place known at starts =
-    call_begun LooksAt actor_runs actor r now here place known at (ap (λ (x : ActorRun). x.known.items) starts.2) (ap (λ (x : ActorRun). x.taken.items) starts.2)
-    (subst (LooksAt known.reference) (sym (ap (λ (x : ActorRun). x.running) starts.2)) (starts.1.reference, just_begun shape (known_of known) starts.0 starts.0.stage starts.1.opens))
+pub snapshot_begun : (old new : WorldState) (actor : ℕ) (name : List ℕ) (place : ℕ) (r now : ActorRun) (its : IsPlaced old actor name place r) → IsTurned old new actor now
+    → BeginsSnapshot old.shape old.version its.known r now → new.units ≡ old.units → SnapshotBegins actor name old new Going
+snapshot_begun old new actor name place r now its turned starts pooled =
+    call_begun old new actor name place r now its turned pooled LooksAt (ap (λ (x : ActorRun). x.known.items) starts.2) (ap (λ (x : ActorRun). x.taken.items) starts.2)
+    (subst (LooksAt (its.known).reference) (sym (ap (λ (x : ActorRun). x.running) starts.2))
+    (starts.1.reference, just_begun old.shape (known_of its.known) starts.0 starts.0.stage starts.1.opens))

@@ -24,11 +24,11 @@ use Rattle.segment_promises.specs.Calls.{BeganBefore, SeesMore}
 use Rattle.segment_promises.proofs.Calls.Sights.{began_still, saw_word}
 use Rattle.segment_promises.proofs.Calls.Places.{behind_free}
 use Rattle.segment_promises.proofs.Calls.SeenWords.{seen_now}
-use Rattle.hist_core.proofs.Parts.Alone.{seen_words}
+use Rattle.hist_core.proofs.Parts.Alone.{by_event, seen_words}
 use Rattle.hist_core.specs.declared.walk.Met.{Met}
 use Rattle.hist_core.specs.declared.walk.Met.TheVariants.{Nothing, Sample, End}
-use Rattle.hist_core.specs.declared.walk.Walk.{Walk}
-use Rattle.hist_core.specs.declared.walk.Walk.TheVariants.{LoadingFirst, LoadingType, LoadingHistogram, LoadingValue, LoadingNext}
+use Rattle.hist_core.specs.declared.walk.SampleWalk.{SampleWalk}
+use Rattle.hist_core.specs.declared.walk.SampleWalk.TheVariants.{LoadingFirst, LoadingType, LoadingHistogram, LoadingValue, LoadingNext}
 use Rattle.hist_core.specs.StepsBy.{FrameOfStep, StepsBy}
 use Rattle.hist_core.specs.Walk.{HasComeTo, HasSetOut, IsBehindValue, IsWalkProgress, MayWalk, Meets, MetRecord, OfPassed, PassedRecord, WalksAt, behind_next, behind_type, spot_of}
 use Rattle.hist_core.proofs.Walks.Passing.{way_still}
@@ -81,7 +81,7 @@ pub record GoesAlong (known : Known) (holds : OfPassed) : Type 0 where
       → holds (passed ++ at ∷ []) a
 
 -- who has set out began to look before
-pub began_before : (shape : Dimensions) (known : Known) (holds : OfPassed) (walk : Walk) (a : Actor) → HasSetOut walk → WalksAt shape known holds walk a → BeganBefore a
+pub began_before : (shape : Dimensions) (known : Known) (holds : OfPassed) (walk : SampleWalk) (a : Actor) → HasSetOut walk → WalksAt shape known holds walk a → BeganBefore a
 began_before shape known holds LoadingFirst a set_out stands = absurd set_out
 began_before shape known holds (LoadingType at) a set_out stands = stands.way.began
 began_before shape known holds (LoadingHistogram at) a set_out stands = stands.0.way.began
@@ -108,35 +108,24 @@ module _ (shape : Dimensions) (version : ℕ) (known : Known) (holds : OfPassed)
       let found : ℕ = word_at words (known.reference + 3) in
       let event : WalkingEvent = load_next known.reference in
       let acted : Actor = next a (walking_event event) found in
-      let (front, later, split) = may.met in record {
-        before = [];
-        at = a;
-        told = refl;
-        event = walking_event event;
-        ready = (
-          turns,
-          inr (inl (subst (λ (l : List ℕ). Contains l known.reference) (sym split)
-              (Contains-append_right front (known.reference ∷ later) known.reference (0, omega arith, refl)))),
-        );
-        words_are = sym (set-get_or words (known.reference + 3) 0);
-        goes = λ learned apart ordered. (
-          [],
-          acted,
-          refl,
-          (
-            walk_beside a event found,
-            refl,
-            refl,
-            behind_free a.hand.place known.reference found turns,
-            subst (λ (m : Met). HasComeTo shape known holds m acted) (sym is) (comes_to found [] acted (record {
-              sparse = may.sparse;
-              apart = behind_apart a.hand.place known.reference found may.apart;
-              began = began_still a acted (walk_sees a event found) began;
-              comes = comes_first a acted known.reference found refl front later split learned refl;
-            }) (none acted)),
-          ),
-        );
-      }
+      let (front, later, split) = may.met in by_event (walking_event event) (
+        turns,
+        inr (inl (subst (λ (l : List ℕ). Contains l known.reference) (sym split)
+            (Contains-append_right front (known.reference ∷ later) known.reference (0, omega arith, refl)))),
+      )
+      (sym (set-get_or words (known.reference + 3) 0))
+      (λ learned apart ordered. (
+        walk_beside a event found,
+        refl,
+        refl,
+        behind_free a.hand.place known.reference found turns,
+        subst (λ (m : Met). HasComeTo shape known holds m acted) (sym is) (comes_to found [] acted (record {
+          sparse = may.sparse;
+          apart = behind_apart a.hand.place known.reference found may.apart;
+          began = began_still a acted (walk_sees a event found) began;
+          comes = comes_first a acted known.reference found refl front later split learned refl;
+        }) (none acted)),
+      ))
 
   next_so : (at : ℕ) → PassedRecord known holds at a → (m : Met) → m ≡ behind_next (word_at words (at + 3)) → StepsBy shape.size version a words words (Gives m)
   next_so at it m is =
@@ -147,31 +136,20 @@ module _ (shape : Dimensions) (version : ℕ) (known : Known) (holds : OfPassed)
       let way : IsWalkProgress known passed at a = it.way in
       let sees : SeesMore a acted = walk_sees a event found in
       let split = split_at_it a known.reference passed at way.comes it.record_there in
-      let rest : List ℕ = (behind_it a known.reference passed at way.comes it.record_there).0 in record {
-        before = [];
-        at = a;
-        told = refl;
-        event = walking_event event;
-        ready = (turns, inr (inl (met a a known.reference 0 refl way.comes.front passed at rest split)));
-        words_are = sym (set-get_or words (at + 3) 0);
-        goes = λ learned apart ordered. (
-          [],
-          acted,
-          refl,
-          (
-            walk_beside a event found,
-            refl,
-            refl,
-            behind_free a.hand.place at found turns,
-            subst (λ (m : Met). HasComeTo shape known holds m acted) (sym is) (comes_to found (passed ++ at ∷ []) acted (record {
-              sparse = way.sparse;
-              apart = behind_apart a.hand.place at found way.apart;
-              began = began_still a acted sees way.began;
-              comes = comes_on a acted known.reference found refl way.comes.front passed at rest split learned refl;
-            }) (along.still a acted sees way.began (passed ++ at ∷ []) it.lists)),
-          ),
-        );
-      }
+      let rest : List ℕ = (behind_it a known.reference passed at way.comes it.record_there).0 in by_event (walking_event event) (turns, inr (inl (met a a known.reference 0 refl way.comes.front passed at rest split)))
+      (sym (set-get_or words (at + 3) 0))
+      (λ learned apart ordered. (
+        walk_beside a event found,
+        refl,
+        refl,
+        behind_free a.hand.place at found turns,
+        subst (λ (m : Met). HasComeTo shape known holds m acted) (sym is) (comes_to found (passed ++ at ∷ []) acted (record {
+          sparse = way.sparse;
+          apart = behind_apart a.hand.place at found way.apart;
+          began = began_still a acted sees way.began;
+          comes = comes_on a acted known.reference found refl way.comes.front passed at rest split learned refl;
+        }) (along.still a acted sees way.began (passed ++ at ∷ []) it.lists)),
+      ))
 
   -- ---- a word of a record is loaded that never changes
 
@@ -218,15 +196,9 @@ module _ (shape : Dimensions) (version : ℕ) (known : Known) (holds : OfPassed)
       }
 
       does_load : (m : Met) → (Learned a (walking_event event) found → HasComeTo shape known holds m acted) → StepsBy shape.size version a words words (Gives m)
-      does_load m comes = record {
-        before = [];
-        at = a;
-        told = refl;
-        event = walking_event event;
-        ready = (turns, there, fixed);
-        words_are = sym (set-get_or words (at + index) 0);
-        goes = λ learned apart ordered. ([], acted, refl, (walk_beside a event found, refl, refl, turns, comes learned));
-      }
+      does_load m comes = by_event (walking_event event) (turns, there, fixed)
+          (sym (set-get_or words (at + index) 0))
+          (λ learned apart ordered. (walk_beside a event found, refl, refl, turns, comes learned))
 
   -- the type
   type_so : (at : ℕ) → MetRecord known holds at a → StepsBy shape.size version a words words (Gives (Nothing (behind_type at (word_at words (at + 2)))))
@@ -310,7 +282,7 @@ module _ (shape : Dimensions) (version : ℕ) (known : Known) (holds : OfPassed)
 
   -- ---- whichever it is
 
-  pub walks_so : (walk : Walk) → WalksAt shape known holds walk a → BeganBefore a → (m : Met) → Meets walk known.reference (word_at words (spot_of known.reference walk)) m
+  pub walks_so : (walk : SampleWalk) → WalksAt shape known holds walk a → BeganBefore a → (m : Met) → Meets walk known.reference (word_at words (spot_of known.reference walk)) m
       → StepsBy shape.size version a words words (Gives m)
   walks_so LoadingFirst stands began m is = first_so stands.0 stands.1 began m is
   walks_so (LoadingType at) stands began m is = subst (λ (x : Met). StepsBy shape.size version a words words (Gives x)) (sym is) (type_so at stands)
@@ -322,7 +294,7 @@ module _ (shape : Dimensions) (version : ℕ) (known : Known) (holds : OfPassed)
   record_inside at within there = subst (λ (d : Dimensions). at + 5 ≤ d.size) here (within there)
 
   -- the word that it loads lies within the segment
-  pub spot_inside : (walk : Walk) → WalksAt shape known holds walk a → known.reference + 15 ≤ shape.size → spot_of known.reference walk < shape.size
+  pub spot_inside : (walk : SampleWalk) → WalksAt shape known holds walk a → known.reference + 15 ≤ shape.size → spot_of known.reference walk < shape.size
   spot_inside LoadingFirst stands within = omega (arith, within)
   spot_inside (LoadingType at) stands within = let low = record_inside at stands.way.comes.within stands.record_there in omega (arith, low)
   spot_inside (LoadingHistogram at) stands within = let low = stands.1.1 in omega (arith, low)

@@ -12,6 +12,8 @@ use Rattle.segment_machine.specs.declared.actor.Published.{Published}
 use Rattle.segment_machine.specs.declared.actor.Rise.{Rise}
 use Rattle.segment_machine.specs.Event.{allocating_event, next}
 use Rattle.segment_machine.specs.Allocating.{set_corrupt}
+use Rattle.hist_core.proofs.Parts.Alone.{by_event, alike, allocating_beside}
+use Rattle.hist_core.proofs.HistCall.Asking.{runs_on}
 use Rattle.hist_core.specs.declared.actor_run.Running.TheVariants.{SetCorrupt}
 use Rattle.hist_core.specs.declared.actor_run.ActorRun.{ActorRun}
 use Rattle.hist_core.proofs.Worlds.Landing.{Landing}
@@ -28,63 +30,24 @@ pub sets_corrupt : (shape : Dimensions) (version : ℕ) (a : Actor) (old : Actor
     → Landing shape version old words (record old { running = None }) new_words (Done Flagged) a
 sets_corrupt shape version a old words new_words long run is stored =
     let stands = subst (λ running. StandsIn shape old.known.items (pending_by old) running a) is run.stands in
-    record {
-      before = [];
-      at = a;
-      told = refl;
-      event = allocating_event set_corrupt;
-      ready = free_turns a.hand.place stands.0;
-      words_are = stored;
-      goes = λ learned apart ordered. (
-        [],
-        next a (allocating_event set_corrupt) (word_at words 6),
+    by_event (allocating_event set_corrupt) (free_turns a.hand.place stands.0)
+    stored
+    (λ learned apart ordered. (
+      (
+        runs_on shape version old a run (next a (allocating_event set_corrupt) (word_at words 6)) None (allocating_beside a set_corrupt (word_at words 6))
+            (refl, quiet_on (pending_by old) a (next a (allocating_event set_corrupt) (word_at words 6)) refl refl refl stands.1) tt tt,
         refl,
-        (
-          (
-            record {
-              records = run.records;
-              segment = run.segment;
-              first = run.first;
-              within = run.within;
-              ended = run.ended;
-              begun = run.begun;
-              taken = run.taken;
-              names = run.names;
-              lawful = run.lawful;
-              once = run.once;
-              met = run.met;
-              stands = (refl, quiet_on (pending_by old) a (next a (allocating_event set_corrupt) (word_at words 6)) refl refl refl stands.1);
-              room = tt;
-              draft = tt;
-            },
-            refl,
-          ),
-          record {
-            spoiled = refl;
-            filled = refl;
-            linked = ([], sym (append-nil a.done.published), All-nil (λ (p : Published). Serves old.running a (links p.made)));
-            raised = ([], sym (append-nil a.done.raised), All-nil (λ (r : Rise). Serves old.running a (raises r.wanted)));
-          },
-        ),
-      );
-    }
+      ),
+      record {
+        spoiled = refl;
+        filled = refl;
+        linked = ([], sym (append-nil a.done.published), All-nil (λ (p : Published). Serves old.running a (links p.made)));
+        raised = ([], sym (append-nil a.done.raised), All-nil (λ (r : Rise). Serves old.running a (raises r.wanted)));
+      },
+    ))
 
 -- who rests begins it, which is no event
 pub begins_set_corrupt : (shape : Dimensions) (version : ℕ) (r : ActorRun) (a : Actor) → r.running ≡ None → IsRun shape version r a
     → IsRun shape version (record r { running = Some SetCorrupt }) a
-begins_set_corrupt shape version r a rests run = record {
-  records = run.records;
-  segment = run.segment;
-  first = run.first;
-  within = run.within;
-  ended = run.ended;
-  begun = run.begun;
-  taken = run.taken;
-  names = run.names;
-  lawful = run.lawful;
-  once = run.once;
-  met = run.met;
-  room = tt;
-  draft = tt;
-  stands = subst (λ running. StandsIn shape r.known.items (pending_by r) running a) rests run.stands;
-}
+begins_set_corrupt shape version r a rests run =
+    runs_on shape version r a run a (Some SetCorrupt) (alike a) (subst (λ running. StandsIn shape r.known.items (pending_by r) running a) rests run.stands) tt tt

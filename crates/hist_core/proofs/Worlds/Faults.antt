@@ -1,44 +1,35 @@
 -- The faults of a world's calls, and the calls that are going on.
-use Rattle.std.proofs.Common.{◌≡◌, ◌≤◌, arith, length, zero, suc, List, [], ◌∷◌, ◌||◌, Bool, true, false, true≢false, refl, sym, subst, ℕ, ap, ◌∙◌}
-use Rattle.std.specs.Prelude.{Option, Some, None, IsSome, not, is_some, MatchOption, if◌then◌else◌}
+use Rattle.std.proofs.Common.{◌≡◌, ◌≤◌, arith, zero, suc, List, [], ◌∷◌, ◌||◌, Bool, true, false, true≢false, refl, sym, subst, ℕ, ap, ◌∙◌}
+use Rattle.std.specs.Prelude.{Option, Some, None, IsSome, not, is_some, nat_le, vec_len, MatchOption, Result, Ok, Err, IfErr, IsErr, IsOk, is_ok, if◌then◌else◌}
+use Rattle.std.proofs.lemmas.Bool.{lt-leb}
+use Rattle.segment_image.specs.Checks.{first_fault}
 use mathlib.Core.Option.{some, none, some-injective, some-ne-none}
 use lib.ListN.{get_elem?}
 use Rattle.hist_core.specs.declared.fault.WorldFault.{WorldFault}
+use Rattle.hist_core.specs.declared.fault.WorldFault.TheVariants.{NoActor, Busy, Unknown}
 use Rattle.hist_core.specs.declared.actor_run.Running.{Running}
 use Rattle.hist_core.specs.declared.actor_run.ActorRun.{ActorRun}
 use Rattle.hist_core.specs.declared.world_state.WorldState.{WorldState}
-use Rattle.hist_core.specs.WorldState.{Rests, IsBusy, IsPlaceOf, LacksName}
-use Rattle.hist_core.specs.World.{runs, rests, lacks, lacks_name, named_by, of_actor}
+use Rattle.hist_core.specs.WorldState.{IsBusy, IsResting}
+use Rattle.hist_core.specs.World.{runs, rests, lacks, lacks_name, name_checks, of_actor}
 use Rattle.hist_core.proofs.HistCall.Asking.{place_below}
-use Rattle.hist_core.specs.ActorRun.{NoneHasName}
+use Rattle.hist_core.specs.ActorRun.{IsKnownAt, NoneHasName}
 use Rattle.hist_core.specs.declared.hist.Known.{Known}
-use Rattle.segment_calls.specs.declared.call.Call.{Call}
 use Rattle.std.specs.List.{list_any}
 use Rattle.std.specs.Str.{bytes_eq}
 use Rattle.std.proofs.lemmas.Slice.Eq.{bytes_eq-Decides}
 use mathlib.Core.Option as maybe
 
--- the second of two checks fails, or none does
+-- the first or the second of two checks fails, or none does
 module _ (a b : Bool) (first second : WorldFault) (fine : Type 0) (faulty : WorldFault → Type 0) where
+  pub first_fails : a ≡ true → faulty first → MatchOption (if a then Some first else (if b then Some second else None)) fine faulty
+  first_fails fails holds = rw fails holds
+
   pub second_fails : a ≡ false → b ≡ true → faulty second → MatchOption (if a then Some first else (if b then Some second else None)) fine faulty
   second_fails passes fails holds = rw (passes, fails) holds
 
   pub none_fails : a ≡ false → b ≡ false → fine → MatchOption (if a then Some first else (if b then Some second else None)) fine faulty
   none_fails passes last holds = rw (passes, last) holds
-
--- the second or the third of three checks fails, or none does
-module _ (a b c : Bool) (first second third : WorldFault) (fine : Type 0) (faulty : WorldFault → Type 0) where
-  abbrev three : Type 0
-  three = MatchOption (if a then Some first else (if b then Some second else (if c then Some third else None))) fine faulty
-
-  pub second_of_three : a ≡ false → b ≡ true → faulty second → three
-  second_of_three passes fails holds = rw (passes, fails) holds
-
-  pub third_of_three : a ≡ false → b ≡ false → c ≡ true → faulty third → three
-  third_of_three passes next fails holds = rw (passes, next, fails) holds
-
-  pub none_of_three : a ≡ false → b ≡ false → c ≡ false → fine → three
-  none_of_three passes next last holds = rw (passes, next, last) holds
 
 -- ---- a name that an actor knows, or not
 
@@ -62,22 +53,54 @@ no_such (first ∷ rest) name lacking =
     either true other later = absurd (other refl)
     either false other later = later
 
-module _ (world_state : WorldState) (i : ℕ) (name : List ℕ) where
-  pub knows_it : (place : ℕ) → IsPlaceOf world_state i name place → lacks (get_elem? world_state.actor_runs.items i) (some name) ≡ false
-  knows_it place (known, (r, here, at), named) = ap (λ (o : maybe.Option ActorRun). lacks o (some name)) here ∙ any_at r.known.items place known name at named
+-- an actor that rests knows the histogram of a name, or not
+module _ (world_state : WorldState) (i : ℕ) (name : List ℕ) (r : ActorRun) (resting : IsResting world_state i r) where
+  abbrev checks : Bool → Option WorldFault
+  checks last = if nat_le (vec_len world_state.actor_runs) i then Some NoActor else (if runs (get_elem? world_state.actor_runs.items i) then Some Busy else (if last then Some Unknown else None))
 
-  pub lacks_it : (r : ActorRun) → get_elem? world_state.actor_runs.items i ≡ some r → LacksName world_state i name → lacks (get_elem? world_state.actor_runs.items i) (some name) ≡ true
-  lacks_it r here lacking = ap (λ (o : maybe.Option ActorRun). lacks o (some name)) here ∙ no_such r.known.items name (lacking r here)
+  third : (last : Bool) → lacks_name r.known.items (some name) ≡ last → first_fault (name_checks world_state i (some name)) ≡ (if last then Some Unknown else None)
+  third last is = ap (λ (o : maybe.Option ActorRun). checks (lacks o (some name))) resting.at ∙ ap checks is
+      ∙ rw (lt-leb (vec_len world_state.actor_runs) i resting.near, ap runs resting.at ∙ ap is_some resting.rests) refl
 
-  -- a call of that name lacks it just so
-  pub by_name : (call : Call) → named_by call ≡ some name → (b : Bool) → lacks (get_elem? world_state.actor_runs.items i) (some name) ≡ b
-      → lacks (get_elem? world_state.actor_runs.items i) (named_by call) ≡ b
-  by_name call is b so = ap (lacks (get_elem? world_state.actor_runs.items i)) is ∙ so
+  pub knows_it : (place : ℕ) → IsKnownAt r.known.items place name → first_fault (name_checks world_state i (some name)) ≡ None
+  knows_it place (known, at, named) = third false (any_at r.known.items place known name at named)
 
--- a call that is of no known histogram lacks none
-pub none_named : (world_state : WorldState) (i : ℕ) (r : ActorRun) → get_elem? world_state.actor_runs.items i ≡ some r → (call : Call) → named_by call ≡ none
-    → lacks (get_elem? world_state.actor_runs.items i) (named_by call) ≡ false
-none_named world_state i r here call is = λ j. lacks (here j) (is j)
+  pub lacks_it : NoneHasName r.known.items name → first_fault (name_checks world_state i (some name)) ≡ Some Unknown
+  lacks_it lacking = third true (no_such r.known.items name lacking)
+
+-- ---- a result
+
+-- a fault that it can be alone, it is
+pub err_is : {A E : Type 0} (result : Result A E) (e : E) → IsErr result → IfErr result (λ f. f ≡ e) → result ≡ Err e
+err_is (Ok x) e is same = absurd (true≢false (sym is))
+err_is (Err f) e is same = ap Err same
+
+module _ {A : Type 0} (first : Option WorldFault) (result : Result A WorldFault) where
+  -- it is told with the fault of the first check that holds
+  pub tells_fault : (fault : WorldFault) → first ≡ Some fault → result ≡ Err fault → MatchOption first (IsOk result) (λ why. result ≡ Err why)
+  tells_fault fault is told = subst (λ o. MatchOption o (IsOk result) (λ why. result ≡ Err why)) (sym is) told
+
+  -- or is fine
+  pub tells_none : first ≡ None → IsOk result → MatchOption first (IsOk result) (λ why. result ≡ Err why)
+  tells_none is fine = subst (λ o. MatchOption o (IsOk result) (λ why. result ≡ Err why)) (sym is) fine
+
+-- the fault that it is told with is that of the first check that holds
+pub the_fault : {A : Type 0} (first : Option WorldFault) (result : Result A WorldFault) (fault : WorldFault) → result ≡ Err fault
+    → MatchOption first (IsOk result) (λ why. result ≡ Err why) → first ≡ Some fault
+the_fault None result fault is fine = absurd (true≢false (sym fine ∙ ap is_ok is))
+the_fault (Some why) result fault is told = cc
+
+-- what runs nothing
+pub none_runs : (running : Option Running) → is_some running ≡ false → running ≡ None
+none_runs (Some running) is = absurd (true≢false is)
+none_runs None is = refl
+
+-- of the checks in any order of these, the first that holds is the first still with another behind them
+pub first_still : (a b c : Bool) (fault : WorldFault) → (if a then Some NoActor else (if b then Some Busy else None)) ≡ Some fault
+    → (if a then Some NoActor else (if b then Some Busy else (if c then Some Unknown else None))) ≡ Some fault
+first_still true b c fault is = is
+first_still false true c fault is = is
+first_still false false c fault is = absurd (cc is)
 
 module _ (world_state : WorldState) (i : ℕ) (r : ActorRun) (at : get_elem? world_state.actor_runs.items i ≡ some r) where
   -- whether it runs none
@@ -88,24 +111,14 @@ module _ (world_state : WorldState) (i : ℕ) (r : ActorRun) (at : get_elem? wor
       twice true = refl
       twice false = refl
 
-  pub runs_as : runs (get_elem? world_state.actor_runs.items i) ≡ is_some r.running
-  runs_as = ap runs at
-
-  pub is_resting : is_some r.running ≡ false → Rests world_state i
-  is_resting rests_now = λ actor_run is. ap (λ (x : ActorRun). x.running) (some-injective actor_run r (sym is ∙ at)) ∙ none_of r.running rests_now
-    where
-      none_of : (running : Option Running) → is_some running ≡ false → running ≡ None
-      none_of (Some running) is = absurd (true≢false is)
-      none_of None is = refl
-
   pub is_busy : is_some r.running ≡ true → IsBusy world_state i
   is_busy runs = λ actor_run is. subst (λ (x : ActorRun). IsSome x.running) (some-injective r actor_run (sym at ∙ is)) runs
 
 -- an actor that is not there shows nothing
-pub shows_nothing : {X : Type 0} (shown : ActorRun → List X) (world_state : WorldState) (i : ℕ) → length world_state.actor_runs.items ≤ i
+pub shows_nothing : {X : Type 0} (shown : ActorRun → List X) (world_state : WorldState) (i : ℕ) → vec_len world_state.actor_runs ≤ i
     → [] ≡ of_actor shown (get_elem? world_state.actor_runs.items i)
 shows_nothing shown world_state i beyond = by (get_elem? world_state.actor_runs.items i) refl
   where
     by : (found : maybe.Option ActorRun) → get_elem? world_state.actor_runs.items i ≡ found → [] ≡ of_actor shown found
     by none at = refl
-    by (some r) at = absurd (let below = place_below world_state.actor_runs.items i r at in omega (arith, below, beyond))
+    by (some r) at = absurd (let below = place_below world_state.actor_runs.items i r at in let long = world_state.actor_runs.ok.0 in omega (arith, below, beyond, long))

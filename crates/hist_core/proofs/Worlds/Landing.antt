@@ -7,9 +7,9 @@ use Rattle.hist_core.specs.declared.call.Stepped.{Stepped}
 use Rattle.hist_core.specs.declared.actor_run.ActorRun.{ActorRun}
 use Rattle.hist_core.specs.declared.actor_run.Running.{Running}
 use Rattle.hist_core.specs.declared.actor_run.Running.TheVariants.{SetCorrupt, Hist, Add, Delta, Snapshot, Batch}
-use Rattle.hist_core.specs.declared.snapshot_call.Stage.{Stage}
-use Rattle.hist_core.specs.declared.snapshot_call.Stage.TheVariants.{LoadingSingle, LoadingCounts, LoadingCount, Walking, LoadingSample, LoadingSum, LoadingRedundant}
-use Rattle.hist_core.specs.declared.walk.Walk.TheVariants.{LoadingFirst, LoadingType, LoadingHistogram, LoadingValue, LoadingNext}
+use Rattle.hist_core.specs.declared.snapshot_call.SnapshotStage.{SnapshotStage}
+use Rattle.hist_core.specs.declared.snapshot_call.SnapshotStage.TheVariants.{LoadingSingle, LoadingCounts, LoadingCount, Walking, LoadingSample, LoadingSum, LoadingRedundant}
+use Rattle.hist_core.specs.declared.walk.SampleWalk.TheVariants.{LoadingFirst, LoadingType, LoadingHistogram, LoadingValue, LoadingNext}
 use Rattle.hist_core.specs.SnapshotCall.{LooksAnew}
 use Rattle.hist_core.specs.StepsBy.{Deed, DoesOnly, StepsBy}
 use Rattle.hist_core.specs.ActorRun.{Advances, DoesAsSaid, Lands, LooksSince, Serves, is_flagged, lacks_room}
@@ -43,7 +43,7 @@ pub lands_apart : (shape : Dimensions) (version : ℕ) (old : ActorRun) (words :
 lands_apart shape version old words new new_words said a none go = goes_with go (λ b (lands, does). (lands, looks_none old.running a b none, does))
 
 -- since when it looks is as before where its actor is
-anew_still : (stage : Stage) (a b c : Actor) → c.since ≡ b.since → LooksAnew stage a b → LooksAnew stage a c
+anew_still : (stage : SnapshotStage) (a b c : Actor) → c.since ≡ b.since → LooksAnew stage a b → LooksAnew stage a c
 anew_still LoadingSingle a b c same looks = same ∙ looks
 anew_still (Walking LoadingFirst) a b c same looks = same ∙ looks
 anew_still (Walking (LoadingType at)) a b c same looks = same ∙ looks

@@ -1,5 +1,5 @@
 -- What one event changes.
-use Rattle.std.proofs.Common.{◌≡◌, ℕ, List, ◌++◌, length, refl, sym, ap, ◌∙◌, inl, inr}
+use Rattle.std.proofs.Common.{◌≡◌, ℕ, List, ◌++◌, length, sym, ap, ◌∙◌, inl, inr}
 use Rattle.std.proofs.lemmas.List.{append-nil}
 use Rattle.std.proofs.Math.Logic.{∥∥₁_elim}
 use Rattle.std.proofs.Props.{props}
@@ -45,8 +45,3 @@ pub no_word : (old : WorldState) (actor : ℕ) (new : WorldState) → ∥ IsReac
     → new.words.items ≡ old.words.items
 no_word old actor new reached begins = ∥∥₁_elim reached (hlevel props) (λ (start, state, reach). let begun = begins start state reach in
     sym (memory_is new begun.0 begun.2.shows) ∙ (lent_memory actor state begun.0 begun.1 ∙ memory_is old state reach.shows))
-
--- and so it is where the begin lends no units
-pub no_word_alone : (old new : WorldState) → ∥ IsReached old ∥₁ → ((start : Start) (state : State) → IsReachedAs start old state → IsReachedAs start new state)
-    → new.words.items ≡ old.words.items
-no_word_alone old new reached begins = no_word old 0 new reached (λ start state reach. (state, inl refl, begins start state reach))

@@ -18,19 +18,19 @@ use Rattle.segment_machine.specs.Calls.{MayTurn}
 use Rattle.segment_machine.specs.Note.{noted, begins}
 use Rattle.segment_machine.specs.Stages.{StandsAt, PublishesAt}
 use Rattle.hist_core.specs.declared.add.Add.{Add as AddCall}
-use Rattle.hist_core.specs.declared.add.Stage.{Stage as AddStage}
-use Rattle.hist_core.specs.declared.add.Stage.TheVariants as adds
+use Rattle.hist_core.specs.declared.add.AddStage.{AddStage}
+use Rattle.hist_core.specs.declared.add.AddStage.TheVariants as adds
 use Rattle.hist_core.specs.declared.batch.Batch.{Batch as BatchCall}
 use Rattle.hist_core.specs.declared.entry.Entry.{Entry}
 use Rattle.hist_core.specs.declared.hist.Hist.{Hist as HistCall}
 use Rattle.hist_core.specs.declared.hist.Known.{Known}
-use Rattle.hist_core.specs.declared.hist.Stage.{Stage as HistStage}
-use Rattle.hist_core.specs.declared.hist.Stage.TheVariants as hists
-use Rattle.hist_core.specs.declared.making.Stage.{Stage as MakingStage}
-use Rattle.hist_core.specs.declared.making.Stage.TheVariants.{Allocating, Filling, Publishing}
+use Rattle.hist_core.specs.declared.hist.HistStage.{HistStage}
+use Rattle.hist_core.specs.declared.hist.HistStage.TheVariants as hists
+use Rattle.hist_core.specs.declared.making.MakingStage.{MakingStage}
+use Rattle.hist_core.specs.declared.making.MakingStage.TheVariants.{Allocating, Filling, Publishing}
 use Rattle.hist_core.specs.declared.sampling.Sampling.{Sampling}
-use Rattle.hist_core.specs.declared.sampling.Stage.{Stage as SamplingStage}
-use Rattle.hist_core.specs.declared.sampling.Stage.TheVariants as samples
+use Rattle.hist_core.specs.declared.sampling.SamplingStage.{SamplingStage}
+use Rattle.hist_core.specs.declared.sampling.SamplingStage.TheVariants as samples
 use Rattle.hist_core.specs.declared.actor_run.Running.{Running}
 use Rattle.hist_core.specs.declared.actor_run.Running.TheVariants.{SetCorrupt, Hist, Add, Delta, Snapshot, Batch}
 use Rattle.hist_core.specs.declared.world_state.WorldState.{WorldState}

@@ -57,7 +57,7 @@ use Rattle.hist_core.specs.declared.call.Answer.TheVariants as answer
 use Rattle.hist_core.specs.Start.{MayStart, Start, start_state}
 use Rattle.hist_core.specs.StepsBy.{StepsBy, WalksInOrder, has_pointer}
 use Rattle.hist_core.specs.ActorRun.{IsAnswer, IsTook, IsKnown, IsRun, IsSomeRun, Lands, Advances, held_by, looked_by, returned_by, DoesAsSaid, LooksSince, Serves, is_flagged, lacks_room, StandsIn, known_of, pending_by, IsRefusedBy}
-use Rattle.hist_core.specs.WorldState.{AreRun, IsReachedAs, IsReached, IsConsistentAs, IsReadAs, MayBeAdopted, AreKnownFirst, HasSeen, HasTaken, ClaimsNothing, DoesOnlySo, HoldsNoPointer, LoadsPointer, IsPromised, StepsTo, Rests, BeginsFrom, IsDue, LooksFrom}
+use Rattle.hist_core.specs.WorldState.{AreRun, IsReachedAs, IsReached, IsConsistentAs, IsReadAs, MayBeAdopted, AreKnownFirst, HasSeen, HasTaken, ClaimsNothing, DoesOnlySo, HoldsNoPointer, LoadsPointer, IsPromised, StepsTo, IsResting, BeginsFrom, IsDue, LooksFrom}
 use Rattle.bucket_ranges.specs.Ranges.{boundaries_of}
 use Rattle.bucket_ranges.specs.Spec.{spec_fault}
 use Rattle.std.specs.Prelude.{None, Ok}
@@ -504,13 +504,6 @@ same_there start old state reach actor r r' new at same shaped versioned pooled 
       answers = reach.answers;
     }
 
--- whichever that is
-pub same_state : (start : Start) (old : WorldState) (state : State) → IsReachedAs start old state → (actor : ℕ) (r r' : ActorRun) (new : WorldState) → get_elem? old.actor_runs.items actor ≡ some r
-    → ((a : Actor) → IsRun old.shape old.version r a → IsRun old.shape old.version r' a)
-    → new.shape ≡ old.shape → new.version ≡ old.version → new.units ≡ old.units → new.words.items ≡ old.words.items → new.actor_runs.items ≡ set old.actor_runs.items actor r'
-    → IsReachedAs start new state
-same_state start old state reach actor r r' new at same = same_there start old state reach actor r r' new at (λ a there run. same a run)
-
 -- ---- at any moment
 
 -- what holds of each actor that is there
@@ -548,13 +541,6 @@ pub is_long : (world_state : WorldState) → ∥ IsReached world_state ∥₁ �
 is_long world_state reached = ∥∥₁_elim reached (hlevel props) (λ (start, state, reach).
     let kept = kept_there start world_state state reach in
     sym (ap length reach.shows.words) ∙ length_shown world_state.shape state.words (layout_of kept.anatomy) kept.shown)
-
--- they are more than those of a header
-pub has_header : (world_state : WorldState) → ∥ IsReached world_state ∥₁ → 16 ≤ length world_state.words.items
-has_header world_state reached =
-    let wide : 64 ≤ world_state.shape.size = ∥∥₁_elim reached (hlevel props) (λ (start, state, reach). let shaped = shape_there start world_state state reach in let wide = shaped.wide in let one = shaped.one in omega (arith, wide, one)) in
-    let long = is_long world_state reached in
-    omega (arith, wide, long)
 
 -- their header has no fault
 pub has_sound_header : (world_state : WorldState) → ∥ IsReached world_state ∥₁ → header_of world_state.words.items ≡ Ok (head_of world_state.words.items)
@@ -613,11 +599,11 @@ its_recorder start world_state state reach actor r at =
     (found.0, ap (λ actors. get_elem? actors (actor + 1)) reach.shows.actors ∙ behind_first reach.shows.opener reach.shows.recorders actor ∙ found.1, found.2)
 
 -- an actor that rests holds no free pointer
-pub rests_without : (world_state : WorldState) (actor : ℕ) (r : ActorRun) → get_elem? world_state.actor_runs.items actor ≡ some r → Rests world_state actor → HoldsNoPointer actor world_state
-rests_without world_state actor r at rests start state reach a there =
-    let (b, mine, run) = its_recorder start world_state state reach actor r at in
-    let free = (subst (λ running. StandsIn world_state.shape r.known.items (pending_by r) running b) (rests r at) run.stands).0 in
-    ap (λ (x : Actor). has_pointer x.hand.place) (some-injective a b (sym there ∙ mine)) ∙ free_holds_none b.hand.place free
+pub rests_without : (world_state : WorldState) (actor : ℕ) (r : ActorRun) → IsResting world_state actor r → HoldsNoPointer actor world_state
+rests_without world_state actor r resting start state reach a is =
+    let (b, mine, run) = its_recorder start world_state state reach actor r resting.at in
+    let free = (subst (λ running. StandsIn world_state.shape r.known.items (pending_by r) running b) resting.rests run.stands).0 in
+    ap (λ (x : Actor). has_pointer x.hand.place) (some-injective a b (sym is ∙ mine)) ∙ free_holds_none b.hand.place free
 
 -- the pool has no more than all units
 pub pool_fits : (world_state : WorldState) → ∥ IsReached world_state ∥₁ → world_state.units ≤ 4294967295

@@ -1,37 +1,19 @@
 use Rattle.std.specs.Prelude.{unsigned_abs}
-use Rattle.std.proofs.Common.{◌≤◌, ◌*◌, [], ◌∷◌, ◌≡◌, refl, sym, ap, subst, ◌∙◌, vec_len, ℤ, w32, w64, to_z, of_z, rules}
+use Rattle.std.proofs.Common.{◌≤◌, ◌*◌, [], ◌∷◌, ◌≡◌, refl, sym, ap, subst, ◌∙◌, ℤ, w32, w64, to_z, of_z, rules}
 use Rattle.std.proofs.lemmas.Int.{to_z-of_z}
 use Rattle.hist_core.specs.Add.{IsStarted}
 use mathlib.Core.Option.{some-injective}
-use Rattle.bucket_ranges.specs.Ranges.{AreBoundaries, boundaries_of}
+use Rattle.bucket_ranges.specs.Ranges.{boundaries_of}
 use Rattle.segment_machine.specs.Entry.{key_of}
 use Rattle.bucket_ranges.specs.Tally.{amount_of}
-use Rattle.segment_promises.proofs.Calls.SpecBuckets.{are_always}
 use Rattle.hist_core.specs.declared.hist.Known.{Known}
 use Rattle.hist_core.specs.ActorRun.{known_of}
-use Rattle.hist_core.proofs.Worlds.WorldStates.{is_there}
 use Rattle.hist_core.proofs.actor_run.ActorRun.begin_add.Goals as goal
-
-pub start-add-requires-clause-lawful : goal.start-add-requires-clause-lawful
-start-add-requires-clause-lawful c =
-    let list = c.args.self.now.known in let known = c.index-known.result.now in
-    c.requires.lawful known (is_there list.items (vec_len list) c.args.i known list.ok.0 c.requires.near c.index-known.ensures)
-
-pub start-add-requires-clause-ranges : goal.start-add-requires-clause-ranges
-start-add-requires-clause-ranges c =
-    let list = c.args.self.now.known in let known = c.index-known.result.now in
-    c.requires.ranges known (is_there list.items (vec_len list) c.args.i known list.ok.0 c.requires.near c.index-known.ensures)
-
-pub key_of-requires : goal.key_of-requires
-key_of-requires c =
-    let list = c.args.self.now.known in let known = c.index-known.result.now in
-    let at = is_there list.items (vec_len list) c.args.i known list.ok.0 c.requires.near c.index-known.ensures in
-    subst AreBoundaries (sym (c.requires.ranges known at)) (are_always known.spec (c.requires.lawful known at))
 
 pub returns-clause-begins : goal.returns-clause-begins
 returns-clause-begins c = λ known at.
-    let list = c.args.self.now.known in let here = c.index-known.result.now in let value = c.args.value in let units = c.args.units in
-    let same : here ≡ known = some-injective here known (sym (is_there list.items (vec_len list) c.args.i here list.ok.0 c.requires.near c.index-known.ensures) ∙ at) in
+    let here = c.known_at-known.result.now in let value = c.args.value in let units = c.args.units in
+    let same : here ≡ known = some-injective here known (sym c.known_at-known.ensures.at ∙ at) in
     let add = c.start-add.result in
     let amount_held : to_z w64 (of_z w64 c.amount_of-amount.result) ≡ c.amount_of-amount.result = search rules in
     let value_held : to_z w32 (of_z w32 value) ≡ value = to_z-of_z w32 value c.ranges.value in

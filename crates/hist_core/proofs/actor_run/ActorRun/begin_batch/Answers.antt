@@ -1,37 +1,18 @@
-use Rattle.std.proofs.Common.{◌≡◌, pos, refl, sym, subst, ◌∙◌, vec_len, w64, to_z, of_z}
+use Rattle.std.proofs.Common.{◌≡◌, pos, refl, sym, subst, ◌∙◌, w64, to_z, of_z}
 use Rattle.std.specs.List.{AllZip}
 use Rattle.std.proofs.lemmas.Int.{to_z-of_z}
 use Rattle.hist_core.specs.Add.{IsStarted}
 use mathlib.Core.Option.{some-injective}
-use Rattle.bucket_ranges.specs.Ranges.{AreBoundaries}
 use Rattle.segment_machine.specs.Entry.{batch_entries}
-use Rattle.segment_promises.proofs.Calls.SpecBuckets.{are_always}
 use Rattle.hist_core.specs.declared.batch.Batch.{Batch}
 use Rattle.hist_core.specs.declared.hist.Known.{Known}
 use Rattle.hist_core.specs.ActorRun.{known_of}
-use Rattle.hist_core.proofs.Worlds.WorldStates.{is_there}
 use Rattle.hist_core.proofs.actor_run.ActorRun.begin_batch.Goals as goal
-
-pub new_items-requires-clause-lawful : goal.new_items-requires-clause-lawful
-new_items-requires-clause-lawful c =
-    let list = c.args.self.now.known in let known = c.index-known.result.now in
-    c.requires.lawful known (is_there list.items (vec_len list) c.args.i known list.ok.0 c.requires.near c.index-known.ensures)
-
-pub new_items-requires-clause-ranges : goal.new_items-requires-clause-ranges
-new_items-requires-clause-ranges c =
-    let list = c.args.self.now.known in let known = c.index-known.result.now in
-    c.requires.ranges known (is_there list.items (vec_len list) c.args.i known list.ok.0 c.requires.near c.index-known.ensures)
-
-pub batch_entries-requires : goal.batch_entries-requires
-batch_entries-requires c =
-    let list = c.args.self.now.known in let known = c.index-known.result.now in
-    let at = is_there list.items (vec_len list) c.args.i known list.ok.0 c.requires.near c.index-known.ensures in
-    subst AreBoundaries (sym (c.requires.ranges known at)) (are_always known.spec (c.requires.lawful known at))
 
 pub returns-clause-begins : goal.returns-clause-begins
 returns-clause-begins c = λ known at.
-    let list = c.args.self.now.known in let here = c.index-known.result.now in let items = c.args.items.now in
-    let same : here ≡ known = some-injective here known (sym (is_there list.items (vec_len list) c.args.i here list.ok.0 c.requires.near c.index-known.ensures) ∙ at) in
+    let here = c.known_at-known.result.now in let items = c.args.items.now in
+    let same : here ≡ known = some-injective here known (sym c.known_at-known.ensures.at ∙ at) in
     let sum_held : to_z w64 (of_z w64 c.args.sum) ≡ c.args.sum = to_z-of_z w64 c.args.sum c.ranges.sum in
     let ranges_are = (λ j. (same j).ranges) ∙ c.requires.ranges known at in
     let call : Batch = record {

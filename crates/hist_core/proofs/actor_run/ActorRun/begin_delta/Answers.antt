@@ -1,22 +1,14 @@
-use Rattle.std.proofs.Common.{◌≡◌, pos, refl, sym, ap, subst, ◌∙◌, vec_len, arith}
+use Rattle.std.proofs.Common.{◌≡◌, pos, refl, sym, ap, subst, ◌∙◌, arith}
 use mathlib.Core.Option.{some-injective}
 use Rattle.hist_core.specs.declared.hist.Known.{Known}
 use Rattle.hist_core.specs.DeltaCall.{IsStarted}
 use Rattle.hist_core.specs.ActorRun.{known_of}
-use Rattle.hist_core.proofs.Worlds.WorldStates.{is_there}
 use Rattle.hist_core.proofs.actor_run.ActorRun.begin_delta.Goals as goal
-
-pub start-requires : goal.start-requires
-start-requires c = record {
-  lawful =
-      let list = c.args.self.now.known in let known = c.index-known.result.now in
-      c.requires.lawful known (is_there list.items (vec_len list) c.args.i known list.ok.0 c.requires.near c.index-known.ensures);
-}
 
 pub returns-clause-begins : goal.returns-clause-begins
 returns-clause-begins c = λ known at.
-    let list = c.args.self.now.known in let here = c.index-known.result.now in
-    let same : here ≡ known = some-injective here known (sym (is_there list.items (vec_len list) c.args.i here list.ok.0 c.requires.near c.index-known.ensures) ∙ at) in
+    let here = c.known_at-known.result.now in
+    let same : here ≡ known = some-injective here known (sym c.known_at-known.ensures.at ∙ at) in
     let delta_call = c.in_ok-delta_call.delta_call in
     let started : IsStarted c.args.shape c.args.version (known_of known) delta_call = subst (λ (k : Known). IsStarted c.args.shape c.args.version (known_of k) delta_call) same c.in_ok-delta_call.ensures in
     record {

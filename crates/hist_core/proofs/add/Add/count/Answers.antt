@@ -13,10 +13,10 @@ use Rattle.segment_image.specs.Words.{word_at}
 pub fetch_add-requires : goal.fetch_add-requires
 fetch_add-requires c =
     ∥∥₁_elim c.requires.stands (hlevel props)
-    (λ (shape, known, amid, a, long, is). count_inside shape known amid c.args.self.now a c.args.words.now is c.args.at c.requires.counts long)
+    (λ (shape, known, amid, a, long, is). count_inside shape known amid c.args.self.now a c.args.words.now is c.args.at c.requires.next long)
 
 pub returns-clause-steps : goal.returns-clause-steps
 returns-clause-steps c = λ shape known amid a long is.
     subst (λ (n : Add). StepsBy shape.size c.args.self.now.version a c.args.words.now c.fetch_add.new.words (AddGives shape known amid n More a)) (sym c.counted.ensures)
-    (counts_so shape known amid c.args.self.now a c.args.words.now is c.args.at c.requires.counts c.fetch_add.new.words
+    (counts_so shape known amid c.args.self.now a c.args.words.now is c.args.at c.requires.next c.fetch_add.new.words
     (c.fetch_add.ensures ∙ ap (λ (n : ℕ). slice_set c.args.words.now c.args.at ((word_at c.args.words.now c.args.at + n) % 2 ^ 64)) c.from.ensures))

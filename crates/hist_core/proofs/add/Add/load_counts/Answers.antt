@@ -1,24 +1,14 @@
 use Rattle.std.proofs.Common.{arith, subst}
-use Rattle.hist_core.proofs.AddCall.Counts.{some_inside}
 use Rattle.hist_core.proofs.AddCall.Loads.{loads_so}
 use Rattle.hist_core.proofs.add.Add.load_counts.Goals as goal
 use Rattle.hist_core.specs.Add.{StandsAtStage}
 use Rattle.hist_core.proofs.AddCall.Packs.{small_bucket}
 
-pub overflow_add-counts : goal.overflow_add-counts
-overflow_add-counts c = let inside = some_inside c.args.self.now c.args.words.now c.requires.stands in omega (arith, inside.0, inside.1)
-
-pub offset_bounds-words-self : goal.offset_bounds-words-self
-offset_bounds-words-self c = let inside = some_inside c.args.self.now c.args.words.now c.requires.stands in omega (arith, inside.0, inside.1)
-
-pub bounds-words-self : goal.bounds-words-self
-bounds-words-self c = let inside = some_inside c.args.self.now c.args.words.now c.requires.stands in omega (arith, inside.0)
-
 pub count_in-requires : goal.count_in-requires
 count_in-requires c =
-    let small = small_bucket c.args.self.now _ (λ shape known amid a is. (subst (StandsAtStage shape known amid c.args.self.now a) c.requires.loads is.stands).0) c.requires.stands in
+    let small = small_bucket c.args.self.now _ (λ shape known amid a is. (subst (StandsAtStage shape known amid c.args.self.now a) c.requires.next is.stands).0) c.requires.stands in
     omega (arith, small)
 
 pub returns-clause-steps : goal.returns-clause-steps
 returns-clause-steps c = λ shape known amid a long is.
-    loads_so shape known amid c.args.self.now a c.args.words.now is c.requires.loads _ c.count_in.ensures
+    loads_so shape known amid c.args.self.now a c.args.words.now is c.requires.next _ c.count_in.ensures

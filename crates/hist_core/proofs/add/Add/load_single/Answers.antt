@@ -1,23 +1,13 @@
 use Rattle.std.proofs.Common.{subst, arith}
 use Rattle.hist_core.specs.Add.{StandsAtStage}
-use Rattle.hist_core.proofs.AddCall.Counts.{some_inside}
 use Rattle.hist_core.proofs.AddCall.Packs.{small_bucket, loads_single_so}
 use Rattle.hist_core.proofs.add.Add.load_single.Goals as goal
 
-pub overflow_add-word : goal.overflow_add-word
-overflow_add-word c = let inside = some_inside c.args.self.now c.args.words.now c.requires.stands in omega (arith, inside.0, inside.1)
-
-pub offset_bounds-words-self : goal.offset_bounds-words-self
-offset_bounds-words-self c = let inside = some_inside c.args.self.now c.args.words.now c.requires.stands in omega (arith, inside.0, inside.1)
-
-pub bounds-words-self : goal.bounds-words-self
-bounds-words-self c = let inside = some_inside c.args.self.now c.args.words.now c.requires.stands in omega (arith, inside.0)
-
 pub behind_single-self-requires : goal.behind_single-self-requires
 behind_single-self-requires c =
-    let small = small_bucket c.args.self.now _ (λ shape known amid a is. (subst (StandsAtStage shape known amid c.args.self.now a) c.requires.loads is.stands).0) c.requires.stands in
+    let small = small_bucket c.args.self.now _ (λ shape known amid a is. (subst (StandsAtStage shape known amid c.args.self.now a) c.requires.next is.stands).0) c.requires.stands in
     omega (arith, small)
 
 pub returns-clause-steps : goal.returns-clause-steps
 returns-clause-steps c = λ shape known amid a long is.
-    loads_single_so shape known amid c.args.self.now a c.args.words.now is c.requires.loads _ c.behind_single-self.ensures
+    loads_single_so shape known amid c.args.self.now a c.args.words.now is c.requires.next _ c.behind_single-self.ensures

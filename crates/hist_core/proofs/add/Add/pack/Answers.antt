@@ -1,26 +1,19 @@
-use Rattle.std.proofs.Common.{true, false, subst, sym, ◌∙◌, arith}
+use Rattle.std.proofs.Common.{true, false, subst, sym, ◌∙◌}
 use Rattle.std.proofs.lemmas.Bool.{eq-eqb, ne_eqb}
 use Rattle.hist_core.specs.declared.add.Add.{Add}
 use Rattle.hist_core.specs.declared.add.AddStep.TheVariants.{More}
 use Rattle.hist_core.specs.StepsBy.{StepsBy}
 use Rattle.hist_core.specs.Add.{AddGives}
-use Rattle.hist_core.proofs.AddCall.Counts.{some_inside}
 use Rattle.hist_core.proofs.AddCall.Packs.{packs_so}
 use Rattle.hist_core.proofs.add.Add.pack.Goals as goal
-
-pub overflow_add-at : goal.overflow_add-at
-overflow_add-at c = let inside = some_inside c.args.self.now c.args.words.now c.requires.stands in omega (arith, inside.0, inside.1)
-
-pub exchange-requires : goal.exchange-requires
-exchange-requires c = let inside = some_inside c.args.self.now c.args.words.now c.requires.stands in omega (arith, inside.0)
 
 pub returns-then-exchange-old-clause-steps : goal.returns-then-exchange-old-clause-steps
 returns-then-exchange-old-clause-steps c = λ shape known amid a long is.
     subst (λ (n : Add). StepsBy shape.size c.args.self.now.version a c.args.words.now c.exchange.new.words (AddGives shape known amid n More a)) (sym c.counted.ensures)
-    (packs_so shape known amid c.args.self.now a c.args.words.now is c.args.old c.args.new c.requires.packs c.exchange.new.words true
+    (packs_so shape known amid c.args.self.now a c.args.words.now is c.args.old c.args.new c.requires.next c.exchange.new.words true
     (eq-eqb _ c.args.old (sym c.exchange.ensures.found ∙ c.if-exchange-old.true)) c.exchange.ensures.words)
 
 pub returns-else-exchange-old-clause-steps : goal.returns-else-exchange-old-clause-steps
 returns-else-exchange-old-clause-steps c = λ shape known amid a long is.
-    packs_so shape known amid c.args.self.now a c.args.words.now is c.args.old c.args.new c.requires.packs c.exchange.new.words false
+    packs_so shape known amid c.args.self.now a c.args.words.now is c.args.old c.args.new c.requires.next c.exchange.new.words false
     (ne_eqb _ c.args.old (λ e. c.if-exchange-old.false (c.exchange.ensures.found ∙ e))) c.exchange.ensures.words

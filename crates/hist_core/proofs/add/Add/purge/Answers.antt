@@ -6,13 +6,13 @@ use Rattle.hist_core.proofs.add.Add.purge.Goals as goal
 
 pub overflow_add-at : goal.overflow_add-at
 overflow_add-at c = ∥∥₁_elim c.requires.stands (hlevel props) (λ (shape, known, amid, a, long, is).
-    let inside = purge_inside shape known amid c.args.self.now a c.args.words.now is c.args.at c.args.counts c.requires.purges long in
+    let inside = purge_inside shape known amid c.args.self.now a c.args.words.now is c.args.at c.args.counts c.requires.next long in
     let many = is.lawful_shape.many in omega (arith, inside, many, long))
 
 pub store-requires : goal.store-requires
 store-requires c = ∥∥₁_elim c.requires.stands (hlevel props) (λ (shape, known, amid, a, long, is).
-    let inside = purge_inside shape known amid c.args.self.now a c.args.words.now is c.args.at c.args.counts c.requires.purges long in omega (arith, inside))
+    let inside = purge_inside shape known amid c.args.self.now a c.args.words.now is c.args.at c.args.counts c.requires.next long in omega (arith, inside))
 
 pub returns-clause-steps : goal.returns-clause-steps
 returns-clause-steps c = λ shape known amid a long is.
-    purges_so shape known amid c.args.self.now a c.args.words.now is c.args.at c.args.counts c.requires.purges c.store.new.words c.store.ensures.words
+    purges_so shape known amid c.args.self.now a c.args.words.now is c.args.at c.args.counts c.requires.next c.store.new.words c.store.ensures.words

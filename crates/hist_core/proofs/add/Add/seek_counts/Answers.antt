@@ -1,20 +1,10 @@
-use Rattle.std.proofs.Common.{◌≤◌, ◌+◌, ◌*◌, sym, subst, arith}
+use Rattle.std.proofs.Common.{◌≤◌, ◌+◌, ◌*◌, sym, subst}
 use Rattle.std.proofs.Props.{props}
 use Rattle.std.proofs.Math.Logic.{∥∥₁_elim}
 use Rattle.segment_image.specs.Shape.{Dimensions}
 use Rattle.alloc_core.specs.Layout.{IsShape}
-use Rattle.hist_core.proofs.AddCall.Counts.{some_inside}
 use Rattle.hist_core.proofs.AddCall.Mounts.{seeks_none, seeks_some}
 use Rattle.hist_core.proofs.add.Add.seek_counts.Goals as goal
-
-pub overflow_add-counts : goal.overflow_add-counts
-overflow_add-counts c = let inside = some_inside c.args.self.now c.args.words.now c.requires.stands in omega (arith, inside.0, inside.1)
-
-pub offset_bounds-words-self : goal.offset_bounds-words-self
-offset_bounds-words-self c = let inside = some_inside c.args.self.now c.args.words.now c.requires.stands in omega (arith, inside.0, inside.1)
-
-pub bounds-words-self : goal.bounds-words-self
-bounds-words-self c = let inside = some_inside c.args.self.now c.args.words.now c.requires.stands in omega (arith, inside.0)
 
 pub begin_allocating-requires-clause-lawful : goal.begin_allocating-requires-clause-lawful
 begin_allocating-requires-clause-lawful c =
@@ -26,7 +16,7 @@ begin_allocating-requires-clause-one_page c = ∥∥₁_elim c.requires.stands (
 
 pub returns-then-counts-eq0-clause-steps : goal.returns-then-counts-eq0-clause-steps
 returns-then-counts-eq0-clause-steps c = λ shape known amid a long is.
-    seeks_none shape known amid c.args.self.now a c.args.words.now is c.requires.seeks c.if-counts-eq0.true c.begin_allocating.new.self c.begin_allocating.result c.begin_allocating.ensures
+    seeks_none shape known amid c.args.self.now a c.args.words.now is c.requires.next c.if-counts-eq0.true c.begin_allocating.new.self c.begin_allocating.result c.begin_allocating.ensures
 
 pub returns-clause-steps : goal.returns-clause-steps
-returns-clause-steps c = λ shape known amid a long is. seeks_some shape known amid c.args.self.now a c.args.words.now is c.requires.seeks c.if-counts-eq0.false
+returns-clause-steps c = λ shape known amid a long is. seeks_some shape known amid c.args.self.now a c.args.words.now is c.requires.next c.if-counts-eq0.false

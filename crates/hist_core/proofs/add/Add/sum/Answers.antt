@@ -2,21 +2,14 @@ use Rattle.std.specs.Int.{cast_signed, cast_unsigned, w64}
 use Rattle.std.specs.Prelude.{slice_set}
 use Rattle.segment_image.specs.Words.{word_at}
 use Rattle.std.proofs.Common.{rules, ◌%◌, ◌^◌}
-use Rattle.std.proofs.Common.{◌≡◌, ◌+◌, ℕ, arith, ap, ◌∙◌}
-use Rattle.hist_core.proofs.AddCall.Counts.{some_inside}
+use Rattle.std.proofs.Common.{◌≡◌, ◌+◌, ℕ, ap, ◌∙◌}
 use Rattle.hist_core.proofs.AddCall.Sums.{sums_so}
 use Rattle.hist_core.proofs.add.Add.sum.Goals as goal
-
-pub overflow_add-at : goal.overflow_add-at
-overflow_add-at c = let inside = some_inside c.args.self.now c.args.words.now c.requires.stands in omega (arith, inside.0, inside.1)
-
-pub fetch_add-requires : goal.fetch_add-requires
-fetch_add-requires c = let inside = some_inside c.args.self.now c.args.words.now c.requires.stands in omega (arith, inside.0)
 
 pub returns-clause-steps : goal.returns-clause-steps
 returns-clause-steps c = λ shape known amid a long is.
     let amount = c.args.self.now.amount in
     let whole : cast_signed w64 (cast_unsigned w64 amount) ≡ amount = search rules in
     let is_number : c.cast_unsigned.result ≡ cast_unsigned w64 amount = c.cast_unsigned.ensures ∙ ap (cast_unsigned w64) whole in
-    sums_so shape known amid c.args.self.now a c.args.words.now is c.requires.sums c.fetch_add.new.words
+    sums_so shape known amid c.args.self.now a c.args.words.now is c.requires.next c.fetch_add.new.words
     (c.fetch_add.ensures ∙ ap (λ (n : ℕ). slice_set c.args.words.now (c.args.self.now.histogram + 11) ((word_at c.args.words.now (c.args.self.now.histogram + 11) + n) % 2 ^ 64)) is_number)

@@ -3,14 +3,17 @@ use Rattle.std.proofs.Props.{props}
 use Rattle.std.proofs.Math.Logic.{∥∥₁_elim}
 use Rattle.hist_core.proofs.Worlds.WorldStates.{is_there}
 use Rattle.hist_core.proofs.BatchCall.Batching.{adds_there, fits_there, item_on, same_on, refused_on}
+use Rattle.hist_core.specs.Add.{IsSomeAdd}
+use Rattle.hist_core.proofs.AddCall.Counts.{lies_within}
 use Rattle.hist_core.proofs.batch.Batch.count.Goals as goal
 
 pub step-said-requires : goal.step-said-requires
 step-said-requires c =
     let batch = c.args.self.now in let x = c.index_mut-item.result.now in
-    let at = is_there batch.items.items (vec_len batch.items) batch.added x batch.items.ok.0 c.requires.near c.index_mut-item.ensures.value in record {
-      stands = ∥∥₁_elim c.requires.stands (hlevel props) (λ (shape, known, a, long, is). ∣ adds_there shape known batch a is c.requires.near x at (length c.args.words.now) long ∣₁);
-    }
+    let at = is_there batch.items.items (vec_len batch.items) batch.added x batch.items.ok.0 c.requires.near c.index_mut-item.ensures.value in
+    let stands : ∥ IsSomeAdd (length c.args.words.now) x ∥₁ = ∥∥₁_elim c.requires.stands (hlevel props) (λ (shape, known, a, long, is).
+    ∣ adds_there shape known batch a is c.requires.near x at (length c.args.words.now) long ∣₁) in
+    record { stands = stands; inside = lies_within x c.args.words.now stands }
 
 pub item_said-requires-clause-few : goal.item_said-requires-clause-few
 item_said-requires-clause-few c =

@@ -1,23 +1,23 @@
 use Rattle.std.proofs.Common.{arith, subst, w32, ℤ}
 use Rattle.std.proofs.lemmas.Int.{to_z-of_z}
-use Rattle.hist_core.specs.declared.delta_call.Stage.TheVariants.{Walking}
-use Rattle.hist_core.specs.declared.walk.Walk.TheVariants.{LoadingNext}
+use Rattle.hist_core.specs.declared.delta_call.DeltaStage.TheVariants.{Walking}
+use Rattle.hist_core.specs.declared.walk.SampleWalk.TheVariants.{LoadingNext}
 use Rattle.hist_core.specs.DeltaCall.{TakesUnits}
 use Rattle.hist_core.proofs.DeltaCall.Samples.{gives_sample, some_raising}
 use Rattle.hist_core.proofs.delta_call.DeltaCall.raise_sample.Goals as goal
 
 pub overflow_add-at : goal.overflow_add-at
-overflow_add-at c = let inside = some_raising c.args.self.now c.args.words.now c.args.at c.args.value c.args.count c.requires.raises c.requires.stands in omega (arith, inside.0, inside.1)
+overflow_add-at c = let inside = some_raising c.args.self.now c.args.words.now c.args.at c.args.value c.args.count c.requires.next c.requires.stands in omega (arith, inside.0, inside.1)
 
 pub fetch_max-mark-requires : goal.fetch_max-mark-requires
-fetch_max-mark-requires c = let inside = some_raising c.args.self.now c.args.words.now c.args.at c.args.value c.args.count c.requires.raises c.requires.stands in omega (arith, inside.0)
+fetch_max-mark-requires c = let inside = some_raising c.args.self.now c.args.words.now c.args.at c.args.value c.args.count c.requires.next c.requires.stands in omega (arith, inside.0)
 
 pub take-requires : goal.take-requires
-take-requires c = (some_raising c.args.self.now c.args.words.now c.args.at c.args.value c.args.count c.requires.raises c.requires.stands).2
+take-requires c = (some_raising c.args.self.now c.args.words.now c.args.at c.args.value c.args.count c.requires.next c.requires.stands).2
 
 pub returns-clause-steps : goal.returns-clause-steps
 returns-clause-steps c = λ shape known earlier a long order is.
-    gives_sample shape known earlier c.args.self.now a c.args.words.now is c.args.at c.args.value c.args.count c.requires.raises c.take.new.self c.take.result c.fetch_max-mark.result
+    gives_sample shape known earlier c.args.self.now a c.args.words.now is c.args.at c.args.value c.args.count c.requires.next c.take.new.self c.take.result c.fetch_max-mark.result
     (subst (λ (n : ℤ). TakesUnits n c.args.count c.fetch_max-mark.result (record c.args.self.now { stage = Walking (LoadingNext c.args.at) }) c.take.new.self c.take.result)
     (to_z-of_z w32 c.args.value c.ranges.value) c.take.ensures)
     c.fetch_max-mark.ensures.found c.fetch_max-mark.new.words c.fetch_max-mark.ensures.words

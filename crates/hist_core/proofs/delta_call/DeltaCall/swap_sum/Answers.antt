@@ -1,22 +1,15 @@
-use Rattle.std.proofs.Common.{arith, rules, sym, ap, ◌∙◌, ◌≡◌, ◌+◌, ℕ}
+use Rattle.std.proofs.Common.{rules, sym, ap, ◌∙◌, ◌≡◌, ◌+◌, ℕ}
 use Rattle.std.specs.Int.{cast_signed, cast_unsigned, w64}
 use Rattle.std.specs.Prelude.{slice_set}
 use Rattle.segment_image.specs.Words.{word_at}
-use Rattle.hist_core.proofs.DeltaCall.Going.{some_inside}
 use Rattle.hist_core.proofs.DeltaCall.Sums.{difference, swaps_so}
 use Rattle.hist_core.proofs.delta_call.DeltaCall.swap_sum.Goals as goal
-
-pub overflow_add-at : goal.overflow_add-at
-overflow_add-at c = let inside = some_inside c.args.self.now c.args.words.now c.requires.stands in omega (arith, inside.0, inside.1)
-
-pub swap-mark-requires : goal.swap-mark-requires
-swap-mark-requires c = let inside = some_inside c.args.self.now c.args.words.now c.requires.stands in omega (arith, inside.0)
 
 pub returns-clause-steps : goal.returns-clause-steps
 returns-clause-steps c = λ shape known earlier a long order is.
     let sum = c.args.sum in
     let whole : cast_signed w64 (cast_unsigned w64 sum) ≡ sum = search rules in
-    swaps_so shape known earlier c.args.self.now a c.args.words.now is sum c.requires.swaps order _
+    swaps_so shape known earlier c.args.self.now a c.args.words.now is sum c.requires.next order _
     (λ learned.
     difference sum c.cast_signed.result (cast_signed w64 (word_at c.args.words.now (known.reference + 12))) whole (search rules) (search rules)
     (c.cast_signed.ensures ∙ ap (cast_signed w64) (c.swap-mark.ensures.found ∙ ap (λ (h : ℕ). word_at c.args.words.now (h + 12)) (sym is.reference))) learned.2)

@@ -1,21 +1,14 @@
 use Rattle.std.proofs.Common.{arith}
-use Rattle.hist_core.proofs.DeltaCall.Going.{some_inside}
 use Rattle.hist_core.proofs.DeltaCall.Singles.{gives_packed, packed_room}
 use Rattle.hist_core.proofs.delta_call.DeltaCall.take_packed.Goals as goal
 
-pub overflow_add-at : goal.overflow_add-at
-overflow_add-at c = let inside = some_inside c.args.self.now c.args.words.now c.requires.stands in omega (arith, inside.0, inside.1)
-
-pub fetch_max-mark-requires : goal.fetch_max-mark-requires
-fetch_max-mark-requires c = let inside = some_inside c.args.self.now c.args.words.now c.requires.stands in omega (arith, inside.0)
-
 pub take_bucket-requires-clause-inside : goal.take_bucket-requires-clause-inside
-take_bucket-requires-clause-inside c = (packed_room c.args.self.now c.args.words.now c.args.bucket c.args.units c.requires.takes c.requires.stands).0
+take_bucket-requires-clause-inside c = (packed_room c.args.self.now c.args.words.now c.args.bucket c.args.units c.requires.next c.requires.stands).0
 
 pub take_bucket-requires-clause-room : goal.take_bucket-requires-clause-room
-take_bucket-requires-clause-room c = let room = (packed_room c.args.self.now c.args.words.now c.args.bucket c.args.units c.requires.takes c.requires.stands).1 in let ok = c.args.self.now.counts.ok.0 in omega (arith, room, ok)
+take_bucket-requires-clause-room c = let room = (packed_room c.args.self.now c.args.words.now c.args.bucket c.args.units c.requires.next c.requires.stands).1 in let ok = c.args.self.now.counts.ok.0 in omega (arith, room, ok)
 
 pub returns-clause-steps : goal.returns-clause-steps
 returns-clause-steps c = λ shape known earlier a long order is.
-    gives_packed shape known earlier c.args.self.now a c.args.words.now is c.args.bucket c.args.units c.requires.takes c.take_bucket.new.self c.take_bucket.result c.fetch_max-mark.result c.take_bucket.ensures
+    gives_packed shape known earlier c.args.self.now a c.args.words.now is c.args.bucket c.args.units c.requires.next c.take_bucket.new.self c.take_bucket.result c.fetch_max-mark.result c.take_bucket.ensures
     c.fetch_max-mark.ensures.found c.fetch_max-mark.new.words c.fetch_max-mark.ensures.words

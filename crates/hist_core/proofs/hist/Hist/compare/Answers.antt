@@ -3,7 +3,7 @@ use Rattle.std.specs.Prelude.{slice_index}
 use Rattle.std.proofs.Props.{props}
 use Rattle.std.proofs.Math.Logic.{∥∥₁_elim}
 use Rattle.hist_core.specs.declared.hist.Hist.{Hist}
-use Rattle.hist_core.specs.declared.hist.Stage.TheVariants.{Comparing}
+use Rattle.hist_core.specs.declared.hist.HistStage.TheVariants.{Comparing}
 use Rattle.hist_core.specs.Hist.{IsSomeHist, compared_place, compared_index}
 use Rattle.hist_core.proofs.Parts.Compares.{matches_so, differs_so, compare_bounds}
 use Rattle.hist_core.proofs.Parts.Sames.{matched_asks, differed_asks}

@@ -4,7 +4,7 @@ use Rattle.std.proofs.Props.{props}
 use Rattle.std.proofs.Math.Logic.{∥∥₁_elim}
 use Rattle.alloc_core.specs.Event as atomic
 use Rattle.hist_core.specs.declared.making.Making.{Making}
-use Rattle.hist_core.specs.declared.making.Stage.TheVariants.{Filling}
+use Rattle.hist_core.specs.declared.making.MakingStage.TheVariants.{Filling}
 use Rattle.hist_core.specs.Making.{IsSomeMaking, IsFilled}
 use Rattle.hist_core.proofs.Makes.Fills.{fills_so, fill_bounds}
 use Rattle.hist_core.proofs.making.Making.fill.Goals as goal

@@ -1,6 +1,6 @@
 use Rattle.std.proofs.Common.{arith, sym, subst}
 use Rattle.hist_core.specs.declared.sampling.SamplingStep.TheVariants.{More}
-use Rattle.hist_core.specs.declared.sampling.Stage.{Stage}
+use Rattle.hist_core.specs.declared.sampling.SamplingStage.{SamplingStage}
 use Rattle.hist_core.specs.StepsBy.{StepsBy}
 use Rattle.hist_core.specs.Sampling.{SamplingGives}
 use Rattle.hist_core.proofs.AddCall.Searches.{type_inside, loads_type}
@@ -18,5 +18,5 @@ bounds-words-at c = let inside = type_inside c.args.self.now c.args.words.now c.
 pub returns-clause-steps : goal.returns-clause-steps
 returns-clause-steps c = λ shape version a long is.
     let s = c.args.self.now in let words = c.args.words.now in
-    subst (λ (stage : Stage). StepsBy shape.size version a words words (SamplingGives shape (record s { stage = stage }) More a)) (sym c.behind_type-self.ensures)
+    subst (λ (stage : SamplingStage). StepsBy shape.size version a words words (SamplingGives shape (record s { stage = stage }) More a)) (sym c.behind_type-self.ensures)
     (loads_type shape version s a words long is c.args.at c.requires.loads)

@@ -1,20 +1,11 @@
-use Rattle.std.proofs.Common.{arith, refl, rules, sym, subst, ◌≡◌, ◌+◌, ℤ}
+use Rattle.std.proofs.Common.{refl, rules, sym, subst, ◌≡◌, ◌+◌, ℤ}
 use Rattle.std.specs.Int.{cast_signed, cast_unsigned, w64}
 use Rattle.segment_image.specs.Words.{word_at}
 use Rattle.hist_core.specs.declared.snapshot_call.SnapshotCallStep.TheVariants.{Done}
 use Rattle.hist_core.specs.StepsBy.{StepsBy}
 use Rattle.hist_core.specs.SnapshotCall.{SnapshotCallGives}
-use Rattle.hist_core.proofs.SnapshotCall.Snapshots.{answers_so, some_inside}
+use Rattle.hist_core.proofs.SnapshotCall.Snapshots.{answers_so}
 use Rattle.hist_core.proofs.snapshot_call.SnapshotCall.load_redundant.Goals as goal
-
-pub overflow_add-redundant : goal.overflow_add-redundant
-overflow_add-redundant c = let inside = some_inside c.args.self.now c.args.words.now c.requires.stands in omega (arith, inside.0, inside.1)
-
-pub offset_bounds-words-self : goal.offset_bounds-words-self
-offset_bounds-words-self c = let inside = some_inside c.args.self.now c.args.words.now c.requires.stands in omega (arith, inside.0, inside.1)
-
-pub bounds-words-self : goal.bounds-words-self
-bounds-words-self c = let inside = some_inside c.args.self.now c.args.words.now c.requires.stands in omega (arith, inside.0)
 
 pub returns-clause-steps : goal.returns-clause-steps
 returns-clause-steps c = λ shape known a long order is.
@@ -22,4 +13,4 @@ returns-clause-steps c = λ shape known a long order is.
     let words = c.args.words.now in
     let whole : cast_signed w64 (cast_unsigned w64 c.args.sum) ≡ c.args.sum = search rules in
     subst (λ (sum : ℤ). StepsBy shape.size snapshot_call.version a words words (SnapshotCallGives shape known snapshot_call.stage snapshot_call (Done sum (word_at words (snapshot_call.histogram + 13))) a)) (sym whole)
-    (answers_so shape known snapshot_call a words is c.args.sum c.requires.loads _ refl order)
+    (answers_so shape known snapshot_call a words is c.args.sum c.requires.next _ refl order)

@@ -1,15 +1,13 @@
-use Rattle.std.proofs.Common.{◌∙◌, ap, arith, sym, vec_len}
+use Rattle.std.proofs.Common.{◌≡◌, ◌∙◌, ap, arith, rules, sym}
+use Rattle.std.specs.Prelude.{None}
 use Rattle.hist_core.specs.Exchanging.{run_attempt}
 use Rattle.hist_core.proofs.Exchanging.{beyond}
-use Rattle.hist_core.proofs.Worlds.WorldStates.{is_there}
 use Rattle.hist_core.proofs.world.World.next_exchange.Goals as goal
 
 pub returns : goal.returns
-returns c =
-    let runs = c.args.self.now.world_state.actor_runs in let r = c.index.result.now in
-    c.next_exchange.ensures ∙ ap run_attempt (sym (is_there runs.items (vec_len runs) c.args.actor r runs.ok.0 (omega (arith, c.if-actor-len.false, c.len.ensures)) c.index.ensures))
+returns c = c.next_exchange.ensures ∙ ap run_attempt (sym c.in_ok-run.ensures.there.at)
 
-pub returns-then-actor-len : goal.returns-then-actor-len
-returns-then-actor-len c =
-    let runs = c.args.self.now.world_state.actor_runs in
-    beyond run_attempt runs.items c.args.actor (let long = runs.ok.0 in omega (arith, c.if-actor-len.true, c.len.ensures, long))
+pub returns-in_err-run : goal.returns-in_err-run
+returns-in_err-run c =
+    let none : c.from_residual.result ≡ None = search rules in let actor_runs = c.args.self.now.world_state.actor_runs in let far = c.in_err-run.ensures.none in
+    none ∙ beyond run_attempt actor_runs.items c.args.actor (let long = actor_runs.ok.0 in omega (arith, far, long))

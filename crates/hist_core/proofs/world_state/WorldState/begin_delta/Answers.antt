@@ -1,68 +1,38 @@
-use Rattle.std.proofs.Common.{◌≡◌, refl, sym, ap, subst, ◌∙◌, vec_len, arith}
-use mathlib.Core.Option.{some, some-injective}
-use lib.ListN.{get_elem?}
-use Rattle.atomic_table.proofs.Lists.{set_else}
-use Rattle.hist_core.specs.declared.actor_run.ActorRun.{ActorRun}
-use Rattle.hist_core.specs.WorldState.{IsPlaceOf}
-use Rattle.hist_core.proofs.HistCall.Asking.{as_it_stood, place_below}
-use Rattle.hist_core.proofs.Worlds.Beginnings.{as_before}
-use Rattle.hist_core.proofs.Worlds.WorldStates.{is_there, same_state, lawful_now}
+use Rattle.std.proofs.Common.{refl, rules}
+use Rattle.std.specs.Prelude.{⊤}
+use Rattle.hist_core.specs.declared.fault.WorldFault.TheVariants.{NoMemory}
 use Rattle.hist_core.proofs.DeltaCall.Deltas.{delta_begins, delta_begun}
-use Rattle.hist_core.proofs.AddCall.Opening.{on_err}
+use Rattle.hist_core.proofs.Worlds.Beginnings.{IsTurned, begun, knows_at, no_memory, not_begun, others_stay, placed}
+use Rattle.hist_core.proofs.Worlds.Faults.{err_is, the_fault}
+use Rattle.hist_core.proofs.Worlds.Scheduling.{no_fault}
 use Rattle.hist_core.proofs.world_state.WorldState.begin_delta.Goals as goal
 
-pub begin_delta-requires-clause-near : goal.begin_delta-requires-clause-near
-begin_delta-requires-clause-near c =
+pub returns-in_err-place : goal.returns-in_err-place
+returns-in_err-place c =
+    let fault = c.in_err-place.field-0.0 in
+    not_begun _ _ _ _ _ fault (the_fault _ c.known_place.result fault c.in_err-place.was c.known_place.ensures.faults) _
+    (err_is c.from_residual.result fault c.from_residual.ensures.0 (search rules))
+
+pub begin_delta-requires : goal.begin_delta-requires
+begin_delta-requires c =
     let old = c.args.self.now in let r = c.index_mut-actor_run.result.now in
-    let at = is_there old.actor_runs.items (vec_len old.actor_runs) c.args.actor r old.actor_runs.ok.0 c.requires.near c.index_mut-actor_run.ensures.value in
-    let place : IsPlaceOf old c.args.actor c.requires.known.0 c.args.place = c.requires.known.1 in
-    let x : ActorRun = place.1.0 in
-    let below = place_below x.known.items c.args.place place.0 place.1.2 in
-    let same = ap (λ (x : ActorRun). vec_len x.known) (some-injective x r (sym place.1.1 ∙ at)) in
-    let long = x.known.ok.0 in
-    omega (arith, below, same, long)
+    knows_at old c.args.actor c.args.name.now c.in_ok-place.place r c.requires.reached
+    (placed old c.args.actor c.args.name.now c.in_ok-place.place c.in_ok-place.ensures.ready r c.index_mut-actor_run.ensures.value)
 
-pub begin_delta-requires-clause-lawful : goal.begin_delta-requires-clause-lawful
-begin_delta-requires-clause-lawful c = λ known there.
+pub returns-in_err-begin_delta : goal.returns-in_err-begin_delta
+returns-in_err-begin_delta c =
     let old = c.args.self.now in let r = c.index_mut-actor_run.result.now in
-    lawful_now old c.requires.reached c.args.actor r (is_there old.actor_runs.items (vec_len old.actor_runs) c.args.actor r old.actor_runs.ok.0 c.requires.near c.index_mut-actor_run.ensures.value)
-    c.args.place known there
+    let its = placed old c.args.actor c.args.name.now c.in_ok-place.place c.in_ok-place.ensures.ready r c.index_mut-actor_run.ensures.value in
+    no_memory _ _ ⊤ _ _ (no_fault _ _ _ c.in_ok-place.ensures.faults) r its.resting _ c.begin_delta.new.self
+    (record { shape = refl; version = refl; words = refl; count = refl; actor_runs = refl }) refl c.in_err-begin_delta.ensures.fails tt _ (err_is c.from_residual-in_err-begin_delta.result NoMemory c.from_residual-in_err-begin_delta.ensures.0 (search rules))
 
-pub returns-in_err-begin_delta-clause-fault : goal.returns-in_err-begin_delta-clause-fault
-returns-in_err-begin_delta-clause-fault c =
-    let old = c.args.self.now in let r = c.index_mut-actor_run.result.now in
-    let at = is_there old.actor_runs.items (vec_len old.actor_runs) c.args.actor r old.actor_runs.ok.0 c.requires.near c.index_mut-actor_run.ensures.value in
-    on_err c.from_residual.result (as_before old _ c.args.actor r c.begin_delta.new.self at refl refl refl refl refl refl c.in_err-begin_delta.ensures.fails)
-
-pub returns-in_err-begin_delta-clause-begins : goal.returns-in_err-begin_delta-clause-begins
-returns-in_err-begin_delta-clause-begins c = λ start state reach.
-    let old = c.args.self.now in let r = c.index_mut-actor_run.result.now in
-    let at = is_there old.actor_runs.items (vec_len old.actor_runs) c.args.actor r old.actor_runs.ok.0 c.requires.near c.index_mut-actor_run.ensures.value in
-    same_state start old state reach c.args.actor r c.begin_delta.new.self _ at
-    (λ a run. as_it_stood old.shape old.version r c.begin_delta.new.self a (c.requires.rests r at) c.in_err-begin_delta.ensures.fails run) refl refl refl refl refl
-
-pub returns-in_err-begin_delta-clause-others : goal.returns-in_err-begin_delta-clause-others
-returns-in_err-begin_delta-clause-others c =
-    record { shape = refl; version = refl; count = refl; others = λ other apart. set_else c.args.self.now.actor_runs.items c.args.actor other _ apart }
-
-pub returns-clause-begins : goal.returns-clause-begins
-returns-clause-begins c =
-    let old = c.args.self.now in let r = c.index_mut-actor_run.result.now in
-    let at = is_there old.actor_runs.items (vec_len old.actor_runs) c.args.actor r old.actor_runs.ok.0 c.requires.near c.index_mut-actor_run.ensures.value in
-    let place : IsPlaceOf old c.args.actor c.requires.known.0 c.args.place = c.requires.known.1 in
-    let same = some-injective place.1.0 r (sym place.1.1 ∙ at) in
-    let known_there = subst (λ (x : ActorRun). get_elem? x.known.items c.args.place ≡ some place.0) same place.1.2 in
-    delta_begins old _ c.args.actor r c.begin_delta.new.self at c.args.place place.0 known_there (c.in_ok-begin_delta.ensures.begins place.0 known_there)
-    (c.requires.rests r at) refl refl refl refl refl
-
-pub returns-clause-others : goal.returns-clause-others
-returns-clause-others c =
-    record { shape = refl; version = refl; count = refl; others = λ other apart. set_else c.args.self.now.actor_runs.items c.args.actor other _ apart }
-
-pub returns-clause-says : goal.returns-clause-says
-returns-clause-says c = λ name place.
-    let old = c.args.self.now in let r = c.index_mut-actor_run.result.now in
-    let at = is_there old.actor_runs.items (vec_len old.actor_runs) c.args.actor r old.actor_runs.ok.0 c.requires.near c.index_mut-actor_run.ensures.value in
-    let same = some-injective place.1.0 r (sym place.1.1 ∙ at) in
-    let known_there = subst (λ (x : ActorRun). get_elem? x.known.items c.args.place ≡ some place.0) same place.1.2 in
-    (refl, delta_begun old.actor_runs.items c.args.actor r c.begin_delta.new.self at c.args.place place.0 known_there (c.in_ok-begin_delta.ensures.begins place.0 known_there) name place.2)
+pub returns : goal.returns
+returns c =
+    let old = c.args.self.now in let r = c.index_mut-actor_run.result.now in let now = c.begin_delta.new.self in
+    let its = placed old c.args.actor c.args.name.now c.in_ok-place.place c.in_ok-place.ensures.ready r c.index_mut-actor_run.ensures.value in
+    let starts = c.in_ok-begin_delta.ensures.begins its.known its.there in
+    let turned : IsTurned old _ c.args.actor now = record { shape = refl; version = refl; words = refl; count = refl; actor_runs = refl } in
+    begun _ _ _ _ _ (no_fault _ _ _ c.in_ok-place.ensures.faults) r its.resting _ _
+    (delta_begins old _ c.args.actor c.args.name.now c.in_ok-place.place r now its turned starts refl)
+    (others_stay old _ c.args.actor r now its.resting turned)
+    (delta_begun old _ c.args.actor c.args.name.now c.in_ok-place.place r now its turned starts refl)

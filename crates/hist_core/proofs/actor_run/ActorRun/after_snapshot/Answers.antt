@@ -5,7 +5,7 @@ use Rattle.hist_core.specs.declared.call.Answer.TheVariants as answer
 use Rattle.hist_core.specs.declared.call.Stepped.TheVariants.{Done}
 use Rattle.hist_core.specs.declared.snapshot_call.SnapshotCallStep.{SnapshotCallStep}
 use Rattle.hist_core.specs.ActorRun.{IsSnapshotAnnounced}
-use Rattle.hist_core.proofs.actor_run.ActorRun.snapshot_said.Goals as goal
+use Rattle.hist_core.proofs.actor_run.ActorRun.after_snapshot.Goals as goal
 
 pub returns : goal.returns
 returns c =

@@ -9,7 +9,7 @@ use Rattle.hist_core.specs.declared.delta_call.DeltaCallStep.{DeltaCallStep}
 use Rattle.hist_core.specs.declared.delta_call.DeltaCallStep.TheVariants.{Took, Done}
 use Rattle.hist_core.specs.ActorRun.{HasEndedDelta, HasPlace, IsDeltaAnnounced, LastBecomes, TakesOfOne}
 use Rattle.hist_core.proofs.DeltaCall.Deltas.{last_fits, last_split, placed}
-use Rattle.hist_core.proofs.actor_run.ActorRun.delta_said.Goals as goal
+use Rattle.hist_core.proofs.actor_run.ActorRun.after_delta.Goals as goal
 
 pub draw-requires-clause-some : goal.draw-requires-clause-some
 draw-requires-clause-some c =

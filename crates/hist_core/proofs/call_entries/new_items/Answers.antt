@@ -4,7 +4,7 @@ use Rattle.hist_core.specs.declared.add.Add.{Add}
 use Rattle.hist_core.specs.Add.{IsStarted}
 use Rattle.hist_core.specs.ActorRun.{known_of}
 use Rattle.hist_core.proofs.Worlds.Zips.{zip_more}
-use Rattle.hist_core.proofs.ghost_notes.new_items.Goals as goal
+use Rattle.hist_core.proofs.call_entries.new_items.Goals as goal
 
 pub loop-value-preserved : goal.loop-value-preserved
 loop-value-preserved c =

@@ -2,7 +2,7 @@ use Rattle.std.proofs.Common.{◌≡◌, ◌++◌, ◌∷◌, [], ℕ, ℤ, pos,
 use Rattle.std.proofs.lemmas.List.{map-append, map_more}
 use Rattle.segment_machine.specs.Entry.{item_entry, key_of}
 use Rattle.hist_core.specs.ActorRun.{entry_of as machine_entry}
-use Rattle.hist_core.proofs.ghost_notes.batch_entries.Goals as goal
+use Rattle.hist_core.proofs.call_entries.batch_entries.Goals as goal
 
 pub loop-value-preserved : goal.loop-value-preserved
 loop-value-preserved c =

@@ -3,7 +3,7 @@ use Rattle.std.specs.Prelude.{Ok, ⊤}
 use mathlib.Core.Option.{none, some}
 use Rattle.hist_core.specs.WorldState.{AddBegins, BatchBegins, DeltaBegins, HistBegins, SnapshotBegins}
 use Rattle.hist_core.specs.World.{BeginSays, BeginsCall, TakesMemory, named_by}
-use Rattle.hist_core.specs.declared.call.Call.{Call}
+use Rattle.segment_calls.specs.declared.call.Call.{Call}
 use Rattle.hist_core.proofs.world_state.WorldState.begin.Goals as goal
 
 pub returns-in-Add : goal.returns-in-Add

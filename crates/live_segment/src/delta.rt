@@ -10,7 +10,7 @@ use segment_image::layout::{BLOCK_LEAST, HEADER_WORDS};
 
 impl Segment {
     ghost use Rattle.std.specs.Prelude.{◌≡◌, ◌⊎◌, ◌+◌, ◌≤◌, [], length, vec_capacity, IfSome, MatchOption};
-    ghost use Rattle.live_segment.specs.Delta.Prelude.{AreFewKeys, AreMostKeys, AreOwn, HasTaken, HasTakenSum, HasTakenValues, HoldsKeys, known_view, KnowsRight, MayTakeSum, Sparse, Actor, IsAtRest, IsSame, IsSeated, opened_with, Setting, Standing};
+    ghost use Rattle.live_segment.specs.Delta.Prelude.{Actor, AreFewKeys, AreMostKeys, AreOwn, HasTaken, HasTakenSum, HasTakenValues, HoldsKeys, IsAtRest, IsSame, IsSeated, known_view, KnowsRight, MayTakeSum, opened_with, Setting, Sparse, Standing};
 
     // The delta takes what is new of the sum, once it has taken of all buckets or of all samples, and ends.
     fn take_sum(&self, seat: &mut Pass, histogram: &KnownHistogram) -> i64

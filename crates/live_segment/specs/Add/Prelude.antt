@@ -12,7 +12,7 @@ pub use Rattle.live_segment.specs.Add.Refusal.{IsNotCounted, IsTurnedAway, MayGi
 pub use Rattle.live_segment.specs.Add.Sample.{AnswersSample, add_checks, block_words}
 pub use Rattle.live_segment.specs.Add.SampleSearch.{FindsSample, FoundEnd, HasMadeSample, HasNotMadeSample, HasSampleOf, LacksSampleOf, ShowsValue, WalksBehind}
 pub use Rattle.live_segment.specs.Alloc.Claims.{ClaimsFor, ClaimsForAll, ClaimsForEach}
-pub use Rattle.live_segment.specs.Hist.ListSearch.{SeesWords}
+pub use Rattle.live_segment.specs.Hist.ListSearch.{HasReadWords}
 pub use Rattle.live_segment.specs.Hist.Search.{HasSearched}
 pub use Rattle.live_segment.specs.Holders.{table_of}
 pub use Rattle.live_segment.specs.Known.{KnowsRight, known_view}

@@ -13,6 +13,7 @@ use Rattle.segment_machine.specs.Made.{SawName, SawOtherName, SawSpec, SawOtherS
 use Rattle.segment_calls.specs.declared.asked.Asked.{Asked}
 use Rattle.segment_calls.specs.Asked.{IsAskedFor}
 use Rattle.segment_promises.specs.Onward.{Grows}
+use Rattle.live_segment.specs.Steps.{IsSame, Pass}
 
 -- ---- what is asked for
 
@@ -30,6 +31,11 @@ Meets at a = MayTurn a × Contains a.seen.chain at
 pub record SeesWords (old new : Actor) : Type 0 where
   pub view : new ≡ record old { seen = record old.seen { words = new.seen.words } }
   pub words : Grows old.seen.words new.seen.words
+
+-- it is the same seat, and its recorder has seen more words of published records, and otherwise is as it was
+pub record HasReadWords (old new : Pass) : Type 0 where
+  pub same : IsSame old new
+  pub view : SeesWords old.me.0 new.me.0
 
 -- it saw that a record has these words from a place on, or that one has other bytes
 abbrev pub ShowsWords : ℕ → ℕ → List ℕ → Bool → Seen → Type 0

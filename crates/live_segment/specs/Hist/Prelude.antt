@@ -3,7 +3,7 @@ pub use Rattle.list_index.specs.Firsts.{first_of}
 pub use Rattle.list_index.specs.Keys.{byte_key_of, key_of}
 pub use Rattle.live_segment.specs.Hist.Answer.{IsKnownAt, NoneHasName}
 pub use Rattle.live_segment.specs.Hist.KnownNames.{HasNames}
-pub use Rattle.live_segment.specs.Hist.ListSearch.{IsAsked, Meets, SeesWords, ShowsName, ShowsSpec, ShowsWords}
+pub use Rattle.live_segment.specs.Hist.ListSearch.{HasReadWords, IsAsked, Meets, ShowsName, ShowsSpec, ShowsWords}
 pub use Rattle.live_segment.specs.Hist.NewRecord.{HasBlock, HasFilled, Makes, SaysAsked}
 pub use Rattle.live_segment.specs.Hist.Outcome.{IsAnnouncedOf, LooksUp, MakesFor, Settles}
 pub use Rattle.live_segment.specs.Hist.Search.{FoundEnd, HasSearched, Searches, WalksAt}

@@ -2,7 +2,7 @@
 pub use Rattle.bucket_ranges.specs.Reading.{name_words}
 pub use Rattle.bucket_ranges.specs.declared.spec.Spec.TheVariants.{Sparse}
 pub use Rattle.list_index.specs.Firsts.{Holds, is_grouping}
-pub use Rattle.live_segment.specs.Hist.ListSearch.{Meets, SeesWords}
+pub use Rattle.live_segment.specs.Hist.ListSearch.{HasReadWords, Meets}
 pub use Rattle.live_segment.specs.Hist.Search.{HasSearched}
 pub use Rattle.live_segment.specs.Holders.{opened_with}
 pub use Rattle.live_segment.specs.Known.{KnowsRight, known_view}

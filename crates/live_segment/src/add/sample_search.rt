@@ -1,7 +1,7 @@
 //! How a recorder finds the sample of a value of a sparse histogram, and makes one where there is none.
 
 ghost use Rattle.std.specs.Prelude.{◌≡◌, ◌+◌, ◌≤◌, false, if◌then◌else◌, MatchResult, Some};
-ghost use Rattle.live_segment.specs.Add.Prelude.{cast_unsigned, FindsSample, first_of, FoundEnd, HasMadeSample, HasNotMadeSample, HasSampleOf, HasSearched, is_bound, Known, LacksSampleOf, MayTurn, NoRepeats, sample_key, SamplesStandBehind, SeesWords, ShowsValue, w64, WalksBehind};
+ghost use Rattle.live_segment.specs.Add.Prelude.{cast_unsigned, FindsSample, first_of, FoundEnd, HasMadeSample, HasNotMadeSample, HasReadWords, HasSampleOf, HasSearched, is_bound, Known, LacksSampleOf, MayTurn, NoRepeats, sample_key, SamplesStandBehind, ShowsValue, w64, WalksBehind};
 ghost use Rattle.segment_machine.specs.Actor.{Sparse as KnowsSparse};
 
 use crate::list::index::RecordIndex;
@@ -173,8 +173,7 @@ impl Segment {
     // Whether a record that was met is a sample of the value.
     fn shows_value(&self, seat: &mut Pass, at: u64, histogram: u64, value: i32) -> bool
         requires meets { HasMetRecord self.now at seat.old }
-        ensures same { IsSame seat.old seat.new }
-        ensures view { SeesWords seat.old.me.0 seat.new.me.0 }
+        ensures read { HasReadWords seat.old seat.new }
         ensures shown { ShowsValue histogram value at result seat.new.me.0 }
         ensures behind { SamplesStandBehind seat.old.me.0 }
         ensures once { NoRepeats seat.old.me.0.seen.chain }

@@ -18,7 +18,7 @@ pub(crate) struct Mounted {
 
 impl Segment {
     ghost use Rattle.std.specs.Prelude.{◌≡◌, ◌<◌, ◌+◌, ◌≤◌, true, false, ℕ, [], Some, length, vec_capacity};
-    ghost use Rattle.live_segment.specs.Delta.Prelude.{AreFewKeys, AreUnits, bucket_key, buckets_of, has_buckets, HasTaken, HasTakenBuckets, is_off, known_view, KnowsRight, SaysPacked, TakesAt, TakesOn, TakesWord, TookBucket, units_of_key, IsReadyFor, IsSame, opened_with, Standing};
+    ghost use Rattle.live_segment.specs.Delta.Prelude.{AreFewKeys, AreUnits, bucket_key, buckets_of, has_buckets, HasTaken, HasTakenBuckets, is_off, IsReadyFor, IsSame, known_view, KnowsRight, opened_with, SaysPacked, Standing, TakesAt, TakesOn, TakesWord, TookBucket, units_of_key};
 
     // The units of a bucket that the delta takes: its count is loaded, and where that is not 0, the mark is raised to it. The packed bucket
     // has the single mark, and its total is the count with what the single word keeps.

@@ -8,7 +8,7 @@ use segment_image::layout::{QUEUE, SAMPLE_MARK};
 
 impl Segment {
     ghost use Rattle.std.specs.Prelude.{◌≡◌, ◌+◌, ◌-◌, ◌/◌, ◌≤◌, ℕ, ℤ, List, [], length, vec_capacity};
-    ghost use Rattle.live_segment.specs.Delta.Prelude.{AreFewKeys, AreOwn, ComesTo, Contains, HasTaken, HasTakenSample, Known, known_view, KnowsRight, MayTakeSample, NoRepeats, SamplesStandBehind, Sparse, TakesAlong, TakesListed, TakesValue, TakesValues, IsReadyFor, IsSame, opened_with, Standing};
+    ghost use Rattle.live_segment.specs.Delta.Prelude.{AreFewKeys, AreOwn, ComesTo, Contains, HasTaken, HasTakenSample, IsReadyFor, IsSame, Known, known_view, KnowsRight, MayTakeSample, NoRepeats, opened_with, SamplesStandBehind, Sparse, Standing, TakesAlong, TakesListed, TakesValue, TakesValues};
     ghost use Rattle.segment_image.specs.declared.layout.TheConstants.{QUEUE};
 
     // The units of a sample that the delta takes, whose count was loaded: its mark is raised to that.

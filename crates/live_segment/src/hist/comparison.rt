@@ -1,7 +1,7 @@
 //! How a record is compared with what a `hist` asks for.
 
 ghost use Rattle.std.specs.Prelude.{◌≡◌, ◌+◌, ◌<◌, ◌≤◌, ℕ, length, true, false};
-ghost use Rattle.live_segment.specs.Hist.Prelude.{is_opener, IsAsked, IsFixed, Meets, SeesWords, ShowsName, ShowsSpec, ShowsWords};
+ghost use Rattle.live_segment.specs.Hist.Prelude.{HasReadWords, is_opener, IsAsked, IsFixed, Meets, ShowsName, ShowsSpec, ShowsWords};
 
 use crate::rule::Pass;
 use crate::segment::Segment;
@@ -17,7 +17,7 @@ const NAME: usize = HISTOGRAM_NAME - BLOCK_HEADER;
 const BUCKETS: usize = HISTOGRAM_BUCKETS - BLOCK_HEADER;
 
 impl Segment {
-    ghost use Rattle.live_segment.specs.Hist.Prelude.{HasMetRecord, IsSame, IsSeated, table_of};
+    ghost use Rattle.live_segment.specs.Hist.Prelude.{HasMetRecord, IsSeated, table_of};
 
     // Whether a record that was met has these words from a place on. They are loaded up to the first that is another one.
     fn shows(&self, seat: &mut Pass, at: u64, first: usize, words: &[u64]) -> bool
@@ -25,8 +25,7 @@ impl Segment {
         requires met { Meets at seat.old.me.0 }
         requires fixed { (i : ℕ) → i < length words.now → IsFixed seat.old.me.0 at (first + i) }
         requires room { at + first + length words.now ≤ self.now.setting.shape.size }
-        ensures same { IsSame seat.old seat.new }
-        ensures view { SeesWords seat.old.me.0 seat.new.me.0 }
+        ensures read { HasReadWords seat.old seat.new }
         ensures shown { ShowsWords at first words.now result seat.new.me.0.seen }
     {
         for (i, word) in words.iter().enumerate() {
@@ -41,8 +40,7 @@ impl Segment {
     pub(crate) fn shows_name(&self, seat: &mut Pass, at: u64, asked: &Asked) -> bool
         requires meets { HasMetRecord self.now at seat.old }
         requires asked { IsAsked self.now.setting.shape asked.now }
-        ensures same { IsSame seat.old seat.new }
-        ensures view { SeesWords seat.old.me.0 seat.new.me.0 }
+        ensures read { HasReadWords seat.old seat.new }
         ensures shown { ShowsName asked.now at result seat.new.me.0 }
     {
         if self.load_published(seat, at, BLOCK_TYPE) != TYPE_HISTOGRAM {
@@ -61,8 +59,7 @@ impl Segment {
         requires asked { IsAsked self.now.setting.shape asked.now }
         requires met { Meets at seat.old.me.0 }
         requires named { ShowsName asked.now at true seat.old.me.0 }
-        ensures same { IsSame seat.old seat.new }
-        ensures view { SeesWords seat.old.me.0 seat.new.me.0 }
+        ensures read { HasReadWords seat.old seat.new }
         ensures shown { ShowsSpec asked.now at result seat.new.me.0.seen }
     {
         if !self.shows(seat, at, HISTOGRAM_KIND, &asked.payload[..BUCKETS]) {

@@ -1,7 +1,7 @@
 //! The keys by which a recorder finds the records that it met along the list.
 
 ghost use Rattle.std.specs.Prelude.{◌≡◌, ◌+◌, ◌≤◌, ℕ, Some};
-ghost use Rattle.live_segment.specs.List.Prelude.{cast_unsigned, Meets, name_words, SeesWords, w64, word_seen};
+ghost use Rattle.live_segment.specs.List.Prelude.{cast_unsigned, HasReadWords, Meets, name_words, w64, word_seen};
 ghost use Rattle.segment_image.specs.declared.layout.TheConstants.{BLOCK_TYPE, HISTOGRAM_NAME, HISTOGRAM_NAME_LENGTH, TYPE_HISTOGRAM};
 ghost use Rattle.live_segment.specs.List.Keys.{sample_key as key_of_sample};
 
@@ -33,7 +33,7 @@ pub(crate) fn value_key(histogram: u64, value: i32) -> u64
 }
 
 impl Segment {
-    ghost use Rattle.live_segment.specs.List.Prelude.{HasLooked, HasMetRecord, IsSame, IsSeated, Name, Sample, seen_key};
+    ghost use Rattle.live_segment.specs.List.Prelude.{HasLooked, HasMetRecord, IsSeated, Name, Sample, seen_key};
 
     // The key of the name of a histogram's record that was met.
     fn name_key_of(&self, seat: &mut Pass, at: u64, words: u64) -> u64
@@ -42,8 +42,7 @@ impl Segment {
         requires tag { word_seen seat.old.me.0.seen.words (at + BLOCK_TYPE) ≡ Some TYPE_HISTOGRAM }
         requires length { (len : ℕ) × (word_seen seat.old.me.0.seen.words (at + HISTOGRAM_NAME_LENGTH) ≡ Some len) × (words ≡ name_words len) }
         requires room { at + HISTOGRAM_NAME + words ≤ self.now.setting.shape.size }
-        ensures same { IsSame seat.old seat.new }
-        ensures view { SeesWords seat.old.me.0 seat.new.me.0 }
+        ensures read { HasReadWords seat.old seat.new }
         ensures looked { HasLooked Name seat.new.me.0.seen at }
         ensures key { seen_key Name seat.new.me.0.seen at ≡ Some result }
     {
@@ -57,8 +56,7 @@ impl Segment {
     // The key of a record that was met: that of its name, where it is one of a histogram.
     fn name_key_at(&self, seat: &mut Pass, at: u64) -> Option<u64>
         requires meets { HasMetRecord self.now at seat.old }
-        ensures same { IsSame seat.old seat.new }
-        ensures view { SeesWords seat.old.me.0 seat.new.me.0 }
+        ensures read { HasReadWords seat.old seat.new }
         ensures looked { HasLooked Name seat.new.me.0.seen at }
         ensures key { seen_key Name seat.new.me.0.seen at ≡ result }
     {
@@ -72,8 +70,7 @@ impl Segment {
     // The key of a record that was met: that of its histogram and its value, where it is a sample.
     fn sample_key_at(&self, seat: &mut Pass, at: u64) -> Option<u64>
         requires meets { HasMetRecord self.now at seat.old }
-        ensures same { IsSame seat.old seat.new }
-        ensures view { SeesWords seat.old.me.0 seat.new.me.0 }
+        ensures read { HasReadWords seat.old seat.new }
         ensures looked { HasLooked Sample seat.new.me.0.seen at }
         ensures key { seen_key Sample seat.new.me.0.seen at ≡ result }
     {
@@ -88,8 +85,7 @@ impl Segment {
     // The key of a record that was met, where it is one of those that have a key.
     pub(crate) fn key_at(&self, seat: &mut Pass, kind: KeyKind, at: u64) -> Option<u64>
         requires meets { HasMetRecord self.now at seat.old }
-        ensures same { IsSame seat.old seat.new }
-        ensures view { SeesWords seat.old.me.0 seat.new.me.0 }
+        ensures read { HasReadWords seat.old seat.new }
         ensures looked { HasLooked kind seat.new.me.0.seen at }
         ensures key { seen_key kind seat.new.me.0.seen at ≡ result }
     {

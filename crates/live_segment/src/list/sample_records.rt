@@ -1,7 +1,7 @@
 //! How a recorder meets the samples of a sparse histogram along the list.
 
 ghost use Rattle.std.specs.Prelude.{◌≡◌, ◌+◌, ◌≤◌, true, false, length, IfSome};
-ghost use Rattle.live_segment.specs.List.Prelude.{CountsSample, known_view, KnowsAlone, Meets, NoRepeats, SamplesAreFew, SamplesStandBehind, SeesSample, SeesWords, ShowsSample, Sparse};
+ghost use Rattle.live_segment.specs.List.Prelude.{CountsSample, HasReadWords, known_view, KnowsAlone, Meets, NoRepeats, SamplesAreFew, SamplesStandBehind, SeesSample, ShowsSample, Sparse};
 
 use crate::list::index::RecordIndex;
 use crate::recorder::KnownHistogram;
@@ -16,8 +16,7 @@ impl Segment {
     // The value of a record that was met, where it is a sample of a histogram.
     pub(crate) fn shows_sample(&self, seat: &mut Pass, at: u64, histogram: u64) -> Option<i32>
         requires meets { HasMetRecord self.now at seat.old }
-        ensures same { IsSame seat.old seat.new }
-        ensures view { SeesWords seat.old.me.0 seat.new.me.0 }
+        ensures read { HasReadWords seat.old seat.new }
         ensures shown { ShowsSample histogram at result seat.new.me.0 }
         ensures behind { SamplesStandBehind seat.old.me.0 }
         ensures once { NoRepeats seat.old.me.0.seen.chain }

@@ -25,7 +25,7 @@ fn add_packed(version: u64, word: u64, totals: &mut [(i32, u64)])
 
 impl Segment {
     ghost use Rattle.std.specs.Prelude.{◌≡◌, map, true};
-    ghost use Rattle.live_segment.specs.Snapshot.Prelude.{blank_totals, AreFewKeys, buckets_of, has_buckets, HasSeenBuckets, HasSnapshot, IsReadyFor, IsSame, known_view, opened_with, Standing};
+    ghost use Rattle.live_segment.specs.Snapshot.Prelude.{AreFewKeys, blank_totals, buckets_of, has_buckets, HasSeenBuckets, HasSnapshot, IsReadyFor, IsSame, known_view, opened_with, Standing};
 
     // The units of all buckets of a histogram stand beside their keys.
     fn look_at_buckets(

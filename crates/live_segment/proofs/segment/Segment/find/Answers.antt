@@ -50,14 +50,14 @@ shows_name-requires-clause-meets c =
 pub shows_spec-requires-clause-seat : goal.shows_spec-requires-clause-seat
 shows_spec-requires-clause-seat c =
     let was = c.loop-from.invariant in
-    seat_on c.shows_name.new.seat was.seated (same_on c.loop-from.seat c.load_next-next.new.seat c.shows_name.new.seat c.load_next-next.ensures.step.same c.shows_name.ensures.same)
+    seat_on c.shows_name.new.seat was.seated (same_on c.loop-from.seat c.load_next-next.new.seat c.shows_name.new.seat c.load_next-next.ensures.step.same c.shows_name.ensures.read.same)
     (searched_on _ _ _ (searched was.seated was.walks _ _ c.load_next-next.ensures.step)
-    (sees_searched _ _ c.shows_name.ensures.view))
+    (sees_searched _ _ c.shows_name.ensures.read.view))
 
 pub shows_spec-requires-clause-met : goal.shows_spec-requires-clause-met
 shows_spec-requires-clause-met c =
     let was = c.loop-from.invariant in
-    meets_still c.load_next-next.result _ _ c.shows_name.ensures.view
+    meets_still c.load_next-next.result _ _ c.shows_name.ensures.read.view
     (meets was.seated was.walks _ _ c.load_next-next.ensures.step c.if-next-eq-QUEUE.false)
 
 pub shows_spec-requires-clause-named : goal.shows_spec-requires-clause-named
@@ -69,29 +69,29 @@ returns-then-shows_spec-clause-view c =
     let was = c.loop-from.invariant in
     searched_on _ _ _ was.searched
     (searched_on _ _ _ (searched was.seated was.walks _ _ c.load_next-next.ensures.step)
-    (sees_searched _ _ (sees_on _ _ _ c.shows_name.ensures.view c.shows_spec.ensures.view)))
+    (sees_searched _ _ (sees_on _ _ _ c.shows_name.ensures.read.view c.shows_spec.ensures.read.view)))
 
 pub returns-else-shows_spec-clause-view : goal.returns-else-shows_spec-clause-view
 returns-else-shows_spec-clause-view c =
     let was = c.loop-from.invariant in
     searched_on _ _ _ was.searched
     (searched_on _ _ _ (searched was.seated was.walks _ _ c.load_next-next.ensures.step)
-    (sees_searched _ _ (sees_on _ _ _ c.shows_name.ensures.view c.shows_spec.ensures.view)))
+    (sees_searched _ _ (sees_on _ _ _ c.shows_name.ensures.read.view c.shows_spec.ensures.read.view)))
 
 pub returns-then-shows_spec-clause-outcome : goal.returns-then-shows_spec-clause-outcome
 returns-then-shows_spec-clause-outcome c =
     let was = c.loop-from.invariant in
     met_spec c.requires.asked was.seated was.walks _ _ c.load_next-next.ensures.step c.if-next-eq-QUEUE.false
-    _ c.shows_name.ensures.view (subst (λ (b : Bool). ShowsName c.args.asked.now c.load_next-next.result b c.shows_name.new.seat.me.0) c.if-shows_name.true c.shows_name.ensures.shown)
-    _ c.shows_spec.ensures.view
+    _ c.shows_name.ensures.read.view (subst (λ (b : Bool). ShowsName c.args.asked.now c.load_next-next.result b c.shows_name.new.seat.me.0) c.if-shows_name.true c.shows_name.ensures.shown)
+    _ c.shows_spec.ensures.read.view
     (subst (λ (b : Bool). ShowsSpec c.args.asked.now c.load_next-next.result b c.shows_spec.new.seat.me.0.seen) c.if-shows_spec.true c.shows_spec.ensures.shown)
 
 pub returns-else-shows_spec-clause-outcome : goal.returns-else-shows_spec-clause-outcome
 returns-else-shows_spec-clause-outcome c =
     let was = c.loop-from.invariant in
     met_other c.requires.asked was.seated was.walks _ _ c.load_next-next.ensures.step c.if-next-eq-QUEUE.false
-    _ c.shows_name.ensures.view (subst (λ (b : Bool). ShowsName c.args.asked.now c.load_next-next.result b c.shows_name.new.seat.me.0) c.if-shows_name.true c.shows_name.ensures.shown)
-    _ c.shows_spec.ensures.view
+    _ c.shows_name.ensures.read.view (subst (λ (b : Bool). ShowsName c.args.asked.now c.load_next-next.result b c.shows_name.new.seat.me.0) c.if-shows_name.true c.shows_name.ensures.shown)
+    _ c.shows_spec.ensures.read.view
     (subst (λ (b : Bool). ShowsSpec c.args.asked.now c.load_next-next.result b c.shows_spec.new.seat.me.0.seen) c.if-shows_spec.false c.shows_spec.ensures.shown)
 
 pub loop-from-smaller : goal.loop-from-smaller
@@ -99,18 +99,18 @@ loop-from-smaller c =
     let was = c.loop-from.invariant in
     let (further, most) =
     comes_further was.seated was.walks _ _ c.load_next-next.ensures.step c.if-next-eq-QUEUE.false
-    _ c.shows_name.ensures.view c.load_next-next.ensures.once in omega (arith, further, most)
+    _ c.shows_name.ensures.read.view c.load_next-next.ensures.once in omega (arith, further, most)
 
 pub loop-from-preserved : goal.loop-from-preserved
 loop-from-preserved c =
     let was = c.loop-from.invariant in record {
-      seated = seat_on c.shows_name.new.seat was.seated (same_on c.loop-from.seat c.load_next-next.new.seat c.shows_name.new.seat c.load_next-next.ensures.step.same c.shows_name.ensures.same)
-          (searched_on _ _ _ (searched was.seated was.walks _ _ c.load_next-next.ensures.step) (sees_searched _ _ c.shows_name.ensures.view));
-      same = same_on c.args.seat.now c.loop-from.seat c.shows_name.new.seat was.same (same_on c.loop-from.seat c.load_next-next.new.seat c.shows_name.new.seat c.load_next-next.ensures.step.same c.shows_name.ensures.same);
+      seated = seat_on c.shows_name.new.seat was.seated (same_on c.loop-from.seat c.load_next-next.new.seat c.shows_name.new.seat c.load_next-next.ensures.step.same c.shows_name.ensures.read.same)
+          (searched_on _ _ _ (searched was.seated was.walks _ _ c.load_next-next.ensures.step) (sees_searched _ _ c.shows_name.ensures.read.view));
+      same = same_on c.args.seat.now c.loop-from.seat c.shows_name.new.seat was.same (same_on c.loop-from.seat c.load_next-next.new.seat c.shows_name.new.seat c.load_next-next.ensures.step.same c.shows_name.ensures.read.same);
       searched = searched_on _ _ _ was.searched
           (searched_on _ _ _ (searched was.seated was.walks _ _ c.load_next-next.ensures.step)
-          (sees_searched _ _ c.shows_name.ensures.view));
+          (sees_searched _ _ c.shows_name.ensures.read.view));
       walks = walks_then was.seated was.walks _ _ c.load_next-next.ensures.step c.if-next-eq-QUEUE.false
-          _ c.shows_name.ensures.view
+          _ c.shows_name.ensures.read.view
           (subst (λ (b : Bool). ShowsName c.args.asked.now c.load_next-next.result b c.shows_name.new.seat.me.0) c.if-shows_name.false c.shows_name.ensures.shown);
     }

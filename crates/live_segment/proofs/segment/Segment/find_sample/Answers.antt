@@ -52,12 +52,12 @@ shows_value-requires-clause-meets c =
 pub returns-then-shows_value-clause-view : goal.returns-then-shows_value-clause-view
 returns-then-shows_value-clause-view c =
     let was = c.loop-from.invariant in
-    searched_on _ _ _ was.searched (searched_on _ _ _ (searched was.seated (was.walks c.args.value (sym (to_z-of_z w32 c.args.value c.ranges.value))) _ _ c.load_next-next.ensures.step) (sees_searched _ _ c.shows_value.ensures.view))
+    searched_on _ _ _ was.searched (searched_on _ _ _ (searched was.seated (was.walks c.args.value (sym (to_z-of_z w32 c.args.value c.ranges.value))) _ _ c.load_next-next.ensures.step) (sees_searched _ _ c.shows_value.ensures.read.view))
 
 pub returns-then-shows_value-clause-outcome : goal.returns-then-shows_value-clause-outcome
 returns-then-shows_value-clause-outcome c =
     let was = c.loop-from.invariant in
-    met_first was.seated (was.walks c.args.value (sym (to_z-of_z w32 c.args.value c.ranges.value))) _ _ c.load_next-next.ensures.step c.if-next-eq-QUEUE.false _ c.shows_value.ensures.view
+    met_first was.seated (was.walks c.args.value (sym (to_z-of_z w32 c.args.value c.ranges.value))) _ _ c.load_next-next.ensures.step c.if-next-eq-QUEUE.false _ c.shows_value.ensures.read.view
     (subst (λ (b : Bool). ShowsValue c.args.histogram c.args.value c.load_next-next.result b c.shows_value.new.seat.me.0) c.if-shows_value.true
     (subst (λ (v : ℤ). ShowsValue c.args.histogram v c.load_next-next.result c.shows_value.result c.shows_value.new.seat.me.0) (to_z-of_z w32 c.args.value c.ranges.value) c.shows_value.ensures.shown))
 
@@ -65,19 +65,19 @@ pub loop-from-smaller : goal.loop-from-smaller
 loop-from-smaller c =
     let was = c.loop-from.invariant in
     let (further, most) = comes_further was.seated (was.walks c.args.value (sym (to_z-of_z w32 c.args.value c.ranges.value))).way _ _ c.load_next-next.ensures.step c.if-next-eq-QUEUE.false
-    _ c.shows_value.ensures.view c.load_next-next.ensures.once in omega (arith, further, most)
+    _ c.shows_value.ensures.read.view c.load_next-next.ensures.once in omega (arith, further, most)
 
 pub loop-from-preserved : goal.loop-from-preserved
 loop-from-preserved c =
     let was = c.loop-from.invariant in
     record {
-      seated = seat_on c.shows_value.new.seat was.seated (same_on c.loop-from.seat c.load_next-next.new.seat c.shows_value.new.seat c.load_next-next.ensures.step.same c.shows_value.ensures.same)
-          (searched_on _ _ _ (searched was.seated (was.walks c.args.value (sym (to_z-of_z w32 c.args.value c.ranges.value))) _ _ c.load_next-next.ensures.step) (sees_searched _ _ c.shows_value.ensures.view));
+      seated = seat_on c.shows_value.new.seat was.seated (same_on c.loop-from.seat c.load_next-next.new.seat c.shows_value.new.seat c.load_next-next.ensures.step.same c.shows_value.ensures.read.same)
+          (searched_on _ _ _ (searched was.seated (was.walks c.args.value (sym (to_z-of_z w32 c.args.value c.ranges.value))) _ _ c.load_next-next.ensures.step) (sees_searched _ _ c.shows_value.ensures.read.view));
       same = same_on c.args.seat.now c.loop-from.seat c.shows_value.new.seat was.same
-          (same_on c.loop-from.seat c.load_next-next.new.seat c.shows_value.new.seat c.load_next-next.ensures.step.same c.shows_value.ensures.same);
-      searched = searched_on _ _ _ was.searched (searched_on _ _ _ (searched was.seated (was.walks c.args.value (sym (to_z-of_z w32 c.args.value c.ranges.value))) _ _ c.load_next-next.ensures.step) (sees_searched _ _ c.shows_value.ensures.view));
+          (same_on c.loop-from.seat c.load_next-next.new.seat c.shows_value.new.seat c.load_next-next.ensures.step.same c.shows_value.ensures.read.same);
+      searched = searched_on _ _ _ was.searched (searched_on _ _ _ (searched was.seated (was.walks c.args.value (sym (to_z-of_z w32 c.args.value c.ranges.value))) _ _ c.load_next-next.ensures.step) (sees_searched _ _ c.shows_value.ensures.read.view));
       walks = λ value same. subst (λ (v : ℤ). WalksBehind c.args.histogram v c.load_next-next.result c.shows_value.new.seat.me.0) (sym (same ∙ to_z-of_z w32 c.args.value c.ranges.value))
-          (walks_then was.seated (was.walks c.args.value (sym (to_z-of_z w32 c.args.value c.ranges.value))) _ _ c.load_next-next.ensures.step c.if-next-eq-QUEUE.false _ c.shows_value.ensures.view
+          (walks_then was.seated (was.walks c.args.value (sym (to_z-of_z w32 c.args.value c.ranges.value))) _ _ c.load_next-next.ensures.step c.if-next-eq-QUEUE.false _ c.shows_value.ensures.read.view
           (subst (λ (b : Bool). ShowsValue c.args.histogram c.args.value c.load_next-next.result b c.shows_value.new.seat.me.0) c.if-shows_value.false
           (subst (λ (v : ℤ). ShowsValue c.args.histogram v c.load_next-next.result c.shows_value.result c.shows_value.new.seat.me.0) (to_z-of_z w32 c.args.value c.ranges.value) c.shows_value.ensures.shown)));
     }

@@ -43,12 +43,12 @@ pub returns-then-not-enter-clause-view : goal.returns-then-not-enter-clause-view
 returns-then-not-enter-clause-view c =
     let was = c.loop-kind.invariant in
     searched_on _ _ _ was.searched
-    (searched_on _ _ _ (searched was.seated (way _ was.seated was.free was.indexed) _ _ c.load_next-next.ensures.step) (sees_searched _ _ c.key_at-key.ensures.view))
+    (searched_on _ _ _ (searched was.seated (way _ was.seated was.free was.indexed) _ _ c.load_next-next.ensures.step) (sees_searched _ _ c.key_at-key.ensures.read.view))
 
 pub returns-then-not-enter-clause-indexed : goal.returns-then-not-enter-clause-indexed
 returns-then-not-enter-clause-indexed c =
     let was = c.loop-kind.invariant in
-    not_entered _ was.seated was.free was.indexed _ _ c.load_next-next.ensures.step c.if-next-eq-QUEUE.false c.key_at-key.new.seat.me.0 c.key_at-key.ensures.view
+    not_entered _ was.seated was.free was.indexed _ _ c.load_next-next.ensures.step c.if-next-eq-QUEUE.false c.key_at-key.new.seat.me.0 c.key_at-key.ensures.read.view
     c.key_at-key.ensures.looked c.key_at-key.result c.key_at-key.ensures.key c.enter.new.self c.if-not-enter.ensures
 
 pub loop-kind-smaller : goal.loop-kind-smaller
@@ -56,7 +56,7 @@ loop-kind-smaller c =
     let was = c.loop-kind.invariant in
     let (further, most) =
     comes_further was.seated (way _ was.seated was.free was.indexed) _ _ c.load_next-next.ensures.step c.if-next-eq-QUEUE.false
-    _ c.key_at-key.ensures.view c.load_next-next.ensures.once in
+    _ c.key_at-key.ensures.read.view c.load_next-next.ensures.once in
     subst (λ (n : ℕ). c.args.self.now.setting.shape.size - last_of c.key_at-key.new.seat.me.0.seen.chain n
     < c.args.self.now.setting.shape.size - last_of c.loop-kind.seat.me.0.seen.chain c.loop-kind.index.place.at)
     (sym (ap (λ (p : WalkPlace). p.at) c.if-not-enter.ensures.0)) (omega (arith, further, most))
@@ -64,13 +64,13 @@ loop-kind-smaller c =
 pub loop-kind-preserved : goal.loop-kind-preserved
 loop-kind-preserved c =
     let was = c.loop-kind.invariant in
-    let on = searched_on _ _ _ (searched was.seated (way _ was.seated was.free was.indexed) _ _ c.load_next-next.ensures.step) (sees_searched _ _ c.key_at-key.ensures.view) in
-    let same = same_on c.loop-kind.seat c.load_next-next.new.seat c.key_at-key.new.seat c.load_next-next.ensures.step.same c.key_at-key.ensures.same in record {
+    let on = searched_on _ _ _ (searched was.seated (way _ was.seated was.free was.indexed) _ _ c.load_next-next.ensures.step) (sees_searched _ _ c.key_at-key.ensures.read.view) in
+    let same = same_on c.loop-kind.seat c.load_next-next.new.seat c.key_at-key.new.seat c.load_next-next.ensures.step.same c.key_at-key.ensures.read.same in record {
       seated = seat_on c.key_at-key.new.seat was.seated same on;
       same = same_on c.args.seat.now c.loop-kind.seat c.key_at-key.new.seat was.same same;
       searched = searched_on _ _ _ was.searched on;
       free = (way_on was.seated (way _ was.seated was.free was.indexed) _ _ c.load_next-next.ensures.step c.if-next-eq-QUEUE.false
-          c.key_at-key.new.seat.me.0 c.key_at-key.ensures.view).free;
-      indexed = entered _ was.seated was.free was.indexed _ _ c.load_next-next.ensures.step c.if-next-eq-QUEUE.false c.key_at-key.new.seat.me.0 c.key_at-key.ensures.view
+          c.key_at-key.new.seat.me.0 c.key_at-key.ensures.read.view).free;
+      indexed = entered _ was.seated was.free was.indexed _ _ c.load_next-next.ensures.step c.if-next-eq-QUEUE.false c.key_at-key.new.seat.me.0 c.key_at-key.ensures.read.view
           c.key_at-key.ensures.looked c.key_at-key.result c.key_at-key.ensures.key c.enter.new.self c.if-not-enter.ensures;
     }

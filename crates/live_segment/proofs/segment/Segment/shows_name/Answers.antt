@@ -42,4 +42,4 @@ returns-clause-shown c =
     shown_name c.args.self.now c.args.seat.now c.load_published.new.seat c.load_published-2.new.seat c.args.asked.now c.args.at _ _ c.requires.asked c.requires.meets.seated.of
     c.load_published.ensures c.if-load_published-ne-TYPE_HISTOGRAM.false c.load_published-2.ensures
     (c.if-load_published-len.false ∙ (c.len.ensures ∙ c.args.asked.now.name.ok.0))
-    c.shows.new.seat c.shows.ensures.view c.shows.result _ (letters_are _ c.args.asked.now c.requires.asked c.deref.result.now c.deref.ensures.value) c.shows.ensures.shown
+    c.shows.new.seat c.shows.ensures.read.view c.shows.result _ (letters_are _ c.args.asked.now c.requires.asked c.deref.result.now c.deref.ensures.value) c.shows.ensures.shown

@@ -3,8 +3,8 @@ pub mod Adopted
 pub mod Allowed
 pub mod Callers
 pub mod GhostNoted
-pub mod Lent
 pub mod Openings
 pub mod Proceeding
+pub mod Recorders
 pub mod Seated
 pub mod Standing

@@ -13,7 +13,8 @@ pub mod Fault
 pub mod Rule
 pub mod Adopted
 pub mod Known
-pub mod Desk
+pub mod RecorderState
+pub mod Answers
 pub mod Standing
 pub mod Steps
 pub mod Names

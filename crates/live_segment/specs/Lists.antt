@@ -6,5 +6,4 @@ pub mod Walks
 pub mod Keyed
 pub mod Indexed
 pub mod Records
-pub mod Fresh
 pub mod Cursors

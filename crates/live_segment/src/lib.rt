@@ -46,7 +46,7 @@ pub use bucket_ranges::{CustomValues, Spec, SpecFault};
 pub use fault::OpenFault;
 pub use image_adoption::{AdoptFault, MAX_CURSORS};
 pub use opener::Opener;
-pub use recorder::{Desk, Hist, Recorder};
+pub use recorder::{Hist, Recorder, RecorderState};
 pub use segment::Segment;
 pub use segment_calls::{BatchRefusal, Delta, Refusal, Snapshot};
 pub use segment_image::Image;

@@ -1,5 +1,5 @@
 -- A segment is closed.
 pub mod Copies
 pub mod Joined
-pub mod Stopped
 pub mod Onward
+pub mod Stopped

@@ -11,7 +11,7 @@ use Rattle.segment_machine.specs.Actor.{known_at}
 use Rattle.segment_calls.specs.Asked.{IsTooLarge}
 use Rattle.live_segment.specs.declared.recorder.KnownHistogram.{KnownHistogram}
 use Rattle.live_segment.specs.declared.rule.Setting.{Setting}
-use Rattle.live_segment.specs.Counts.Adding.{block_words}
+use Rattle.live_segment.specs.Add.Sample.{block_words}
 
 -- as its view has one
 abbrev pub known_view : KnownHistogram → Known

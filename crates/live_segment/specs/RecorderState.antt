@@ -11,13 +11,13 @@ use Rattle.segment_machine.specs.Actor.{has_buckets}
 use Rattle.segment_promises.specs.Onward.{Grows}
 use Rattle.live_segment.specs.declared.recorder.Hist.{Hist}
 use Rattle.live_segment.specs.declared.recorder.state.RecorderState.{RecorderState}
-use Rattle.live_segment.specs.declared.indexing.KeyKind.TheVariants.{Name, Sample}
+use Rattle.live_segment.specs.declared.list.index.KeyKind.TheVariants.{Name, Sample}
 use Rattle.live_segment.specs.declared.segment.Segment.{Segment}
 use Rattle.live_segment.specs.Known.{known_view, KnowsRight}
-use Rattle.live_segment.specs.Lists.Indexed.{IsIndexed}
-use Rattle.live_segment.specs.Lists.Records.{HasWalked}
-use Rattle.live_segment.specs.Lists.Walks.{HasCome}
-use Rattle.live_segment.specs.Names.Naming.{HasNames}
+use Rattle.live_segment.specs.List.Index.{IsIndexed}
+use Rattle.live_segment.specs.List.Records.{HasWalked}
+use Rattle.live_segment.specs.List.Walk.{HasCome}
+use Rattle.live_segment.specs.Hist.KnownNames.{HasNames}
 use Rattle.live_segment.specs.Seated.{IsSeated}
 use Rattle.live_segment.specs.Steps.{IsAtRest}
 

@@ -1,4 +1,8 @@
 -- What steps tell whoever makes them.
+pub mod Answering
+pub mod GhostNotes
+pub mod Listing
+pub mod Taking
 use Rattle.std.specs.Prelude.{◌≡◌, Bool, true, false, nat_lt, ◌==◌, ℕ, ◌+◌, ◌≤◌, List, [], ◌∷◌}
 use mathlib.Core.Option.{some}
 use Rattle.atomic_table.specs.Table.{Me, Step}

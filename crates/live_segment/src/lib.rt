@@ -10,36 +10,19 @@
 //! `IsMadeWith`, `RecordsInto`, `SharesSegment`, `Knows`, `HasCursor`. `proofs/Seating/Callers.antt` has the lemmas on them.
 #![tactic(auto)]
 
-mod adding;
+mod add;
 mod adopting;
-mod allocation;
-mod batching;
-mod bucket_counting;
-mod comparing;
-mod costs;
-mod deltas;
+mod alloc;
+mod delta;
 mod fault;
-mod finding;
-mod finishing;
-mod indexing;
-mod looking;
-mod making;
-mod mounting;
-mod naming;
+mod hist;
+mod list;
 mod opener;
-mod publishing;
-mod record_keys;
 mod recorder;
-mod records;
 mod rule;
-mod samples;
-mod sampling;
-mod searching;
 mod seats;
 mod segment;
-mod settling;
-mod shared_cursors;
-mod snapshots;
+mod snapshot;
 mod steps;
 
 pub use bucket_ranges::{CustomValues, Spec, SpecFault};

@@ -38,7 +38,7 @@ pub(crate) struct KnownHistogram {
 }
 
 impl KnownHistogram {
-    ghost use Rattle.live_segment.specs.Names.Searching.{asked_at};
+    ghost use Rattle.live_segment.specs.Hist.Search.{asked_at};
 
     // What was asked for, with its record.
     pub(crate) fn of(asked: Asked, reference: u64) -> KnownHistogram
@@ -87,9 +87,9 @@ fn has_too_many_values(spec: &Spec) -> bool
 impl<'a> Recorder<'a> {
     ghost use Rattle.std.specs.Prelude.{◌↔◌, ◌<◌, ◌≤◌, ◌++◌, IsTrue, IfOk, MatchOption, length};
     ghost use Rattle.segment_machine.specs.declared.actor.Known.{Known};
-    ghost use Rattle.live_segment.specs.Lists.Allocation.{spoiled};
-    ghost use Rattle.live_segment.specs.Lists.Cursors.{AnswersNext, gift};
-    ghost use Rattle.live_segment.specs.Readings.Values.{AreMostKeys};
+    ghost use Rattle.live_segment.specs.Alloc.Allocation.{spoiled};
+    ghost use Rattle.live_segment.specs.List.SharedCursors.{AnswersNext, gift};
+    ghost use Rattle.live_segment.specs.List.Values.{AreMostKeys};
     ghost use Rattle.live_segment.specs.Holders.{view_of_recorder};
     ghost use Rattle.live_segment.specs.RecorderState.{IsNamed, IsSameRecorder, Knows, KnowsOn, Means};
     ghost use Rattle.live_segment.specs.Answers.{AnswersAdd, AnswersBatch, AnswersDelta, AnswersFirst, AnswersFresh, AnswersFront, AnswersHist, AnswersList, AnswersRecords, AnswersSnapshot, ClaimsAdd, ClaimsBatch, ClaimsHist, ShowsEnough, ShowsFewKeys, ShowsUnits, TakesEnough, TakesFewKeys};

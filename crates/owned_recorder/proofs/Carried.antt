@@ -11,7 +11,7 @@ use Rattle.live_segment.specs.declared.recorder.desk.Desk.{Desk}
 use Rattle.live_segment.specs.declared.segment.Segment.{Segment}
 use Rattle.live_segment.specs.Desk.{desk_of, IsDeskAt}
 use Rattle.live_segment.specs.Holders.{IsSameIfBucketed as IsSameRecorderIfBucketed}
-use Rattle.live_segment.specs.Lists.Fresh.{GivesFresh}
+use Rattle.live_segment.specs.List.Fresh.{GivesFresh}
 use Rattle.owned_recorder.specs.Answers.{IsSameIfBucketed}
 
 -- what holds of the desks of a recorder, before and behind a call, holds of the desk before it and the one behind it

@@ -17,18 +17,18 @@ use Rattle.segment_machine.specs.Actor.{has_buckets}
 use Rattle.live_segment.specs.declared.recorder.Hist.{Hist}
 use Rattle.live_segment.specs.declared.recorder.desk.Desk.{Desk}
 use Rattle.live_segment.specs.declared.segment.Segment.{Segment}
-use Rattle.live_segment.specs.Claims.{ClaimsFor, ClaimsForAll, NamesAtMostOne}
-use Rattle.live_segment.specs.Counts.Adding.{add_checks, AnswersSample}
-use Rattle.live_segment.specs.Counts.Batching.{batch_checks, IsBatched, IsCutShort}
+use Rattle.live_segment.specs.Alloc.Claims.{ClaimsFor, ClaimsForAll, NamesAtMostOne}
+use Rattle.live_segment.specs.Add.Sample.{add_checks, AnswersSample}
+use Rattle.live_segment.specs.Add.Batch.{batch_checks, IsBatched, IsCutShort}
 use Rattle.live_segment.specs.declared.segment.Segment.{Segment}
 use Rattle.live_segment.specs.Holders.{opened_with}
-use Rattle.live_segment.specs.Lists.Records.{HasWalked}
-use Rattle.live_segment.specs.Names.Hist.{IsAnsweredWith, IsRefusedWith}
-use Rattle.live_segment.specs.Names.Searching.{HasSearched}
-use Rattle.live_segment.specs.Readings.Deltas.{AreUnits, HasTaken}
-use Rattle.live_segment.specs.Readings.Owed.{HasEnough, TookEnough}
-use Rattle.live_segment.specs.Readings.Snapshots.{HasSnapshot}
-use Rattle.live_segment.specs.Readings.Values.{AreFewKeys}
+use Rattle.live_segment.specs.List.Records.{HasWalked}
+use Rattle.live_segment.specs.Hist.Answer.{IsAnsweredWith, IsRefusedWith}
+use Rattle.live_segment.specs.Hist.Search.{HasSearched}
+use Rattle.live_segment.specs.Delta.Outcome.{AreUnits, HasTaken}
+use Rattle.live_segment.specs.Delta.Owed.{HasEnough, TookEnough}
+use Rattle.live_segment.specs.Snapshot.Outcome.{HasSnapshot}
+use Rattle.live_segment.specs.List.Values.{AreFewKeys}
 use Rattle.live_segment.specs.Standing.{HasFirst, HasList, HasShared}
 use Rattle.owned_recorder.specs.Desks.{GivesFresh, Means, view_of_desk}
 

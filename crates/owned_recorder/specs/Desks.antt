@@ -6,7 +6,7 @@ use Rattle.segment_machine.specs.declared.actor.Known.{Known}
 use Rattle.segment_promises.specs.Onward.{Grows}
 use Rattle.live_segment.specs.declared.recorder.Hist.{Hist}
 use Rattle.live_segment.specs.declared.recorder.desk.Desk.{Desk}
-use Rattle.live_segment.specs.Lists.Records.{HasWalked}
+use Rattle.live_segment.specs.List.Records.{HasWalked}
 pub use Rattle.live_segment.specs.Desk.{view_of_desk, IsSameDesk, Knows, Means}
 
 -- it knows a histogram, which is of the name and has the same spec

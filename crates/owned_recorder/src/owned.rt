@@ -4,11 +4,11 @@ ghost use Rattle.std.specs.Prelude.{◌≡◌, ◌↔◌, ◌<◌, ◌≤◌, �
 ghost use Rattle.std.specs.Arc.{arc_value};
 ghost use Rattle.std.proofs.Props.{props};
 ghost use Rattle.live_segment.specs.Desk.{IsDeskAt};
-ghost use Rattle.live_segment.specs.Lists.Allocation.{spoiled};
-ghost use Rattle.live_segment.specs.Lists.Cursors.{AnswersNext, gift};
+ghost use Rattle.live_segment.specs.Alloc.Allocation.{spoiled};
+ghost use Rattle.live_segment.specs.List.SharedCursors.{AnswersNext, gift};
 ghost use Rattle.owned_recorder.specs.Answers.{AnswersAdd, AnswersBatch, AnswersDelta, AnswersFirst, AnswersFresh, AnswersFront, AnswersHist, AnswersList, AnswersRecords, AnswersSnapshot, ClaimsAdd, ClaimsBatch, ClaimsHist, ShowsEnough, ShowsFewKeys, ShowsUnits, TakesEnough, TakesFewKeys};
 ghost use Rattle.owned_recorder.specs.Desks.{IsNamed, IsSameDesk, Knows, KnowsOn, Means, view_of_desk};
-ghost use Rattle.live_segment.specs.Readings.Values.{AreMostKeys};
+ghost use Rattle.live_segment.specs.List.Values.{AreMostKeys};
 ghost use Rattle.segment_machine.specs.declared.actor.Known.{Known};
 
 use bucket_ranges::Spec;

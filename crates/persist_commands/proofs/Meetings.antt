@@ -16,8 +16,8 @@ use Rattle.segment_invariant.proofs.Lists.Elements.{contains_at}
 use Rattle.segment_invariant.proofs.Lists.Maps.{contains_map}
 use Rattle.live_segment.specs.declared.recorder.Hist.{Hist}
 use Rattle.live_segment.specs.declared.recorder.Recorder.{Recorder}
-use Rattle.live_segment.specs.Counts.Adding.{AnswersSample}
-use Rattle.live_segment.specs.Names.Hist.{IsAnsweredWith, IsNamed, KnowsOn}
+use Rattle.live_segment.specs.Add.Sample.{AnswersSample}
+use Rattle.live_segment.specs.Hist.Answer.{IsAnsweredWith, IsNamed, KnowsOn}
 use Rattle.live_segment.specs.Holders.{IsSameRecorder, Means, view_of_recorder}
 use Rattle.segment_promises.specs.Onward.{Grows}
 use Rattle.live_segment.proofs.Seating.Callers.{knows_on, knows_same, same_names}

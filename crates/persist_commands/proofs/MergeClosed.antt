@@ -15,9 +15,9 @@ use Rattle.live_segment.specs.declared.rule.Setting.{Setting}
 use Rattle.live_segment.specs.declared.segment.Segment.{Segment}
 use Rattle.live_segment.specs.Closing.{IsImageOf, ReadsJoined, ReadsStopped}
 use Rattle.live_segment.specs.Holders.{opened_with}
-use Rattle.live_segment.specs.Names.Hist.{KnowsNone}
+use Rattle.live_segment.specs.Hist.Answer.{KnowsNone}
 use Rattle.live_segment.specs.Rule.{first_view}
-use Rattle.live_segment.specs.Names.Searching.{SawOther}
+use Rattle.live_segment.specs.Hist.Search.{SawOther}
 
 -- the opener that gave all units to a recorder and has joined it
 abbrev pub closing : Setting → Actor → Actor

@@ -24,12 +24,12 @@ use Rattle.segment_calls.specs.declared.refusal.Refusal.{Refusal}
 use Rattle.segment_calls.specs.declared.refusal.Refusal.TheVariants as refusal
 use Rattle.segment_calls.specs.Asked.{IsAskedFor, IsRefusedFor, IsTooLarge}
 use Rattle.live_segment.specs.declared.rule.Setting.{Setting}
-use Rattle.live_segment.specs.Counts.Adding.{HasNoRoom, block_words}
-use Rattle.live_segment.specs.Names.Hist.{IsRefusedWith, KnowsNamed, KnowsNone}
-use Rattle.live_segment.specs.Names.Searching.{SawOther}
+use Rattle.live_segment.specs.Add.Sample.{HasNoRoom, block_words}
+use Rattle.live_segment.specs.Hist.Answer.{IsRefusedWith, KnowsNamed, KnowsNone}
+use Rattle.live_segment.specs.Hist.Search.{SawOther}
 use Rattle.segment_invariant.proofs.Lists.Elements.{contains_at}
 use Rattle.live_segment.specs.Rule.{first_view}
-use Rattle.live_segment.specs.Names.Settling.{IsRefusedBy}
+use Rattle.live_segment.specs.Hist.Outcome.{IsRefusedBy}
 use Rattle.segment_merge.specs.declared.merging.MergeReport.{MergeReport}
 use Rattle.segment_merge.specs.declared.merging.MergeStop.{MergeStop}
 use Rattle.segment_merge.specs.Merge.{HasCause, IsMerged, IsOneOf, IsStopped, cost_left, items_left}

@@ -29,9 +29,9 @@ use Rattle.segment_calls.specs.declared.asked.Asked.{Asked}
 use Rattle.segment_calls.specs.declared.refusal.Refusal.{Refusal}
 use Rattle.segment_calls.specs.Asked.{IsAskedFor}
 use Rattle.live_segment.specs.declared.rule.Setting.{Setting}
-use Rattle.live_segment.specs.Counts.Adding.{block_words}
+use Rattle.live_segment.specs.Add.Sample.{block_words}
 use Rattle.live_segment.specs.Closing.{IsJoinedReading}
-use Rattle.live_segment.specs.Names.Hist.{KnowsNone}
+use Rattle.live_segment.specs.Hist.Answer.{KnowsNone}
 use Rattle.live_segment.specs.Rule.{first_view}
 use Rattle.segment_merge.specs.Merge.{IsMerged, IsOneOf, KnowsAs, StopsAt, items_left}
 use Rattle.segment_calls.specs.Blocks.{count_words, record_words}

@@ -16,9 +16,9 @@ use Rattle.segment_machine.specs.Entry.{sample_entry}
 use Rattle.segment_machine.specs.Seats.{joined, shifted, shifted_taken}
 use Rattle.segment_invariant.proofs.Consistency.Keys.{same_boundaries}
 use Rattle.live_segment.specs.declared.recorder.Hist.{Hist}
-use Rattle.live_segment.specs.Counts.Adding.{IsAdded}
-use Rattle.live_segment.specs.Readings.Deltas.{HasTaken, taken_as}
-use Rattle.live_segment.specs.Names.Hist.{IsAnsweredWith}
+use Rattle.live_segment.specs.Add.Sample.{IsAdded}
+use Rattle.live_segment.specs.Delta.Outcome.{HasTaken, taken_as}
+use Rattle.live_segment.specs.Hist.Answer.{IsAnsweredWith}
 use Rattle.persist_report_core.specs.declared.script.CallKind.TheVariants as kind
 use Rattle.persist_report_core.specs.Script.{HistRecord}
 use Rattle.bucket_ranges.specs.Ranges.{boundaries_of}

@@ -11,7 +11,7 @@ use Rattle.segment_machine.specs.Actor.{log_of, made_of, outstanding_of}
 use Rattle.segment_machine.specs.Seats.{joined}
 use Rattle.live_segment.specs.declared.recorder.Hist.{Hist}
 use Rattle.live_segment.specs.declared.recorder.Recorder.{Recorder}
-use Rattle.live_segment.specs.Names.Hist.{IsNamed}
+use Rattle.live_segment.specs.Hist.Answer.{IsNamed}
 use Rattle.live_segment.specs.Holders.{view_of_recorder}
 use Rattle.persist_report_core.specs.declared.script.Script as code
 use Rattle.persist_report_core.specs.Script.{HistRecord, Script, script_view}

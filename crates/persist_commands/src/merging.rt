@@ -3,7 +3,7 @@
 ghost use Rattle.std.specs.Prelude.{◌≡◌, ◌≢◌, ◌↔◌, ◌⊎◌, ◌++◌, ℕ, List, true, false, OnOk, IfOk, IfErr, IfSome, IsErrOf};
 ghost use Rattle.std.specs.Io.KnownBytes.{Appends};
 ghost use Rattle.image_reader.specs.Views.{reading_view};
-ghost use Rattle.live_segment.specs.Names.Hist.{KnowsOn};
+ghost use Rattle.live_segment.specs.Hist.Answer.{KnowsOn};
 ghost use Rattle.live_segment.specs.Holders.{view_of_recorder};
 ghost use Rattle.persist_commands.specs.MergeFiles.{AreMerged, HasStopped, IsImage, IsImageOf, IsMergeFault, IsStopOf, fault_of_stop};
 ghost use Rattle.persist_report_core.specs.Report.{IsCausedBy};

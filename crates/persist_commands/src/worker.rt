@@ -1,7 +1,7 @@
 //! One worker of a run.
 
 ghost use Rattle.std.specs.Prelude.{◌≡◌, ◌<◌, ◌==◌, ◌%◌, List, [], ◌∷◌, length, map, replicate, slice_get, Some, None, IfOk, IfErr, OnOk};
-ghost use Rattle.live_segment.specs.Names.Hist.{IsNamed};
+ghost use Rattle.live_segment.specs.Hist.Answer.{IsNamed};
 ghost use Rattle.live_segment.specs.Holders.{IsSameRecorder, Knows, view_of_recorder};
 ghost use Rattle.persist_report_core.specs.Script.{HistRecord, hist_view, script_view};
 ghost use Rattle.persist_commands.specs.Entries.{deeds_in, deeds_of, deeds_of_call};

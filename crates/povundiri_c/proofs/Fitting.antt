@@ -8,7 +8,7 @@ use Rattle.segment_calls.specs.declared.refusal.Refusal.{Refusal}
 use Rattle.segment_invariant.proofs.Lists.Elements.{there_below}
 use Rattle.segment_machine.specs.declared.actor.Known.{Known}
 use Rattle.live_segment.specs.declared.recorder.Hist.{Hist}
-use Rattle.live_segment.specs.Readings.Values.{AreFewKeys}
+use Rattle.live_segment.specs.List.Values.{AreFewKeys}
 use Rattle.owned_recorder.specs.Answers.{ShowsFewKeys, TakesFewKeys}
 use Rattle.owned_recorder.specs.Desks.{Means, view_of_desk}
 use Rattle.owned_recorder.specs.declared.owned.OwnedRecorder.{OwnedRecorder}

@@ -10,9 +10,9 @@ use Rattle.segment_calls.specs.declared.answer.Snapshot.{Snapshot}
 use Rattle.segment_calls.specs.declared.refusal.BatchRefusal.{BatchRefusal}
 use Rattle.segment_calls.specs.declared.refusal.Refusal.{Refusal}
 use Rattle.segment_machine.specs.declared.actor.Known.{Known}
-use Rattle.live_segment.specs.Lists.Allocation.{spoiled}
-use Rattle.live_segment.specs.Lists.Cursors.{AnswersNext, gift}
-use Rattle.live_segment.specs.Readings.Values.{AreMostKeys}
+use Rattle.live_segment.specs.Alloc.Allocation.{spoiled}
+use Rattle.live_segment.specs.List.SharedCursors.{AnswersNext, gift}
+use Rattle.live_segment.specs.List.Values.{AreMostKeys}
 use Rattle.live_segment.specs.declared.recorder.Hist.{Hist}
 use Rattle.owned_recorder.specs.Answers.{AnswersAdd, AnswersBatch, AnswersDelta, AnswersFirst, AnswersFront, AnswersHist, AnswersList, AnswersRecords, AnswersSnapshot, ClaimsAdd, ClaimsBatch, ClaimsHist, ShowsEnough, ShowsFewKeys, ShowsUnits, TakesEnough, TakesFewKeys}
 use Rattle.owned_recorder.specs.Desks.{IsNamed, IsSameDesk, KnowsOn, Means, view_of_desk}

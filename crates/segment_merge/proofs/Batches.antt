@@ -17,8 +17,8 @@ use Rattle.segment_calls.specs.declared.refusal.Refusal.{Refusal}
 use Rattle.segment_calls.specs.declared.refusal.Refusal.TheVariants.{NoUnits}
 use Rattle.live_segment.specs.declared.recorder.Hist.{Hist}
 use Rattle.live_segment.specs.declared.recorder.Recorder.{Recorder}
-use Rattle.live_segment.specs.Counts.Batching.{IsBatched, IsCutShort, batch_checks}
-use Rattle.live_segment.specs.Names.Hist.{IsAnsweredWith, IsNamed, KnowsOn}
+use Rattle.live_segment.specs.Add.Batch.{IsBatched, IsCutShort, batch_checks}
+use Rattle.live_segment.specs.Hist.Answer.{IsAnsweredWith, IsNamed, KnowsOn}
 use Rattle.live_segment.specs.Holders.{IsSameRecorder, Means, view_of_recorder}
 use Rattle.live_segment.proofs.Seating.Callers.{same_names}
 use Rattle.segment_promises.proofs.Growing.{grows_on, grows_same}

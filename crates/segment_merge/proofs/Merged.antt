@@ -22,12 +22,12 @@ use Rattle.segment_calls.specs.declared.asked.Asked.{Asked}
 use Rattle.segment_calls.specs.declared.refusal.Refusal.{Refusal}
 use Rattle.segment_calls.specs.declared.refusal.Refusal.TheVariants.{NoUnits}
 use Rattle.live_segment.specs.declared.recorder.Hist.{Hist}
-use Rattle.live_segment.specs.Counts.Batching.{IsBatched, IsCutShort}
-use Rattle.live_segment.specs.Names.Hist.{IsAnsweredWith, IsRefusedWith}
+use Rattle.live_segment.specs.Add.Batch.{IsBatched, IsCutShort}
+use Rattle.live_segment.specs.Hist.Answer.{IsAnsweredWith, IsRefusedWith}
 use Rattle.segment_promises.specs.Onward.{DoesOn, GoesOn, SeesOn}
-use Rattle.live_segment.specs.Names.Searching.{asked_at}
-use Rattle.live_segment.specs.Names.Settling.{ComesToKnow, LooksAround}
-use Rattle.live_segment.proofs.Seating.Proceeding.{does_not, does_on, sees_not, sees_on}
+use Rattle.live_segment.specs.Hist.Search.{asked_at}
+use Rattle.live_segment.specs.Hist.Outcome.{ComesToKnow, LooksAround}
+use Rattle.live_segment.proofs.lemmas.Steps.Proceeding.{does_not, does_on, sees_not, sees_on}
 use Rattle.segment_merge.specs.Merge.{GoesOnWith, HasFound, IsMerged, IsOneOf, KnowsAs, StopsAt, cost_left, entries_left, items_left, sum_left}
 
 -- ---- going on

@@ -14,8 +14,8 @@ use Rattle.segment_machine.specs.Entry.{batch_cost, batch_entries, item_entry}
 use Rattle.segment_calls.specs.declared.refusal.Refusal.{Refusal}
 use Rattle.segment_calls.specs.declared.refusal.Refusal.TheVariants.{NoUnits}
 use Rattle.live_segment.specs.declared.recorder.Hist.{Hist}
-use Rattle.live_segment.specs.Counts.Batching.{IsCutShort}
-use Rattle.live_segment.specs.Names.Hist.{IsAnsweredWith, IsRefusedWith, KnowsNamed}
+use Rattle.live_segment.specs.Add.Batch.{IsCutShort}
+use Rattle.live_segment.specs.Hist.Answer.{IsAnsweredWith, IsRefusedWith, KnowsNamed}
 use Rattle.segment_promises.specs.Onward.{DoesOn, SeesOn}
 use Rattle.segment_merge.specs.declared.merging.MergeReport.{MergeReport}
 use Rattle.segment_merge.specs.declared.merging.MergeStop.{MergeStop}

@@ -4,7 +4,7 @@ ghost use Rattle.std.specs.Prelude.{◌≡◌, ◌+◌, ◌≤◌, ◌<◌, ◌�
 ghost use Rattle.bucket_ranges.specs.Tally.{units_of};
 ghost use Rattle.segment_calls.specs.declared.refusal.Refusal.TheVariants.{NoMemory};
 ghost use Rattle.image_reader.specs.Views.{histogram_view, reading_view};
-ghost use Rattle.live_segment.specs.Names.Hist.{KnowsOn};
+ghost use Rattle.live_segment.specs.Hist.Answer.{KnowsOn};
 ghost use Rattle.live_segment.specs.Holders.{view_of_recorder};
 ghost use Rattle.segment_merge.specs.Merge.{IsMerged, Reports, StopsAt, units_left};
 ghost use Rattle.segment_merge.specs.Parts.{ArePartsOf, IsPartOf, Merges};

@@ -8,10 +8,10 @@ ghost use Rattle.live_segment.specs.RecorderState.{IsRecorderAt};
 ghost use Rattle.live_segment.specs.declared.segment.Segment.{Segment as SomeSegment};
 
 use super::{Hist, KnownHistogram, has_too_many_values};
-use crate::costs::{price, units_of_items};
-use crate::indexing::{KeyKind, RecordIndex};
-use crate::naming::KnownNames;
-use crate::records::WalkPlace;
+use crate::add::cost::{price, units_of_items};
+use crate::hist::known_names::KnownNames;
+use crate::list::index::{KeyKind, RecordIndex};
+use crate::list::walk::WalkPlace;
 use crate::rule::Pass;
 use crate::segment::Segment;
 use bucket_ranges::{Spec, SpecFault};
@@ -40,10 +40,10 @@ pub struct RecorderState {
 impl RecorderState {
     ghost use Rattle.std.specs.Prelude.{◌↔◌, ◌<◌, ◌≤◌, ◌++◌, IsTrue, IfOk, MatchOption, MatchResult, length};
     ghost use Rattle.segment_machine.specs.declared.actor.Known.{Known};
-    ghost use Rattle.live_segment.specs.Lists.Allocation.{spoiled};
-    ghost use Rattle.live_segment.specs.Lists.Cursors.{AnswersNext, gift};
-    ghost use Rattle.live_segment.specs.Names.Hist.{IsAnsweredWith, IsKnownAt, IsRefusedWith, NoneHasName};
-    ghost use Rattle.live_segment.specs.Readings.Values.{AreMostKeys};
+    ghost use Rattle.live_segment.specs.Alloc.Allocation.{spoiled};
+    ghost use Rattle.live_segment.specs.List.SharedCursors.{AnswersNext, gift};
+    ghost use Rattle.live_segment.specs.Hist.Answer.{IsAnsweredWith, IsKnownAt, IsRefusedWith, NoneHasName};
+    ghost use Rattle.live_segment.specs.List.Values.{AreMostKeys};
     ghost use Rattle.live_segment.specs.RecorderState.{given_fresh, IsNamed, IsSameRecorder, Knows, KnowsOn, Means, view_of_state};
     ghost use Rattle.live_segment.specs.Answers.{AnswersAdd, AnswersBatch, AnswersDelta, AnswersFirst, AnswersFresh, AnswersFront, AnswersHist, AnswersList, AnswersRecords, AnswersSnapshot, ClaimsAdd, ClaimsBatch, ClaimsHist, ShowsEnough, ShowsFewKeys, ShowsUnits, TakesEnough, TakesFewKeys};
 

@@ -4,7 +4,7 @@ ghost use Rattle.std.specs.Prelude.{ℕ, ◌+◌, ◌≤◌};
 ghost use Rattle.segment_machine.specs.Event.{allocating_event};
 ghost use Rattle.segment_machine.specs.Allocating.{load_flags, load_free, exchange_free, store_size, store_cookie, store_type, set_corrupt, set_full};
 ghost use Rattle.live_segment.specs.Steps.{Does, DoesAt, Raises};
-ghost use Rattle.live_segment.specs.Counts.Refusing.{LoadsFlags, SetsFull};
+ghost use Rattle.live_segment.specs.Add.Refusal.{LoadsFlags, SetsFull};
 
 use crate::rule::{Announcement, Pass};
 use crate::segment::Segment;
@@ -67,8 +67,8 @@ impl Segment {
     ghost use Rattle.live_segment.specs.Holders.{MayStep};
     ghost use Rattle.std.specs.Prelude.{[]};
     ghost use Rattle.live_segment.specs.Steps.{Stepped};
-    ghost use Rattle.live_segment.specs.Counts.Refusing.{MayGiveUp, flags_notes, refusing_notes};
-    ghost use Rattle.live_segment.specs.GhostNotes.{Noted};
+    ghost use Rattle.live_segment.specs.Add.Refusal.{MayGiveUp, flags_notes, refusing_notes};
+    ghost use Rattle.live_segment.specs.Steps.GhostNotes.{Noted};
 
     // A call that counts is refused where the corrupt flag is among them.
     pub(crate) fn load_flags(&self, seat: &mut Pass) -> u64

@@ -4,7 +4,7 @@ ghost use Rattle.std.specs.Prelude.{◌≡◌, false, map};
 ghost use Rattle.segment_machine.specs.Actor.{is_opener};
 ghost use Rattle.segment_machine.specs.Note.{declines};
 ghost use Rattle.segment_promises.specs.Follows.{MayNoteAll, noted_by};
-ghost use Rattle.live_segment.specs.Names.Answering.{Declines, HasKnown, Knows, MayKnow};
+ghost use Rattle.live_segment.specs.Steps.Answering.{Declines, HasKnown, Knows, MayKnow};
 
 use crate::rule::{Announcement, Pass};
 use crate::segment::Segment;

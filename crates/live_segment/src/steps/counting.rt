@@ -4,8 +4,8 @@ ghost use Rattle.std.specs.Prelude.{◌+◌, ◌<◌, ◌≤◌};
 ghost use Rattle.segment_machine.specs.Event.{counting_event};
 ghost use Rattle.segment_machine.specs.Counting.{load_counts, add_redundant};
 ghost use Rattle.live_segment.specs.Steps.{DoesAt};
-ghost use Rattle.live_segment.specs.Counts.Mounting.{LoadsCounts, SawNoNone};
-ghost use Rattle.live_segment.specs.GhostNotes.{AddsToCount, AddsToSample, AddsAmount, AddsSum, AddsLast};
+ghost use Rattle.live_segment.specs.Add.Counts.{LoadsCounts, SawNoNone};
+ghost use Rattle.live_segment.specs.Steps.GhostNotes.{AddsToCount, AddsToSample, AddsAmount, AddsSum, AddsLast};
 
 use crate::rule::{Announcement, Pass};
 use crate::segment::Segment;
@@ -61,7 +61,7 @@ impl Segment {
     ghost use Rattle.segment_machine.specs.Note.{ends};
     ghost use Rattle.live_segment.specs.Holders.{MayStep, table_of};
     ghost use Rattle.live_segment.specs.Steps.{Stepped};
-    ghost use Rattle.live_segment.specs.GhostNotes.{MayAddTo, HasAddedTo, MaySample, HasSampled, MayAmount, HasAmount, MaySum, HasSum, MayDo, Noted};
+    ghost use Rattle.live_segment.specs.Steps.GhostNotes.{MayAddTo, HasAddedTo, MaySample, HasSampled, MayAmount, HasAmount, MaySum, HasSum, MayDo, Noted};
 
     pub(crate) fn load_counts(&self, seat: &mut Pass, histogram: u64) -> u64
         requires may { MayStep self.now seat.old (counting_event (load_counts histogram)) }

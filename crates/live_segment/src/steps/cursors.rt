@@ -3,7 +3,7 @@
 ghost use Rattle.std.specs.Prelude.{◌≡◌, ◌<◌, length};
 ghost use Rattle.segment_machine.specs.Event.{cursor_event};
 ghost use Rattle.segment_machine.specs.Cursors.{load_cursor, move_cursor};
-ghost use Rattle.live_segment.specs.Lists.Cursors.{LoadsCursor, MovesCursor};
+ghost use Rattle.live_segment.specs.List.SharedCursors.{LoadsCursor, MovesCursor};
 
 use crate::rule::{Announcement, Pass};
 use crate::segment::Segment;
@@ -26,7 +26,7 @@ impl Play<Announcement, Actor> for MoveCursor {
 impl Segment {
     ghost use Rattle.live_segment.specs.Holders.{MayStep};
     ghost use Rattle.live_segment.specs.Steps.{Stepped};
-    ghost use Rattle.live_segment.specs.Lists.Cursors.{StandsBehind};
+    ghost use Rattle.live_segment.specs.List.SharedCursors.{StandsBehind};
 
     pub(crate) fn load_cursor(&self, seat: &mut Pass, cursor: usize) -> u64
         requires may { MayStep self.now seat.old (cursor_event (load_cursor cursor)) }

@@ -6,7 +6,7 @@ ghost use Rattle.segment_machine.specs.Event.{packing_event};
 ghost use Rattle.segment_machine.specs.Form.{off_word};
 ghost use Rattle.segment_machine.specs.Packing.{load_single, mount_counts, purge_block, disable, add_moved};
 ghost use Rattle.live_segment.specs.Steps.{DoesAt};
-ghost use Rattle.live_segment.specs.GhostNotes.{Packs, AddsMoved};
+ghost use Rattle.live_segment.specs.Steps.GhostNotes.{Packs, AddsMoved};
 
 use crate::rule::{Announcement, Pass};
 use crate::segment::Segment;
@@ -56,7 +56,7 @@ impl Segment {
     ghost use Rattle.segment_machine.specs.declared.place.Place.TheVariants.{Moving};
     ghost use Rattle.live_segment.specs.Holders.{MayStep, table_of};
     ghost use Rattle.live_segment.specs.Steps.{Stepped};
-    ghost use Rattle.live_segment.specs.GhostNotes.{MayPack, HasPacked};
+    ghost use Rattle.live_segment.specs.Steps.GhostNotes.{MayPack, HasPacked};
 
     pub(crate) fn load_single(&self, seat: &mut Pass, histogram: u64) -> u64
         requires may { MayStep self.now seat.old (packing_event (load_single histogram)) }

@@ -7,7 +7,7 @@ ghost use Rattle.segment_machine.specs.Event.{allocating_event, publishing_event
 ghost use Rattle.segment_machine.specs.Allocating.{store_payload};
 ghost use Rattle.segment_machine.specs.Publishing.{store_own_next, load_tail, move_tail};
 ghost use Rattle.live_segment.specs.Steps.{Does, DoesAt};
-ghost use Rattle.live_segment.specs.Lists.Listing.{StoresPayload, Links};
+ghost use Rattle.live_segment.specs.Steps.Listing.{StoresPayload, Links};
 
 use crate::rule::{Announcement, Pass};
 use crate::segment::Segment;
@@ -51,7 +51,7 @@ impl Segment {
     ghost use Rattle.segment_machine.specs.Actor.{AreApart};
     ghost use Rattle.live_segment.specs.Holders.{MayStep, table_of};
     ghost use Rattle.live_segment.specs.Steps.{Stepped};
-    ghost use Rattle.live_segment.specs.Lists.Listing.{MayLink, HasLinked};
+    ghost use Rattle.live_segment.specs.Steps.Listing.{MayLink, HasLinked};
 
     // It says too that no two blocks of the recorder begin at one word.
     pub(crate) fn store_payload(&self, seat: &mut Pass, at: u64, index: usize, value: u64)

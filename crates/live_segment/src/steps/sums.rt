@@ -3,7 +3,7 @@
 ghost use Rattle.std.specs.Prelude.{◌+◌, ◌<◌, ◌≤◌};
 ghost use Rattle.segment_machine.specs.Event.{taking_event};
 ghost use Rattle.segment_machine.specs.Taking.{load_count, load_sum};
-ghost use Rattle.live_segment.specs.Readings.Samples.{LoadsCountOfSample, LoadsSum, SamplesAreFew, SamplesStandBehind};
+ghost use Rattle.live_segment.specs.List.SampleRecords.{LoadsCountOfSample, LoadsSum, SamplesAreFew, SamplesStandBehind};
 ghost use Rattle.segment_promises.specs.Values.{NoRepeats};
 
 use crate::rule::{Announcement, Pass};

@@ -7,7 +7,7 @@ ghost use Rattle.segment_machine.specs.Packing.{load_single};
 ghost use Rattle.segment_machine.specs.Walking.{load_next, load_published};
 ghost use Rattle.segment_machine.specs.Taking.{load_count, raise_mark, raise_single_mark, swap_sum_mark, load_redundant};
 ghost use Rattle.live_segment.specs.Steps.{DoesAt};
-ghost use Rattle.live_segment.specs.Readings.Taking.{Answers, BeginsDelta, BeginsSnapshot, EndsDelta};
+ghost use Rattle.live_segment.specs.Steps.Taking.{Answers, BeginsDelta, BeginsSnapshot, EndsDelta};
 
 use crate::rule::{Announcement, Pass};
 use crate::segment::Segment;
@@ -96,8 +96,8 @@ impl Segment {
     ghost use Rattle.segment_machine.specs.Note.{has_taken, looks};
     ghost use Rattle.live_segment.specs.Holders.{MayStep, table_of};
     ghost use Rattle.live_segment.specs.Steps.{Stepped};
-    ghost use Rattle.live_segment.specs.Readings.Taking.{MayAnswer, HasAnswered, MayBeginDelta, HasBegunDelta};
-    ghost use Rattle.live_segment.specs.GhostNotes.{MayDo, Noted};
+    ghost use Rattle.live_segment.specs.Steps.Taking.{MayAnswer, HasAnswered, MayBeginDelta, HasBegunDelta};
+    ghost use Rattle.live_segment.specs.Steps.GhostNotes.{MayDo, Noted};
 
     // A delta of a histogram with buckets begins: its single word is loaded.
     pub(crate) fn take_single(&self, seat: &mut Pass, histogram: u64) -> u64

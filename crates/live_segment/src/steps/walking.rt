@@ -3,8 +3,8 @@
 ghost use Rattle.std.specs.Prelude.{◌≡◌, ◌+◌, ◌<◌, ◌≤◌};
 ghost use Rattle.segment_machine.specs.Event.{walking_event};
 ghost use Rattle.segment_machine.specs.Walking.{load_next, load_published};
-ghost use Rattle.live_segment.specs.Lists.Listing.{LoadsPublished};
-ghost use Rattle.live_segment.specs.Lists.Records.{LoadsNext, LoadsType};
+ghost use Rattle.live_segment.specs.Steps.Listing.{LoadsPublished};
+ghost use Rattle.live_segment.specs.List.Records.{LoadsNext, LoadsType};
 ghost use Rattle.segment_image.specs.declared.layout.TheConstants.{BLOCK_TYPE};
 
 use crate::rule::{Announcement, Pass};
@@ -42,7 +42,7 @@ impl Segment {
     ghost use Rattle.live_segment.specs.Standing.{SeesNext};
     ghost use Rattle.segment_promises.specs.Calls.{SamplesStandBehind};
     ghost use Rattle.segment_promises.specs.Values.{NoRepeats};
-    ghost use Rattle.live_segment.specs.Lists.Records.{KnowsOwnNames, KnowsOwnSamples};
+    ghost use Rattle.live_segment.specs.List.Records.{KnowsOwnNames, KnowsOwnSamples};
     ghost use Rattle.live_segment.specs.Steps.{Stepped};
 
     fn load_next_as<S: Stance>(&self, seat: &mut Pass, at: u64) -> u64

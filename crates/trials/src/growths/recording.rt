@@ -1,7 +1,7 @@
 //! The calls of a segment, its opener and its recorders.
 
 ghost use Rattle.std.specs.Prelude.{◌<◌, IfOk};
-ghost use Rattle.live_segment.specs.Names.Hist.{KnowsOn};
+ghost use Rattle.live_segment.specs.Hist.Answer.{KnowsOn};
 ghost use Rattle.live_segment.specs.Holders.{HasCursor, IsMadeWith, IsSameRecorder, Knows, SharesSegment};
 
 use crate::growths::again::{show_refused, show_try};

@@ -1,6 +1,6 @@
 use Rattle.std.proofs.Common.{ℕ, List, ◌≤◌, length, subst}
 use Rattle.std.proofs.lemmas.Bool.{ltb-false}
-use Rattle.live_segment.proofs.HistCall.SameLawful.{few_of, same_lawful}
+use Rattle.live_segment.proofs.lemmas.Hist.SameLawful.{few_of, same_lawful}
 use Rattle.live_segment.proofs.recorder.has_too_many_values.Goals as goal
 
 pub returns-in-Custom-clause-lawful : goal.returns-in-Custom-clause-lawful

@@ -2,7 +2,7 @@ use Rattle.segment_image.specs.Checks.{first_fault}
 use Rattle.segment_machine.specs.Seats.{newcomer, offering}
 use Rattle.live_segment.specs.declared.recorder.Recorder.{Recorder}
 use Rattle.live_segment.specs.Holders.{view_of_opener, view_of_recorder}
-use Rattle.live_segment.specs.Lists.Fresh.{given_fresh}
+use Rattle.live_segment.specs.List.Fresh.{given_fresh}
 use Rattle.live_segment.specs.Steps.{recorder_checks}
 use Rattle.std.proofs.Common.{◌≡◌}
 use Rattle.owned_recorder.proofs.Carried.{at_value, made_at}

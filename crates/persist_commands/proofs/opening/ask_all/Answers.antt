@@ -1,6 +1,6 @@
 use Rattle.std.proofs.Common.{◌≡◌, ◌∙◌, List, ℕ, All, map, refl, subst, sym, take, length, arith}
 use Rattle.std.proofs.Math.Seq.{take-length}
-use Rattle.live_segment.specs.Names.Hist.{IsAnsweredWith, IsNamed}
+use Rattle.live_segment.specs.Hist.Answer.{IsAnsweredWith, IsNamed}
 use Rattle.live_segment.specs.Holders.{view_of_recorder}
 use Rattle.persist_report_core.specs.declared.script.ScriptHist.{ScriptHist}
 use Rattle.persist_report_core.specs.Script.{hist_view}

@@ -1,7 +1,7 @@
 use Rattle.std.proofs.Common.{◌≡◌, map}
 use Rattle.segment_image.specs.Checks.{first_fault}
 use Rattle.segment_machine.specs.Seats.{newcomer, offering}
-use Rattle.live_segment.specs.Lists.Fresh.{given_fresh}
+use Rattle.live_segment.specs.List.Fresh.{given_fresh}
 use Rattle.live_segment.specs.Steps.{recorder_checks}
 use Rattle.live_segment.specs.Holders.{view_of_opener, view_of_recorder}
 use Rattle.persist_report_core.specs.Script.{hist_view}

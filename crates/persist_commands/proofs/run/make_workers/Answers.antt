@@ -4,7 +4,7 @@ use Rattle.segment_image.specs.Checks.{first_fault}
 use Rattle.segment_machine.specs.declared.actor.Actor.{Actor}
 use Rattle.segment_machine.specs.Actor.{made_of, outstanding_of}
 use Rattle.segment_machine.specs.Seats.{newcomer, offering}
-use Rattle.live_segment.specs.Lists.Fresh.{given_fresh}
+use Rattle.live_segment.specs.List.Fresh.{given_fresh}
 use Rattle.live_segment.specs.Holders.{table_of, view_of_opener, view_of_recorder}
 use Rattle.live_segment.specs.Steps.{recorder_checks}
 use Rattle.live_segment.proofs.Seating.Callers.{made_still}

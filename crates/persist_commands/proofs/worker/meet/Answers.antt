@@ -2,7 +2,7 @@ use Rattle.std.proofs.Common.{◌∙◌, ℕ, List, ap, sym, refl, subst, map, l
 use Rattle.std.proofs.lemmas.Option.{slice_get_read, slice_get-map}
 use Rattle.std.specs.Option.{option_map}
 use Rattle.segment_invariant.proofs.Lists.Maps.{contains_map}
-use Rattle.live_segment.specs.Names.Hist.{IsAnsweredWith, IsNamed}
+use Rattle.live_segment.specs.Hist.Answer.{IsAnsweredWith, IsNamed}
 use Rattle.live_segment.specs.Holders.{view_of_recorder}
 use Rattle.persist_report_core.specs.Script.{hist_view}
 use Rattle.persist_commands.proofs.Meetings.{met_more}

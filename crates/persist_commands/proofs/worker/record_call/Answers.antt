@@ -1,8 +1,8 @@
 use Rattle.std.proofs.Common.{rules, ◌≡◌, List, ℤ, Some, OnOk, FitsSigned, to_z, of_z, w32, subst, sym}
 use Rattle.std.proofs.lemmas.Int.{to_z-of_z}
 use Rattle.segment_image.specs.Checks.{first_fault}
-use Rattle.live_segment.specs.Counts.Adding.{add_checks}
-use Rattle.live_segment.specs.Names.Hist.{IsNamed}
+use Rattle.live_segment.specs.Add.Sample.{add_checks}
+use Rattle.live_segment.specs.Hist.Answer.{IsNamed}
 use Rattle.live_segment.specs.Holders.{view_of_recorder}
 use Rattle.persist_report_core.specs.declared.script.CallKind.{CallKind}
 use Rattle.persist_report_core.specs.declared.script.CallKind.TheVariants as kind

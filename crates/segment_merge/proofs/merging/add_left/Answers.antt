@@ -3,7 +3,7 @@ use Rattle.std.proofs.lemmas.Result.{err_from_is_err_and}
 use Rattle.bucket_ranges.specs.Reading.{Histogram}
 use Rattle.bucket_ranges.specs.Tally.{units_of}
 use Rattle.image_reader.specs.Views.{histogram_view}
-use Rattle.live_segment.specs.Names.Hist.{IsRefusedWith}
+use Rattle.live_segment.specs.Hist.Answer.{IsRefusedWith}
 use Rattle.live_segment.specs.Holders.{view_of_recorder}
 use Rattle.segment_merge.specs.Merge.{IsMerged, items_left}
 use Rattle.segment_merge.specs.Remainder.{IsLeftOf, IsRemainderOf}

@@ -2,7 +2,7 @@ use Rattle.std.proofs.Common.{◌≡◌, ◌≤◌, drop, length}
 use Rattle.std.specs.Prelude.{vec_capacity}
 use Rattle.std.specs.Vec.Iter.{into_iter_items}
 use Rattle.image_reader.specs.Views.{reading_view}
-use Rattle.live_segment.specs.Names.Hist.{KnowsOn}
+use Rattle.live_segment.specs.Hist.Answer.{KnowsOn}
 use Rattle.live_segment.specs.Holders.{view_of_recorder}
 use Rattle.segment_merge.proofs.Underway.{IsUnderWay}
 use Rattle.segment_merge.proofs.merging.merge.Given as goal

@@ -7,8 +7,8 @@ use Rattle.segment_machine.specs.Event.{counting_event}
 use Rattle.segment_machine.specs.Counting.{add_sum}
 use Rattle.segment_machine.specs.Note.{amounts}
 use Rattle.live_segment.specs.Rule.{Runs}
-use Rattle.live_segment.specs.GhostNotes.{InSum, IsSummed, TellsOf}
-use Rattle.live_segment.proofs.Seating.GhostNoted.{tells, one_summed}
+use Rattle.live_segment.specs.Steps.GhostNotes.{InSum, IsSummed, TellsOf}
+use Rattle.live_segment.proofs.lemmas.Steps.GhostNoted.{tells, one_summed}
 use Rattle.live_segment.proofs.segment.Segment.add_amount.Goals as goal
 
 pub fetch_add-requires : goal.fetch_add-requires

@@ -2,7 +2,7 @@ use Rattle.std.proofs.Common.{◌≡◌, ℕ, ◌+◌, [], ◌∷◌, rules, ari
 use Rattle.segment_machine.specs.Event.{counting_event}
 use Rattle.segment_machine.specs.Counting.{add_redundant}
 use Rattle.segment_machine.specs.Note.{ends}
-use Rattle.live_segment.proofs.Seating.GhostNoted.{tells}
+use Rattle.live_segment.proofs.lemmas.Steps.GhostNoted.{tells}
 use Rattle.live_segment.proofs.segment.Segment.add_last.Goals as goal
 
 pub fetch_add-requires : goal.fetch_add-requires

@@ -2,7 +2,7 @@ use Rattle.std.proofs.Common.{ℕ, rules, subst, arith}
 use Rattle.segment_machine.specs.Event.{packing_event}
 use Rattle.segment_machine.specs.Packing.{add_moved}
 use Rattle.live_segment.specs.Steps.{Does}
-use Rattle.live_segment.proofs.Seating.GhostNoted.{moves}
+use Rattle.live_segment.proofs.lemmas.Steps.GhostNoted.{moves}
 use Rattle.live_segment.proofs.segment.Segment.add_moved.Goals as goal
 
 pub fetch_add-requires : goal.fetch_add-requires

@@ -1,7 +1,7 @@
 use Rattle.std.proofs.Common.{rules, ℕ, arith}
 use Rattle.segment_machine.specs.Event.{counting_event}
 use Rattle.segment_machine.specs.Counting.{add_redundant}
-use Rattle.live_segment.proofs.Seating.Allowed.{does_at}
+use Rattle.live_segment.proofs.lemmas.Steps.Allowed.{does_at}
 use Rattle.live_segment.proofs.segment.Segment.add_redundant.Goals as goal
 
 pub fetch_add-requires : goal.fetch_add-requires

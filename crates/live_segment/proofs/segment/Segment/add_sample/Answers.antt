@@ -1,15 +1,15 @@
 use Rattle.std.proofs.Common.{ℤ, ◌∷◌, [], refl, sym, subst, w32}
 use Rattle.std.proofs.lemmas.Int.{to_z-of_z}
 use Rattle.std.proofs.lemmas.Result.{err_from_is_err_and}
-use Rattle.live_segment.specs.Claims.{ClaimsFor}
-use Rattle.live_segment.specs.Counts.Finishing.{HasEnded, HasSample, item_of, sample_of}
+use Rattle.live_segment.specs.Alloc.Claims.{ClaimsFor}
+use Rattle.live_segment.specs.Add.Finish.{HasEnded, HasSample, item_of, sample_of}
 use Rattle.live_segment.specs.Known.{known_view}
-use Rattle.live_segment.specs.Counts.Refusing.{IsNotCounted}
-use Rattle.live_segment.specs.Counts.Working.{CountsAlone, HasCounted}
-use Rattle.live_segment.proofs.AddCall.TurnedAway.{turned_rests, turned_refused}
-use Rattle.live_segment.proofs.AddCall.Blocks.{claims_kept, keeps_ended}
-use Rattle.live_segment.proofs.AddCall.Added.{counts_alone, has_sample, added, added_rests}
-use Rattle.live_segment.proofs.Walks.IndexKept.{kept_on}
+use Rattle.live_segment.specs.Add.Refusal.{IsNotCounted}
+use Rattle.live_segment.specs.Add.Progress.{CountsAlone, HasCounted}
+use Rattle.live_segment.proofs.lemmas.Add.TurnedAway.{turned_rests, turned_refused}
+use Rattle.live_segment.proofs.lemmas.Add.Blocks.{claims_kept, keeps_ended}
+use Rattle.live_segment.proofs.lemmas.Add.Added.{counts_alone, has_sample, added, added_rests}
+use Rattle.live_segment.proofs.lemmas.List.IndexKept.{kept_on}
 use Rattle.live_segment.proofs.segment.Segment.add_sample.Goals as goal
 
 pub count_value-requires-clause-may : goal.count_value-requires-clause-may

@@ -1,8 +1,8 @@
 use Rattle.std.proofs.Common.{◌≡◌, ℕ, ◌+◌, [], rules, refl, arith}
 use Rattle.segment_machine.specs.Event.{counting_event}
 use Rattle.segment_machine.specs.Counting.{add_count}
-use Rattle.live_segment.specs.GhostNotes.{InSample, IsSampled, value_notes}
-use Rattle.live_segment.proofs.Seating.GhostNoted.{tells, one_sampled}
+use Rattle.live_segment.specs.Steps.GhostNotes.{InSample, IsSampled, value_notes}
+use Rattle.live_segment.proofs.lemmas.Steps.GhostNoted.{tells, one_sampled}
 use Rattle.live_segment.proofs.segment.Segment.add_to_sample.Goals as goal
 
 pub fetch_add-requires : goal.fetch_add-requires

@@ -1,9 +1,9 @@
 use Rattle.std.proofs.Common.{◌∙◌, rules, arith, sym, ap}
 use Rattle.segment_machine.specs.declared.place.Place.{Place}
 use Rattle.segment_machine.specs.Actor.{is_bound}
-use Rattle.live_segment.specs.Lists.Allocation.{saw_free}
-use Rattle.live_segment.proofs.AddCall.Refusing.{clear}
-use Rattle.live_segment.proofs.NewRecords.Tries.{loaded, may_claim, may_fill, may_waste, has_enough, is_short, wastes_more, claims, warned}
+use Rattle.live_segment.specs.Alloc.Allocation.{saw_free}
+use Rattle.live_segment.proofs.lemmas.Add.Refusing.{clear}
+use Rattle.live_segment.proofs.lemmas.Alloc.Tries.{loaded, may_claim, may_fill, may_waste, has_enough, is_short, wastes_more, claims, warned}
 use Rattle.live_segment.proofs.segment.Segment.allocate.Goals as goal
 
 pub claim-requires-clause-may : goal.claim-requires-clause-may

@@ -1,8 +1,8 @@
 use Rattle.std.proofs.Common.{◌≡◌, ◌-◌, ◌≤◌, false}
 use Rattle.segment_machine.specs.Actor.{is_bound}
 use Rattle.live_segment.specs.Steps.{IsSame}
-use Rattle.live_segment.specs.Lists.Allocation.{saw_free}
-use Rattle.live_segment.specs.Rises.{WastesFor}
+use Rattle.live_segment.specs.Alloc.Allocation.{saw_free}
+use Rattle.live_segment.specs.Alloc.Rises.{WastesFor}
 use Rattle.live_segment.proofs.segment.Segment.allocate.Given as goal
 
 abbrev pub invariant-loop-size : goal.invariant-loop-size

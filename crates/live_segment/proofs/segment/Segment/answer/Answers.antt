@@ -1,6 +1,6 @@
 use Rattle.std.proofs.Common.{rules, ap}
 use mathlib.Core.Option.{some}
-use Rattle.live_segment.proofs.SnapshotCall.Answered.{answers_said}
+use Rattle.live_segment.proofs.lemmas.Snapshot.Answered.{answers_said}
 use Rattle.live_segment.proofs.segment.Segment.answer.Goals as goal
 
 pub compare_exchange_with-requires : goal.compare_exchange_with-requires

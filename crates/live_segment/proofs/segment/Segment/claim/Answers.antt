@@ -1,5 +1,5 @@
 use Rattle.std.proofs.Common.{◌-◌, rules}
-use Rattle.live_segment.proofs.NewRecords.Taken.{enough_claim, is_raised, is_sized, is_marked, is_claimed}
+use Rattle.live_segment.proofs.lemmas.Alloc.Taken.{enough_claim, is_raised, is_sized, is_marked, is_claimed}
 use Rattle.live_segment.proofs.segment.Segment.claim.Goals as goal
 
 pub store_size-requires-clause-may : goal.store_size-requires-clause-may

@@ -1,9 +1,9 @@
 use Rattle.std.proofs.Common.{◌∙◌, rules}
 use Rattle.std.proofs.lemmas.Result.{err_from_is_err_and}
 use Rattle.live_segment.specs.Known.{known_view}
-use Rattle.live_segment.proofs.AddCall.Counted.{may_mount, may_do_without, room_here, may_add_here, same_here, counted_here, counts_off, at_counts_off, may_passed, at_counts_passed, turned, keeps_here}
-use Rattle.live_segment.proofs.AddCall.Blocks.{keeps_on, loads_none, mounts_between, packs_none}
-use Rattle.live_segment.proofs.AddCall.Mounted.{may_load_counts, mounts_on}
+use Rattle.live_segment.proofs.lemmas.Add.Counted.{may_mount, may_do_without, room_here, may_add_here, same_here, counted_here, counts_off, at_counts_off, may_passed, at_counts_passed, turned, keeps_here}
+use Rattle.live_segment.proofs.lemmas.Add.Blocks.{keeps_on, loads_none, mounts_between, packs_none}
+use Rattle.live_segment.proofs.lemmas.Add.Mounted.{may_load_counts, mounts_on}
 use Rattle.live_segment.proofs.segment.Segment.count_in_bucket.Goals as goal
 
 pub load_counts-counts-requires-clause-may : goal.load_counts-counts-requires-clause-may

@@ -1,13 +1,13 @@
 use Rattle.std.proofs.Common.{ℕ, ℤ, sym, subst, w32}
 use Rattle.std.proofs.lemmas.Int.{to_z-of_z}
 use Rattle.std.proofs.lemmas.Result.{err_from_is_err_and}
-use Rattle.live_segment.specs.Counts.Finishing.{item_of}
+use Rattle.live_segment.specs.Add.Finish.{item_of}
 use Rattle.live_segment.specs.Known.{known_view}
-use Rattle.live_segment.specs.Counts.Sampling.{HasSampleOf, LacksSampleOf}
-use Rattle.live_segment.specs.GhostNotes.{HasSampled, MaySample}
-use Rattle.live_segment.proofs.AddCall.CountsAlone.{may_give_up}
-use Rattle.live_segment.proofs.AddCall.ValueCounted.{keeps_sampled, may_sample, sample_within, same_counted, value_claims, value_counted, value_lacks}
-use Rattle.live_segment.proofs.Walks.IndexKept.{kept_on}
+use Rattle.live_segment.specs.Add.SampleSearch.{HasSampleOf, LacksSampleOf}
+use Rattle.live_segment.specs.Steps.GhostNotes.{HasSampled, MaySample}
+use Rattle.live_segment.proofs.lemmas.Add.CountsAlone.{may_give_up}
+use Rattle.live_segment.proofs.lemmas.Add.ValueCounted.{keeps_sampled, may_sample, sample_within, same_counted, value_claims, value_counted, value_lacks}
+use Rattle.live_segment.proofs.lemmas.List.IndexKept.{kept_on}
 use Rattle.live_segment.proofs.segment.Segment.count_in_sample.Goals as goal
 
 pub returns-in_err-sample-clause-outcome : goal.returns-in_err-sample-clause-outcome

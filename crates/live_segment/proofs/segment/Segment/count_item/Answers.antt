@@ -3,17 +3,17 @@ use Rattle.std.proofs.lemmas.Int.{to_z-of_z}
 use Rattle.std.proofs.lemmas.Result.{err_from_is_err_and}
 use Rattle.segment_machine.specs.Counting.{add_redundant}
 use Rattle.segment_machine.specs.Event.{counting_event}
-use Rattle.live_segment.specs.Claims.{ClaimsFor}
-use Rattle.live_segment.specs.Counts.Finishing.{item_of}
+use Rattle.live_segment.specs.Alloc.Claims.{ClaimsFor}
+use Rattle.live_segment.specs.Add.Finish.{item_of}
 use Rattle.live_segment.specs.Holders.{MayStep}
 use Rattle.live_segment.specs.Known.{known_view}
-use Rattle.live_segment.specs.Counts.Refusing.{IsNotCounted}
+use Rattle.live_segment.specs.Add.Refusal.{IsNotCounted}
 use Rattle.live_segment.specs.Steps.{Stepped}
-use Rattle.live_segment.specs.Counts.Working.{CountsAlone, HasCounted}
-use Rattle.live_segment.proofs.AddCall.Blocks.{claims_kept}
-use Rattle.live_segment.proofs.BatchCall.Blocks.{keeps_noted}
-use Rattle.live_segment.proofs.BatchCall.ItemNoted.{may_note, item_noted}
-use Rattle.live_segment.proofs.Walks.IndexKept.{kept_on}
+use Rattle.live_segment.specs.Add.Progress.{CountsAlone, HasCounted}
+use Rattle.live_segment.proofs.lemmas.Add.Blocks.{claims_kept}
+use Rattle.live_segment.proofs.lemmas.Add.Batch.Blocks.{keeps_noted}
+use Rattle.live_segment.proofs.lemmas.Add.Batch.ItemNoted.{may_note, item_noted}
+use Rattle.live_segment.proofs.lemmas.List.IndexKept.{kept_on}
 use Rattle.live_segment.proofs.segment.Segment.count_item.Goals as goal
 
 pub count_value-requires-clause-may : goal.count_value-requires-clause-may

@@ -1,16 +1,16 @@
 use Rattle.std.proofs.Common.{of_z, to_z, ◌≡◌, ◌∙◌, ℕ, ℤ, pos, List, take, slice_index_or, rules, refl, sym, subst, w32, arith}
 use Rattle.std.proofs.lemmas.List.{take_more}
 use Rattle.bucket_ranges.specs.Ranges.{boundaries_of}
-use Rattle.live_segment.specs.Counts.Batching.{HasItems, HasNoted}
-use Rattle.live_segment.specs.Claims.{ClaimsFor, ClaimsForEach}
-use Rattle.live_segment.specs.Counts.Finishing.{item_of}
+use Rattle.live_segment.specs.Add.Batch.{HasItems, HasNoted}
+use Rattle.live_segment.specs.Alloc.Claims.{ClaimsFor, ClaimsForEach}
+use Rattle.live_segment.specs.Add.Finish.{item_of}
 use Rattle.live_segment.specs.Known.{known_view}
-use Rattle.live_segment.specs.Counts.Refusing.{IsNotCounted}
-use Rattle.live_segment.specs.Counts.Working.{CountsAlone}
-use Rattle.live_segment.proofs.BatchCall.Blocks.{each_more}
-use Rattle.live_segment.proofs.BatchCall.Items.{within_all}
-use Rattle.live_segment.proofs.BatchCall.ItemsCounted.{no_items, may_next, one_counted}
-use Rattle.live_segment.proofs.BatchCall.ItemsRefused.{stops_at}
+use Rattle.live_segment.specs.Add.Refusal.{IsNotCounted}
+use Rattle.live_segment.specs.Add.Progress.{CountsAlone}
+use Rattle.live_segment.proofs.lemmas.Add.Batch.Blocks.{each_more}
+use Rattle.live_segment.proofs.lemmas.Add.Batch.Items.{within_all}
+use Rattle.live_segment.proofs.lemmas.Add.Batch.ItemsCounted.{no_items, may_next, one_counted}
+use Rattle.live_segment.proofs.lemmas.Add.Batch.ItemsRefused.{stops_at}
 use Rattle.live_segment.proofs.segment.Segment.count_items.Goals as goal
 
 pub loop-added-init : goal.loop-added-init

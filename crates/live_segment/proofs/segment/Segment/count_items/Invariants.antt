@@ -1,9 +1,9 @@
 use Rattle.std.proofs.Common.{take}
-use Rattle.live_segment.specs.Counts.Batching.{HasItems}
-use Rattle.live_segment.specs.Claims.{ClaimsForEach}
-use Rattle.live_segment.specs.declared.indexing.KeyKind.TheVariants.{Sample}
+use Rattle.live_segment.specs.Add.Batch.{HasItems}
+use Rattle.live_segment.specs.Alloc.Claims.{ClaimsForEach}
+use Rattle.live_segment.specs.declared.list.index.KeyKind.TheVariants.{Sample}
 use Rattle.live_segment.specs.Known.{known_view}
-use Rattle.live_segment.specs.Lists.Indexed.{IsIndexed}
+use Rattle.live_segment.specs.List.Index.{IsIndexed}
 use Rattle.live_segment.specs.Steps.{IsSame}
 use Rattle.live_segment.proofs.segment.Segment.count_items.Given as goal
 

@@ -1,10 +1,10 @@
 use Rattle.std.proofs.Common.{ℤ, sym, subst, w64}
 use Rattle.std.proofs.lemmas.Int.{to_z-of_z}
 use Rattle.live_segment.specs.Known.{known_view}
-use Rattle.live_segment.specs.GhostNotes.{HasSum, MaySum}
-use Rattle.live_segment.proofs.BatchCall.SumAdded.{may_sum, same_summed, sum_rests, batched, keeps_summed}
-use Rattle.live_segment.proofs.BatchCall.Blocks.{claims_all}
-use Rattle.live_segment.proofs.Walks.IndexKept.{kept_on}
+use Rattle.live_segment.specs.Steps.GhostNotes.{HasSum, MaySum}
+use Rattle.live_segment.proofs.lemmas.Add.Batch.SumAdded.{may_sum, same_summed, sum_rests, batched, keeps_summed}
+use Rattle.live_segment.proofs.lemmas.Add.Batch.Blocks.{claims_all}
+use Rattle.live_segment.proofs.lemmas.List.IndexKept.{kept_on}
 use Rattle.live_segment.proofs.segment.Segment.count_summed.Goals as goal
 
 pub add_sum-requires-clause-may : goal.add_sum-requires-clause-may

@@ -4,19 +4,19 @@ use Rattle.std.proofs.lemmas.Result.{err_from_is_err_and}
 use Rattle.segment_machine.specs.Counting.{add_redundant}
 use Rattle.segment_machine.specs.Event.{counting_event}
 use Rattle.segment_machine.specs.Note.{ends}
-use Rattle.live_segment.specs.Counts.Batching.{IsBatched, IsCutShort}
-use Rattle.live_segment.specs.Claims.{ClaimsFor, ClaimsForAll}
-use Rattle.live_segment.specs.Counts.Finishing.{item_of}
+use Rattle.live_segment.specs.Add.Batch.{IsBatched, IsCutShort}
+use Rattle.live_segment.specs.Alloc.Claims.{ClaimsFor, ClaimsForAll}
+use Rattle.live_segment.specs.Add.Finish.{item_of}
 use Rattle.live_segment.specs.Known.{known_view}
-use Rattle.live_segment.specs.Counts.Refusing.{IsNotCounted}
-use Rattle.live_segment.specs.GhostNotes.{MayDo, Noted}
-use Rattle.live_segment.specs.Counts.Working.{CountsAlone, HasCounted}
-use Rattle.live_segment.proofs.BatchCall.Blocks.{claims_all, each_more, keeps_last}
-use Rattle.live_segment.proofs.BatchCall.ItemsCounted.{may_next}
-use Rattle.live_segment.proofs.BatchCall.ItemsRefused.{stops_at}
-use Rattle.live_segment.proofs.BatchCall.LastItem.{may_end_batch, same_ended, last_rests, last_batched}
-use Rattle.live_segment.proofs.BatchCall.Unsummed.{batched_none, cut_before, front_and_last, last_fits}
-use Rattle.live_segment.proofs.Walks.IndexKept.{kept_on}
+use Rattle.live_segment.specs.Add.Refusal.{IsNotCounted}
+use Rattle.live_segment.specs.Steps.GhostNotes.{MayDo, Noted}
+use Rattle.live_segment.specs.Add.Progress.{CountsAlone, HasCounted}
+use Rattle.live_segment.proofs.lemmas.Add.Batch.Blocks.{claims_all, each_more, keeps_last}
+use Rattle.live_segment.proofs.lemmas.Add.Batch.ItemsCounted.{may_next}
+use Rattle.live_segment.proofs.lemmas.Add.Batch.ItemsRefused.{stops_at}
+use Rattle.live_segment.proofs.lemmas.Add.Batch.LastItem.{may_end_batch, same_ended, last_rests, last_batched}
+use Rattle.live_segment.proofs.lemmas.Add.Batch.Unsummed.{batched_none, cut_before, front_and_last, last_fits}
+use Rattle.live_segment.proofs.lemmas.List.IndexKept.{kept_on}
 use Rattle.live_segment.proofs.segment.Segment.count_unsummed.Goals as goal
 
 pub returns-in_err-count_items-clause-outcome : goal.returns-in_err-count_items-clause-outcome

@@ -2,16 +2,16 @@ use Rattle.std.proofs.Common.{◌∙◌, ℤ, sym, subst, w32, IfOk, MatchResult
 use Rattle.std.proofs.lemmas.Int.{to_z-of_z}
 use Rattle.std.proofs.lemmas.Result.{IfOk-weaker, MatchResult-weaker}
 use Rattle.segment_machine.specs.declared.entry.Entry.{Entry}
-use Rattle.live_segment.specs.Claims.{ClaimsFor}
-use Rattle.live_segment.specs.Counts.Finishing.{item_of}
+use Rattle.live_segment.specs.Alloc.Claims.{ClaimsFor}
+use Rattle.live_segment.specs.Add.Finish.{item_of}
 use Rattle.live_segment.specs.Known.{known_view}
-use Rattle.live_segment.specs.Counts.Refusing.{IsNotCounted}
-use Rattle.live_segment.specs.Counts.Working.{CountsAlone, HasCounted}
+use Rattle.live_segment.specs.Add.Refusal.{IsNotCounted}
+use Rattle.live_segment.specs.Add.Progress.{CountsAlone, HasCounted}
 use Rattle.segment_promises.proofs.Calls.SpecBuckets.{below, is_bucketed, is_sparse}
-use Rattle.live_segment.proofs.DeltaCall.BucketKeys.{found_is, item_is, one_bucket}
-use Rattle.live_segment.proofs.AddCall.Blocks.{claims_mounted}
-use Rattle.live_segment.proofs.AddCall.TurnedAway.{bucket_seen, turned_not_counted}
-use Rattle.live_segment.proofs.Walks.IndexKept.{seen_on}
+use Rattle.live_segment.proofs.lemmas.Delta.BucketKeys.{found_is, item_is, one_bucket}
+use Rattle.live_segment.proofs.lemmas.Add.Blocks.{claims_mounted}
+use Rattle.live_segment.proofs.lemmas.Add.TurnedAway.{bucket_seen, turned_not_counted}
+use Rattle.live_segment.proofs.lemmas.List.IndexKept.{seen_on}
 use Rattle.live_segment.proofs.segment.Segment.count_value.Goals as goal
 
 pub count_in_sample-requires-clause-sparse : goal.count_in_sample-requires-clause-sparse

@@ -1,7 +1,7 @@
 use Rattle.std.proofs.Common.{length, ap, arith}
 use Rattle.std.proofs.lemmas.Result.{err_from_is_err_and}
 use Rattle.live_segment.specs.Known.{known_view}
-use Rattle.live_segment.proofs.AddCall.Mounted.{bucket_count, words_of_block, finds_some, mounts_next, has_blank, block_within, mounted_behind, refused_block, claims_not, claims_block}
+use Rattle.live_segment.proofs.lemmas.Add.Mounted.{bucket_count, words_of_block, finds_some, mounts_next, has_blank, block_within, mounted_behind, refused_block, claims_not, claims_block}
 use Rattle.live_segment.proofs.segment.Segment.counts_of.Goals as goal
 
 pub returns-then-counts-ne0-clause-outcome : goal.returns-then-counts-ne0-clause-outcome

@@ -1,5 +1,5 @@
 use Rattle.std.proofs.Common.{rules}
-use Rattle.live_segment.proofs.HistCall.HistAnnounced.{declines_owed}
+use Rattle.live_segment.proofs.lemmas.Hist.HistAnnounced.{declines_owed}
 use Rattle.live_segment.proofs.segment.Segment.decline.Goals as goal
 
 pub load-requires : goal.load-requires

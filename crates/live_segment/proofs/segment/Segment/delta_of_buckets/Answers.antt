@@ -1,13 +1,13 @@
 use Rattle.std.proofs.Common.{rules, ℤ, FitsSigned, w64, inl, sym, ap, ◌∙◌, subst}
 use Rattle.std.proofs.lemmas.Int.{to_z-of_z}
 use Rattle.segment_machine.specs.declared.actor.Actor.{Actor}
-use Rattle.live_segment.specs.Readings.Deltas.{HasTaken}
+use Rattle.live_segment.specs.Delta.Outcome.{HasTaken}
 use Rattle.live_segment.specs.Known.{known_view}
 use Rattle.segment_promises.specs.Onward.{Grows}
-use Rattle.live_segment.proofs.HistCall.Knowing.{right_on}
-use Rattle.live_segment.proofs.DeltaCall.OneDelta.{may_take, view, same, takes_word}
-use Rattle.live_segment.proofs.DeltaCall.DeltaEnds.{may_take_sum, has_taken_all}
-use Rattle.live_segment.proofs.DeltaCall.FewKeys.{few_of_buckets}
+use Rattle.live_segment.proofs.lemmas.Hist.Knowing.{right_on}
+use Rattle.live_segment.proofs.lemmas.Delta.OneDelta.{may_take, view, same, takes_word}
+use Rattle.live_segment.proofs.lemmas.Delta.DeltaEnds.{may_take_sum, has_taken_all}
+use Rattle.live_segment.proofs.lemmas.Delta.FewKeys.{few_of_buckets}
 use Rattle.segment_promises.proofs.Growing.{grows_not}
 use Rattle.live_segment.proofs.segment.Segment.delta_of_buckets.Goals as goal
 

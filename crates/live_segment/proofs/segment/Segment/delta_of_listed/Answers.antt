@@ -1,9 +1,9 @@
 use Rattle.std.proofs.Common.{rules, ℤ, FitsSigned, w64, inl, sym, subst, arith}
 use Rattle.std.proofs.lemmas.Int.{to_z-of_z}
-use Rattle.live_segment.specs.Readings.Deltas.{HasTaken}
+use Rattle.live_segment.specs.Delta.Outcome.{HasTaken}
 use Rattle.live_segment.specs.Known.{known_view}
-use Rattle.live_segment.proofs.DeltaCall.FewKeys.{few_listed}
-use Rattle.live_segment.proofs.DeltaCall.ListedDelta.{may_take, takes_values, passed_one, right_one, has_taken_listed, may_take_own}
+use Rattle.live_segment.proofs.lemmas.Delta.FewKeys.{few_listed}
+use Rattle.live_segment.proofs.lemmas.Delta.ListedDelta.{may_take, takes_values, passed_one, right_one, has_taken_listed, may_take_own}
 use Rattle.segment_promises.proofs.ValueWalks.{stands_there}
 use Rattle.live_segment.proofs.segment.Segment.delta_of_listed.Goals as goal
 

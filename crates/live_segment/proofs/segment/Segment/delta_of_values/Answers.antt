@@ -1,9 +1,9 @@
 use Rattle.std.proofs.Common.{rules, ℤ, FitsSigned, w64, sym, subst}
 use Rattle.std.proofs.lemmas.Int.{to_z-of_z}
-use Rattle.live_segment.specs.Readings.Deltas.{HasTaken}
+use Rattle.live_segment.specs.Delta.Outcome.{HasTaken}
 use Rattle.live_segment.specs.Known.{known_view}
-use Rattle.live_segment.proofs.DeltaCall.FewKeys.{few_along}
-use Rattle.live_segment.proofs.DeltaCall.ValuesDelta.{may_take, takes_values, comes, has_taken_values}
+use Rattle.live_segment.proofs.lemmas.Delta.FewKeys.{few_along}
+use Rattle.live_segment.proofs.lemmas.Delta.ValuesDelta.{may_take, takes_values, comes, has_taken_values}
 use Rattle.segment_promises.proofs.ValueWalks.{stands_there}
 use Rattle.live_segment.proofs.segment.Segment.delta_of_values.Goals as goal
 

@@ -7,7 +7,7 @@ use Rattle.segment_machine.specs.Packing.{disable}
 use Rattle.live_segment.specs.declared.rule.Setting.{Setting}
 use Rattle.live_segment.specs.Rule.{Runs}
 use Rattle.live_segment.specs.Steps.{DoesAt}
-use Rattle.live_segment.proofs.Seating.Allowed.{does_at}
+use Rattle.live_segment.proofs.lemmas.Steps.Allowed.{does_at}
 use Rattle.live_segment.proofs.segment.Segment.disable.Goals as goal
 
 pub compare_exchange-requires : goal.compare_exchange-requires

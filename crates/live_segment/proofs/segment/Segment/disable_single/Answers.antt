@@ -1,5 +1,5 @@
 use Rattle.std.proofs.Common.{sym, ◌∙◌, arith}
-use Rattle.live_segment.proofs.AddCall.Disabled.{disabling, may_load, may_disable, same_after, rests, may_move, moved, looks_after, keeps_after, stands_after, falls}
+use Rattle.live_segment.proofs.lemmas.Add.Disabled.{disabling, may_load, may_disable, same_after, rests, may_move, moved, looks_after, keeps_after, stands_after, falls}
 use Rattle.live_segment.proofs.segment.Segment.disable_single.Goals as goal
 
 pub loop-counts-init : goal.loop-counts-init

@@ -2,7 +2,7 @@ use Rattle.std.proofs.Common.{◌-◌, ◌+◌}
 use Rattle.bucket_ranges.specs.Spec.{buckets_of}
 use Rattle.live_segment.specs.Known.{known_view}
 use Rattle.segment_promises.proofs.Ranks.{last_rank}
-use Rattle.live_segment.proofs.AddCall.Disabled.{IsDisabling}
+use Rattle.live_segment.proofs.lemmas.Add.Disabled.{IsDisabling}
 use Rattle.live_segment.proofs.segment.Segment.disable_single.Given as goal
 
 abbrev pub invariant-loop-counts : goal.invariant-loop-counts

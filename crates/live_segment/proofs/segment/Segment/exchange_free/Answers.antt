@@ -1,5 +1,5 @@
 use Rattle.std.proofs.Common.{rules, refl}
-use Rattle.live_segment.proofs.Seating.Allowed.{raises}
+use Rattle.live_segment.proofs.lemmas.Steps.Allowed.{raises}
 use Rattle.live_segment.proofs.segment.Segment.exchange_free.Goals as goal
 
 pub compare_exchange_with-requires : goal.compare_exchange_with-requires

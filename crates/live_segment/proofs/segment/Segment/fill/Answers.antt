@@ -1,7 +1,7 @@
 use Rattle.std.proofs.Common.{◌≡◌, refl, arith, sym, subst, ◌∙◌, ◌+◌}
 use Rattle.live_segment.specs.Steps.{Pass, IsSame}
-use Rattle.live_segment.proofs.Walks.Showing.{same_on}
-use Rattle.live_segment.proofs.NewRecords.Filled.{IsFilledTo, begins, may_store, stores, skips, filled}
+use Rattle.live_segment.proofs.lemmas.List.Showing.{same_on}
+use Rattle.live_segment.proofs.lemmas.List.Filled.{IsFilledTo, begins, may_store, stores, skips, filled}
 use Rattle.live_segment.proofs.segment.Segment.fill.Goals as goal
 use Rattle.live_segment.proofs.segment.Segment.fill.Goals.{then-word-ne0, else-word-ne0}
 

@@ -1,5 +1,5 @@
 use Rattle.live_segment.specs.Steps.{IsSame}
-use Rattle.live_segment.proofs.NewRecords.Filled.{IsFilledTo}
+use Rattle.live_segment.proofs.lemmas.List.Filled.{IsFilledTo}
 use Rattle.live_segment.proofs.segment.Segment.fill.Given as goal
 
 abbrev pub invariant-loop-i : goal.invariant-loop-i

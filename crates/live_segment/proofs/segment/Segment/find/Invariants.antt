@@ -1,6 +1,6 @@
 use Rattle.std.proofs.Common.{◌-◌}
 use Rattle.live_segment.specs.Seated.{IsSeated}
-use Rattle.live_segment.specs.Names.Searching.{HasSearched, WalksAt}
+use Rattle.live_segment.specs.Hist.Search.{HasSearched, WalksAt}
 use Rattle.live_segment.specs.Steps.{IsSame}
 use Rattle.segment_promises.proofs.Furthest.{last_of}
 use Rattle.live_segment.proofs.segment.Segment.find.Given as goal

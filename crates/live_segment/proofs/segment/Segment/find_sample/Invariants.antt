@@ -1,7 +1,7 @@
 use Rattle.std.proofs.Common.{◌≡◌, ◌-◌, ℤ}
-use Rattle.live_segment.specs.Counts.Sampling.{WalksBehind}
+use Rattle.live_segment.specs.Add.SampleSearch.{WalksBehind}
 use Rattle.live_segment.specs.Seated.{IsSeated}
-use Rattle.live_segment.specs.Names.Searching.{HasSearched}
+use Rattle.live_segment.specs.Hist.Search.{HasSearched}
 use Rattle.live_segment.specs.Steps.{IsSame}
 use Rattle.segment_promises.proofs.Furthest.{last_of}
 use Rattle.live_segment.proofs.segment.Segment.find_sample.Given as goal

@@ -2,8 +2,8 @@ use Rattle.std.proofs.Common.{ℤ, [], refl, sym, subst, w32}
 use Rattle.std.proofs.lemmas.Int.{to_z-of_z}
 use Rattle.std.proofs.lemmas.List.Elements.{All-nil}
 use Rattle.live_segment.specs.Known.{known_view}
-use Rattle.live_segment.specs.Counts.Finishing.{IsSummed, sample_of}
-use Rattle.live_segment.proofs.AddCall.Finished.{may_last, ends_so}
+use Rattle.live_segment.specs.Add.Finish.{IsSummed, sample_of}
+use Rattle.live_segment.proofs.lemmas.Add.Finished.{may_last, ends_so}
 use Rattle.live_segment.proofs.segment.Segment.finish_sample.Goals as goal
 
 pub add_last-requires-clause-may : goal.add_last-requires-clause-may

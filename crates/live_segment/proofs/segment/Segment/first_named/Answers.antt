@@ -3,10 +3,10 @@ use Rattle.segment_machine.specs.declared.actor.Actor.{Actor}
 use Rattle.std.specs.Prelude.{Err}
 use Rattle.std.proofs.lemmas.Result.{err_from_is_err_and}
 use Rattle.segment_calls.specs.declared.refusal.Refusal.{Refusal}
-use Rattle.live_segment.specs.Names.Making.{Makes}
-use Rattle.live_segment.proofs.HistCall.Blocks.{searches_none, makes_one}
-use Rattle.live_segment.proofs.Walks.IndexKept.{made_on, refused_on}
-use Rattle.live_segment.proofs.HistCall.Settled.{walk_goes_on, meets_own, met_first, met_another, met_then, met_another_then, not_made}
+use Rattle.live_segment.specs.Hist.NewRecord.{Makes}
+use Rattle.live_segment.proofs.lemmas.Hist.Blocks.{searches_none, makes_one}
+use Rattle.live_segment.proofs.lemmas.List.IndexKept.{made_on, refused_on}
+use Rattle.live_segment.proofs.lemmas.Hist.Settled.{walk_goes_on, meets_own, met_first, met_another, met_then, met_another_then, not_made}
 use Rattle.live_segment.proofs.segment.Segment.first_named.Goals as goal
 
 pub returns-in-Met-clause-outcome : goal.returns-in-Met-clause-outcome

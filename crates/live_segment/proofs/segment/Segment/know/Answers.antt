@@ -1,5 +1,5 @@
 use Rattle.std.proofs.Common.{rules, refl}
-use Rattle.live_segment.proofs.HistCall.HistAnnounced.{knows_said}
+use Rattle.live_segment.proofs.lemmas.Hist.HistAnnounced.{knows_said}
 use Rattle.live_segment.proofs.segment.Segment.know.Goals as goal
 
 pub compare_exchange_with-requires : goal.compare_exchange_with-requires

@@ -3,8 +3,8 @@ use mathlib.Core.Option.{some, some-injective}
 use Rattle.segment_machine.specs.Event.{publishing_event}
 use Rattle.segment_machine.specs.Publishing.{link}
 use Rattle.live_segment.specs.declared.rule.Announcement.{Announcement}
-use Rattle.live_segment.specs.Lists.Listing.{InLink, asked_for, link_notes}
-use Rattle.live_segment.proofs.Seating.GhostNoted.{tells}
+use Rattle.live_segment.specs.Steps.Listing.{InLink, asked_for, link_notes}
+use Rattle.live_segment.proofs.lemmas.Steps.GhostNoted.{tells}
 use Rattle.live_segment.proofs.segment.Segment.link.Goals as goal
 
 pub compare_exchange_with-requires : goal.compare_exchange_with-requires

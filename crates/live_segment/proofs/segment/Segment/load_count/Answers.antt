@@ -1,7 +1,7 @@
 use Rattle.std.proofs.Common.{rules, ℕ, arith}
 use Rattle.segment_machine.specs.Event.{taking_event}
 use Rattle.segment_machine.specs.Taking.{load_count}
-use Rattle.live_segment.proofs.Seating.Allowed.{does_at}
+use Rattle.live_segment.proofs.lemmas.Steps.Allowed.{does_at}
 use Rattle.live_segment.proofs.segment.Segment.load_count.Goals as goal
 
 pub load-requires : goal.load-requires

@@ -1,5 +1,5 @@
 use Rattle.std.proofs.Common.{rules, arith}
-use Rattle.live_segment.proofs.DeltaCall.FewSamples.{counts_sample}
+use Rattle.live_segment.proofs.lemmas.List.FewSamples.{counts_sample}
 use Rattle.live_segment.proofs.segment.Segment.load_count_of_sample.Goals as goal
 
 pub load-requires : goal.load-requires

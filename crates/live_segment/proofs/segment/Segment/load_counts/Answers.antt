@@ -1,5 +1,5 @@
 use Rattle.std.proofs.Common.{rules, arith}
-use Rattle.live_segment.proofs.AddCall.Mounted.{loads_counts}
+use Rattle.live_segment.proofs.lemmas.Add.Mounted.{loads_counts}
 use Rattle.live_segment.proofs.segment.Segment.load_counts.Goals as goal
 
 pub load-requires : goal.load-requires

@@ -1,7 +1,7 @@
 use Rattle.std.proofs.Common.{rules, ap, arith}
 use Rattle.segment_image.specs.Shape.{Dimensions}
 use Rattle.live_segment.specs.declared.rule.Setting.{Setting}
-use Rattle.live_segment.proofs.Walks.CursorSteps.{loads_cursor}
+use Rattle.live_segment.proofs.lemmas.Steps.CursorSteps.{loads_cursor}
 use Rattle.live_segment.proofs.segment.Segment.load_cursor.Goals as goal
 
 pub load-requires : goal.load-requires

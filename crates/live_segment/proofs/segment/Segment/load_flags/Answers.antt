@@ -1,5 +1,5 @@
 use Rattle.std.proofs.Common.{rules, refl}
-use Rattle.live_segment.proofs.AddCall.Refusing.{loads_flags}
+use Rattle.live_segment.proofs.lemmas.Add.Refusing.{loads_flags}
 use Rattle.live_segment.proofs.segment.Segment.load_flags.Goals as goal
 
 pub load-requires : goal.load-requires

@@ -2,7 +2,7 @@ use Rattle.std.proofs.Common.{rules, ℕ, sym, ap, subst, ◌∙◌, arith}
 use Rattle.live_segment.specs.declared.rule.Setting.{Setting}
 use Rattle.live_segment.specs.Holders.{opened_with}
 use Rattle.live_segment.specs.Standing.{SeesNext}
-use Rattle.live_segment.proofs.Walks.Walked.{loads_next}
+use Rattle.live_segment.proofs.lemmas.List.Walked.{loads_next}
 use Rattle.live_segment.proofs.segment.Segment.load_next_as.Goals as goal
 
 pub load-requires : goal.load-requires

@@ -1,5 +1,5 @@
 use Rattle.std.proofs.Common.{rules, arith}
-use Rattle.live_segment.proofs.Walks.Listed.{loads_published}
+use Rattle.live_segment.proofs.lemmas.Steps.Listed.{loads_published}
 use Rattle.live_segment.proofs.segment.Segment.load_published.Goals as goal
 
 pub load-requires : goal.load-requires

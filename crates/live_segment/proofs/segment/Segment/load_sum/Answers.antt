@@ -1,5 +1,5 @@
 use Rattle.std.proofs.Common.{rules, arith}
-use Rattle.live_segment.proofs.DeltaCall.SamplesBehind.{loads_sum}
+use Rattle.live_segment.proofs.lemmas.List.SamplesBehind.{loads_sum}
 use Rattle.live_segment.proofs.segment.Segment.load_sum.Goals as goal
 
 pub load-requires : goal.load-requires

@@ -2,9 +2,9 @@ use Rattle.std.proofs.Common.{ℤ, ℕ, List, length, sym, ap, ◌∙◌, subst,
 use Rattle.std.specs.List.{All}
 use Rattle.segment_machine.specs.Calls.{IsUnits}
 use Rattle.live_segment.specs.Known.{known_view}
-use Rattle.live_segment.specs.Readings.Snapshots.{HavePacked, HasSeenBuckets}
+use Rattle.live_segment.specs.Snapshot.Outcome.{HavePacked, HasSeenBuckets}
 use Rattle.live_segment.specs.Steps.{Pass}
-use Rattle.live_segment.proofs.SnapshotCall.BucketsSeen.{may_look, may_load, within, may_look_at, saw_on, saw_off, few_blank, few_loaded}
+use Rattle.live_segment.proofs.lemmas.Snapshot.BucketsSeen.{may_look, may_load, within, may_look_at, saw_on, saw_off, few_blank, few_loaded}
 use Rattle.live_segment.proofs.segment.Segment.look_at_buckets.Goals as goal
 use Rattle.live_segment.proofs.segment.Segment.look_at_buckets.Goals.{then-word-ge-DISABLED_BIT, else-word-ge-DISABLED_BIT}
 

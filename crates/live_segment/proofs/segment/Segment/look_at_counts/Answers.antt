@@ -1,7 +1,7 @@
 use Rattle.std.proofs.Common.{◌≡◌, ℕ, ℤ, pos, refl, sym, subst, ◌∙◌, arith}
 use Rattle.std.proofs.Math.Seq.{map-set_same}
-use Rattle.live_segment.specs.Readings.Looking.{HasLookedAt}
-use Rattle.live_segment.proofs.SnapshotCall.Totals.{looks_first, may_load, looked}
+use Rattle.live_segment.specs.Snapshot.Counts.{HasLookedAt}
+use Rattle.live_segment.proofs.lemmas.Snapshot.Totals.{looks_first, may_load, looked}
 use Rattle.live_segment.proofs.segment.Segment.look_at_counts.Goals as goal
 
 pub loop-bucket-init : goal.loop-bucket-init

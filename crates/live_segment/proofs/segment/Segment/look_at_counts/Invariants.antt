@@ -1,5 +1,5 @@
 use Rattle.std.proofs.Common.{◌≡◌, ℤ, ℕ, map}
-use Rattle.live_segment.specs.Readings.Looking.{HasLookedAt}
+use Rattle.live_segment.specs.Snapshot.Counts.{HasLookedAt}
 use Rattle.live_segment.specs.Steps.{IsSame}
 use Rattle.live_segment.proofs.segment.Segment.look_at_counts.Given as goal
 

@@ -6,9 +6,9 @@ use Rattle.std.proofs.lemmas.List.{append-nil, length-take-le, take_more}
 use Rattle.segment_promises.specs.Values.{NoRepeats, listed_of}
 use Rattle.segment_promises.proofs.ValueWalks.{stands_there}
 use Rattle.live_segment.specs.Known.{known_view}
-use Rattle.live_segment.specs.Readings.Listed.{LooksListed}
-use Rattle.live_segment.proofs.SnapshotCall.ListedSeen.{begins, looks_one}
-use Rattle.live_segment.proofs.Walks.OwnSamples.{new_own, met_own, within_own}
+use Rattle.live_segment.specs.List.IndexedValues.{LooksListed}
+use Rattle.live_segment.proofs.lemmas.Snapshot.ListedSeen.{begins, looks_one}
+use Rattle.live_segment.proofs.lemmas.List.OwnSamples.{new_own, met_own, within_own}
 use Rattle.live_segment.proofs.segment.Segment.look_at_listed.Goals as goal
 use Rattle.live_segment.proofs.segment.Segment.look_at_listed.Goals.{in-Some, in_default}
 

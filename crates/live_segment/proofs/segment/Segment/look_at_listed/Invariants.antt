@@ -1,6 +1,6 @@
 use Rattle.std.proofs.Common.{◌≤◌, length, take, vec_capacity}
 use Rattle.live_segment.specs.Known.{known_view}
-use Rattle.live_segment.specs.Readings.Listed.{LooksListed}
+use Rattle.live_segment.specs.List.IndexedValues.{LooksListed}
 use Rattle.live_segment.proofs.segment.Segment.look_at_listed.Given as goal
 
 -- it has looked at the samples so far, and there is room for all

@@ -3,7 +3,7 @@ use Rattle.std.proofs.lemmas.Int.{to_z-of_z}
 use Rattle.segment_machine.specs.declared.actor.Actor.{Actor}
 use Rattle.segment_machine.specs.Event.{next, taking_event}
 use Rattle.segment_machine.specs.Taking.{load_redundant}
-use Rattle.live_segment.specs.Readings.Snapshots.{saw_sum}
+use Rattle.live_segment.specs.Snapshot.Outcome.{saw_sum}
 use Rattle.live_segment.proofs.segment.Segment.look_at_sum.Goals as goal
 
 pub returns-clause-view : goal.returns-clause-view

@@ -1,9 +1,9 @@
 use Rattle.std.proofs.Common.{ℕ, ℤ, List, [], ◌∷◌, ◌++◌, Option, subst, sym, ap, ◌∙◌, arith, vec_capacity}
 use Rattle.std.proofs.lemmas.List.{append-nil}
 use Rattle.live_segment.specs.Known.{known_view}
-use Rattle.live_segment.specs.Readings.Values.{LooksAlong}
+use Rattle.live_segment.specs.List.Values.{LooksAlong}
 use Rattle.segment_promises.specs.Values.{listed_of}
-use Rattle.live_segment.proofs.SnapshotCall.ValuesSeen.{begins, met, may_load, along, comes_further}
+use Rattle.live_segment.proofs.lemmas.Snapshot.ValuesSeen.{begins, met, may_load, along, comes_further}
 use Rattle.live_segment.proofs.segment.Segment.look_at_values.Goals as goal
 use Rattle.live_segment.proofs.segment.Segment.look_at_values.Goals.{in-Some, in_default}
 

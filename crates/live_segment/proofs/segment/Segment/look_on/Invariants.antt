@@ -1,8 +1,8 @@
 use Rattle.std.proofs.Common.{◌-◌}
 use Rattle.segment_machine.specs.Calls.{MayTurn}
-use Rattle.live_segment.specs.Lists.Indexed.{IsIndexed}
+use Rattle.live_segment.specs.List.Index.{IsIndexed}
 use Rattle.live_segment.specs.Seated.{IsSeated}
-use Rattle.live_segment.specs.Names.Searching.{HasSearched}
+use Rattle.live_segment.specs.Hist.Search.{HasSearched}
 use Rattle.live_segment.specs.Steps.{IsSame}
 use Rattle.segment_promises.proofs.Furthest.{last_of}
 use Rattle.live_segment.proofs.segment.Segment.look_on.Given as goal

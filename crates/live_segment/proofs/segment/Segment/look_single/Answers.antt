@@ -2,7 +2,7 @@ use Rattle.std.proofs.Common.{◌≡◌, ℕ, ◌+◌, [], ◌∷◌, rules, ari
 use Rattle.segment_machine.specs.Event.{packing_event}
 use Rattle.segment_machine.specs.Packing.{load_single}
 use Rattle.segment_machine.specs.Note.{looks}
-use Rattle.live_segment.proofs.Seating.GhostNoted.{tells}
+use Rattle.live_segment.proofs.lemmas.Steps.GhostNoted.{tells}
 use Rattle.live_segment.proofs.segment.Segment.look_single.Goals as goal
 
 pub load-requires : goal.load-requires

@@ -1,6 +1,6 @@
 use Rattle.std.proofs.Common.{ℕ, ◌+◌, ◌∙◌, ap}
-use Rattle.live_segment.proofs.AddCall.Refusing.{may_at_rest}
-use Rattle.live_segment.proofs.NewRecords.Recorded.{made}
+use Rattle.live_segment.proofs.lemmas.Add.Refusing.{may_at_rest}
+use Rattle.live_segment.proofs.lemmas.Hist.Recorded.{made}
 use Rattle.live_segment.proofs.segment.Segment.make_record.Goals as goal
 
 pub allocate-requires-clause-closes : goal.allocate-requires-clause-closes

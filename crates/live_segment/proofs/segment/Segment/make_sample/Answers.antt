@@ -5,8 +5,8 @@ use Rattle.std.proofs.lemmas.Int.{to_z-of_z}
 use Rattle.std.proofs.lemmas.Result.{err_from_is_err_and}
 use Rattle.segment_machine.specs.declared.actor.Made.TheVariants.{Sample}
 use Rattle.live_segment.specs.Steps.{Pass}
-use Rattle.live_segment.proofs.AddCall.SampleMade.{IsPut, may_store, may_store_value, put_one, put_two, fills, made, refused_sample}
-use Rattle.live_segment.proofs.AddCall.SampleWords.{fits_is_value}
+use Rattle.live_segment.proofs.lemmas.Add.SampleMade.{IsPut, may_store, may_store_value, put_one, put_two, fills, made, refused_sample}
+use Rattle.live_segment.proofs.lemmas.Add.SampleWords.{fits_is_value}
 use Rattle.live_segment.proofs.segment.Segment.make_sample.Goals as goal
 use Rattle.live_segment.proofs.segment.Segment.make_sample.Goals.{then-word-ne0, else-word-ne0}
 

@@ -1,5 +1,5 @@
 use Rattle.live_segment.specs.Known.{known_view}
-use Rattle.live_segment.proofs.AddCall.Mounted.{may_mount, mounts_first, may_purge, mounts_late, claims_first, claims_late}
+use Rattle.live_segment.proofs.lemmas.Add.Mounted.{may_mount, mounts_first, may_purge, mounts_late, claims_first, claims_late}
 use Rattle.live_segment.proofs.segment.Segment.mount.Goals as goal
 
 pub mount_counts-found-requires-clause-may : goal.mount_counts-found-requires-clause-may

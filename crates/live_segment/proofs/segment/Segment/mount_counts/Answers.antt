@@ -1,7 +1,7 @@
 use Rattle.std.proofs.Common.{rules, ℕ, arith}
 use Rattle.segment_machine.specs.Event.{packing_event}
 use Rattle.segment_machine.specs.Packing.{mount_counts}
-use Rattle.live_segment.proofs.Seating.Allowed.{does_at}
+use Rattle.live_segment.proofs.lemmas.Steps.Allowed.{does_at}
 use Rattle.live_segment.proofs.segment.Segment.mount_counts.Goals as goal
 
 pub compare_exchange-requires : goal.compare_exchange-requires

@@ -1,7 +1,7 @@
 use Rattle.std.proofs.Common.{rules, ap, arith}
 use Rattle.segment_image.specs.Shape.{Dimensions}
 use Rattle.live_segment.specs.declared.rule.Setting.{Setting}
-use Rattle.live_segment.proofs.Walks.CursorSteps.{moves_cursor}
+use Rattle.live_segment.proofs.lemmas.Steps.CursorSteps.{moves_cursor}
 use Rattle.live_segment.proofs.segment.Segment.move_cursor.Goals as goal
 
 pub compare_exchange-requires : goal.compare_exchange-requires

@@ -1,8 +1,8 @@
 use Rattle.std.proofs.Common.{◌+◌, ap, refl, inl, inr, ◌∙◌}
 use Rattle.std.specs.Prelude.{Some}
 use Rattle.segment_promises.proofs.Growing.{still}
-use Rattle.live_segment.proofs.Walks.Showing.{may_load_fixed, sees_one, seen_one}
-use Rattle.live_segment.proofs.Walks.Keyed.{passed_over, no_key, words_of_bytes}
+use Rattle.live_segment.proofs.lemmas.List.Showing.{may_load_fixed, sees_one, seen_one}
+use Rattle.live_segment.proofs.lemmas.List.Keyed.{passed_over, no_key, words_of_bytes}
 use Rattle.live_segment.proofs.segment.Segment.name_key_at.Goals as goal
 
 pub returns-then-load_published-ne-TYPE_HISTOGRAM-clause-looked : goal.returns-then-load_published-ne-TYPE_HISTOGRAM-clause-looked

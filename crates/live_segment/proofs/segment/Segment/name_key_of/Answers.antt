@@ -1,7 +1,7 @@
 use Rattle.std.proofs.Common.{◌+◌, arith}
 use Rattle.segment_promises.proofs.Growing.{still}
-use Rattle.live_segment.proofs.Walks.Showing.{same_on, sees_on, sees_one, may_load}
-use Rattle.live_segment.proofs.Walks.Keyed.{letter_fixed, letters_seen, letters_small, letters_key, looked_at, key_at}
+use Rattle.live_segment.proofs.lemmas.List.Showing.{same_on, sees_on, sees_one, may_load}
+use Rattle.live_segment.proofs.lemmas.List.Keyed.{letter_fixed, letters_seen, letters_small, letters_key, looked_at, key_at}
 use Rattle.live_segment.proofs.segment.Segment.name_key_of.Goals as goal
 
 pub load_published-requires-clause-may : goal.load_published-requires-clause-may

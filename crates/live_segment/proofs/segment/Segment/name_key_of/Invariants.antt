@@ -1,7 +1,7 @@
 use Rattle.std.proofs.Common.{◌≡◌, ◌+◌, ◌<◌, ◌^◌, ℕ}
 use Rattle.list_index.specs.Keys.{key_of}
-use Rattle.live_segment.specs.Names.Finding.{SeesWords}
-use Rattle.live_segment.specs.Lists.Keyed.{HasSeen, seen_word, seen_words}
+use Rattle.live_segment.specs.Hist.ListSearch.{SeesWords}
+use Rattle.live_segment.specs.List.Keys.{HasSeen, seen_word, seen_words}
 use Rattle.live_segment.specs.Steps.{IsSame}
 use Rattle.live_segment.proofs.segment.Segment.name_key_of.Given as goal
 

@@ -1,10 +1,10 @@
 use Rattle.std.proofs.Common.{ℕ, ◌<◌, refl, sym, ap, subst, ◌∙◌, Some}
 use Rattle.live_segment.specs.Holders.{opened_with}
-use Rattle.live_segment.specs.Lists.Cursors.{AnswersNext}
+use Rattle.live_segment.specs.List.SharedCursors.{AnswersNext}
 use Rattle.live_segment.specs.Standing.{SeesNext}
 use Rattle.live_segment.specs.Steps.{IsSame, Pass}
-use Rattle.live_segment.proofs.Walks.Fronts.{shares_none, shares_one}
-use Rattle.live_segment.proofs.Walks.Sharing.{late_not, may_load, shape_is, may_follow, room, same_still, new_shape, ended, may_move, same_last, given, later, falls, gives_none, gives_one, sighted}
+use Rattle.live_segment.proofs.lemmas.List.Fronts.{shares_none, shares_one}
+use Rattle.live_segment.proofs.lemmas.List.Sharing.{late_not, may_load, shape_is, may_follow, room, same_still, new_shape, ended, may_move, same_last, given, later, falls, gives_none, gives_one, sighted}
 use Rattle.live_segment.proofs.segment.Segment.next_shared.Goals as goal
 
 pub loop-cursor-init : goal.loop-cursor-init

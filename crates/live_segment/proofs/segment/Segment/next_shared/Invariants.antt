@@ -1,5 +1,5 @@
 use Rattle.std.proofs.Common.{◌-◌, slice_index}
-use Rattle.live_segment.proofs.Walks.Sharing.{IsSharing}
+use Rattle.live_segment.proofs.lemmas.List.Sharing.{IsSharing}
 use Rattle.live_segment.proofs.segment.Segment.next_shared.Given as goal
 
 abbrev pub invariant-loop-cursor : goal.invariant-loop-cursor

@@ -1,8 +1,8 @@
 use Rattle.std.proofs.Common.{◌≡◌, ℕ, ◌+◌, [], rules, refl, arith}
 use Rattle.segment_machine.specs.Event.{packing_event}
 use Rattle.segment_machine.specs.Packing.{pack}
-use Rattle.live_segment.specs.GhostNotes.{InWord, IsPacked, bucket_notes}
-use Rattle.live_segment.proofs.Seating.GhostNoted.{tells, one_packed}
+use Rattle.live_segment.specs.Steps.GhostNotes.{InWord, IsPacked, bucket_notes}
+use Rattle.live_segment.proofs.lemmas.Steps.GhostNoted.{tells, one_packed}
 use Rattle.live_segment.proofs.segment.Segment.pack.Goals as goal
 
 pub compare_exchange-requires : goal.compare_exchange-requires

@@ -1,8 +1,8 @@
 use Rattle.std.proofs.Common.{refl, arith}
 use Rattle.live_segment.specs.Known.{known_view}
-use Rattle.live_segment.specs.GhostNotes.{bucket_entry}
-use Rattle.live_segment.proofs.AddCall.Blocks.{keeps_none}
-use Rattle.live_segment.proofs.AddCall.Attempts.{may_load, tries_off, tries_passed, may_pack, same_after, tries_packed, attempted, falls, begun_not}
+use Rattle.live_segment.specs.Steps.GhostNotes.{bucket_entry}
+use Rattle.live_segment.proofs.lemmas.Add.Blocks.{keeps_none}
+use Rattle.live_segment.proofs.lemmas.Add.Attempts.{may_load, tries_off, tries_passed, may_pack, same_after, tries_packed, attempted, falls, begun_not}
 use Rattle.live_segment.proofs.segment.Segment.pack_units.Goals as goal
 
 pub loop-bucket-init : goal.loop-bucket-init

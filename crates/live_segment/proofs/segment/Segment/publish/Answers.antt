@@ -1,7 +1,7 @@
 use Rattle.std.proofs.Common.{◌≡◌, sym, subst, ◌∙◌, Some}
 use Rattle.segment_machine.specs.declared.actor.Made.{Made}
-use Rattle.live_segment.specs.Lists.Publishing.{HasPublished}
-use Rattle.live_segment.proofs.NewRecords.Published.{may_store, begins, may_load, room, table_still, may_link, may_end, same_end, has_published, may_go_on, waits_on, falls}
+use Rattle.live_segment.specs.List.Publish.{HasPublished}
+use Rattle.live_segment.proofs.lemmas.List.Published.{may_store, begins, may_load, room, table_still, may_link, may_end, same_end, has_published, may_go_on, waits_on, falls}
 use Rattle.live_segment.proofs.segment.Segment.publish.Goals as goal
 
 pub store_own_next-requires-clause-may : goal.store_own_next-requires-clause-may

@@ -1,8 +1,8 @@
 use Rattle.std.proofs.Common.{◌≡◌, ◌-◌, ◌*◌, Some}
 use Rattle.segment_machine.specs.declared.actor.Made.{Made}
-use Rattle.live_segment.specs.Lists.Listing.{asked_for}
-use Rattle.live_segment.specs.Lists.Publishing.{IsFilledAs}
-use Rattle.live_segment.proofs.NewRecords.Published.{IsWaiting}
+use Rattle.live_segment.specs.Steps.Listing.{asked_for}
+use Rattle.live_segment.specs.List.Publish.{IsFilledAs}
+use Rattle.live_segment.proofs.lemmas.List.Published.{IsWaiting}
 use Rattle.live_segment.proofs.segment.Segment.publish.Given as goal
 
 -- the block waits, filled as what is said

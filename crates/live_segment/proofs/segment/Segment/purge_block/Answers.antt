@@ -1,7 +1,7 @@
 use Rattle.std.proofs.Common.{rules, ℕ, arith}
 use Rattle.segment_machine.specs.Event.{packing_event}
 use Rattle.segment_machine.specs.Packing.{purge_block}
-use Rattle.live_segment.proofs.Seating.Allowed.{does_at}
+use Rattle.live_segment.proofs.lemmas.Steps.Allowed.{does_at}
 use Rattle.live_segment.proofs.segment.Segment.purge_block.Goals as goal
 
 pub store-requires : goal.store-requires

@@ -4,8 +4,8 @@ use Rattle.segment_machine.specs.declared.actor.Actor.{Actor}
 use Rattle.segment_machine.specs.Actor.{SawCount}
 use Rattle.segment_machine.specs.Made.{SawSample}
 use Rattle.live_segment.specs.Known.{known_view}
-use Rattle.live_segment.specs.Readings.Samples.{SamplesAreFew}
-use Rattle.live_segment.proofs.DeltaCall.SampleCounts.{may_count, saw_sample, saw_found, not_later, loaded}
+use Rattle.live_segment.specs.List.SampleRecords.{SamplesAreFew}
+use Rattle.live_segment.proofs.lemmas.Delta.SampleCounts.{may_count, saw_sample, saw_found, not_later, loaded}
 use Rattle.live_segment.proofs.segment.Segment.sample_at.Goals as goal
 
 pub load_count_of_sample-count-requires-clause-may : goal.load_count_of_sample-count-requires-clause-may

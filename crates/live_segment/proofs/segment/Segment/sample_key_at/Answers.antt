@@ -1,8 +1,8 @@
 use Rattle.std.proofs.Common.{◌+◌, ap, inr, sym, ◌∙◌, arith}
 use Rattle.std.specs.Prelude.{Some}
 use Rattle.segment_promises.proofs.Growing.{still}
-use Rattle.live_segment.proofs.Walks.Keyed.{no_sample_key, passed_over_sample, sample_key_at, sample_looked_at}
-use Rattle.live_segment.proofs.Walks.Showing.{may_load_fixed, same_on, sees_on, sees_one, seen_one}
+use Rattle.live_segment.proofs.lemmas.List.Keyed.{no_sample_key, passed_over_sample, sample_key_at, sample_looked_at}
+use Rattle.live_segment.proofs.lemmas.List.Showing.{may_load_fixed, same_on, sees_on, sees_one, seen_one}
 use Rattle.live_segment.proofs.segment.Segment.sample_key_at.Goals as goal
 
 pub returns-then-load_published-ne-TYPE_SAMPLE-clause-looked : goal.returns-then-load_published-ne-TYPE_SAMPLE-clause-looked

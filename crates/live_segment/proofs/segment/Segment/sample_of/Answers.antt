@@ -2,13 +2,13 @@ use Rattle.std.proofs.Common.{ℤ, ap, sym, w32, subst, ◌∙◌}
 use Rattle.std.proofs.lemmas.Int.{to_z-of_z}
 use Rattle.std.proofs.lemmas.Result.{err_from_is_err_and}
 use Rattle.live_segment.specs.Known.{known_view}
-use Rattle.live_segment.specs.Counts.Sampling.{HasSampleOf, LacksSampleOf}
-use Rattle.live_segment.proofs.AddCall.SampleOf.{knows_still, walk_goes_on, met_before, met_then, meets_own, lacks_sample}
+use Rattle.live_segment.specs.Add.SampleSearch.{HasSampleOf, LacksSampleOf}
+use Rattle.live_segment.proofs.lemmas.Add.SampleOf.{knows_still, walk_goes_on, met_before, met_then, meets_own, lacks_sample}
 use Rattle.segment_machine.specs.declared.actor.Actor.{Actor}
 use Rattle.segment_machine.specs.declared.seen.Seen.{Seen}
 use Rattle.segment_promises.specs.Onward.{SeesOn}
-use Rattle.live_segment.proofs.AddCall.Refusing.{only_given_up}
-use Rattle.live_segment.proofs.Walks.IndexKept.{searched_on, seen_on}
+use Rattle.live_segment.proofs.lemmas.Add.Refusing.{only_given_up}
+use Rattle.live_segment.proofs.lemmas.List.IndexKept.{searched_on, seen_on}
 use Rattle.live_segment.proofs.segment.Segment.sample_of.Goals as goal
 
 pub returns-in-Met-clause-outcome : goal.returns-in-Met-clause-outcome

@@ -1,12 +1,12 @@
 use Rattle.std.proofs.Common.{ap, arith, subst, sym, ◌∙◌}
 use Rattle.segment_image.specs.Shape.{Dimensions}
-use Rattle.live_segment.proofs.HistCall.ByIndex.{ended_since}
-use Rattle.live_segment.proofs.HistCall.Indexing.{walks_behind}
-use Rattle.live_segment.proofs.Walks.IndexKept as kept
-use Rattle.live_segment.proofs.HistCall.Searching.{searched_on, seat_on}
-use Rattle.live_segment.specs.declared.indexing.KeyKind.{KeyKind}
-use Rattle.live_segment.specs.Lists.Indexed.{IsIndexed}
-use Rattle.live_segment.proofs.Walks.Indexed.{of_own}
+use Rattle.live_segment.proofs.lemmas.Hist.ByIndex.{ended_since}
+use Rattle.live_segment.proofs.lemmas.Hist.Indexing.{walks_behind}
+use Rattle.live_segment.proofs.lemmas.List.IndexKept as kept
+use Rattle.live_segment.proofs.lemmas.Hist.Searching.{searched_on, seat_on}
+use Rattle.live_segment.specs.declared.list.index.KeyKind.{KeyKind}
+use Rattle.live_segment.specs.List.Index.{IsIndexed}
+use Rattle.live_segment.proofs.lemmas.List.Indexed.{of_own}
 use Rattle.live_segment.proofs.segment.Segment.search.Goals as goal
 
 pub look_for-requires-clause-indexed : goal.look_for-requires-clause-indexed

@@ -1,8 +1,8 @@
 use Rattle.std.proofs.Common.{Bool, subst}
-use Rattle.live_segment.specs.Names.Finding.{ShowsName, ShowsSpec}
-use Rattle.live_segment.proofs.Walks.Showing.{sees_on, meets_still}
-use Rattle.live_segment.proofs.HistCall.ByIndex.{meets_it, room_it, walk_anew, met_here, other_here}
-use Rattle.live_segment.proofs.HistCall.Searching.{sees_searched, seat_on}
+use Rattle.live_segment.specs.Hist.ListSearch.{ShowsName, ShowsSpec}
+use Rattle.live_segment.proofs.lemmas.List.Showing.{sees_on, meets_still}
+use Rattle.live_segment.proofs.lemmas.Hist.ByIndex.{meets_it, room_it, walk_anew, met_here, other_here}
+use Rattle.live_segment.proofs.lemmas.Hist.Searching.{sees_searched, seat_on}
 use Rattle.live_segment.proofs.segment.Segment.search_at.Goals as goal
 
 pub shows_name-requires-clause-met : goal.shows_name-requires-clause-met

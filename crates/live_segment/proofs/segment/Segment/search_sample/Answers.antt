@@ -2,14 +2,14 @@ use Rattle.std.proofs.Common.{ℕ, ℤ, of_z, to_z, ap, arith, subst, sym, w32, 
 use Rattle.std.proofs.lemmas.Int.{to_z-of_z}
 use Rattle.segment_image.specs.Shape.{Dimensions}
 use Rattle.list_index.specs.Firsts.{first_of}
-use Rattle.live_segment.specs.declared.indexing.KeyKind.{KeyKind}
-use Rattle.live_segment.specs.Counts.Sampling.{FindsSample, WalksBehind}
-use Rattle.live_segment.specs.Lists.Indexed.{IsIndexed}
-use Rattle.live_segment.proofs.AddCall.SampleKeys.{none_sampled, right_searched, sample_ended_since, walks_from}
-use Rattle.live_segment.proofs.AddCall.SampleOf.{walk_begins}
-use Rattle.live_segment.proofs.HistCall.Searching.{searched_on, seat_on}
-use Rattle.live_segment.proofs.Walks.Indexed.{of_own}
-use Rattle.live_segment.proofs.Walks.IndexKept as kept
+use Rattle.live_segment.specs.declared.list.index.KeyKind.{KeyKind}
+use Rattle.live_segment.specs.Add.SampleSearch.{FindsSample, WalksBehind}
+use Rattle.live_segment.specs.List.Index.{IsIndexed}
+use Rattle.live_segment.proofs.lemmas.Add.SampleKeys.{none_sampled, right_searched, sample_ended_since, walks_from}
+use Rattle.live_segment.proofs.lemmas.Add.SampleOf.{walk_begins}
+use Rattle.live_segment.proofs.lemmas.Hist.Searching.{searched_on, seat_on}
+use Rattle.live_segment.proofs.lemmas.List.Indexed.{of_own}
+use Rattle.live_segment.proofs.lemmas.List.IndexKept as kept
 use Rattle.live_segment.proofs.segment.Segment.search_sample.Goals as goal
 
 pub look_for-has_passed_all-requires-clause-indexed : goal.look_for-has_passed_all-requires-clause-indexed

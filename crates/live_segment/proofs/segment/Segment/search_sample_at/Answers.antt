@@ -2,10 +2,10 @@ use Rattle.std.proofs.Common.{Bool, ℤ, ap, subst, w32, ◌∙◌}
 use Rattle.std.proofs.lemmas.Int.{to_z-of_z}
 use Rattle.segment_machine.specs.declared.actor.Actor.{Actor}
 use Rattle.segment_machine.specs.Actor.{is_bound}
-use Rattle.live_segment.specs.Counts.Sampling.{ShowsValue}
-use Rattle.live_segment.proofs.AddCall.SampleKeys.{first_sampled, meets_sample, right_searched, room_sample}
-use Rattle.live_segment.proofs.AddCall.SampleOf.{split_there, walk_begins}
-use Rattle.live_segment.proofs.HistCall.Searching.{searched_on, seat_on, sees_searched}
+use Rattle.live_segment.specs.Add.SampleSearch.{ShowsValue}
+use Rattle.live_segment.proofs.lemmas.Add.SampleKeys.{first_sampled, meets_sample, right_searched, room_sample}
+use Rattle.live_segment.proofs.lemmas.Add.SampleOf.{split_there, walk_begins}
+use Rattle.live_segment.proofs.lemmas.Hist.Searching.{searched_on, seat_on, sees_searched}
 use Rattle.live_segment.proofs.segment.Segment.search_sample_at.Goals as goal
 
 pub shows_value-requires-clause-met : goal.shows_value-requires-clause-met

@@ -1,7 +1,7 @@
 use Rattle.std.proofs.Common.{rules, refl}
 use Rattle.segment_machine.specs.Event.{allocating_event}
 use Rattle.segment_machine.specs.Allocating.{set_corrupt}
-use Rattle.live_segment.proofs.Seating.Allowed.{does}
+use Rattle.live_segment.proofs.lemmas.Steps.Allowed.{does}
 use Rattle.live_segment.proofs.segment.Segment.set_corrupt.Goals as goal
 
 pub fetch_or-requires : goal.fetch_or-requires

@@ -1,5 +1,5 @@
 use Rattle.std.proofs.Common.{rules, refl}
-use Rattle.live_segment.proofs.AddCall.Refusing.{sets_full}
+use Rattle.live_segment.proofs.lemmas.Add.Refusing.{sets_full}
 use Rattle.live_segment.proofs.segment.Segment.set_full.Goals as goal
 
 pub fetch_or-requires : goal.fetch_or-requires

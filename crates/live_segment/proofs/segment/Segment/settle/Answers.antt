@@ -1,15 +1,15 @@
 use Rattle.std.proofs.Common.{Ok, refl, sym, ap, subst, ◌∙◌}
 use Rattle.segment_machine.specs.declared.actor.Actor.{Actor}
 use Rattle.segment_machine.specs.Actor.{is_opener}
-use Rattle.live_segment.specs.declared.indexing.KeyKind.TheVariants.{Name}
-use Rattle.live_segment.specs.Lists.Indexed.{IsIndexed}
-use Rattle.live_segment.specs.Names.Searching.{asked_at}
-use Rattle.live_segment.specs.Names.Settling.{MakesFor, Settles}
+use Rattle.live_segment.specs.declared.list.index.KeyKind.TheVariants.{Name}
+use Rattle.live_segment.specs.List.Index.{IsIndexed}
+use Rattle.live_segment.specs.Hist.Search.{asked_at}
+use Rattle.live_segment.specs.Hist.Outcome.{MakesFor, Settles}
 use Rattle.live_segment.specs.Steps.{IsSame, Pass}
-use Rattle.live_segment.proofs.Walks.Showing.{same_on}
-use Rattle.live_segment.proofs.HistCall.Blocks.{declined_none, knows_none, makes_kept}
-use Rattle.live_segment.proofs.Walks.IndexKept.{kept_on}
-use Rattle.live_segment.proofs.HistCall.Settled.{may_decline, refused_so, known_so}
+use Rattle.live_segment.proofs.lemmas.List.Showing.{same_on}
+use Rattle.live_segment.proofs.lemmas.Hist.Blocks.{declined_none, knows_none, makes_kept}
+use Rattle.live_segment.proofs.lemmas.List.IndexKept.{kept_on}
+use Rattle.live_segment.proofs.lemmas.Hist.Settled.{may_decline, refused_so, known_so}
 use Rattle.live_segment.proofs.segment.Segment.settle.Goals as goal
 
 pub know-requires-clause-may : goal.know-requires-clause-may

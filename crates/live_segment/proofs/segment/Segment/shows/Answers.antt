@@ -1,5 +1,5 @@
 use Rattle.std.proofs.Common.{◌+◌, refl, arith}
-use Rattle.live_segment.proofs.Walks.Showing.{same_on, sees_not, sees_on, sees_one, may_load, one_more, one_other}
+use Rattle.live_segment.proofs.lemmas.List.Showing.{same_on, sees_not, sees_on, sees_one, may_load, one_more, one_other}
 use Rattle.live_segment.proofs.segment.Segment.shows.Goals as goal
 
 pub loop-i-init : goal.loop-i-init

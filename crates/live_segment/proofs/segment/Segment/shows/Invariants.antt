@@ -1,7 +1,7 @@
 use Rattle.std.proofs.Common.{◌≡◌, ℕ, ◌+◌, ◌<◌, slice_index}
 use Rattle.std.specs.Prelude.{Some}
 use Rattle.segment_machine.specs.Actor.{word_seen}
-use Rattle.live_segment.specs.Names.Finding.{SeesWords}
+use Rattle.live_segment.specs.Hist.ListSearch.{SeesWords}
 use Rattle.live_segment.specs.Steps.{IsSame}
 use Rattle.live_segment.proofs.segment.Segment.shows.Given as goal
 

@@ -2,9 +2,9 @@ use Rattle.std.proofs.Common.{ℕ, ◌+◌, ◌≤◌, ap, subst, sym, ◌∙◌
 use Rattle.std.proofs.lemmas.Int.{to_z-of_z}
 use Rattle.std.specs.Prelude.{Some}
 use Rattle.segment_machine.specs.declared.actor.Actor.{Actor}
-use Rattle.live_segment.proofs.Walks.Showing.{sees_one, sees_on, seen_one, may_load_fixed, same_on}
+use Rattle.live_segment.proofs.lemmas.List.Showing.{sees_one, sees_on, seen_one, may_load_fixed, same_on}
 use Rattle.segment_promises.proofs.Growing.{still}
-use Rattle.live_segment.proofs.AddCall.SampleWords.{fits_is_value, holds_value, holds_none}
+use Rattle.live_segment.proofs.lemmas.Add.SampleWords.{fits_is_value, holds_value, holds_none}
 use Rattle.live_segment.proofs.segment.Segment.shows_sample.Goals as goal
 
 pub returns-then-load_type-ne-TYPE_SAMPLE-clause-shown : goal.returns-then-load_type-ne-TYPE_SAMPLE-clause-shown

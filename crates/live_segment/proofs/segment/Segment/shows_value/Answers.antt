@@ -1,4 +1,4 @@
-use Rattle.live_segment.proofs.AddCall.SampleWords.{fits_is_value}
+use Rattle.live_segment.proofs.lemmas.Add.SampleWords.{fits_is_value}
 use Rattle.live_segment.proofs.segment.Segment.shows_value.Goals as goal
 
 pub returns-in-None-clause-shown : goal.returns-in-None-clause-shown

@@ -9,12 +9,12 @@ use Rattle.segment_calls.specs.declared.answer.Snapshot.{Snapshot}
 use Rattle.segment_machine.specs.Note.{answers, noted}
 use Rattle.segment_invariant.proofs.Packing.OffForms.{few_buckets}
 use Rattle.live_segment.specs.Known.{known_view}
-use Rattle.live_segment.specs.Readings.Snapshots.{HasSeenBuckets, HasSnapshot, saw_sum}
-use Rattle.live_segment.specs.Readings.Taking.{answered_as}
+use Rattle.live_segment.specs.Snapshot.Outcome.{HasSeenBuckets, HasSnapshot, saw_sum}
+use Rattle.live_segment.specs.Steps.Taking.{answered_as}
 use Rattle.segment_promises.proofs.Calls.BlankTotals.{keys_of_buckets, no_units}
-use Rattle.live_segment.specs.Readings.Values.{AreFewKeys}
-use Rattle.live_segment.proofs.DeltaCall.FewKeys.{few_of_snapshot}
-use Rattle.live_segment.proofs.SnapshotCall.Answering.{may_sum, may_answer, saw_buckets, has_snapshot}
+use Rattle.live_segment.specs.List.Values.{AreFewKeys}
+use Rattle.live_segment.proofs.lemmas.Delta.FewKeys.{few_of_snapshot}
+use Rattle.live_segment.proofs.lemmas.Snapshot.Answering.{may_sum, may_answer, saw_buckets, has_snapshot}
 use Rattle.live_segment.proofs.segment.Segment.snapshot_of_buckets.Goals as goal
 
 pub look_at_buckets-requires-clause-buckets : goal.look_at_buckets-requires-clause-buckets

@@ -3,15 +3,15 @@ use Rattle.std.proofs.lemmas.Int.{to_z-of_z}
 use Rattle.segment_calls.specs.declared.answer.Snapshot.{Snapshot}
 use Rattle.segment_machine.specs.declared.actor.Actor.{Actor}
 use Rattle.segment_machine.specs.Note.{answers, noted}
-use Rattle.live_segment.specs.Readings.Deltas.{AreUnits}
+use Rattle.live_segment.specs.Delta.Outcome.{AreUnits}
 use Rattle.live_segment.specs.Known.{known_view}
-use Rattle.live_segment.specs.Readings.Snapshots.{HasSnapshot, saw_sum}
-use Rattle.live_segment.specs.Readings.Taking.{answered_as}
-use Rattle.live_segment.specs.Readings.Values.{AreFewKeys}
-use Rattle.live_segment.proofs.DeltaCall.FewKeys.{few_along}
-use Rattle.live_segment.proofs.SnapshotCall.Answering.{may_sum, may_answer, has_snapshot}
-use Rattle.live_segment.proofs.Walks.Sharing.{same_on}
-use Rattle.live_segment.proofs.SnapshotCall.ValuesSeen.{may_look, looks_first, comes, has_looked, saw_values, are_units}
+use Rattle.live_segment.specs.Snapshot.Outcome.{HasSnapshot, saw_sum}
+use Rattle.live_segment.specs.Steps.Taking.{answered_as}
+use Rattle.live_segment.specs.List.Values.{AreFewKeys}
+use Rattle.live_segment.proofs.lemmas.Delta.FewKeys.{few_along}
+use Rattle.live_segment.proofs.lemmas.Snapshot.Answering.{may_sum, may_answer, has_snapshot}
+use Rattle.live_segment.proofs.lemmas.List.Sharing.{same_on}
+use Rattle.live_segment.proofs.lemmas.Snapshot.ValuesSeen.{may_look, looks_first, comes, has_looked, saw_values, are_units}
 use Rattle.segment_promises.proofs.ValueWalks.{stands_there}
 use Rattle.live_segment.proofs.segment.Segment.snapshot_of_values.Goals as goal
 

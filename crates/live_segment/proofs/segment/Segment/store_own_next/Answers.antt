@@ -1,7 +1,7 @@
 use Rattle.std.proofs.Common.{rules, ℕ, arith}
 use Rattle.segment_machine.specs.Event.{publishing_event}
 use Rattle.segment_machine.specs.Publishing.{store_own_next}
-use Rattle.live_segment.proofs.Seating.Allowed.{does_at}
+use Rattle.live_segment.proofs.lemmas.Steps.Allowed.{does_at}
 use Rattle.live_segment.proofs.segment.Segment.store_own_next.Goals as goal
 
 pub store-requires : goal.store-requires

@@ -1,5 +1,5 @@
 use Rattle.std.proofs.Common.{rules, arith}
-use Rattle.live_segment.proofs.Walks.Listed.{stores_payload}
+use Rattle.live_segment.proofs.lemmas.Steps.Listed.{stores_payload}
 use Rattle.live_segment.proofs.segment.Segment.store_payload.Goals as goal
 
 pub store-requires : goal.store-requires

@@ -3,8 +3,8 @@ use Rattle.std.specs.Prelude.{unsigned_abs}
 use Rattle.std.proofs.lemmas.Int.{to_z-of_z}
 use Rattle.bucket_ranges.specs.Tally.{amount_of}
 use Rattle.live_segment.specs.Known.{known_view}
-use Rattle.live_segment.specs.Counts.Finishing.{IsSummed, item_of}
-use Rattle.live_segment.proofs.AddCall.Finished.{may_amount, still_same, adds, leaves_out}
+use Rattle.live_segment.specs.Add.Finish.{IsSummed, item_of}
+use Rattle.live_segment.proofs.lemmas.Add.Finished.{may_amount, still_same, adds, leaves_out}
 use Rattle.live_segment.proofs.segment.Segment.sum_sample.Goals as goal
 
 pub returns-then-amount-eq0-clause-summed : goal.returns-then-amount-eq0-clause-summed

@@ -6,9 +6,9 @@ use Rattle.segment_machine.specs.Event.{taking_event}
 use Rattle.segment_machine.specs.Taking.{swap_sum_mark}
 use Rattle.segment_machine.specs.Note.{has_taken}
 use Rattle.live_segment.specs.Rule.{Runs}
-use Rattle.live_segment.specs.Readings.Taking.{EndsDelta}
-use Rattle.live_segment.specs.GhostNotes.{MayDo, Noted}
-use Rattle.live_segment.proofs.Seating.GhostNoted.{tells}
+use Rattle.live_segment.specs.Steps.Taking.{EndsDelta}
+use Rattle.live_segment.specs.Steps.GhostNotes.{MayDo, Noted}
+use Rattle.live_segment.proofs.lemmas.Steps.GhostNoted.{tells}
 use Rattle.live_segment.proofs.segment.Segment.swap_sum_mark.Goals as goal
 
 pub swap-requires : goal.swap-requires

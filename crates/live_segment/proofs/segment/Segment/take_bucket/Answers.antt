@@ -1,8 +1,8 @@
 use Rattle.std.proofs.Common.{ℕ, Some, subst, sym, ◌∙◌, arith}
 use Rattle.segment_machine.specs.Actor.{bucket_key}
-use Rattle.live_segment.specs.Readings.Deltas.{TakesOn, units_of_key}
+use Rattle.live_segment.specs.Delta.Outcome.{TakesOn, units_of_key}
 use Rattle.live_segment.specs.Known.{known_view}
-use Rattle.live_segment.proofs.DeltaCall.OneBucket.{stays_loaded, loads_on, packed_nothing, may_raise_single, took_packed, nothing_there, may_raise, took_other, stays_packed, raises_packed, stays_other, raises_other, is_packed, is_other}
+use Rattle.live_segment.proofs.lemmas.Delta.OneBucket.{stays_loaded, loads_on, packed_nothing, may_raise_single, took_packed, nothing_there, may_raise, took_other, stays_packed, raises_packed, stays_other, raises_other, is_packed, is_other}
 use Rattle.live_segment.proofs.segment.Segment.take_bucket.Goals as goal
 
 pub returns-then-total-eq0-clause-stands : goal.returns-then-total-eq0-clause-stands

@@ -1,7 +1,7 @@
 use Rattle.std.proofs.Common.{rules, FitsSigned, w32, ℕ, ℤ, pos, List, [], ◌∷◌, ◌++◌, ◌+◌, length, slice_index, vec_capacity, sym, ap, ◌∙◌, subst, arith}
 use Rattle.std.proofs.lemmas.Int.{to_z-of_z}
 use Rattle.live_segment.specs.Known.{known_view}
-use Rattle.live_segment.proofs.DeltaCall.AllBuckets.{HasDrawn, draws_first, draws_some, draws_none}
+use Rattle.live_segment.proofs.lemmas.Delta.AllBuckets.{HasDrawn, draws_first, draws_some, draws_none}
 use Rattle.segment_promises.proofs.Calls.SpecBuckets.{split}
 use Rattle.live_segment.proofs.segment.Segment.take_buckets.Goals as goal
 use Rattle.live_segment.proofs.segment.Segment.take_buckets.Goals.{then-units-gt0, else-units-gt0}

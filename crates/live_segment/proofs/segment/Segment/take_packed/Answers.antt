@@ -1,9 +1,9 @@
 use Rattle.std.proofs.Common.{rules, FitsSigned, w32, to_z, of_z, ℕ, ℤ, pos, List, [], ◌∷◌, ◌++◌, ◌-◌, length, slice_index, sym, ap, ◌∙◌, subst, arith}
 use Rattle.std.proofs.lemmas.Int.{to_z-of_z}
-use Rattle.live_segment.specs.Readings.Deltas.{HasTakenBuckets}
+use Rattle.live_segment.specs.Delta.Outcome.{HasTakenBuckets}
 use Rattle.live_segment.specs.Known.{known_view}
 use Rattle.segment_promises.proofs.Calls.SpecBuckets.{split}
-use Rattle.live_segment.proofs.DeltaCall.OneDelta.{may_raise, within, took_some, took_no_more}
+use Rattle.live_segment.proofs.lemmas.Delta.OneDelta.{may_raise, within, took_some, took_no_more}
 use Rattle.live_segment.proofs.segment.Segment.take_packed.Goals as goal
 
 pub raise_single_mark-mark-requires-clause-may : goal.raise_single_mark-mark-requires-clause-may

@@ -1,4 +1,4 @@
-use Rattle.live_segment.proofs.DeltaCall.OneSample.{may_raise, took_units}
+use Rattle.live_segment.proofs.lemmas.Delta.OneSample.{may_raise, took_units}
 use Rattle.live_segment.proofs.segment.Segment.take_sample.Goals as goal
 
 pub raise_mark-requires-clause-may : goal.raise_mark-requires-clause-may

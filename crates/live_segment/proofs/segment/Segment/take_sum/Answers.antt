@@ -8,15 +8,15 @@ use Rattle.segment_machine.specs.Taking.{swap_sum_mark}
 use Rattle.segment_machine.specs.declared.actor.Actor.{Actor}
 use Rattle.segment_machine.specs.declared.actor.Known.{Known}
 use Rattle.live_segment.specs.declared.segment.Segment.{Segment}
-use Rattle.live_segment.specs.Readings.Deltas.{HasTakenSum, MayTakeSum}
+use Rattle.live_segment.specs.Delta.Outcome.{HasTakenSum, MayTakeSum}
 use Rattle.live_segment.specs.Known.{known_view}
 use Rattle.segment_promises.specs.Values.{NoRepeats}
-use Rattle.live_segment.specs.Readings.Samples.{SamplesStandBehind}
+use Rattle.live_segment.specs.List.SampleRecords.{SamplesStandBehind}
 use Rattle.live_segment.specs.Steps.{Pass}
-use Rattle.live_segment.specs.GhostNotes.{MayDo, Noted}
-use Rattle.live_segment.specs.Readings.Values.{HasTakenValues}
-use Rattle.live_segment.proofs.DeltaCall.DeltaEnds.{may_swap, ended}
-use Rattle.live_segment.proofs.DeltaCall.ValuesDelta.{may_take_sum}
+use Rattle.live_segment.specs.Steps.GhostNotes.{MayDo, Noted}
+use Rattle.live_segment.specs.List.Values.{HasTakenValues}
+use Rattle.live_segment.proofs.lemmas.Delta.DeltaEnds.{may_swap, ended}
+use Rattle.live_segment.proofs.lemmas.Delta.ValuesDelta.{may_take_sum}
 use Rattle.live_segment.proofs.segment.Segment.take_sum.Goals as goal
 
 -- it has taken of all buckets, or of all samples up to the end of the list

@@ -3,8 +3,8 @@ use Rattle.segment_machine.specs.declared.actor.Known.{Known}
 use Rattle.segment_machine.specs.Event.{walking_event}
 use Rattle.segment_machine.specs.Walking.{load_published}
 use Rattle.segment_machine.specs.Note.{takes}
-use Rattle.live_segment.specs.GhostNotes.{KnowsAlone}
-use Rattle.live_segment.proofs.Seating.GhostNoted.{tells, one_known}
+use Rattle.live_segment.specs.Steps.GhostNotes.{KnowsAlone}
+use Rattle.live_segment.proofs.lemmas.Steps.GhostNoted.{tells, one_known}
 use Rattle.live_segment.proofs.segment.Segment.take_type.Goals as goal
 
 pub load-requires : goal.load-requires

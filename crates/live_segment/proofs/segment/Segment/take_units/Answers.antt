@@ -2,14 +2,14 @@ use Rattle.std.proofs.Common.{ℕ, ℤ, List, [], Option, Some, ◌^◌, sym, su
 use Rattle.std.proofs.lemmas.Bool.{le-leb}
 use Rattle.bucket_ranges.specs.Spec.{buckets_of}
 use Rattle.segment_invariant.proofs.Packing.OffForms.{few_buckets}
-use Rattle.live_segment.specs.Readings.Deltas.{HasTakenBuckets}
+use Rattle.live_segment.specs.Delta.Outcome.{HasTakenBuckets}
 use Rattle.segment_machine.specs.Form.{SaysPacked}
 use Rattle.live_segment.specs.Known.{known_view}
-use Rattle.live_segment.proofs.DeltaCall.AllBuckets.{buckets_long}
-use Rattle.live_segment.proofs.AddCall.Attempts.{is_on}
-use Rattle.live_segment.proofs.SnapshotCall.BucketsSeen.{free_at}
-use Rattle.live_segment.proofs.DeltaCall.OneBucket.{takes_then}
-use Rattle.live_segment.proofs.DeltaCall.OneDelta.{loads_on, takes_at, took_nothing}
+use Rattle.live_segment.proofs.lemmas.Delta.AllBuckets.{buckets_long}
+use Rattle.live_segment.proofs.lemmas.Add.Attempts.{is_on}
+use Rattle.live_segment.proofs.lemmas.Snapshot.BucketsSeen.{free_at}
+use Rattle.live_segment.proofs.lemmas.Delta.OneBucket.{takes_then}
+use Rattle.live_segment.proofs.lemmas.Delta.OneDelta.{loads_on, takes_at, took_nothing}
 use Rattle.live_segment.proofs.segment.Segment.take_units.Goals as goal
 
 pub packed_in-packed-requires : goal.packed_in-packed-requires

@@ -1,9 +1,9 @@
 use Rattle.std.proofs.Common.{ℕ, ℤ, w32, FitsSigned, rules, Option, Some, sym, subst}
 use Rattle.std.proofs.lemmas.Int.{to_z-of_z}
 use Rattle.live_segment.specs.Known.{known_view}
-use Rattle.live_segment.specs.Readings.Samples.{CountsSample}
-use Rattle.live_segment.specs.Readings.Values.{TakesValue}
-use Rattle.live_segment.proofs.DeltaCall.OneValue.{takes_nothing, may_take, takes_none, takes_some}
+use Rattle.live_segment.specs.List.SampleRecords.{CountsSample}
+use Rattle.live_segment.specs.List.Values.{TakesValue}
+use Rattle.live_segment.proofs.lemmas.Delta.OneValue.{takes_nothing, may_take, takes_none, takes_some}
 use Rattle.live_segment.proofs.segment.Segment.take_value.Goals as goal
 
 pub returns-in_err-value-clause-takes : goal.returns-in_err-value-clause-takes

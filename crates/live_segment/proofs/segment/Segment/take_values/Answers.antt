@@ -1,9 +1,9 @@
 use Rattle.std.proofs.Common.{ℕ, ℤ, List, [], ◌∷◌, ◌++◌, Option, subst, sym, ap, ◌∙◌, arith, vec_capacity}
 use Rattle.std.proofs.lemmas.List.{append-nil}
 use Rattle.live_segment.specs.Known.{known_view}
-use Rattle.live_segment.specs.Readings.Values.{TakesAlong}
+use Rattle.live_segment.specs.List.Values.{TakesAlong}
 use Rattle.segment_promises.specs.Values.{listed_of}
-use Rattle.live_segment.proofs.DeltaCall.ValuesTaken.{begins, met, may_load, along, comes_further}
+use Rattle.live_segment.proofs.lemmas.Delta.ValuesTaken.{begins, met, may_load, along, comes_further}
 use Rattle.live_segment.proofs.segment.Segment.take_values.Goals as goal
 use Rattle.live_segment.proofs.segment.Segment.take_values.Goals.{in-Some, in_default}
 

@@ -1,6 +1,6 @@
 use Rattle.std.proofs.Common.{◌-◌, ◌/◌, ◌≤◌, ℕ, List, vec_capacity}
 use Rattle.live_segment.specs.Known.{known_view}
-use Rattle.live_segment.specs.Readings.Values.{TakesAlong}
+use Rattle.live_segment.specs.List.Values.{TakesAlong}
 use Rattle.segment_promises.proofs.ValueWalks.{left_of}
 use Rattle.live_segment.proofs.segment.Segment.take_values.Given as goal
 

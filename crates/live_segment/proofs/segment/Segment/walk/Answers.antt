@@ -5,8 +5,8 @@ use Rattle.segment_image.specs.Shape.{Dimensions}
 use Rattle.segment_machine.specs.declared.actor.Actor.{Actor}
 use Rattle.live_segment.specs.Holders.{opened_with}
 use Rattle.live_segment.specs.Standing.{HasList, SeesNext}
-use Rattle.live_segment.proofs.Walks.Fronts.{walk_ends}
-use Rattle.live_segment.proofs.Walks.Walked.{IsWalking, begins, may_load, room, same_still, ended, walking, walked_on, few}
+use Rattle.live_segment.proofs.lemmas.List.Fronts.{walk_ends}
+use Rattle.live_segment.proofs.lemmas.List.Walked.{IsWalking, begins, may_load, room, same_still, ended, walking, walked_on, few}
 use Rattle.live_segment.proofs.segment.Segment.walk.Goals as goal
 
 pub loop-next-init : goal.loop-next-init

@@ -1,6 +1,6 @@
 use Rattle.std.proofs.Common.{◌≡◌, ◌-◌, ◌/◌, ◌≤◌, ◌++◌, length, vec_capacity}
 use Rattle.std.specs.Prelude.{take}
-use Rattle.live_segment.proofs.Walks.Walked.{IsWalking}
+use Rattle.live_segment.proofs.lemmas.List.Walked.{IsWalking}
 use Rattle.live_segment.proofs.segment.Segment.walk.Given as goal
 
 -- what it has listed so far is what the walk gave behind the place where it began, and there is room for as many as fit in a segment

@@ -1,5 +1,5 @@
 use Rattle.std.proofs.Common.{◌-◌, rules}
-use Rattle.live_segment.proofs.NewRecords.Taken.{few_waste, is_raised, is_sized}
+use Rattle.live_segment.proofs.lemmas.Alloc.Taken.{few_waste, is_raised, is_sized}
 use Rattle.live_segment.proofs.segment.Segment.waste.Goals as goal
 
 pub store_size-requires-clause-may : goal.store_size-requires-clause-may

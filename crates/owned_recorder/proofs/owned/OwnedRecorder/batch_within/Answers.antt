@@ -2,7 +2,7 @@ use Rattle.std.proofs.Common.{ℤ, of_z, subst, to_z, w64}
 use Rattle.std.proofs.lemmas.Int.{to_z-of_z}
 use Rattle.segment_image.specs.Checks.{first_fault}
 use Rattle.live_segment.specs.declared.recorder.desk.Desk.{Desk}
-use Rattle.live_segment.specs.Counts.Batching.{batch_checks}
+use Rattle.live_segment.specs.Add.Batch.{batch_checks}
 use Rattle.live_segment.specs.Desk.{desk_of}
 use Rattle.live_segment.specs.Holders.{view_of_recorder}
 use Rattle.owned_recorder.specs.Answers.{AnswersBatch, ClaimsBatch}

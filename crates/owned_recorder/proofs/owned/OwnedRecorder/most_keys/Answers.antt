@@ -1,6 +1,6 @@
 use Rattle.std.proofs.Common.{subst}
 use Rattle.live_segment.specs.declared.segment.Segment.{Segment}
-use Rattle.live_segment.specs.Readings.Values.{AreMostKeys}
+use Rattle.live_segment.specs.List.Values.{AreMostKeys}
 use Rattle.owned_recorder.proofs.owned.OwnedRecorder.most_keys.Goals as goal
 
 pub returns : goal.returns

@@ -2,10 +2,10 @@ use Rattle.std.proofs.Common.{◌≤◌, ℕ, ℤ, sym, subst, w32, arith}
 use Rattle.std.proofs.lemmas.Int.{to_z-of_z}
 use Rattle.std.proofs.lemmas.Result.{err_from_is_err_and}
 use Rattle.segment_machine.specs.declared.actor.Known.{Known}
-use Rattle.live_segment.specs.Counts.Adding.{IsAdded, IsRefused, LacksBlock}
-use Rattle.live_segment.specs.Claims.{ClaimsFor}
+use Rattle.live_segment.specs.Add.Sample.{IsAdded, IsRefused, LacksBlock}
+use Rattle.live_segment.specs.Alloc.Claims.{ClaimsFor}
 use Rattle.live_segment.specs.Known.{known_view}
-use Rattle.live_segment.proofs.AddCall.Adds.{passes, meant}
+use Rattle.live_segment.proofs.lemmas.Add.Adds.{passes, meant}
 use Rattle.live_segment.proofs.Seating.Recorders.{recorder_still, seat_counted}
 use Rattle.live_segment.proofs.recorder.state.RecorderState.add.Goals as goal
 
@@ -35,7 +35,7 @@ returns-in_err-add_sample-clause-answer c =
     let why = c.in_err-add_sample.field-0.0 in
     let refused = subst (λ (v : ℤ). IsRefused one.name.items old new × LacksBlock why (known_view one) v c.args.count old new)
     (to_z-of_z w32 c.args.value c.ranges.value) c.in_err-add_sample.ensures.outcome in
-    passes old c.args.count _ _ c.if-count-eq0.false (subst (λ (n : ℕ). c.args.count ≤ n) c.requires.at.counted c.if-count-units.false) (λ known means.
+    passes old c.args.count _ _ c.if-count-eq0.false (subst (λ (n : ℕ). c.args.count ≤ n) c.requires.at.counted c.if-count-self.false) (λ known means.
     rw (p.1, p.2) (subst (λ (k : Known). IsRefused k.name old new × LacksBlock why k c.args.value c.args.count old new)
     (meant c.args.self.now.known.items old.answers.names c.args.histogram.index one known c.requires.at.listed c.index-known.ensures c.requires.knows means) refused))
 
@@ -46,7 +46,7 @@ returns-clause-answer c =
     let one = c.index-known.result.now in
     let added = subst (λ (v : ℤ). IsAdded (known_view one) v c.args.count old new) (to_z-of_z w32 c.args.value c.ranges.value)
     c.in_ok-add_sample.ensures.outcome in
-    passes old c.args.count _ _ c.if-count-eq0.false (subst (λ (n : ℕ). c.args.count ≤ n) c.requires.at.counted c.if-count-units.false) (λ known means.
+    passes old c.args.count _ _ c.if-count-eq0.false (subst (λ (n : ℕ). c.args.count ≤ n) c.requires.at.counted c.if-count-self.false) (λ known means.
     subst (λ (k : Known). IsAdded k c.args.value c.args.count old new)
     (meant c.args.self.now.known.items old.answers.names c.args.histogram.index one known c.requires.at.listed c.index-known.ensures c.requires.knows means) added)
 

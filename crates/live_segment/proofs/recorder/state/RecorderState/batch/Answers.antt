@@ -4,11 +4,11 @@ use Rattle.std.proofs.lemmas.List.{length-take-le}
 use Rattle.segment_image.specs.Checks.{first_fault}
 use Rattle.segment_invariant.proofs.Lists.Elements.{below_length}
 use Rattle.segment_machine.specs.declared.actor.Known.{Known}
-use Rattle.live_segment.specs.Counts.Batching.{batch_checks, IsBatched, IsCutShort}
-use Rattle.live_segment.specs.Claims.{ClaimsForAll}
+use Rattle.live_segment.specs.Add.Batch.{batch_checks, IsBatched, IsCutShort}
+use Rattle.live_segment.specs.Alloc.Claims.{ClaimsForAll}
 use Rattle.live_segment.specs.Known.{known_view}
-use Rattle.live_segment.proofs.AddCall.Adds.{meant}
-use Rattle.live_segment.proofs.BatchCall.Batches.{passed, passes_all, fails_one}
+use Rattle.live_segment.proofs.lemmas.Add.Adds.{meant}
+use Rattle.live_segment.proofs.lemmas.Add.Batch.Batches.{passed, passes_all, fails_one}
 use Rattle.live_segment.proofs.Seating.Recorders.{recorder_still, seat_counted}
 use Rattle.live_segment.proofs.recorder.state.RecorderState.batch.Goals as goal
 

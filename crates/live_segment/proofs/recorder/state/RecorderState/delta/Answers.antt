@@ -5,15 +5,15 @@ use Rattle.segment_machine.specs.declared.actor.Actor.{Actor}
 use Rattle.segment_machine.specs.declared.actor.Known.{Known}
 use Rattle.segment_machine.specs.Actor.{has_buckets}
 use Rattle.live_segment.specs.Holders.{opened_with}
-use Rattle.live_segment.specs.Readings.Deltas.{HasTaken}
-use Rattle.live_segment.specs.Readings.Values.{AreFewKeys}
-use Rattle.live_segment.proofs.AddCall.Adds.{meant}
+use Rattle.live_segment.specs.Delta.Outcome.{HasTaken}
+use Rattle.live_segment.specs.List.Values.{AreFewKeys}
+use Rattle.live_segment.proofs.lemmas.Add.Adds.{meant}
 use Rattle.live_segment.proofs.Seating.Recorders.{recorder_still, seat_searched}
 use Rattle.segment_invariant.proofs.Lists.Elements.{contains_at}
-use Rattle.live_segment.proofs.DeltaCall.Behind.{taken_behind}
-use Rattle.live_segment.proofs.DeltaCall.Owed.{took_enough}
-use Rattle.live_segment.proofs.DeltaCall.Given.{taken_rests, taken_of, taken_names, taken_share}
-use Rattle.live_segment.proofs.Walks.IndexKept.{seen_on}
+use Rattle.live_segment.proofs.lemmas.Delta.Behind.{taken_behind}
+use Rattle.live_segment.proofs.lemmas.Delta.Owed.{took_enough}
+use Rattle.live_segment.proofs.lemmas.Delta.Given.{taken_rests, taken_of, taken_names, taken_share}
+use Rattle.live_segment.proofs.lemmas.List.IndexKept.{seen_on}
 use Rattle.live_segment.proofs.recorder.state.RecorderState.delta.Goals as goal
 
 pub returns-in_err-counts-clause-taken : goal.returns-in_err-counts-clause-taken
@@ -34,9 +34,8 @@ pub returns-in_err-counts-clause-at : goal.returns-in_err-counts-clause-at
 returns-in_err-counts-clause-at c =
     let old = c.args.self.now in
     let looked = c.look_for_own-has_all.ensures in
-    recorder_still c.args.segment.now old _ old.units _ c.requires.at
-    (seat_searched c.args.segment.now old.seat _ c.requires.at.seated c.requires.at.rests looked.same looked.view looked.free)
-    (c.requires.at.counted ∙ sym (ap (λ (x : Actor). x.units.share) looked.view.view)) looked.indexed
+    let (is, share) = seat_searched c.args.segment.now old.seat _ c.requires.at.seated c.requires.at.rests looked.same looked.view looked.free in
+    recorder_still c.args.segment.now old _ old.units _ c.requires.at is (c.requires.at.counted ∙ sym share) looked.indexed
 
 pub returns-clause-at : goal.returns-clause-at
 returns-clause-at c =

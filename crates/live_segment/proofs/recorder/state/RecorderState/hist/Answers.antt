@@ -6,16 +6,16 @@ use Rattle.segment_calls.specs.Asked.{IsRefusedFor}
 use Rattle.segment_machine.specs.declared.actor.Actor.{Actor}
 use Rattle.segment_machine.specs.declared.actor.Known.{Known}
 use Rattle.segment_invariant.proofs.Lists.Elements.{contains_at}
-use Rattle.live_segment.specs.Names.Hist.{IsAnsweredWith, IsRefusedWith, NoneHasName}
+use Rattle.live_segment.specs.Hist.Answer.{IsAnsweredWith, IsRefusedWith, NoneHasName}
 use Rattle.live_segment.specs.Steps.{Pass}
-use Rattle.live_segment.proofs.Walks.Fronts.{answer_first, first_there}
+use Rattle.live_segment.proofs.lemmas.List.Fronts.{answer_first, first_there}
 use Rattle.live_segment.specs.declared.recorder.KnownHistogram.{KnownHistogram}
 use Rattle.live_segment.specs.Known.{known_view, KnowsRight}
-use Rattle.live_segment.specs.Names.Naming.{HasNames}
-use Rattle.live_segment.proofs.Walks.Walked.{all_right, come_still}
-use Rattle.live_segment.proofs.HistCall.HistAnswered.{none_known, seen_grew, names_still, of_still, rests_still, share_still, chain_grew, of_then, rests_then, share_same, right_then, listed_then, named_then, count_of, asked_here}
-use Rattle.live_segment.proofs.HistCall.Blocks.{makes_named}
-use Rattle.live_segment.proofs.Walks.IndexKept.{seen_on}
+use Rattle.live_segment.specs.Hist.KnownNames.{HasNames}
+use Rattle.live_segment.proofs.lemmas.List.Walked.{all_right, come_still}
+use Rattle.live_segment.proofs.lemmas.Hist.HistAnswered.{none_known, seen_grew, names_still, of_still, rests_still, share_still, chain_grew, of_then, rests_then, share_same, right_then, listed_then, named_then, count_of, asked_here}
+use Rattle.live_segment.proofs.lemmas.Hist.Blocks.{makes_named}
+use Rattle.live_segment.proofs.lemmas.List.IndexKept.{seen_on}
 use Rattle.live_segment.proofs.recorder.state.RecorderState.hist.Goals as goal
 
 pub returns-in_err-known-clause-at : goal.returns-in_err-known-clause-at

@@ -1,8 +1,8 @@
 use Rattle.std.proofs.Common.{List, subst, sym}
 use Rattle.std.specs.Prelude.{MatchOption}
 use Rattle.live_segment.specs.declared.recorder.KnownHistogram.{KnownHistogram}
-use Rattle.live_segment.specs.Names.Hist.{IsKnownAt, NoneHasName}
-use Rattle.live_segment.specs.Names.Naming.{HasNames}
+use Rattle.live_segment.specs.Hist.Answer.{IsKnownAt, NoneHasName}
+use Rattle.live_segment.specs.Hist.KnownNames.{HasNames}
 use Rattle.live_segment.proofs.recorder.state.RecorderState.index_of.Goals as goal
 
 pub find-requires : goal.find-requires

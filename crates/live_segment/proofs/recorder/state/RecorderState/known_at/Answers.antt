@@ -5,9 +5,9 @@ use Rattle.segment_calls.specs.Asked.{IsRefusedFor}
 use Rattle.segment_image.specs.Shape.{Dimensions}
 use Rattle.segment_invariant.proofs.Lists.Elements.{below_length}
 use Rattle.live_segment.specs.Known.{known_view}
-use Rattle.live_segment.proofs.HistCall.HistAnswered.{asked_here, may_be_asked, may_be_known, read_known, right_read}
-use Rattle.live_segment.proofs.HistCall.KnownNames.{is_there}
-use Rattle.live_segment.proofs.HistCall.OneName.{none_same}
+use Rattle.live_segment.proofs.lemmas.Hist.HistAnswered.{asked_here, may_be_asked, may_be_known, read_known, right_read}
+use Rattle.live_segment.proofs.lemmas.Hist.KnownNames.{is_there}
+use Rattle.live_segment.proofs.lemmas.Hist.OneName.{none_same}
 use Rattle.live_segment.proofs.recorder.state.RecorderState.known_at.Goals as goal
 
 pub index-requires : goal.index-requires

@@ -1,7 +1,7 @@
 use Rattle.std.proofs.Common.{subst}
 use Rattle.segment_machine.specs.declared.actor.Known.{Known}
-use Rattle.live_segment.specs.Readings.Values.{AreMostKeys}
-use Rattle.live_segment.proofs.AddCall.Adds.{meant}
+use Rattle.live_segment.specs.List.Values.{AreMostKeys}
+use Rattle.live_segment.proofs.lemmas.Add.Adds.{meant}
 use Rattle.live_segment.proofs.recorder.state.RecorderState.most_keys.Goals as goal
 
 pub returns : goal.returns

@@ -4,15 +4,15 @@ use Rattle.segment_machine.specs.declared.actor.Actor.{Actor}
 use Rattle.segment_machine.specs.declared.actor.Known.{Known}
 use Rattle.segment_machine.specs.Actor.{has_buckets}
 use Rattle.live_segment.specs.Holders.{opened_with}
-use Rattle.live_segment.specs.Readings.Snapshots.{HasSnapshot}
-use Rattle.live_segment.specs.Readings.Values.{AreFewKeys}
-use Rattle.live_segment.proofs.AddCall.Adds.{meant}
+use Rattle.live_segment.specs.Snapshot.Outcome.{HasSnapshot}
+use Rattle.live_segment.specs.List.Values.{AreFewKeys}
+use Rattle.live_segment.proofs.lemmas.Add.Adds.{meant}
 use Rattle.live_segment.proofs.Seating.Recorders.{recorder_still, seat_searched}
 use Rattle.segment_invariant.proofs.Lists.Elements.{contains_at}
-use Rattle.live_segment.proofs.DeltaCall.Behind.{answered_behind}
-use Rattle.live_segment.proofs.DeltaCall.Owed.{has_enough}
-use Rattle.live_segment.proofs.DeltaCall.Given.{looked_rests, looked_of, looked_names, looked_share}
-use Rattle.live_segment.proofs.Walks.IndexKept.{seen_on}
+use Rattle.live_segment.proofs.lemmas.Delta.Behind.{answered_behind}
+use Rattle.live_segment.proofs.lemmas.Delta.Owed.{has_enough}
+use Rattle.live_segment.proofs.lemmas.Delta.Given.{looked_rests, looked_of, looked_names, looked_share}
+use Rattle.live_segment.proofs.lemmas.List.IndexKept.{seen_on}
 use Rattle.live_segment.proofs.recorder.state.RecorderState.snapshot.Goals as goal
 
 pub returns-in_err-totals-clause-answer : goal.returns-in_err-totals-clause-answer
@@ -33,9 +33,8 @@ pub returns-in_err-totals-clause-at : goal.returns-in_err-totals-clause-at
 returns-in_err-totals-clause-at c =
     let old = c.args.self.now in
     let looked = c.look_for_own-has_all.ensures in
-    recorder_still c.args.segment.now old _ old.units _ c.requires.at
-    (seat_searched c.args.segment.now old.seat _ c.requires.at.seated c.requires.at.rests looked.same looked.view looked.free)
-    (c.requires.at.counted ∙ sym (ap (λ (x : Actor). x.units.share) looked.view.view)) looked.indexed
+    let (is, share) = seat_searched c.args.segment.now old.seat _ c.requires.at.seated c.requires.at.rests looked.same looked.view looked.free in
+    recorder_still c.args.segment.now old _ old.units _ c.requires.at is (c.requires.at.counted ∙ sym share) looked.indexed
 
 pub returns-clause-at : goal.returns-clause-at
 returns-clause-at c =

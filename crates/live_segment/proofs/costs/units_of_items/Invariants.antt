@@ -1,6 +1,0 @@
-use Rattle.std.proofs.Common.{◌≡◌, min, take}
-use Rattle.bucket_ranges.specs.Tally.{units_of}
-use Rattle.live_segment.proofs.costs.units_of_items.Given as goal
-
-abbrev pub invariant-loop-item : goal.invariant-loop-item
-invariant-loop-item l = l.units ≡ min (units_of (take l.item-index l.items)) 18446744073709551615

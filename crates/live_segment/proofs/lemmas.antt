@@ -1,0 +1,8 @@
+-- The lemmas, in folders as the sources and the definitions.
+pub mod Add
+pub mod Alloc
+pub mod Delta
+pub mod Hist
+pub mod List
+pub mod Snapshot
+pub mod Steps

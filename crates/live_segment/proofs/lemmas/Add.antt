@@ -1,0 +1,22 @@
+-- The calls `add` and `batch`.
+pub mod Added
+pub mod Adds
+pub mod Attempts
+pub mod Batch
+pub mod Beginning
+pub mod Blocks
+pub mod Counted
+pub mod CountsAlone
+pub mod Disabled
+pub mod Ended
+pub mod Finished
+pub mod Mounted
+pub mod OwnSamples
+pub mod Refusing
+pub mod SampleKeys
+pub mod SampleMade
+pub mod SampleOf
+pub mod SampleSearches
+pub mod SampleWords
+pub mod TurnedAway
+pub mod ValueCounted

@@ -1,0 +1,106 @@
+-- What a delta takes of one record that it met behind the record of a sparse histogram.
+use Rattle.std.proofs.Common.{◌≡◌, ◌≢◌, ℕ, ℤ, if◌then◌else◌, Bool, List, [], ◌∷◌, Some, None, inl, inr, refl, sym, ap, subst, ◌∙◌, arith}
+use Rattle.std.proofs.lemmas.Bool.{lt-ltb}
+use Rattle.segment_machine.specs.declared.actor.Actor.{Actor}
+use Rattle.segment_machine.specs.declared.actor.Known.{Known}
+use Rattle.segment_machine.specs.declared.actor.Taken.{Taken}
+use Rattle.segment_machine.specs.declared.seen.Seen.{Seen}
+use Rattle.segment_machine.specs.Made.{SawSample}
+use Rattle.segment_machine.specs.Note.{TookSample}
+use Rattle.segment_machine.specs.Taking.{IsLaterSample}
+use Rattle.live_segment.specs.declared.segment.Segment.{Segment}
+use Rattle.live_segment.specs.Delta.Outcome.{HasTakenSample, MayTakeSample, TakesOn, TakesValues, units_of_key}
+use Rattle.segment_promises.specs.Onward.{SeesOn}
+use Rattle.live_segment.specs.List.SampleRecords.{CountsSample, HasUnits, SeesSample}
+use Rattle.live_segment.specs.Steps.{IsSame, Pass}
+use Rattle.segment_promises.specs.Values.{Passes}
+use Rattle.live_segment.specs.List.Values.{TakesValue}
+use Rattle.live_segment.proofs.lemmas.Delta.OneBucket.{nothing_more, takes_by, takes_then}
+use Rattle.live_segment.proofs.lemmas.Delta.OneSample.{values_on}
+use Rattle.segment_promises.proofs.Growing.{grows_not}
+
+module _ (segment : Segment) (known : Known) (at : ℕ) (old mid : Pass) (takes : TakesValues segment known old) (same : IsSame old mid)
+    (sees : SeesSample old.me.0 mid.me.0) where
+  sees_on_sample : SeesOn old.me.0.seen (record old.me.0.seen { words = mid.me.0.seen.words; counts = mid.me.0.seen.counts })
+  sees_on_sample = record {
+    free = omega arith;
+    corrupt = λ saw. saw;
+    warned = omega arith;
+    chain = grows_not old.me.0.seen.chain;
+    ends = grows_not old.me.0.seen.ends;
+    tails = grows_not old.me.0.seen.tails;
+    singles = grows_not old.me.0.seen.singles;
+    counts = sees.counts;
+    words = sees.words;
+    cursors = grows_not old.me.0.seen.cursors;
+  }
+
+  none_taken : TakesOn [] old.me.0 mid.me.0
+  none_taken =
+      let seen : Seen = record old.me.0.seen { words = mid.me.0.seen.words; counts = mid.me.0.seen.counts } in
+      takes_by old.me.0 mid.me.0 mid.me.0.hand.place [] seen
+      (sees.view ∙ ap (λ (l : List Taken). record old.me.0 {
+        hand = record old.me.0.hand { place = mid.me.0.hand.place };
+        deltas = record old.me.0.deltas { taken = l };
+        seen = seen;
+      }) (sym (nothing_more old.me.0.deltas.taken))) sees_on_sample
+
+  takes_mid : TakesValues segment known mid
+  takes_mid = values_on segment known old takes mid [] same none_taken sees.free sees.apart
+
+  chain_mid : mid.me.0.seen.chain ≡ old.me.0.seen.chain
+  chain_mid = ap (λ (a : Actor). a.seen.chain) sees.view
+
+  -- it is no sample, or has no units
+  pub takes_nothing : CountsSample known.reference at None mid.me.0 → TakesValue segment known at None old mid
+  takes_nothing counts = record { takes = takes_mid; on = none_taken; chain = chain_mid; lists = by counts }
+    where
+      by : CountsSample known.reference at None mid.me.0 → Passes (λ value sample. TookSample mid.me.0 sample) mid.me.0.seen known.reference at
+      by (inl none) = inr none
+      by (inr (value, saw, zero)) = inl (value, saw, (0, zero, inl refl))
+
+  module _ (value : ℤ) (count : ℕ) (has : HasUnits known.reference at value count mid.me.0) where
+    pub may_take : MayTakeSample segment known value at count mid
+    may_take = record { takes = takes_mid; saw = has.saw; loaded = has.loaded; counted = has.counted; some = has.some }
+
+    module _ (units : ℕ) (late : Pass) (taken : HasTakenSample segment known value at units mid late) where
+      late_is : late.me.0 ≡ record mid.me.0 {
+        hand = record mid.me.0.hand { place = late.me.0.hand.place };
+        deltas = late.me.0.deltas;
+        seen = record mid.me.0.seen { counts = late.me.0.seen.counts };
+      }
+      late_is = taken.on.view ∙ (λ i. record mid.me.0 {
+        hand = record mid.me.0.hand { place = late.me.0.hand.place };
+        deltas = sym (ap (λ (a : Actor). a.deltas) taken.on.view) i;
+        seen = taken.seen i;
+      })
+
+      chain_late : late.me.0.seen.chain ≡ old.me.0.seen.chain
+      chain_late = ap (λ (s : Seen). s.chain) taken.seen ∙ chain_mid
+
+      saw_late : SawSample late.me.0.seen known.reference value at
+      saw_late = subst (λ (a : Actor). SawSample a.seen known.reference value at) (sym late_is) has.saw
+
+      first_late : ¬ (IsLaterSample late.me.0 at)
+      first_late later = has.first (subst (λ (a : Actor). IsLaterSample a at) late_is later)
+
+      on_late : TakesOn (units_of_key value units) old.me.0 late.me.0
+      on_late = takes_then old.me.0 mid.me.0 late.me.0 [] (units_of_key value units) none_taken taken.on
+
+      -- others took its units
+      pub takes_none : units ≡ 0 → TakesValue segment known at None old late
+      takes_none none = record {
+        takes = taken.takes;
+        on = subst (λ (n : ℕ). TakesOn (units_of_key value n) old.me.0 late.me.0) none on_late;
+        chain = chain_late;
+        lists = inl (value, saw_late, taken.took);
+      }
+
+      pub takes_some : units ≢ 0 → TakesValue segment known at (Some (value, units)) old late
+      takes_some some = record {
+        takes = taken.takes;
+        on = subst (λ (l : List (ℤ × ℕ)). TakesOn l old.me.0 late.me.0)
+            (ap (λ (b : Bool). if b then (value, units) ∷ [] else []) (lt-ltb 0 units (omega (arith, some)))) on_late;
+        chain = chain_late;
+        lists = (saw_late, taken.took, omega (arith, some), first_late);
+      }

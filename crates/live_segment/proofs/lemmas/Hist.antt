@@ -1,0 +1,16 @@
+-- The call `hist`.
+pub mod Blocks
+pub mod ByIndex
+pub mod HistAnnounced
+pub mod HistAnswered
+pub mod Indexing
+pub mod Knowing
+pub mod KnownNames
+pub mod NamesHeld
+pub mod Naming
+pub mod OneName
+pub mod OwnNames
+pub mod Recorded
+pub mod SameLawful
+pub mod Searching
+pub mod Settled

@@ -1,0 +1,294 @@
+-- A search for a name: what a recorder knows once it has loaded the next of the block where its walk stands, and once it has compared the
+-- record that it met.
+use Rattle.std.proofs.Common.{◌≡◌, ◌≢◌, ℕ, ◌+◌, ◌<◌, ◌≤◌, ◌==◌, Bool, true, false, List, [], ◌∷◌, ◌++◌, length, slice_index, inl, inr, refl, sym, ap, subst, ◌∙◌, arith, ne_eqb, length-append, eq-eqb, map, not}
+use Rattle.std.specs.Prelude.{if◌then◌else◌}
+use Rattle.std.specs.List.{All, Contains, filter}
+use Rattle.std.proofs.Math.ListN.{get_or}
+use Rattle.std.proofs.lemmas.List.{append-nil, append_assoc, get_or_push, get_or_append_left, length_push}
+use Rattle.std.proofs.lemmas.List.Elements.{All-push, All-contains, Contains-append_left, Contains-append_right}
+use Rattle.segment_image.specs.Shape.{Dimensions}
+use Rattle.list_core.specs.declared.walk.WalkStep.TheVariants.{Record, End, Stray}
+use Rattle.list_core.specs.Chain.{is_reference, stops}
+use Rattle.list_core.specs.Walk.{IsPrefix, given_after, said_of, stands_behind}
+use Rattle.list_core.proofs.Walks.{place_of}
+use Rattle.segment_machine.specs.declared.actor.Actor.{Actor}
+use Rattle.segment_machine.specs.declared.actor.Given.{Given}
+use Rattle.segment_machine.specs.declared.actor.Published.{Published}
+use Rattle.segment_machine.specs.declared.seen.Sighting.{Sighting}
+use Rattle.segment_machine.specs.declared.actor.Made.TheVariants as made
+use Rattle.segment_machine.specs.declared.seen.Seen.{Seen}
+use Rattle.segment_machine.specs.Actor.{is_bound, is_opener}
+use Rattle.segment_machine.specs.Event.{walking_event, Ready}
+use Rattle.segment_machine.specs.Made.{IsFirstNamed, SawName, SawOtherName, SawSpec, SawOtherSpec}
+use Rattle.segment_machine.specs.Stages.{Walks}
+use Rattle.segment_machine.specs.Walking.{load_next, extended, records_met}
+use Rattle.segment_machine.proofs.Stages.Walks.{walks_agree}
+use Rattle.segment_invariant.proofs.Lists.Maps.{contains_map}
+use Rattle.segment_calls.specs.declared.asked.Asked.{Asked}
+use Rattle.live_segment.specs.declared.hist.list_search.Search.TheVariants as search
+use Rattle.live_segment.specs.declared.segment.Segment.{Segment}
+use Rattle.live_segment.specs.Steps.{Pass, IsSame, Stepped}
+use Rattle.live_segment.specs.Holders.{MayStep}
+use Rattle.live_segment.specs.Seated.{IsSeated}
+use Rattle.segment_promises.specs.Onward.{Grows, is_holding}
+use Rattle.segment_promises.specs.Values.{NoRepeats}
+use Rattle.live_segment.specs.List.Records.{KnowsOwnNames}
+use Rattle.live_segment.specs.Hist.ListSearch.{IsAsked, Meets, SeesWords, ShowsName, ShowsSpec}
+use Rattle.live_segment.specs.Hist.Search.{WalksAt, HasSearched, Searches, HasMadeNone}
+use Rattle.segment_promises.proofs.Growing.{extended_end, reference_behind, grows_on, still}
+use Rattle.segment_promises.proofs.Furthest.{last_of, last_least, last_most, last_stands}
+use Rattle.live_segment.proofs.lemmas.List.Showing.{sees_on}
+use Rattle.live_segment.proofs.lemmas.List.WalkProgress as way
+use Rattle.live_segment.proofs.lemmas.List.Walked.{all_given}
+use Rattle.live_segment.specs.List.Ends.{SawAllOfList}
+use Rattle.live_segment.specs.List.Walk.{IsWalkProgress}
+
+-- ---- what was seen stays
+
+pub other_still : (a b : Seen) → Grows a.words b.words → (name : List ℕ) (at : ℕ) → SawOtherName a name at → SawOtherName b name at
+other_still a b grows name at (inl (tag, seen, other)) = inl (tag, still a.words b.words grows (at + 2) tag seen, other)
+other_still a b grows name at (inr (inl (len, seen, other))) = inr (inl (len, still a.words b.words grows (at + 14) len seen, other))
+other_still a b grows name at (inr (inr (letters, i, word, spells, inside, seen, other))) =
+    inr (inr (letters, i, word, spells, inside, still a.words b.words grows (at + 15 + i) word seen, other))
+
+pub others_still : (a b : Seen) → Grows a.words b.words → (name given : List ℕ) → All (SawOtherName a name) given → All (SawOtherName b name) given
+others_still a b grows name given others k d inside = other_still a b grows name (get_or given k d) (others k d inside)
+
+-- ---- on the way
+
+pub searched_not : (a : Actor) → HasSearched a a
+searched_not a = record { view = refl; apart = λ was. was; chain = ([], sym (append-nil a.seen.chain)); ends = ([], sym (append-nil a.seen.ends)); words = ([], sym (append-nil a.seen.words)) }
+
+pub searched_on : (a b c : Actor) → HasSearched a b → HasSearched b c → HasSearched a c
+searched_on a b c one two = record {
+  view = two.view ∙ ap (λ (x : Actor). record x {
+    hand = record x.hand { place = c.hand.place };
+    seen = record x.seen { chain = c.seen.chain; ends = c.seen.ends; words = c.seen.words };
+  }) one.view;
+  apart = λ was. two.apart (one.apart was);
+  chain = grows_on a.seen.chain b.seen.chain c.seen.chain one.chain two.chain;
+  ends = grows_on a.seen.ends b.seen.ends c.seen.ends one.ends two.ends;
+  words = grows_on a.seen.words b.seen.words c.seen.words one.words two.words;
+}
+
+pub sees_searched : (a b : Actor) → SeesWords a b → HasSearched a b
+sees_searched a b sees = record {
+  view = sees.view
+      ∙ (λ i. record a {
+        hand = record a.hand { place = sym (ap (λ (x : Actor). x.hand.place) sees.view) i };
+        seen = record a.seen {
+          chain = sym (ap (λ (x : Actor). x.seen.chain) sees.view) i;
+          ends = sym (ap (λ (x : Actor). x.seen.ends) sees.view) i;
+          words = b.seen.words;
+        };
+      });
+  apart = λ was. ap (λ (x : Actor). is_holding x.hand.place) sees.view ∙ was;
+  chain = ([], ap (λ (x : Actor). x.seen.chain) sees.view ∙ sym (append-nil a.seen.chain));
+  ends = ([], ap (λ (x : Actor). x.seen.ends) sees.view ∙ sym (append-nil a.seen.ends));
+  words = sees.words;
+}
+
+-- ---- a next
+
+module _ {segment : Segment} {old : Pass} {name : List ℕ} {at : ℕ} (seated : IsSeated segment old) (walks : WalksAt name at old.me.0) where
+  abbrev given : List ℕ
+  given = walks.given
+
+  abbrev chain : List ℕ
+  chain = old.me.0.seen.chain
+
+  way_there : IsWalkProgress given at old.me.0
+  way_there = record { free = walks.free; front = walks.front; stands = walks.stands; within = walks.within }
+
+  pub may_follow : MayStep segment old (walking_event (load_next at))
+  may_follow = record {
+    table = seated.table;
+    recorder = seated.recorder;
+    ready = subst (λ (n : ℕ). Ready old.me.0 (walking_event (load_next n))) (sym walks.stands) (walks_agree 0 1 old.me.0 given (walks.free, walks.front)).1;
+  }
+
+  pub room : at + 5 ≤ segment.setting.shape.size
+  room = subst (λ (d : Dimensions). at + 5 ≤ d.size) seated.of.shape walks.within
+
+  module _ (found : ℕ) (new : Pass) (load : Stepped old (walking_event (load_next at)) found new) where
+    chain_is : new.me.0.seen.chain ≡ extended chain at found
+    chain_is = ap (λ (a : Actor). a.seen.chain) load.view
+
+    pub searched : HasSearched old.me.0 new.me.0
+    searched = way.searched seated way_there found new load
+
+    -- at the end of the list it has seen all of it
+    pub found_end : NoRepeats chain → found ≡ 12 → SawAllOfList old.me.0.seen new.me.0.seen
+    found_end once end = way.found_end seated way_there found new load once end
+
+    walks_on : Walks new.me.0 (given_after given (said_of old.me.0.segment.shape.size found))
+    walks_on =
+        let there : Stepped old (walking_event (load_next (stands_behind given))) found new =
+        subst (λ (n : ℕ). Stepped old (walking_event (load_next n)) found new) walks.stands load in
+        subst (λ (a : Actor). Walks a (given_after given (said_of old.me.0.segment.shape.size found))) (sym there.view)
+        ((walks_agree 0 1 old.me.0 given (walks.free, walks.front)).2 found there.learned)
+
+    others_then : All (SawOtherName new.me.0.seen name) given
+    others_then = others_still old.me.0.seen new.me.0.seen searched.words name given walks.others
+
+    -- at the end of the list, all of it was seen
+    pub ends : NoRepeats chain → KnowsOwnNames old.me.0 → found ≡ 12
+        → WalksAt name at new.me.0 × All (SawOtherName new.me.0.seen name) new.me.0.seen.chain × HasMadeNone name new.me.0
+    ends once names end =
+        let (rest, front) = walks.front in
+        let whole : given ≡ chain =
+        all_given given rest chain found front once (λ passed. load.learned.again (length given) passed (place_of given rest chain front ∙ sym walks.stands)) end in
+        let same : new.me.0.seen.chain ≡ chain = chain_is ∙ extended_end chain at found end in
+        let met : All (Contains chain) (records_met old.me.0) = load.learned.all (ap stands_behind (sym whole) ∙ sym walks.stands) end in
+        let others : All (SawOtherName old.me.0.seen name) chain = subst (All (SawOtherName old.me.0.seen name)) whole walks.others in
+        let gave : given_after given (said_of old.me.0.segment.shape.size found) ≡ given =
+        ap (λ (b : Bool). given_after given (if b then End else (if is_reference old.me.0.segment.shape.size found then Record found else Stray))) (eq-eqb found 12 end) in (
+          record {
+            free = walks_on.0;
+            given = given;
+            front = (subst (Walks new.me.0) gave walks_on).1;
+            stands = walks.stands;
+            within = subst (λ (d : Dimensions). at + 5 ≤ d.size) (sym (ap (λ (a : Actor). a.segment.shape) load.view)) walks.within;
+            others = others_then;
+          },
+          subst (All (SawOtherName new.me.0.seen name)) (whole ∙ sym same) others_then,
+          λ spec r has.
+              let published : Contains old.me.0.done.published (record { reference = r; made = made.Histogram name spec }) =
+              subst (λ (l : List Published). Contains l (record { reference = r; made = made.Histogram name spec })) (ap (λ (a : Actor). a.done.published) load.view) has in
+              let listed : Contains chain r = All-contains (Contains chain) (records_met old.me.0) r met
+              (Contains-append_left
+              (map (λ (p : Published). p.reference) old.me.0.done.published ++ map (λ (g : Given). g.reference) old.me.0.done.given)
+              (filter (λ at. not (at == 12)) (old.me.0.seen.tails ++ map (λ (s : Sighting). s.word) old.me.0.seen.cursors)) r
+              (Contains-append_left (map (λ (p : Published). p.reference) old.me.0.done.published) (map (λ (g : Given). g.reference) old.me.0.done.given) r
+              (contains_map (λ (p : Published). p.reference) old.me.0.done.published (record { reference = r; made = made.Histogram name spec }) published))) in
+              names name spec r published (All-contains (SawOtherName old.me.0.seen name) chain r others listed),
+        )
+
+    module _ (miss : found ≢ 12) where
+      gave_one : given_after given (said_of old.me.0.segment.shape.size found) ≡ given ++ found ∷ []
+      gave_one =
+          ap (λ (b : Bool × Bool). given_after given (if b.0 then End else if b.1 then Record found else Stray))
+          (λ i. (ne_eqb found 12 miss i, load.learned.reference i))
+
+      longer : Walks new.me.0 (given ++ found ∷ [])
+      longer = subst (Walks new.me.0) gave_one walks_on
+
+      pub meets : Meets found new.me.0
+      meets =
+          let (rest, front) = longer.1 in (
+            longer.0,
+            subst (λ (l : List ℕ). Contains l found) (sym front)
+                (Contains-append_left (given ++ found ∷ []) rest found (Contains-append_right given (found ∷ []) found (0, omega arith, refl))),
+          )
+
+      pub room_found : found + 5 ≤ segment.setting.shape.size
+      room_found =
+          (reference_behind segment.setting.shape.size found
+          (subst (λ (d : Dimensions). is_reference d.size found ≡ true) seated.of.shape load.learned.reference) miss).1
+
+      -- what a walk knows that goes on behind a record of another name
+      pub walks_then : (b : Actor) → SeesWords new.me.0 b → SawOtherName b.seen name found → WalksAt name found b
+      walks_then b sees other =
+          let long = length_push given found in
+          let then_chain = ap (λ (x : Actor). x.seen.chain) sees.view in record {
+            free = ap (λ (x : Actor). is_bound x.hand.place) sees.view ∙ longer.0;
+            given = given ++ found ∷ [];
+            front = subst (IsPrefix (given ++ found ∷ [])) (sym then_chain) longer.1;
+            stands = sym (get_or_push (stops given) found 0 (length (given ++ found ∷ [])) (omega (arith, long)));
+            within = subst (λ (d : Dimensions). found + 5 ≤ d.size)
+                (sym (ap (λ (x : Actor). x.segment.shape) sees.view ∙ (ap (λ (x : Actor). x.segment.shape) load.view ∙ seated.of.shape))) room_found;
+            others = All-push (SawOtherName b.seen name) given found (others_still new.me.0.seen b.seen sees.words name given others_then) other;
+          }
+
+      -- the first of the name
+      pub first_named : (b : Actor) → SeesWords new.me.0 b → SawName b.seen name found → IsFirstNamed b.seen name found
+      first_named b sees saw =
+          let (rest, front) = longer.1 in (
+            given,
+            rest,
+            ap (λ (x : Actor). x.seen.chain) sees.view ∙ (front ∙ append_assoc given (found ∷ []) rest),
+            others_still new.me.0.seen b.seen sees.words name given others_then,
+            saw,
+          )
+
+      -- it has come further along the list, which fits in the segment
+      pub comes_further : (b : Actor) → SeesWords new.me.0 b → NoRepeats chain
+          → (last_of chain at < last_of b.seen.chain found) × (last_of b.seen.chain found ≤ segment.setting.shape.size)
+      comes_further b sees once =
+          let (rest, front) = walks.front in
+          let (behind, whole) = longer.1 in
+          let then_chain : b.seen.chain ≡ (given ++ found ∷ []) ++ behind = ap (λ (x : Actor). x.seen.chain) sees.view ∙ whole in
+          let long = length_push given found in
+          let all : length b.seen.chain ≡ length (given ++ found ∷ []) + length behind = ap length then_chain ∙ length-append (given ++ found ∷ []) behind in
+          let there : slice_index b.seen.chain (length given) ≡ found =
+          ap (λ (l : List ℕ). slice_index l (length given)) then_chain
+          ∙ (get_or_append_left (given ++ found ∷ []) behind 0 (length given) (omega (arith, long)) ∙ get_or_push given found 0 (length given) refl) in
+          let far = last_least b.seen.chain (length given) found (omega (arith, all, long)) there in
+          let near : last_of chain at ≤ length given = subst (λ (n : ℕ). last_of chain n ≤ length given) (sym walks.stands) (last_stands given rest chain front once) in
+          let most = last_most b.seen.chain found in
+          let few = load.learned.few in
+          let ends = ap length (ap (λ (x : Actor). x.seen.chain) sees.view ∙ chain_is) in
+          let size = ap (λ (d : Dimensions). d.size) seated.of.shape in
+          (omega (arith, far, near), omega (arith, most, few, ends, size))
+
+-- ---- a record of the name
+
+pub name_still : (a b : Seen) → Grows a.words b.words → (name : List ℕ) (at : ℕ) → SawName a name at → SawName b name at
+name_still a b grows name at (tag, len, letters, spells, words) = (
+  still a.words b.words grows (at + 2) 1 tag,
+  still a.words b.words grows (at + 14) (length name) len,
+  letters,
+  spells,
+  λ i below. still a.words b.words grows (at + 15 + i) (slice_index letters i) (words i below),
+)
+
+-- a recorder's seat goes on at its segment
+pub seat_on : {segment : Segment} {first : Pass} (old : Pass) → IsSeated segment first → IsSame first old → HasSearched first.me.0 old.me.0 → IsSeated segment old
+seat_on old seated same searched = record {
+  table = same.0 ∙ seated.table;
+  recorder = ap (λ (a : Actor). is_opener a.role) searched.view ∙ seated.recorder;
+  of = record {
+    shape = ap (λ (a : Actor). a.segment.shape) searched.view ∙ seated.of.shape;
+    version = ap (λ (a : Actor). a.segment.version) searched.view ∙ seated.of.version;
+    cursors = ap (λ (a : Actor). a.segment.cursors) searched.view ∙ seated.of.cursors;
+  };
+}
+
+-- the first of the name, with the spec or another
+module _ {shape : Dimensions} {asked : Asked} (is : IsAsked shape asked) (found : ℕ) (last : Actor) (met : Meets found last)
+    (first : IsFirstNamed last.seen asked.name.items found) where
+  pub first_with : found + 15 + asked.letters ≤ last.segment.shape.size → ShowsSpec asked found true last.seen → Searches asked (search.Met found) last
+  first_with within spec = (
+    met.0,
+    (first, (is.payload.letters, is.payload.spells, subst (λ (n : ℕ). SawSpec last.seen asked.spec n found) is.payload.count_is spec)),
+    met.1,
+    omega (arith, within),
+  )
+
+  pub first_without : ShowsSpec asked found false last.seen → Searches asked search.OtherSpec last
+  first_without other = (
+    met.0,
+    (found, is.payload.letters, first, is.payload.spells, subst (λ (n : ℕ). SawOtherSpec last.seen asked.spec n found) is.payload.count_is other),
+  )
+
+module _ {segment : Segment} {old : Pass} {asked : Asked} (is : IsAsked segment.setting.shape asked) {at : ℕ} (seated : IsSeated segment old)
+    (walks : WalksAt asked.name.items at old.me.0) (found : ℕ) (new : Pass) (load : Stepped old (walking_event (load_next at)) found new) (miss : found ≢ 12)
+    (named : Actor) (sees : SeesWords new.me.0 named) (name : ShowsName asked found true named) (last : Actor) (then_sees : SeesWords named last) where
+  all_seen : SeesWords new.me.0 last
+  all_seen = sees_on new.me.0 named last sees then_sees
+
+  it_meets : Meets found last
+  it_meets = subst (Meets found) (sym all_seen.view) (meets seated walks found new load miss)
+
+  is_first : IsFirstNamed last.seen asked.name.items found
+  is_first =
+      first_named seated walks found new load miss last all_seen
+      (name_still named.seen last.seen then_sees.words asked.name.items found name.0)
+
+  pub met_spec : ShowsSpec asked found true last.seen → Searches asked (search.Met found) last
+  met_spec =
+      let within = name.1 in let size = ap (λ (a : Actor). a.segment.shape.size) then_sees.view in
+      first_with is found last it_meets is_first (omega (arith, within, size))
+
+  pub met_other : ShowsSpec asked found false last.seen → Searches asked search.OtherSpec last
+  met_other = first_without is found last it_meets is_first

@@ -1,0 +1,150 @@
+-- A snapshot is answered: its recorder has looked anew, has loaded the sum and the redundant count, and notes what it saw.
+use Rattle.std.proofs.Common.{◌≡◌, ◌≢◌, ℕ, ◌+◌, ◌≤◌, true, true≢false, ℤ, List, [], ◌∷◌, ◌++◌, drop, length, map, Some, inl, inr, ⊎_elim, refl, sym, ap, ◌∙◌, subst, arith, length-append}
+use Rattle.std.specs.List.{Contains, range_with_len}
+use Rattle.std.proofs.lemmas.List.{drop-append-le}
+use Rattle.std.proofs.lemmas.List.Elements.{Contains-append_left}
+use Rattle.bucket_ranges.specs.declared.spec.Spec.{Spec}
+use Rattle.bucket_ranges.specs.declared.spec.Spec.TheVariants as spec
+use Rattle.bucket_ranges.specs.Spec.{buckets_of}
+use Rattle.segment_calls.specs.declared.answer.Snapshot.{Snapshot}
+use Rattle.segment_machine.specs.declared.actor.Actor.{Actor}
+use Rattle.segment_machine.specs.declared.actor.Answered.{Answered}
+use Rattle.segment_machine.specs.declared.actor.Known.{Known}
+use Rattle.segment_machine.specs.declared.seen.Sighting.{Sighting}
+use Rattle.segment_machine.specs.Actor.{bucket_key, has_buckets, is_opener, SawCount}
+use Rattle.segment_machine.specs.Calls.{sight}
+use Rattle.segment_machine.specs.Event.{taking_event}
+use Rattle.segment_machine.specs.Taking.{load_sum}
+use Rattle.segment_machine.specs.Note.{answers, MayNote, noted, SawAll, SawBucket}
+use Rattle.live_segment.specs.declared.segment.Segment.{Segment}
+use Rattle.live_segment.specs.Holders.{table_of, MayStep}
+use Rattle.segment_promises.specs.Onward.{SeesOn}
+use Rattle.live_segment.specs.Snapshot.Outcome.{HasLooked, HasSeenBuckets, HasSnapshot, saw_sum}
+use Rattle.live_segment.specs.Steps.{Pass, IsAtRest, IsSame}
+use Rattle.live_segment.specs.Steps.Taking.{answered_as}
+use Rattle.live_segment.specs.Steps.GhostNotes.{KnowsAlone}
+use Rattle.live_segment.proofs.lemmas.Add.Beginning.{known_there}
+use Rattle.segment_promises.proofs.Growing.{grows_by, grows_not}
+use Rattle.live_segment.proofs.lemmas.Steps.Proceeding.{sees_on}
+
+-- what it had seen since it began to look it has still seen, where it sees more counts
+pub counted_since : (a : Actor) (more : List Sighting) → a.since.counts ≤ length a.seen.counts
+    → drop a.since.counts (a.seen.counts ++ more) ≡ drop a.since.counts a.seen.counts ++ more
+counted_since a more since = drop-append-le a.since.counts a.seen.counts more since
+
+pub saw_still : (a : Actor) (more : List Sighting) (at word : ℕ) → a.since.counts ≤ length a.seen.counts → SawCount a at word
+    → Contains (drop a.since.counts (a.seen.counts ++ more)) (record { at = at; word = word })
+saw_still a more at word since saw =
+    let seen : Sighting = record { at = at; word = word } in
+    subst (λ (l : List Sighting). Contains l seen) (sym (counted_since a more since)) (Contains-append_left (drop a.since.counts a.seen.counts) more seen saw)
+
+-- a spec with buckets is not sparse
+pub not_sparse : (s : Spec) → has_buckets s ≡ true → s ≢ spec.Sparse
+not_sparse s has is = true≢false (sym has ∙ ap has_buckets is)
+
+-- it may load the sum then
+pub may_sum : (segment : Segment) (known : Known) (first seat : Pass) → first.table_id ≡ table_of segment → IsAtRest first.me.0 → KnowsAlone first.me.0 known
+    → IsSame first seat → HasLooked first.me.0 seat.me.0 → MayStep segment seat (taking_event (load_sum known.reference))
+may_sum segment known first seat table rests alone same looked = record {
+  table = same.0 ∙ table;
+  recorder = ap (λ (x : Actor). is_opener x.role) looked.same ∙ rests.recorder;
+  ready = (
+    looked.free,
+    (
+      known,
+      subst (λ (x : Actor). Contains x.answers.names known) (sym looked.same) (known_there first.me.0.answers.names known.reference known alone).0,
+      refl,
+    ),
+  );
+}
+
+module _ (known : Known) (a b : Actor) (looked : HasLooked a b) (snapshot : Snapshot) where
+  -- it has loaded the sum and the redundant count
+  abbrev pub summed : Actor
+  summed = saw_sum b known.reference snapshot.sum snapshot.redundant
+
+  abbrev pub answered : Answered
+  answered = answered_as summed known snapshot
+
+  pub began : b.since.counts ≤ length b.seen.counts
+  began =
+      let (more, grown) = looked.seen.counts in
+      let since : b.since.counts ≡ length a.seen.counts = ap (λ (x : Actor). x.since.counts) looked.same in
+      let long : length b.seen.counts ≡ length a.seen.counts + length more = ap length grown ∙ length-append a.seen.counts more in
+      omega (arith, since, long)
+
+  pub redundant_last : (before : List Sighting)
+      × (drop summed.since.counts summed.seen.counts ≡ before ++ record { at = known.reference + 13; word = snapshot.redundant } ∷ [])
+  redundant_last = (drop b.since.counts b.seen.counts, counted_since b (sight (known.reference + 13) snapshot.redundant) began)
+
+  same_answer : answered ≡ answered_as a known snapshot
+  same_answer = ap (λ (x : Actor). answered_as (saw_sum x known.reference snapshot.sum snapshot.redundant) known snapshot) looked.same
+
+  sees : SeesOn b.seen summed.seen
+  sees = record {
+    free = omega arith;
+    corrupt = λ saw. saw;
+    warned = omega arith;
+    chain = grows_not b.seen.chain;
+    ends = grows_not b.seen.ends;
+    tails = grows_not b.seen.tails;
+    singles = grows_not b.seen.singles;
+    counts = grows_by b.seen.counts (sight (known.reference + 13) snapshot.redundant);
+    words = grows_not b.seen.words;
+    cursors = grows_not b.seen.cursors;
+  }
+
+  -- it may note that, and has
+  pub may_answer : (now : Actor) → KnowsAlone a known → SawAll summed known answered → now ≡ summed → MayNote now (answers (answered_as now known snapshot))
+  may_answer now alone saw is = subst (λ (x : Actor). MayNote x (answers (answered_as x known snapshot))) (sym is) (
+    known,
+    subst (λ (x : Actor). Contains x.answers.names known) (sym looked.same) (known_there a.answers.names known.reference known alone).0,
+    refl,
+    saw,
+    refl,
+  )
+
+  pub has_snapshot : (new : Actor) → SawAll summed known answered → new ≡ noted summed (answers answered) → HasSnapshot known a snapshot new
+  has_snapshot new saw is = subst (HasSnapshot known a snapshot) (sym is) (record {
+    same = ap (λ (x : Actor). let y = saw_sum x known.reference snapshot.sum snapshot.redundant in noted y (answers (answered_as y known snapshot))) looked.same;
+    free = refl;
+    seen = sees_on a.seen b.seen summed.seen looked.seen sees;
+    saw = subst (SawAll (noted summed (answers answered)) known) same_answer (record {
+      buckets = saw.buckets;
+      samples = saw.samples;
+      once = saw.once;
+      values = saw.values;
+      sum = saw.sum;
+      redundant = saw.redundant;
+    });
+  })
+
+-- a snapshot of buckets
+module _ (known : Known) (a b : Actor) (snapshot : Snapshot) (has : has_buckets known.spec ≡ true) (seen : HasSeenBuckets known a snapshot.counts.items b) where
+  saw_bucket : (bucket total : ℕ) → SawBucket b known bucket total → SawBucket (summed known a b seen.looked snapshot) known bucket total
+  saw_bucket bucket total (word, single, form) = (
+    word,
+    single,
+    ⊎_elim inl
+        (λ (off, (counts, count, there, saw, sum)). inr (
+          off,
+          (
+            counts,
+            count,
+            there,
+            saw_still b (sight (known.reference + 13) snapshot.redundant) (counts + 4 + bucket) count (began known a b seen.looked snapshot) saw,
+            sum,
+          ),
+        )) form,
+  )
+
+  pub saw_buckets : map (λ (total : ℤ × ℕ). total.0) snapshot.counts.items ≡ map (bucket_key (Some known)) (range_with_len 0 (buckets_of known.spec))
+      → SawAll (summed known a b seen.looked snapshot) known (answered known a b seen.looked snapshot)
+  saw_buckets keys = record {
+    buckets = λ _. (keys, λ bucket count there. saw_bucket bucket count.1 (seen.saw bucket count there));
+    samples = λ is. absurd (not_sparse known.spec has is);
+    once = λ is. absurd (not_sparse known.spec has is);
+    values = λ is. absurd (not_sparse known.spec has is);
+    sum = refl;
+    redundant = redundant_last known a b seen.looked snapshot;
+  }

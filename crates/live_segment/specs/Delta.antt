@@ -1,0 +1,3 @@
+-- What deltas take of a histogram, and what they and snapshots owe.
+pub mod Outcome
+pub mod Owed

@@ -1,0 +1,7 @@
+-- How a `hist` finds the histogram of a name, or makes it.
+pub mod Answer
+pub mod KnownNames
+pub mod ListSearch
+pub mod NewRecord
+pub mod Outcome
+pub mod Search

@@ -1,0 +1,11 @@
+-- The list of records: what is put on it, who walks along it, and whom its records are given to.
+pub mod Ends
+pub mod Index
+pub mod IndexedValues
+pub mod Keys
+pub mod Publish
+pub mod Records
+pub mod SampleRecords
+pub mod SharedCursors
+pub mod Values
+pub mod Walk

@@ -1,0 +1,3 @@
+-- What snapshots see of a histogram.
+pub mod Counts
+pub mod Outcome

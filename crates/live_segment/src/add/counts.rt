@@ -1,0 +1,103 @@
+//! How a recorder brings the counts of a histogram in use: it mounts them where there are none, and disables the single
+//! word.
+
+ghost use Rattle.std.specs.Prelude.{◌≡◌, ◌==◌, ◌&&◌, nat_lt};
+
+use crate::recorder::KnownHistogram;
+use crate::rule::Pass;
+use crate::segment::Segment;
+use segment_calls::Refusal;
+use segment_calls::packing::{DISABLED_BIT, off_word};
+use segment_image::layout::{BLOCK_HEADER, TYPE_COUNTS, VERSION_MOVING};
+
+// The units of a packed word stand below this, and the bucket above.
+const UNITS: u64 = 1 << 32;
+
+// Whether units of a single word are in transit once it is disabled: in version 1 where it has some.
+fn moves_units(version: u64, word: u64) -> bool
+    ensures { result ≡ ((version == 1) && nat_lt 0 word) }
+{
+    version == VERSION_MOVING && word > 0
+}
+
+impl Segment {
+    ghost use Rattle.std.specs.Prelude.{◌≡◌, ◌+◌, ◌*◌, ◌≤◌, IfOk, MatchResult, None};
+    ghost use Rattle.bucket_ranges.specs.Spec.{buckets_of, spec_fault};
+    ghost use Rattle.live_segment.specs.Known.{known_view};
+    ghost use Rattle.live_segment.specs.Add.Sample.{block_words};
+    ghost use Rattle.bucket_ranges.specs.Ranges.{boundaries_of};
+    ghost use Rattle.live_segment.specs.Seated.{IsSeated};
+    ghost use Rattle.live_segment.specs.Add.Counts.{MayMount, HasBlank, LooksAtCounts, HasMounted, HasNotMounted, HasDisabled, MountsAt, MountsAtMostOne};
+    ghost use Rattle.live_segment.specs.Add.Refusal.{MayGiveUp};
+    ghost use Rattle.live_segment.specs.Steps.{IsSame};
+    ghost use Rattle.live_segment.specs.Add.Progress.{CountsWithin};
+
+    // Where the counts of a histogram stand: those that are there, or those of a block that it claims for them.
+    pub(crate) fn counts_of(
+        &self,
+        seat: &mut Pass,
+        histogram: &KnownHistogram,
+    ) -> Result<u64, Refusal>
+        requires seat { IsSeated self.now seat.old }
+        requires room { histogram.now.reference + 15 ≤ self.now.setting.shape.size }
+        requires fits { block_words (known_view histogram.now) ≤ self.now.setting.shape.page }
+        requires right { (spec_fault histogram.now.spec ≡ None) × (histogram.now.ranges ≡ boundaries_of histogram.now.spec) }
+        requires may { MayMount seat.old.me.0 (known_view histogram.now) }
+        requires closes { MayGiveUp seat.old.me.0 }
+        ensures same { IsSame seat.old seat.new }
+        ensures outcome { MatchResult result (λ counts. HasMounted (known_view histogram.now) seat.old.me.0 counts seat.new.me.0) (λ why. HasNotMounted why (known_view histogram.now) seat.old.me.0 seat.new.me.0) }
+        ensures claims { IfOk result (λ counts. MountsAtMostOne (known_view histogram.now) seat.old.me.0 seat.new.me.0) }
+    {
+        let counts = self.load_counts(seat, histogram.reference);
+        if counts != 0 {
+            return Ok(counts);
+        }
+        let words = BLOCK_HEADER + 2 * histogram.ranges.len();
+        let at = self.allocate(seat, words as u64, TYPE_COUNTS)?;
+        Ok(self.mount(seat, histogram, at))
+    }
+
+    // A blank block of its own becomes the counts of a histogram. Where another recorder's are there, it is given up.
+    fn mount(&self, seat: &mut Pass, histogram: &KnownHistogram, at: u64) -> u64
+        requires seat { IsSeated self.now seat.old }
+        requires room { (histogram.now.reference + 15 ≤ self.now.setting.shape.size) × (at + 5 ≤ self.now.setting.shape.size) }
+        requires may { MayMount seat.old.me.0 (known_view histogram.now) }
+        requires blank { HasBlank seat.old.me.0 (known_view histogram.now) at }
+        requires within { CountsWithin seat.old.me.0 (known_view histogram.now) at }
+        ensures same { IsSame seat.old seat.new }
+        ensures mounted { HasMounted (known_view histogram.now) seat.old.me.0 result seat.new.me.0 }
+        ensures claims { MountsAt (known_view histogram.now) at seat.old.me.0 result seat.new.me.0 }
+    {
+        let found = self.mount_counts(seat, histogram.reference, at);
+        if found == 0 {
+            return at;
+        }
+        self.purge_block(seat, at);
+        found
+    }
+
+    // Disables the single word of a histogram whose counts it looks at, and adds the units that this had to their count.
+    // Where it is off, nothing is left to do.
+    pub(crate) fn disable_single(&self, seat: &mut Pass, histogram: &KnownHistogram, counts: u64)
+        requires seat { IsSeated self.now seat.old }
+        requires room { histogram.now.reference + 15 ≤ self.now.setting.shape.size }
+        requires may { MayMount seat.old.me.0 (known_view histogram.now) }
+        requires stands { LooksAtCounts seat.old.me.0 (known_view histogram.now) counts }
+        ensures same { IsSame seat.old seat.new }
+        ensures disabled { HasDisabled (known_view histogram.now) counts seat.old.me.0 seat.new.me.0 }
+    {
+        loop {
+            let word = self.load_single(seat, histogram.reference);
+            if word >= DISABLED_BIT {
+                return;
+            }
+            let off = off_word(self.setting.version, word);
+            if self.disable(seat, histogram.reference, word, off) == word {
+                if moves_units(self.setting.version, word) {
+                    self.add_moved(seat, counts, word / UNITS, word % UNITS);
+                }
+                return;
+            }
+        }
+    }
+}

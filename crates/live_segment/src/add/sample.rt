@@ -1,0 +1,103 @@
+//! How a sample is added: it is counted in its bucket, or in the sample of its value, and finished.
+
+ghost use Rattle.std.specs.Prelude.{◌≡◌, ◌≤◌, IfOk, MatchResult};
+
+use crate::list::index::RecordIndex;
+use crate::recorder::KnownHistogram;
+use crate::rule::Pass;
+use crate::segment::Segment;
+use segment_calls::Refusal;
+
+impl Segment {
+    ghost use Rattle.bucket_ranges.specs.declared.spec.Spec.TheVariants.{Sparse};
+    ghost use Rattle.live_segment.specs.Add.Sample.{AnswersSample};
+    ghost use Rattle.live_segment.specs.Alloc.Claims.{ClaimsFor};
+    ghost use Rattle.live_segment.specs.Add.Finish.{item_of};
+    ghost use Rattle.live_segment.specs.declared.list.index.KeyKind.TheVariants.{Sample as OfSample};
+    ghost use Rattle.live_segment.specs.List.Index.{IsIndexed};
+    ghost use Rattle.live_segment.specs.Seated.{IsSeated};
+    ghost use Rattle.live_segment.specs.Known.{known_view, KnowsRight};
+    ghost use Rattle.live_segment.specs.Add.Refusal.{IsNotCounted};
+    ghost use Rattle.live_segment.specs.Steps.{IsAtRest, IsSame};
+    ghost use Rattle.live_segment.specs.Add.Progress.{CountsAlone, HasCounted};
+
+    // Adds a sample.
+    //
+    // `Corrupt` or `Full` where a block was needed for it and none could be claimed.
+    #[inline(always)]
+    pub(crate) fn add_sample(
+        &self,
+        seat: &mut Pass,
+        samples: &mut RecordIndex,
+        histogram: &KnownHistogram,
+        value: i32,
+        units: u32,
+    ) -> Result<(), Refusal>
+        requires seat { IsSeated self.now seat.old }
+        requires indexed { IsIndexed OfSample self.now.setting.shape.size seat.old.me.0.seen samples.old }
+        requires right { KnowsRight self.now.setting seat.old.me.0 histogram.now }
+        requires rests { IsAtRest seat.old.me.0 }
+        requires units { (1 ≤ units) × (units ≤ seat.old.me.0.units.share) }
+        ensures same { IsSame seat.old seat.new }
+        ensures indexed { IsIndexed OfSample self.now.setting.shape.size seat.new.me.0.seen samples.new }
+        ensures rests { IsAtRest seat.new.me.0 }
+        ensures outcome { AnswersSample (known_view histogram.now) value units seat.old.me.0 result seat.new.me.0 }
+        ensures claims { IfOk result (λ _. ClaimsFor (known_view histogram.now) value seat.old.me.0 seat.new.me.0) }
+    {
+        self.count_value(seat, samples, histogram, value, units)?;
+        self.finish_sample(seat, histogram, value, units);
+        Ok(())
+    }
+
+    // Counts units of a value.
+    //
+    // `Corrupt` or `Full` where a block was needed for them and none could be claimed: then the call has ended.
+    #[inline(always)]
+    pub(crate) fn count_value(
+        &self,
+        seat: &mut Pass,
+        samples: &mut RecordIndex,
+        histogram: &KnownHistogram,
+        value: i32,
+        units: u32,
+    ) -> Result<(), Refusal>
+        requires seat { IsSeated self.now seat.old }
+        requires indexed { IsIndexed OfSample self.now.setting.shape.size seat.old.me.0.seen samples.old }
+        requires right { KnowsRight self.now.setting seat.old.me.0 histogram.now }
+        requires may { CountsAlone seat.old.me.0 (known_view histogram.now) (item_of (known_view histogram.now) value units) }
+        ensures same { IsSame seat.old seat.new }
+        ensures indexed { IsIndexed OfSample self.now.setting.shape.size seat.new.me.0.seen samples.new }
+        ensures outcome { MatchResult result (λ _. HasCounted (item_of (known_view histogram.now) value units) seat.old.me.0 seat.new.me.0) (λ why. IsNotCounted why (known_view histogram.now) value units seat.old.me.0 seat.new.me.0) }
+        ensures claims { IfOk result (λ _. ClaimsFor (known_view histogram.now) value seat.old.me.0 seat.new.me.0) }
+    {
+        if histogram.ranges.len() == 0 {
+            return self.count_in_sample(seat, samples, histogram, value, units);
+        }
+        let bucket = histogram.ranges.bucket(value);
+        self.count_in_bucket(seat, histogram, bucket, units)
+    }
+
+    // Counts units of a value of a sparse histogram: in the first sample of the value, which it makes where there is none.
+    fn count_in_sample(
+        &self,
+        seat: &mut Pass,
+        samples: &mut RecordIndex,
+        histogram: &KnownHistogram,
+        value: i32,
+        units: u32,
+    ) -> Result<(), Refusal>
+        requires seat { IsSeated self.now seat.old }
+        requires indexed { IsIndexed OfSample self.now.setting.shape.size seat.old.me.0.seen samples.old }
+        requires right { KnowsRight self.now.setting seat.old.me.0 histogram.now }
+        requires sparse { histogram.now.spec ≡ Sparse }
+        requires may { CountsAlone seat.old.me.0 (known_view histogram.now) (item_of (known_view histogram.now) value units) }
+        ensures same { IsSame seat.old seat.new }
+        ensures indexed { IsIndexed OfSample self.now.setting.shape.size seat.new.me.0.seen samples.new }
+        ensures outcome { MatchResult result (λ _. HasCounted (item_of (known_view histogram.now) value units) seat.old.me.0 seat.new.me.0) (λ why. IsNotCounted why (known_view histogram.now) value units seat.old.me.0 seat.new.me.0) }
+        ensures claims { IfOk result (λ _. ClaimsFor (known_view histogram.now) value seat.old.me.0 seat.new.me.0) }
+    {
+        let sample = self.sample_of(seat, samples, histogram, value)?;
+        self.add_to_sample(seat, sample, u64::from(units));
+        Ok(())
+    }
+}

@@ -1,0 +1,210 @@
+//! How a recorder finds the sample of a value of a sparse histogram, and makes one where there is none.
+
+ghost use Rattle.std.specs.Prelude.{◌≡◌, ◌+◌, ◌≤◌, false, if◌then◌else◌, MatchResult, Some};
+ghost use Rattle.std.specs.Int.{cast_unsigned, w64};
+ghost use Rattle.list_index.specs.Firsts.{first_of};
+ghost use Rattle.segment_machine.specs.Calls.{MayTurn};
+ghost use Rattle.live_segment.specs.List.Keys.{sample_key};
+ghost use Rattle.segment_machine.specs.declared.actor.Known.{Known};
+ghost use Rattle.segment_machine.specs.Actor.{is_bound};
+ghost use Rattle.segment_machine.specs.Actor.{Sparse as KnowsSparse};
+ghost use Rattle.segment_promises.specs.Calls.{SamplesStandBehind};
+ghost use Rattle.segment_promises.specs.Values.{NoRepeats};
+ghost use Rattle.live_segment.specs.Hist.ListSearch.{Meets, SeesWords};
+ghost use Rattle.live_segment.specs.Hist.Search.{HasSearched};
+ghost use Rattle.live_segment.specs.Add.SampleSearch.{ShowsValue, WalksBehind, FindsSample, FoundEnd, HasMadeSample, HasNotMadeSample, HasSampleOf, LacksSampleOf};
+
+use crate::list::index::RecordIndex;
+use crate::list::keys::value_key;
+use crate::recorder::KnownHistogram;
+use crate::rule::{Announcement, Pass};
+use crate::segment::Segment;
+use segment_calls::Refusal;
+use segment_image::layout::{
+    BLOCK_HEADER, QUEUE, SAMPLE_HISTOGRAM, SAMPLE_LEAST, SAMPLE_VALUE, TYPE_SAMPLE,
+};
+
+// How a walk behind the record of a sparse histogram ended.
+pub(crate) enum SampleSearch {
+    // At the first sample of the value.
+    Met(u64),
+    // At the end of the list, behind this block: there is none.
+    End(u64),
+}
+
+// Where a walk goes on for a sample that the index has not: at its place, where it has passed all that was met, or else at the record of the
+// histogram.
+fn start_behind(index: &RecordIndex, has_passed_all: bool, histogram: u64) -> u64
+    ensures { result ≡ (if has_passed_all then index.now.place.at else histogram) }
+{
+    if has_passed_all {
+        index.place.at
+    } else {
+        histogram
+    }
+}
+
+impl Segment {
+    ghost use Rattle.bucket_ranges.specs.declared.spec.Spec.TheVariants.{Sparse};
+    ghost use Rattle.live_segment.specs.declared.list.index.KeyKind.TheVariants.{Sample as OfSample};
+    ghost use Rattle.live_segment.specs.List.Index.{IsIndexed};
+    ghost use Rattle.live_segment.specs.Seated.{IsSeated};
+    ghost use Rattle.live_segment.specs.Known.{known_view, KnowsRight};
+    ghost use Rattle.live_segment.specs.Add.Refusal.{MayGiveUp};
+    ghost use Rattle.live_segment.specs.Steps.{IsSame};
+
+    /// The first sample of a value of a sparse histogram. Where the list has none, one is made and put on it.
+    ///
+    /// `Corrupt` or `Full` where no block could be claimed for it: a call that counts ends with that.
+    pub(crate) fn sample_of(
+        &self,
+        seat: &mut Pass,
+        index: &mut RecordIndex,
+        histogram: &KnownHistogram,
+        value: i32,
+    ) -> Result<u64, Refusal>
+        requires seat { IsSeated self.now seat.old }
+        requires indexed { IsIndexed OfSample self.now.setting.shape.size seat.old.me.0.seen index.old }
+        requires free { is_bound seat.old.me.0.hand.place ≡ false }
+        requires right { KnowsRight self.now.setting seat.old.me.0 histogram.now }
+        requires sparse { histogram.now.spec ≡ Sparse }
+        requires closes { MayGiveUp seat.old.me.0 }
+        ensures same { IsSame seat.old seat.new }
+        ensures indexed { IsIndexed OfSample self.now.setting.shape.size seat.new.me.0.seen index.new }
+        ensures outcome { MatchResult result (λ sample. HasSampleOf (known_view histogram.now) value sample seat.old.me.0 seat.new.me.0) (λ why. LacksSampleOf why (known_view histogram.now) value seat.old.me.0 seat.new.me.0) }
+    {
+        let record = histogram.reference;
+        let end = match self.search_sample(seat, index, histogram, value) {
+            SampleSearch::Met(sample) => return Ok(sample),
+            SampleSearch::End(at) => at,
+        };
+        self.make_sample(seat, record, value)?;
+        match self.find_sample(seat, end, record, value) {
+            SampleSearch::Met(sample) => Ok(sample),
+            SampleSearch::End(_) => unreachable!(),
+        }
+    }
+
+    // The first sample of a value of a sparse histogram: by the index, and from its place on along the list.
+    fn search_sample(
+        &self,
+        seat: &mut Pass,
+        index: &mut RecordIndex,
+        histogram: &KnownHistogram,
+        value: i32,
+    ) -> SampleSearch
+        requires seat { IsSeated self.now seat.old }
+        requires free { MayTurn seat.old.me.0 }
+        requires right { KnowsRight self.now.setting seat.old.me.0 histogram.now }
+        requires indexed { IsIndexed OfSample self.now.setting.shape.size seat.old.me.0.seen index.old }
+        ensures same { IsSame seat.old seat.new }
+        ensures view { HasSearched seat.old.me.0 seat.new.me.0 }
+        ensures outcome { FindsSample histogram.now.reference value result seat.new.me.0 }
+        ensures ended { FoundEnd result seat.old.me.0.seen seat.new.me.0.seen }
+        ensures indexed { IsIndexed OfSample self.now.setting.shape.size seat.new.me.0.seen index.new }
+    {
+        let record = histogram.reference;
+        let key = value_key(record, value);
+        let has_passed_all = self.look_for(seat, index, key);
+        match index.firsts.first(key) {
+            None => {
+                let from = start_behind(index, has_passed_all, record);
+                self.find_sample(seat, from, record, value)
+            }
+            Some(at) => self.search_sample_at(seat, index, at, histogram, value),
+        }
+    }
+
+    // The first sample of a value of a sparse histogram, on from the first with the same key.
+    fn search_sample_at(
+        &self,
+        seat: &mut Pass,
+        index: &RecordIndex,
+        at: u64,
+        histogram: &KnownHistogram,
+        value: i32,
+    ) -> SampleSearch
+        requires seat { IsSeated self.now seat.old }
+        requires free { MayTurn seat.old.me.0 }
+        requires right { KnowsRight self.now.setting seat.old.me.0 histogram.now }
+        requires indexed { IsIndexed OfSample self.now.setting.shape.size seat.old.me.0.seen index.now }
+        requires first { first_of index.now.firsts (sample_key histogram.now.reference (cast_unsigned w64 value)) ≡ Some at }
+        ensures same { IsSame seat.old seat.new }
+        ensures view { HasSearched seat.old.me.0 seat.new.me.0 }
+        ensures outcome { FindsSample histogram.now.reference value result seat.new.me.0 }
+        ensures ended { FoundEnd result seat.old.me.0.seen seat.new.me.0.seen }
+    {
+        let record = histogram.reference;
+        if self.shows_value(seat, at, record, value) {
+            return SampleSearch::Met(at);
+        }
+        self.find_sample(seat, record, record, value)
+    }
+
+    // Makes a sample of a value of a sparse histogram, and puts it on the list.
+    //
+    // `Corrupt` or `Full` where no block could be claimed for it: a call that counts ends with that.
+    fn make_sample(&self, seat: &mut Pass, histogram: u64, value: i32) -> Result<(), Refusal>
+        requires seat { IsSeated self.now seat.old }
+        requires free { is_bound seat.old.me.0.hand.place ≡ false }
+        requires sparse { (known : Known) × KnowsSparse seat.old.me.0 histogram known }
+        requires page { 8 ≤ self.now.setting.shape.page }
+        requires closes { MayGiveUp seat.old.me.0 }
+        ensures same { IsSame seat.old seat.new }
+        ensures outcome { MatchResult result (λ _. HasMadeSample histogram value seat.old.me.0 seat.new.me.0) (λ why. HasNotMadeSample why seat.old.me.0 seat.new.me.0) }
+    {
+        let at = self.allocate(seat, SAMPLE_LEAST as u64, TYPE_SAMPLE)?;
+        self.store_payload(seat, at, SAMPLE_HISTOGRAM - BLOCK_HEADER, histogram);
+        let word = i64::from(value).cast_unsigned();
+        if word != 0 {
+            self.store_payload(seat, at, SAMPLE_VALUE - BLOCK_HEADER, word);
+        }
+        self.publish(seat, at, &Announcement::Sample { histogram, value });
+        Ok(())
+    }
+
+    // Walks along the list, on from where a walk behind the histogram's record stands, up to the first sample of the value.
+    pub(crate) fn find_sample(
+        &self,
+        seat: &mut Pass,
+        from: u64,
+        histogram: u64,
+        value: i32,
+    ) -> SampleSearch
+        requires seat { IsSeated self.now seat.old }
+        requires walks { WalksBehind histogram value from seat.old.me.0 }
+        ensures same { IsSame seat.old seat.new }
+        ensures view { HasSearched seat.old.me.0 seat.new.me.0 }
+        ensures outcome { FindsSample histogram value result seat.new.me.0 }
+        ensures ended { FoundEnd result seat.old.me.0.seen seat.new.me.0.seen }
+    {
+        let mut at = from;
+        loop {
+            let next = self.load_next(seat, at);
+            if next == QUEUE {
+                return SampleSearch::End(at);
+            }
+            if self.shows_value(seat, next, histogram, value) {
+                return SampleSearch::Met(next);
+            }
+            at = next;
+        }
+    }
+
+    // Whether a record that was met is a sample of the value.
+    fn shows_value(&self, seat: &mut Pass, at: u64, histogram: u64, value: i32) -> bool
+        requires seat { IsSeated self.now seat.old }
+        requires met { Meets at seat.old.me.0 }
+        requires room { at + 5 ≤ self.now.setting.shape.size }
+        ensures same { IsSame seat.old seat.new }
+        ensures view { SeesWords seat.old.me.0 seat.new.me.0 }
+        ensures shown { ShowsValue histogram value at result seat.new.me.0 }
+        ensures behind { SamplesStandBehind seat.old.me.0 }
+        ensures once { NoRepeats seat.old.me.0.seen.chain }
+    {
+        match self.shows_sample(seat, at, histogram) {
+            Some(shown) => shown == value,
+            None => false,
+        }
+    }
+}

@@ -1,0 +1,83 @@
+//! How a record is compared with what a `hist` asks for.
+
+ghost use Rattle.std.specs.Prelude.{◌≡◌, ◌+◌, ◌<◌, ◌≤◌, ℕ, length, true, false};
+ghost use Rattle.segment_machine.specs.Actor.{is_opener};
+ghost use Rattle.segment_machine.specs.Walking.{IsFixed};
+ghost use Rattle.live_segment.specs.Hist.ListSearch.{IsAsked, Meets, SeesWords, ShowsWords, ShowsName, ShowsSpec};
+
+use crate::rule::Pass;
+use crate::segment::Segment;
+use segment_calls::Asked;
+use segment_image::layout::{
+    BLOCK_HEADER, BLOCK_TYPE, HISTOGRAM_BUCKETS, HISTOGRAM_KIND, HISTOGRAM_NAME,
+    HISTOGRAM_NAME_LENGTH, TYPE_HISTOGRAM,
+};
+
+// Where these stand in the payload of a histogram's record.
+const NAME: usize = HISTOGRAM_NAME - BLOCK_HEADER;
+
+const BUCKETS: usize = HISTOGRAM_BUCKETS - BLOCK_HEADER;
+
+impl Segment {
+    ghost use Rattle.live_segment.specs.Holders.{table_of};
+    ghost use Rattle.live_segment.specs.Seated.{IsSeated};
+    ghost use Rattle.live_segment.specs.Steps.{IsSame};
+
+    // Whether a record that was met has these words from a place on. They are loaded up to the first that is another one.
+    fn shows(&self, seat: &mut Pass, at: u64, first: usize, words: &[u64]) -> bool
+        requires seat { (seat.old.table_id ≡ table_of self.now) × (is_opener seat.old.me.0.role ≡ false) }
+        requires met { Meets at seat.old.me.0 }
+        requires fixed { (i : ℕ) → i < length words.now → IsFixed seat.old.me.0 at (first + i) }
+        requires room { at + first + length words.now ≤ self.now.setting.shape.size }
+        ensures same { IsSame seat.old seat.new }
+        ensures view { SeesWords seat.old.me.0 seat.new.me.0 }
+        ensures shown { ShowsWords at first words.now result seat.new.me.0.seen }
+    {
+        for (i, word) in words.iter().enumerate() {
+            if self.load_published(seat, at, first + i) != *word {
+                return false;
+            }
+        }
+        true
+    }
+
+    // Whether it has the name that is asked for.
+    pub(crate) fn shows_name(&self, seat: &mut Pass, at: u64, asked: &Asked) -> bool
+        requires seat { IsSeated self.now seat.old }
+        requires asked { IsAsked self.now.setting.shape asked.now }
+        requires met { Meets at seat.old.me.0 }
+        requires room { at + 5 ≤ self.now.setting.shape.size }
+        ensures same { IsSame seat.old seat.new }
+        ensures view { SeesWords seat.old.me.0 seat.new.me.0 }
+        ensures shown { ShowsName asked.now at result seat.new.me.0 }
+    {
+        if self.load_published(seat, at, BLOCK_TYPE) != TYPE_HISTOGRAM {
+            return false;
+        }
+        if self.load_published(seat, at, HISTOGRAM_NAME_LENGTH) != asked.name.len() as u64 {
+            return false;
+        }
+        let letters = &asked.payload[NAME..NAME + asked.letters];
+        self.shows(seat, at, HISTOGRAM_NAME, letters)
+    }
+
+    // Whether it has the spec that is asked for, once it has the name.
+    pub(crate) fn shows_spec(&self, seat: &mut Pass, at: u64, asked: &Asked) -> bool
+        requires seat { IsSeated self.now seat.old }
+        requires asked { IsAsked self.now.setting.shape asked.now }
+        requires met { Meets at seat.old.me.0 }
+        requires named { ShowsName asked.now at true seat.old.me.0 }
+        ensures same { IsSame seat.old seat.new }
+        ensures view { SeesWords seat.old.me.0 seat.new.me.0 }
+        ensures shown { ShowsSpec asked.now at result seat.new.me.0.seen }
+    {
+        if !self.shows(seat, at, HISTOGRAM_KIND, &asked.payload[..BUCKETS]) {
+            return false;
+        }
+        if self.load_published(seat, at, HISTOGRAM_BUCKETS) != asked.payload[BUCKETS] {
+            return false;
+        }
+        let ranges = &asked.payload[NAME + asked.letters..];
+        self.shows(seat, at, HISTOGRAM_NAME + asked.letters, ranges)
+    }
+}

@@ -1,0 +1,141 @@
+//! What a recorder has of the records that it met along the list, so that it need not walk there again.
+
+ghost use Rattle.std.specs.Prelude.{◌≡◌, ◌+◌, ◌*◌, ◌<◌, ◌≤◌, ◌^◌, true, false, ℕ, [], length, MatchOption};
+ghost use Rattle.list_index.specs.Firsts.{Holds, is_grouping};
+ghost use Rattle.segment_image.specs.declared.layout.TheConstants.{BLOCK_LEAST, HEADER_WORDS};
+ghost use Rattle.live_segment.specs.declared.list.index.KeyKind.TheVariants.{Sample};
+ghost use Rattle.segment_machine.specs.Calls.{MayTurn};
+ghost use Rattle.live_segment.specs.Hist.Search.{HasSearched};
+
+use crate::list::walk::WalkPlace;
+use crate::rule::Pass;
+use crate::segment::Segment;
+use list_index::Firsts;
+use segment_image::layout::QUEUE;
+use std::alloc::Global;
+
+/// Which records an index finds, and by what.
+#[derive(Clone, Copy)]
+pub(crate) enum KeyKind {
+    /// The records of histograms, by their names.
+    Name,
+    /// The samples of sparse histograms, by histogram and value.
+    Sample,
+}
+
+/// Of each key on the list the first record, up to a place.
+#[derive(Drop)]
+pub(crate) struct RecordIndex {
+    /// What the keys are.
+    pub(crate) kind: KeyKind,
+    /// Up to where it has passed the list.
+    pub(crate) place: WalkPlace,
+    /// The first record of each key; and of samples those of each histogram.
+    pub(crate) firsts: Firsts,
+}
+
+// What an index begins with: one of samples groups them by their histograms.
+fn firsts_for(alloc: Global, kind: KeyKind) -> Firsts
+    ensures holds { Holds [] result }
+    ensures grouping { kind ≡ Sample → is_grouping result ≡ true }
+{
+    match kind {
+        KeyKind::Name => Firsts::new(alloc),
+        KeyKind::Sample => Firsts::with_groups(alloc),
+    }
+}
+
+impl RecordIndex {
+    ghost use Rattle.live_segment.specs.List.Index.{Enters, IsIndexed};
+    ghost use Rattle.live_segment.specs.List.IndexedValues.{own_samples};
+    ghost use Rattle.segment_machine.specs.declared.seen.Seen.{Seen};
+
+    // It has passed nothing.
+    pub(crate) fn new(alloc: Global, kind: KeyKind) -> RecordIndex
+        ensures { (size : ℕ) (seen : Seen) → IsIndexed kind size seen result }
+    {
+        RecordIndex {
+            kind,
+            place: WalkPlace::start(),
+            firsts: firsts_for(alloc, kind),
+        }
+    }
+
+    // Passes the record behind its place. False where it could not grow: then it stands where it stood.
+    fn enter(&mut self, at: u64, key: Option<u64>) -> bool
+        requires { self.old.place.given + 1 < 2 ^ 64 }
+        ensures { Enters at key self.old result self.new }
+    {
+        if let Some(key) = key {
+            if !self.firsts.enter(key, at) {
+                return false;
+            }
+        }
+        self.place = WalkPlace {
+            given: self.place.given + 1,
+            at,
+        };
+        true
+    }
+
+    /// The samples of a histogram, where it has passed the whole list.
+    pub(crate) fn own(&self, has_passed_all: bool, histogram: u64) -> Option<&[u64]>
+        ensures { MatchOption result (has_passed_all ≡ false) (λ samples. (has_passed_all ≡ true) × (samples.now ≡ own_samples self.now histogram)) }
+    {
+        if has_passed_all {
+            Some(self.firsts.all(histogram))
+        } else {
+            None
+        }
+    }
+}
+
+impl Segment {
+    ghost use Rattle.live_segment.specs.declared.list.index.KeyKind.{KeyKind};
+    ghost use Rattle.live_segment.specs.List.Index.{IsIndexed};
+    ghost use Rattle.live_segment.specs.Seated.{IsSeated};
+    ghost use Rattle.live_segment.specs.Steps.{IsSame};
+
+    // Walks along the list, on from where the index stands, and enters what it meets: to the end of the list, or to where the index
+    // could not grow. True where it came to the end.
+    pub(crate) fn look_on(&self, seat: &mut Pass, index: &mut RecordIndex) -> bool
+        requires seat { IsSeated self.now seat.old }
+        requires free { MayTurn seat.old.me.0 }
+        requires indexed { IsIndexed index.old.kind self.now.setting.shape.size seat.old.me.0.seen index.old }
+        ensures same { IsSame seat.old seat.new }
+        ensures view { HasSearched seat.old.me.0 seat.new.me.0 }
+        ensures free { MayTurn seat.new.me.0 }
+        ensures indexed { IsIndexed index.old.kind self.now.setting.shape.size seat.new.me.0.seen index.new }
+        ensures ended { result ≡ true → index.new.place.given ≡ length seat.new.me.0.seen.chain }
+        ensures few { result ≡ true → BLOCK_LEAST * length seat.new.me.0.seen.chain + HEADER_WORDS ≤ self.now.setting.shape.size }
+    {
+        let kind = index.kind;
+        loop {
+            let next = self.load_next(seat, index.place.at);
+            if next == QUEUE {
+                return true;
+            }
+            let key = self.key_at(seat, kind, next);
+            if !index.enter(next, key) {
+                return false;
+            }
+        }
+    }
+
+    // Looks on along the list where the index has no record of a key. True where it came to the end.
+    pub(crate) fn look_for(&self, seat: &mut Pass, index: &mut RecordIndex, key: u64) -> bool
+        requires seat { IsSeated self.now seat.old }
+        requires free { MayTurn seat.old.me.0 }
+        requires indexed { IsIndexed index.old.kind self.now.setting.shape.size seat.old.me.0.seen index.old }
+        ensures same { IsSame seat.old seat.new }
+        ensures view { HasSearched seat.old.me.0 seat.new.me.0 }
+        ensures free { MayTurn seat.new.me.0 }
+        ensures indexed { IsIndexed index.old.kind self.now.setting.shape.size seat.new.me.0.seen index.new }
+        ensures ended { result ≡ true → index.new.place.given ≡ length seat.new.me.0.seen.chain }
+    {
+        if index.firsts.first(key).is_some() {
+            return false;
+        }
+        self.look_on(seat, index)
+    }
+}

@@ -1,0 +1,113 @@
+//! The keys by which a recorder finds the records that it met along the list.
+
+ghost use Rattle.std.specs.Prelude.{◌≡◌, ◌+◌, ◌≤◌, ℕ, Some};
+ghost use Rattle.std.specs.Int.{cast_unsigned, w64};
+ghost use Rattle.bucket_ranges.specs.Reading.{name_words};
+ghost use Rattle.segment_image.specs.declared.layout.TheConstants.{BLOCK_TYPE, HISTOGRAM_NAME, HISTOGRAM_NAME_LENGTH, TYPE_HISTOGRAM};
+ghost use Rattle.segment_machine.specs.Actor.{word_seen};
+ghost use Rattle.live_segment.specs.List.Keys.{sample_key as key_of_sample};
+ghost use Rattle.live_segment.specs.Hist.ListSearch.{Meets, SeesWords};
+
+use crate::list::index::KeyKind;
+use crate::rule::Pass;
+use crate::segment::Segment;
+use list_index::next_key;
+use segment_image::layout::{
+    BLOCK_TYPE, HISTOGRAM_NAME, HISTOGRAM_NAME_LENGTH, SAMPLE_HISTOGRAM, SAMPLE_VALUE,
+    TYPE_HISTOGRAM, TYPE_SAMPLE,
+};
+
+// How far apart the keys of the samples of two histograms stand: there are as many values.
+const VALUES: u64 = 4_294_967_296;
+
+// The key of the samples of a value of a histogram, by the word of the value.
+fn sample_key(histogram: u64, word: u64) -> u64
+    ensures { result ≡ key_of_sample histogram word }
+{
+    histogram.wrapping_mul(VALUES).wrapping_add(word)
+}
+
+/// The key of the samples of a value of a histogram.
+pub(crate) fn value_key(histogram: u64, value: i32) -> u64
+    ensures { result ≡ key_of_sample histogram (cast_unsigned w64 value) }
+{
+    let word = i64::from(value).cast_unsigned();
+    sample_key(histogram, word)
+}
+
+impl Segment {
+    ghost use Rattle.live_segment.specs.declared.list.index.KeyKind.TheVariants.{Name, Sample};
+    ghost use Rattle.live_segment.specs.List.Keys.{HasLooked, seen_key};
+    ghost use Rattle.live_segment.specs.Seated.{IsSeated};
+    ghost use Rattle.live_segment.specs.Steps.{IsSame};
+
+    // The key of the name of a histogram's record that was met.
+    fn name_key_of(&self, seat: &mut Pass, at: u64, words: u64) -> u64
+        requires seat { IsSeated self.now seat.old }
+        requires met { Meets at seat.old.me.0 }
+        requires tag { word_seen seat.old.me.0.seen.words (at + BLOCK_TYPE) ≡ Some TYPE_HISTOGRAM }
+        requires length { (len : ℕ) × (word_seen seat.old.me.0.seen.words (at + HISTOGRAM_NAME_LENGTH) ≡ Some len) × (words ≡ name_words len) }
+        requires room { at + HISTOGRAM_NAME + words ≤ self.now.setting.shape.size }
+        ensures same { IsSame seat.old seat.new }
+        ensures view { SeesWords seat.old.me.0 seat.new.me.0 }
+        ensures looked { HasLooked Name seat.new.me.0.seen at }
+        ensures key { seen_key Name seat.new.me.0.seen at ≡ Some result }
+    {
+        let mut key = 0;
+        for i in 0..words as usize {
+            key = next_key(key, self.load_published(seat, at, HISTOGRAM_NAME + i));
+        }
+        key
+    }
+
+    // The key of a record that was met: that of its name, where it is one of a histogram.
+    fn name_key_at(&self, seat: &mut Pass, at: u64) -> Option<u64>
+        requires seat { IsSeated self.now seat.old }
+        requires met { Meets at seat.old.me.0 }
+        requires room { at + 5 ≤ self.now.setting.shape.size }
+        ensures same { IsSame seat.old seat.new }
+        ensures view { SeesWords seat.old.me.0 seat.new.me.0 }
+        ensures looked { HasLooked Name seat.new.me.0.seen at }
+        ensures key { seen_key Name seat.new.me.0.seen at ≡ result }
+    {
+        if self.load_published(seat, at, BLOCK_TYPE) != TYPE_HISTOGRAM {
+            return None;
+        }
+        let len = self.load_published(seat, at, HISTOGRAM_NAME_LENGTH);
+        Some(self.name_key_of(seat, at, len.div_ceil(8)))
+    }
+
+    // The key of a record that was met: that of its histogram and its value, where it is a sample.
+    fn sample_key_at(&self, seat: &mut Pass, at: u64) -> Option<u64>
+        requires seat { IsSeated self.now seat.old }
+        requires met { Meets at seat.old.me.0 }
+        requires room { at + 5 ≤ self.now.setting.shape.size }
+        ensures same { IsSame seat.old seat.new }
+        ensures view { SeesWords seat.old.me.0 seat.new.me.0 }
+        ensures looked { HasLooked Sample seat.new.me.0.seen at }
+        ensures key { seen_key Sample seat.new.me.0.seen at ≡ result }
+    {
+        if self.load_published(seat, at, BLOCK_TYPE) != TYPE_SAMPLE {
+            return None;
+        }
+        let histogram = self.load_published(seat, at, SAMPLE_HISTOGRAM);
+        let value = self.load_published(seat, at, SAMPLE_VALUE);
+        Some(sample_key(histogram, value))
+    }
+
+    // The key of a record that was met, where it is one of those that have a key.
+    pub(crate) fn key_at(&self, seat: &mut Pass, kind: KeyKind, at: u64) -> Option<u64>
+        requires seat { IsSeated self.now seat.old }
+        requires met { Meets at seat.old.me.0 }
+        requires room { at + 5 ≤ self.now.setting.shape.size }
+        ensures same { IsSame seat.old seat.new }
+        ensures view { SeesWords seat.old.me.0 seat.new.me.0 }
+        ensures looked { HasLooked kind seat.new.me.0.seen at }
+        ensures key { seen_key kind seat.new.me.0.seen at ≡ result }
+    {
+        match kind {
+            KeyKind::Name => self.name_key_at(seat, at),
+            KeyKind::Sample => self.sample_key_at(seat, at),
+        }
+    }
+}

@@ -1,0 +1,104 @@
+//! How a recorder meets the samples of a sparse histogram along the list.
+
+ghost use Rattle.std.specs.Prelude.{◌≡◌, ◌+◌, ◌≤◌, true, false, length, IfSome};
+ghost use Rattle.bucket_ranges.specs.declared.spec.Spec.TheVariants.{Sparse};
+ghost use Rattle.live_segment.specs.Hist.ListSearch.{Meets, SeesWords};
+ghost use Rattle.live_segment.specs.Known.{known_view};
+ghost use Rattle.live_segment.specs.List.SampleRecords.{CountsSample, SamplesAreFew, SamplesStandBehind, SeesSample, ShowsSample};
+ghost use Rattle.segment_promises.specs.Values.{NoRepeats};
+ghost use Rattle.live_segment.specs.Steps.GhostNotes.{KnowsAlone};
+
+use crate::list::index::RecordIndex;
+use crate::recorder::KnownHistogram;
+use crate::rule::Pass;
+use crate::segment::Segment;
+use segment_image::layout::{SAMPLE_COUNT, SAMPLE_HISTOGRAM, SAMPLE_VALUE, TYPE_SAMPLE};
+
+impl Segment {
+    ghost use Rattle.segment_machine.specs.declared.actor.Actor.{Actor};
+    ghost use Rattle.segment_machine.specs.Actor.{has_buckets};
+    ghost use Rattle.segment_machine.specs.Calls.{MayTurn};
+    ghost use Rattle.segment_promises.specs.Onward.{is_holding};
+    ghost use Rattle.live_segment.specs.declared.list.index.KeyKind.TheVariants.{Sample as OfSample};
+    ghost use Rattle.live_segment.specs.declared.rule.Setting.{Setting};
+    ghost use Rattle.live_segment.specs.Known.{KnowsRight};
+    ghost use Rattle.live_segment.specs.List.Index.{IsIndexed};
+    ghost use Rattle.live_segment.specs.Hist.Search.{HasSearched};
+    ghost use Rattle.live_segment.specs.List.IndexedValues.{HasPassedAll};
+    ghost use Rattle.live_segment.specs.Seated.{IsSeated};
+    ghost use Rattle.live_segment.specs.Steps.{IsSame};
+
+    // The value of a record that was met, where it is a sample of a histogram.
+    pub(crate) fn shows_sample(&self, seat: &mut Pass, at: u64, histogram: u64) -> Option<i32>
+        requires seat { IsSeated self.now seat.old }
+        requires met { Meets at seat.old.me.0 }
+        requires room { at + 5 ≤ self.now.setting.shape.size }
+        ensures same { IsSame seat.old seat.new }
+        ensures view { SeesWords seat.old.me.0 seat.new.me.0 }
+        ensures shown { ShowsSample histogram at result seat.new.me.0 }
+        ensures behind { SamplesStandBehind seat.old.me.0 }
+        ensures once { NoRepeats seat.old.me.0.seen.chain }
+    {
+        if self.load_type(seat, at) != TYPE_SAMPLE {
+            return None;
+        }
+        let of = self.load_published(seat, at, SAMPLE_HISTOGRAM);
+        let value = self.load_published(seat, at, SAMPLE_VALUE);
+        if of != histogram {
+            return None;
+        }
+        match i32::try_from(value.cast_signed()) {
+            Ok(value) => Some(value),
+            Err(_) => None,
+        }
+    }
+
+    // The value and the units of a record that was met, where it is a sample of a histogram and has some.
+    pub(crate) fn sample_at(
+        &self,
+        seat: &mut Pass,
+        histogram: &KnownHistogram,
+        at: u64,
+    ) -> Option<(i32, u64)>
+        requires seat { IsSeated self.now seat.old }
+        requires sparse { KnowsAlone seat.old.me.0 (known_view histogram.now) × (histogram.now.spec ≡ Sparse) }
+        requires apart { is_holding seat.old.me.0.hand.place ≡ false }
+        requires since { seat.old.me.0.since.counts ≤ length seat.old.me.0.seen.counts }
+        requires met { Meets at seat.old.me.0 }
+        requires room { at + 5 ≤ self.now.setting.shape.size }
+        ensures same { IsSame seat.old seat.new }
+        ensures view { SeesSample seat.old.me.0 seat.new.me.0 }
+        ensures counts { CountsSample histogram.now.reference at result seat.new.me.0 }
+        ensures few { IfSome result (λ count. SamplesAreFew seat.new.me.0) }
+        ensures behind { SamplesStandBehind seat.old.me.0 }
+        ensures once { NoRepeats seat.old.me.0.seen.chain }
+    {
+        let value = self.shows_sample(seat, at, histogram.reference)?;
+        let count = self.load_count_of_sample(seat, at + SAMPLE_COUNT as u64);
+        if count == 0 {
+            return None;
+        }
+        Some((value, count))
+    }
+
+    // Looks on along the list for the samples of a histogram, where it is sparse. True where the index has all of them then.
+    pub(crate) fn look_for_own(
+        &self,
+        seat: &mut Pass,
+        index: &mut RecordIndex,
+        histogram: &KnownHistogram,
+    ) -> bool
+        requires seat { IsSeated self.now seat.old }
+        requires free { MayTurn seat.old.me.0 }
+        requires right { (setting : Setting) × (a : Actor) × KnowsRight setting a histogram.now }
+        requires indexed { IsIndexed OfSample self.now.setting.shape.size seat.old.me.0.seen index.old }
+        ensures same { IsSame seat.old seat.new }
+        ensures view { HasSearched seat.old.me.0 seat.new.me.0 }
+        ensures free { MayTurn seat.new.me.0 }
+        ensures indexed { IsIndexed OfSample self.now.setting.shape.size seat.new.me.0.seen index.new }
+        ensures passed { result ≡ true → HasPassedAll self.now.setting.shape.size seat.new.me.0.seen index.new × (histogram.now.spec ≡ Sparse) }
+        ensures still { has_buckets histogram.now.spec ≡ true → (seat.new ≡ seat.old) × (index.new ≡ index.old) }
+    {
+        histogram.ranges.len() == 0 && self.look_on(seat, index)
+    }
+}

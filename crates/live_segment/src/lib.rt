@@ -6,8 +6,9 @@
 //! What a thread has done and seen is the view of its seat at that table, which takes no memory.
 //!
 //! A program that records needs this crate alone: what its calls take and answer, as [`Spec`] and [`Refusal`], is exported here.
-//! The clauses of a function that is passed a segment, an opener or a recorder take their words from `specs/Holders.antt`:
-//! `IsMadeWith`, `RecordsInto`, `SharesSegment`, `Knows`, `HasCursor`. `proofs/Seating/Callers.antt` has the lemmas on them.
+//! The clauses of a function that is passed a segment, an opener or a recorder take their words from `specs/Holders.antt`, as
+//! `IsMadeWith`, `RecordsInto`, `SharesSegment` and `HasCursor`, and from `specs/RecorderState.antt`, as `Knows`.
+//! `proofs/Seating/Callers.antt` has the lemmas on them.
 #![tactic(auto)]
 
 mod add;

@@ -91,7 +91,7 @@ impl Opener {
         Ok(Recorder { segment, state })
     }
 
-    /// The same, of which the caller keeps the segment itself.
+    /// The state of such a recorder, for a caller that keeps the segment alive otherwise than by a borrow: as [`Opener::recorder`].
     pub fn recorder_state(
         &mut self,
         segment: &Segment,
@@ -151,7 +151,7 @@ impl Opener {
         Ok(())
     }
 
-    /// The same, of which the caller keeps the segment itself.
+    /// As [`Opener::lend`], to the state of a recorder of the segment.
     pub fn lend_state(
         &mut self,
         segment: &Segment,
@@ -183,11 +183,11 @@ impl Opener {
         self.join_state(segment, state);
     }
 
-    /// The same, of which the caller keeps the segment itself.
+    /// As [`Opener::join`], of the state of a recorder of the segment.
     pub fn join_state(&mut self, segment: &Segment, state: RecorderState)
         requires at { IsRecorderAt segment.now state }
         requires of { state.seat.table_id ≡ self.old.seat.table_id }
-        ensures takes { IsSameOpener self.old self.new × (view_of_opener self.new ≡ joined (view_of_opener self.old) (view_of_state state.entry)) }
+        ensures takes { IsSameOpener self.old self.new × (view_of_opener self.new ≡ joined (view_of_opener self.old) (view_of_state state)) }
         ensures made { (other : Segment) → IsMadeWith other self.old → IsMadeWith other self.new }
     {
         let RecorderState { seat, units, .. } = state;

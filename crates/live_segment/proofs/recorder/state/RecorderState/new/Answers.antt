@@ -1,4 +1,4 @@
-use Rattle.std.proofs.Common.{List, [], map, ap, sym, subst, ◌∙◌, rules}
+use Rattle.std.proofs.Common.{List, [], map, ap, sym, subst, ◌∙◌, arith, rules}
 use Rattle.std.specs.List.{All}
 use Rattle.live_segment.specs.declared.recorder.KnownHistogram.{KnownHistogram}
 use Rattle.live_segment.specs.Hist.KnownNames.{HasNames}
@@ -11,7 +11,7 @@ returns-clause-at c = record {
   rests = c.requires.rests.0;
   counted = c.requires.rests.1;
   listed = ap (map known_view) c.new.ensures.items ∙ sym c.requires.rests.2;
-  right = subst (All (KnowsRight c.args.segment.now.setting c.args.seat.me.0)) (sym c.new.ensures.items) (λ k d low. absurd (omega low));
+  right = subst (All (KnowsRight c.args.segment.now.setting c.args.seat.me.0)) (sym c.new.ensures.items) (λ k d below. absurd (omega (arith, below)));
   free = c.requires.fits.1;
   come = search rules;
   named = subst (λ (known : List KnownHistogram). HasNames known c.new-names.result) (sym c.new.ensures.items) c.new-names.ensures;

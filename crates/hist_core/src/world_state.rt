@@ -1,13 +1,13 @@
 //! The words of a segment, and the actors that call on it.
 
 use crate::actor_run::{ActorRun, Running};
-use crate::call::{Answer, Begun, Call, Stepped};
+use crate::call::{Answer, Begun, Stepped};
 use crate::call_entries::{are_some, batch_cost};
 use crate::fault::WorldFault;
 use bucket_ranges::Spec;
 use bucket_ranges::limits::MAX_UNITS;
 use image_adoption::Adoptable;
-use segment_calls::{Asked, BatchRefusal, Refusal};
+use segment_calls::{Asked, BatchRefusal, Call, Refusal};
 use segment_image::{Shape, header, ready_header};
 use std::alloc::{AllocError, Global};
 

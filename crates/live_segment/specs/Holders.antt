@@ -1,22 +1,19 @@
 -- Who holds a segment, an opener or a recorder: what it has done and seen, and which segment that is.
-use Rattle.std.specs.Prelude.{◌≡◌, true, false, ◌<◌, ℕ, List, length, slice_set}
-use mathlib.Core.Option.{some}
-use lib.ListN.{get_elem?}
+use Rattle.std.specs.Prelude.{◌≡◌, false, ◌<◌, ℕ, List, slice_set}
 use Rattle.atomic_table.specs.Seated.{TableId}
 use Rattle.segment_image.specs.declared.layout.TheConstants.{VERSION_WORD}
 use Rattle.segment_image.specs.Image.{blank_words}
 use Rattle.segment_machine.specs.declared.actor.Actor.{Actor}
-use Rattle.segment_machine.specs.declared.actor.Known.{Known}
 use Rattle.live_segment.specs.declared.rule.Opening.{Opening}
 use Rattle.live_segment.specs.declared.rule.Setting.{Setting}
 use Rattle.live_segment.specs.declared.segment.Segment.{Segment}
 use Rattle.live_segment.specs.declared.opener.Opener.{Opener}
 use Rattle.live_segment.specs.declared.recorder.Recorder.{Recorder}
-use Rattle.live_segment.specs.declared.recorder.Hist.{Hist}
-use Rattle.segment_machine.specs.Actor.{has_buckets, is_opener}
+use Rattle.segment_machine.specs.Actor.{is_opener}
 use Rattle.segment_machine.specs.Event.{Event, Ready}
 use Rattle.live_segment.specs.Steps.{Pass}
 use Rattle.live_segment.specs.Rule.{first_view, words_of, IsOf}
+use Rattle.live_segment.specs.RecorderState.{view_of_state}
 
 -- the table that has the words of a segment
 abbrev pub table_of : Segment → TableId
@@ -32,7 +29,7 @@ view_of_opener opener = opener.seat.me.0
 
 -- what a recorder has done and seen
 abbrev pub view_of_recorder : Recorder → Actor
-view_of_recorder recorder = recorder.seat.me.0
+view_of_recorder recorder = view_of_state recorder.state
 
 -- a recorder's seat at a segment may do an event
 pub record MayStep (segment : Segment) (seat : Pass) (event : Event) : Type 0 where
@@ -63,36 +60,16 @@ pub record IsSameOpener (old new : Opener) : Type 0 where
 
 -- a recorder is one of the segment that an opener was made with
 abbrev pub IsRecorderOf : Recorder → Opener → Type 0
-IsRecorderOf recorder opener = recorder.seat.table_id ≡ opener.seat.table_id
+IsRecorderOf recorder opener = recorder.state.seat.table_id ≡ opener.seat.table_id
 
 -- a recorder records into a segment: an opener that was made with the segment may join it
 abbrev pub RecordsInto : Segment → Recorder → Type 0
-RecordsInto segment recorder = recorder.seat.table_id ≡ table_of segment
+RecordsInto segment recorder = recorder.state.seat.table_id ≡ table_of segment
 
 -- two recorders record into the same segment; and one, as a call began and when it has returned
 abbrev pub SharesSegment : Recorder → Recorder → Type 0
-SharesSegment one other = other.seat.table_id ≡ one.seat.table_id
+SharesSegment one other = other.state.seat.table_id ≡ one.state.seat.table_id
 
 -- the segment of a recorder has a shared cursor of this number
 abbrev pub HasCursor : Recorder → ℕ → Type 0
 HasCursor recorder cursor = cursor < (view_of_recorder recorder).segment.cursors
-
--- a recorder goes on with the same segment, knows the same histograms, and was given no fresh records
-pub record IsSameRecorder (old new : Recorder) : Type 0 where
-  pub segment : new.segment ≡ old.segment
-  pub table : new.seat.table_id ≡ old.seat.table_id
-  pub known : new.known ≡ old.known
-  pub names : (view_of_recorder new).answers.names ≡ (view_of_recorder old).answers.names
-  pub fresh : new.fresh ≡ old.fresh
-
--- a histogram is one that a recorder knows
-abbrev pub Knows : Recorder → Hist → Type 0
-Knows recorder histogram = histogram.index < length (view_of_recorder recorder).answers.names
-
--- a histogram that a recorder knows is this one
-abbrev pub Means : Recorder → Hist → Known → Type 0
-Means recorder histogram known = get_elem? (view_of_recorder recorder).answers.names histogram.index ≡ some known
-
--- a recorder is as before a call of a histogram, where that has buckets
-abbrev pub IsSameIfBucketed : Hist → Recorder → Recorder → Type 0
-IsSameIfBucketed histogram old new = (known : Known) → Means old histogram known → has_buckets known.spec ≡ true → new ≡ old

@@ -12,7 +12,8 @@ pub use Rattle.segment_promises.specs.Reads
 pub mod Rule
 pub mod Adopted
 pub mod Known
-pub mod Desk
+pub mod RecorderState
+pub mod Answers
 pub mod Standing
 pub mod Steps
 pub mod Holders

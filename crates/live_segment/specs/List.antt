@@ -1,6 +1,5 @@
 -- The list of records: what is put on it, who walks along it, and whom its records are given to.
 pub mod Ends
-pub mod Fresh
 pub mod Index
 pub mod IndexedValues
 pub mod Keys

@@ -6,8 +6,9 @@
 //! What a thread has done and seen is the view of its seat at that table, which takes no memory.
 //!
 //! A program that records needs this crate alone: what its calls take and answer, as [`Spec`] and [`Refusal`], is exported here.
-//! The clauses of a function that is passed a segment, an opener or a recorder take their words from `specs/Holders.antt`:
-//! `IsMadeWith`, `RecordsInto`, `SharesSegment`, `Knows`, `HasCursor`. `proofs/Seating/Callers.antt` has the lemmas on them.
+//! The clauses of a function that is passed a segment, an opener or a recorder take their words from `specs/Holders.antt`, as
+//! `IsMadeWith`, `RecordsInto`, `SharesSegment` and `HasCursor`, and from `specs/RecorderState.antt`, as `Knows`.
+//! `proofs/Seating/Callers.antt` has the lemmas on them.
 #![tactic(auto)]
 
 mod add;
@@ -27,7 +28,7 @@ mod steps;
 pub use bucket_ranges::{CustomValues, Spec, SpecFault};
 pub use image_adoption::MAX_CURSORS;
 pub use opener::Opener;
-pub use recorder::{Desk, Hist, Recorder};
+pub use recorder::{Hist, Recorder, RecorderState};
 pub use segment::Segment;
 pub use segment_calls::{AdoptFault, BatchRefusal, Delta, OpenFault, Refusal, Snapshot};
 pub use segment_image::Image;

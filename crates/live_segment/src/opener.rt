@@ -5,7 +5,7 @@ ghost use Rattle.segment_machine.specs.declared.place.Place.TheVariants.{Idle};
 ghost use Rattle.segment_machine.specs.Actor.{is_opener, offered_of, outstanding_of};
 ghost use Rattle.std.proofs.Props.{props};
 
-use crate::recorder::{Desk, Recorder};
+use crate::recorder::{Recorder, RecorderState};
 use crate::rule::Pass;
 use crate::segment::Segment;
 use segment_calls::Refusal;
@@ -34,10 +34,9 @@ impl Opener {
     ghost use Rattle.segment_machine.specs.Seats.{offering, parent, newcomer, giver, getter, purse, joined};
     ghost use Rattle.live_segment.specs.Steps.{recorder_checks, IsSame};
     ghost use Rattle.live_segment.specs.Lending.{HasUnits};
-    ghost use Rattle.live_segment.specs.List.Fresh.{given_fresh};
     ghost use Rattle.live_segment.specs.declared.segment.Segment.{Segment};
-    ghost use Rattle.live_segment.specs.Holders.{IsMadeWith, IsRecorderOf, IsSameOpener, IsSameRecorder, RecordsInto, view_of_opener, view_of_recorder};
-    ghost use Rattle.live_segment.specs.Desk.{IsDeskAt, IsSameDesk, view_of_desk};
+    ghost use Rattle.live_segment.specs.Holders.{IsMadeWith, IsRecorderOf, IsSameOpener, RecordsInto, view_of_opener, view_of_recorder};
+    ghost use Rattle.live_segment.specs.RecorderState.{given_fresh, IsRecorderAt, IsSameRecorder, view_of_state};
 
     // The opener of a segment that was just opened, which has these units.
     pub(crate) fn new(alloc: Global, seat: Pass, units: u32) -> Opener
@@ -86,7 +85,23 @@ impl Opener {
         ensures made { IsMadeWith segment.entry.now self.new }
         ensures into { IfOk result (RecordsInto segment.entry.now) }
         ensures mine { MatchResult result (λ _. IsSameOpener self.old self.new × (view_of_opener self.new ≡ parent (offering (view_of_opener self.old) units))) (λ _. self.new ≡ self.old) }
-        ensures theirs { MatchOption (first_fault (recorder_checks (view_of_opener self.old) units)) (MatchResult result (λ recorder. (recorder.segment ≡ segment.entry) × (view_of_recorder recorder ≡ newcomer (offering (view_of_opener self.old) units)) × (given_fresh recorder ≡ 0)) (λ _. ⊥)) (λ why. result ≡ Err why) }
+        ensures theirs { MatchOption (first_fault (recorder_checks (view_of_opener self.old) units)) (MatchResult result (λ recorder. (recorder.segment ≡ segment.entry) × (view_of_recorder recorder ≡ newcomer (offering (view_of_opener self.old) units)) × (given_fresh recorder.state ≡ 0)) (λ _. ⊥)) (λ why. result ≡ Err why) }
+    {
+        let state = self.recorder_state(segment, units)?;
+        Ok(Recorder { segment, state })
+    }
+
+    /// The state of such a recorder, for a caller that keeps the segment alive otherwise than by a borrow: as [`Opener::recorder`].
+    pub fn recorder_state(
+        &mut self,
+        segment: &Segment,
+        units: u32,
+    ) -> Result<RecorderState, Refusal>
+        requires { IsMadeWith segment.now self.old }
+        ensures made { IsMadeWith segment.now self.new }
+        ensures at { IfOk result (IsRecorderAt segment.now) }
+        ensures mine { MatchResult result (λ _. IsSameOpener self.old self.new × (view_of_opener self.new ≡ parent (offering (view_of_opener self.old) units))) (λ _. self.new ≡ self.old) }
+        ensures theirs { MatchOption (first_fault (recorder_checks (view_of_opener self.old) units)) (MatchResult result (λ state. (view_of_state state ≡ newcomer (offering (view_of_opener self.old) units)) × (given_fresh state ≡ 0)) (λ _. ⊥)) (λ why. result ≡ Err why) }
     {
         if units > self.units {
             return Err(Refusal::NoUnits);
@@ -98,7 +113,7 @@ impl Opener {
         let seat = segment.split(&mut self.seat);
         self.units -= units;
         self.outstanding += 1;
-        Ok(Recorder::new(self.alloc, segment, seat, units))
+        Ok(RecorderState::new(self.alloc, segment, seat, units))
     }
 
     // A purse with so many of its units, or why there is none.
@@ -124,35 +139,36 @@ impl Opener {
     /// time, also where 256 recorders are not joined.
     pub fn lend(&mut self, recorder: &mut Recorder, units: u32) -> Result<(), Refusal>
         requires { IsRecorderOf recorder.old self.old }
+        ensures kept { recorder.new.segment ≡ recorder.old.segment }
         ensures mine { MatchResult result (λ _. IsSameOpener self.old self.new × (view_of_opener self.new ≡ giver (view_of_opener self.old) units)) (λ _. self.new ≡ self.old) }
-        ensures theirs { MatchResult result (λ _. IsSameRecorder recorder.old recorder.new × (view_of_recorder recorder.new ≡ getter (view_of_recorder recorder.old) units)) (λ _. recorder.new ≡ recorder.old) }
+        ensures theirs { MatchResult result (λ _. IsSameRecorder recorder.old.state recorder.new.state × (view_of_recorder recorder.new ≡ getter (view_of_recorder recorder.old) units)) (λ _. recorder.new ≡ recorder.old) }
         ensures why { HasUnits units (view_of_opener self.old) result }
         ensures of { IsRecorderOf recorder.new self.new }
         ensures made { (segment : Segment) → IsMadeWith segment self.old → IsMadeWith segment self.new }
     {
-        let filled = self.fill_purse(recorder.segment(), units)?;
-        recorder.get(filled, units);
+        let filled = self.fill_purse(recorder.segment, units)?;
+        recorder.state.get(recorder.segment, filled, units);
         Ok(())
     }
 
-    /// The same, where the recorder is kept as a [`Desk`]. The segment is the one that it is of.
-    pub fn lend_at_desk(
+    /// As [`Opener::lend`], to the state of a recorder of the segment.
+    pub fn lend_state(
         &mut self,
         segment: &Segment,
-        desk: &mut Desk,
+        state: &mut RecorderState,
         units: u32,
     ) -> Result<(), Refusal>
-        requires at { IsDeskAt segment.now desk.old }
-        requires of { desk.old.seat.table_id ≡ self.old.seat.table_id }
-        ensures at { IsDeskAt segment.now desk.new }
+        requires at { IsRecorderAt segment.now state.old }
+        requires of { state.old.seat.table_id ≡ self.old.seat.table_id }
+        ensures at { IsRecorderAt segment.now state.new }
         ensures mine { MatchResult result (λ _. IsSameOpener self.old self.new × (view_of_opener self.new ≡ giver (view_of_opener self.old) units)) (λ _. self.new ≡ self.old) }
-        ensures theirs { MatchResult result (λ _. IsSameDesk desk.old desk.new × (view_of_desk desk.new ≡ getter (view_of_desk desk.old) units)) (λ _. desk.new ≡ desk.old) }
+        ensures theirs { MatchResult result (λ _. IsSameRecorder state.old state.new × (view_of_state state.new ≡ getter (view_of_state state.old) units)) (λ _. state.new ≡ state.old) }
         ensures why { HasUnits units (view_of_opener self.old) result }
-        ensures of { desk.new.seat.table_id ≡ self.new.seat.table_id }
+        ensures of { state.new.seat.table_id ≡ self.new.seat.table_id }
         ensures made { (other : Segment) → IsMadeWith other self.old → IsMadeWith other self.new }
     {
         let filled = self.fill_purse(segment, units)?;
-        desk.get(segment, filled, units);
+        state.get(segment, filled, units);
         Ok(())
     }
 
@@ -163,7 +179,18 @@ impl Opener {
         ensures takes { IsSameOpener self.old self.new × (view_of_opener self.new ≡ joined (view_of_opener self.old) (view_of_recorder recorder.entry)) }
         ensures made { (segment : Segment) → IsMadeWith segment self.old → IsMadeWith segment self.new }
     {
-        let (segment, seat, units) = recorder.into_parts();
+        let Recorder { segment, state } = recorder;
+        self.join_state(segment, state);
+    }
+
+    /// As [`Opener::join`], of the state of a recorder of the segment.
+    pub fn join_state(&mut self, segment: &Segment, state: RecorderState)
+        requires at { IsRecorderAt segment.now state }
+        requires of { state.seat.table_id ≡ self.old.seat.table_id }
+        ensures takes { IsSameOpener self.old self.new × (view_of_opener self.new ≡ joined (view_of_opener self.old) (view_of_state state)) }
+        ensures made { (other : Segment) → IsMadeWith other self.old → IsMadeWith other self.new }
+    {
+        let RecorderState { seat, units, .. } = state;
         segment.join(&mut self.seat, seat);
         segment.bound(&mut self.seat);
         self.units += units;

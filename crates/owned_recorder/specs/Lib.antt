@@ -1,4 +1,1 @@
-pub use Rattle.live_segment.specs.Desk
-pub mod Desks
-pub mod Answers
 pub mod Holders

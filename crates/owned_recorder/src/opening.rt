@@ -8,11 +8,11 @@ ghost use Rattle.live_segment.specs.declared.segment.Segment.{Segment as SomeSeg
 ghost use Rattle.live_segment.specs.Steps.{recorder_checks};
 ghost use Rattle.live_segment.specs.Lending.{HasUnits};
 ghost use Rattle.live_segment.specs.Holders.{IsMadeWith, IsSameOpener, view_of_opener};
-ghost use Rattle.owned_recorder.specs.Desks.{given_fresh, IsSameDesk};
+ghost use Rattle.live_segment.specs.RecorderState.{given_fresh, IsSameRecorder};
 ghost use Rattle.owned_recorder.specs.Holders.{IsRecorderOf, RecordsInto, view_of_owned};
 
 use crate::owned::OwnedRecorder;
-use live_segment::{Opener, Recorder, Segment};
+use live_segment::{Opener, Segment};
 use segment_calls::Refusal;
 use std::alloc::Global;
 use std::sync::Arc;
@@ -27,10 +27,10 @@ pub fn owned_recorder(
     ensures made { IsMadeWith (arc_value segment) opener.new }
     ensures into { IfOk result (RecordsInto (arc_value segment)) }
     ensures mine { MatchResult result (λ _. IsSameOpener opener.old opener.new × (view_of_opener opener.new ≡ parent (offering (view_of_opener opener.old) units))) (λ _. opener.new ≡ opener.old) }
-    ensures theirs { MatchOption (first_fault (recorder_checks (view_of_opener opener.old) units)) (MatchResult result (λ owned. (owned.segment ≡ segment) × (view_of_owned owned ≡ newcomer (offering (view_of_opener opener.old) units)) × (given_fresh owned.desk ≡ 0)) (λ _. ⊥)) (λ why. result ≡ Err why) }
+    ensures theirs { MatchOption (first_fault (recorder_checks (view_of_opener opener.old) units)) (MatchResult result (λ owned. (owned.segment ≡ segment) × (view_of_owned owned ≡ newcomer (offering (view_of_opener opener.old) units)) × (given_fresh owned.state ≡ 0)) (λ _. ⊥)) (λ why. result ≡ Err why) }
 {
-    let desk = opener.recorder(&segment, units)?.into_desk();
-    Ok(OwnedRecorder::of(segment, desk))
+    let state = opener.recorder_state(&segment, units)?;
+    Ok(OwnedRecorder { segment, state })
 }
 
 /// Lends a recorder so many units more while it runs, as [`Opener::lend`] does.
@@ -38,12 +38,12 @@ pub fn lend(opener: &mut Opener, owned: &mut OwnedRecorder, units: u32) -> Resul
     requires { IsRecorderOf owned.old opener.old }
     ensures kept { owned.new.segment ≡ owned.old.segment }
     ensures mine { MatchResult result (λ _. IsSameOpener opener.old opener.new × (view_of_opener opener.new ≡ giver (view_of_opener opener.old) units)) (λ _. opener.new ≡ opener.old) }
-    ensures theirs { MatchResult result (λ _. IsSameDesk owned.old.desk owned.new.desk × (view_of_owned owned.new ≡ getter (view_of_owned owned.old) units)) (λ _. owned.new ≡ owned.old) }
+    ensures theirs { MatchResult result (λ _. IsSameRecorder owned.old.state owned.new.state × (view_of_owned owned.new ≡ getter (view_of_owned owned.old) units)) (λ _. owned.new ≡ owned.old) }
     ensures why { HasUnits units (view_of_opener opener.old) result }
     ensures of { IsRecorderOf owned.new opener.new }
     ensures made { (segment : SomeSegment) → IsMadeWith segment opener.old → IsMadeWith segment opener.new }
 {
-    opener.lend_at_desk(&owned.segment, &mut owned.desk, units)
+    opener.lend_state(&owned.segment, &mut owned.state, units)
 }
 
 /// Takes a recorder back, as [`Opener::join`] does. Where nobody else keeps the segment alive, it ends.
@@ -52,6 +52,6 @@ pub fn join(opener: &mut Opener, owned: OwnedRecorder)
     ensures takes { IsSameOpener opener.old opener.new × (view_of_opener opener.new ≡ joined (view_of_opener opener.old) (view_of_owned owned)) }
     ensures made { (segment : SomeSegment) → IsMadeWith segment opener.old → IsMadeWith segment opener.new }
 {
-    let (segment, desk) = owned.into_parts();
-    opener.join(Recorder::at_desk(&segment, desk));
+    let OwnedRecorder { segment, state } = owned;
+    opener.join_state(&segment, state);
 }

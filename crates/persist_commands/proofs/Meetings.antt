@@ -17,10 +17,11 @@ use Rattle.segment_invariant.proofs.Lists.Maps.{contains_map}
 use Rattle.live_segment.specs.declared.recorder.Hist.{Hist}
 use Rattle.live_segment.specs.declared.recorder.Recorder.{Recorder}
 use Rattle.live_segment.specs.Add.Sample.{AnswersSample}
-use Rattle.live_segment.specs.Hist.Answer.{IsAnsweredWith, IsNamed, KnowsOn}
-use Rattle.live_segment.specs.Holders.{IsSameRecorder, Means, view_of_recorder}
+use Rattle.live_segment.specs.Hist.Answer.{IsAnsweredWith}
+use Rattle.live_segment.specs.Holders.{view_of_recorder}
+use Rattle.live_segment.specs.RecorderState.{IsNamed, IsSameRecorder, KnowsOn, Means}
 use Rattle.segment_promises.specs.Onward.{Grows}
-use Rattle.live_segment.proofs.Seating.Callers.{knows_on, knows_same, same_names}
+use Rattle.live_segment.proofs.Seating.Callers.{knows_on, knows_same}
 use Rattle.persist_report_core.specs.declared.script.CallKind.TheVariants as kind
 use Rattle.persist_report_core.specs.declared.script.ScriptHist.{ScriptHist}
 use Rattle.persist_report_core.specs.Script.{HistRecord, hist_view}
@@ -67,12 +68,12 @@ each_pushed P (y ∷ ys) x each last (suc k) d below =
 
 -- ---- what a recorder knows
 
-pub named_on : (old new : Recorder) (name : List ℕ) (spec : Spec) (histogram : Hist) → KnowsOn old new → IsNamed name spec old histogram → IsNamed name spec new histogram
+pub named_on : (old new : Recorder) (name : List ℕ) (spec : Spec) (histogram : Hist) → KnowsOn old.state new.state → IsNamed name spec old.state histogram → IsNamed name spec new.state histogram
 named_on old new name spec histogram on named =
     let (knows, rest) = named in
     let (known, means, is, same) = rest in
     let (more, grown) = on.known in (
-      knows_on old new histogram on knows,
+      knows_on old.state new.state histogram on knows,
       (
         known,
         subst (λ (l : List Known). get_elem? l histogram.index ≡ some known) (sym grown) (get_before (view_of_recorder old).answers.names more histogram.index known means),
@@ -81,15 +82,15 @@ named_on old new name spec histogram on named =
       ),
     )
 
-pub named_same : (old new : Recorder) (name : List ℕ) (spec : Spec) (histogram : Hist) → IsSameRecorder old new → IsNamed name spec old histogram → IsNamed name spec new histogram
+pub named_same : (old new : Recorder) (name : List ℕ) (spec : Spec) (histogram : Hist) → IsSameRecorder old.state new.state → IsNamed name spec old.state histogram → IsNamed name spec new.state histogram
 named_same old new name spec histogram still named =
     let (knows, rest) = named in
     let (known, means, is, same) = rest in (
-      knows_same old new histogram still knows,
-      (known, subst (λ (l : List Known). get_elem? l histogram.index ≡ some known) (sym (same_names old new still)) means, is, same),
+      knows_same old.state new.state histogram still knows,
+      (known, subst (λ (l : List Known). get_elem? l histogram.index ≡ some known) (sym still.names) means, is, same),
     )
 
-pub known_of_named : (recorder : Recorder) (hist : HistRecord) (histogram : Hist) → IsNamed hist.name hist.spec recorder histogram → KnowsOf (view_of_recorder recorder) hist
+pub known_of_named : (recorder : Recorder) (hist : HistRecord) (histogram : Hist) → IsNamed hist.name hist.spec recorder.state histogram → KnowsOf (view_of_recorder recorder) hist
 known_of_named recorder hist histogram named =
     let (knows, rest) = named in
     let (known, means, is, same) = rest in
@@ -106,7 +107,7 @@ knows_more old new hist grows knows =
 pub asked_next : (hists : List ScriptHist) (i : ℕ) (x : ScriptHist) (old mid new : Recorder) (histogram : Hist) → i < length hists → x ≡ get_or hists i x
     → WentOn (map hist_view hists) [] (view_of_recorder old) (view_of_recorder mid)
     → All (KnowsOf (view_of_recorder mid)) (map hist_view (take i hists))
-    → KnowsOn mid new → IsNamed x.name.items x.spec new histogram → IsAnsweredWith x.name.items x.spec histogram (view_of_recorder mid) (view_of_recorder new)
+    → KnowsOn mid.state new.state → IsNamed x.name.items x.spec new.state histogram → IsAnsweredWith x.name.items x.spec histogram (view_of_recorder mid) (view_of_recorder new)
     → WentOn (map hist_view hists) [] (view_of_recorder old) (view_of_recorder new) × All (KnowsOf (view_of_recorder new)) (map hist_view (take (i + 1) hists))
 asked_next hists i x old mid new histogram below is went knew on named answer =
     let all : List HistRecord = map hist_view hists in
@@ -175,34 +176,34 @@ opened_so hists units old mid recorder asked new made is has joins =
 pub met_none : (hists : List HistRecord) (recorder : Recorder) (n : ℕ) → HaveMet hists recorder (replicate n None)
 met_none hists recorder n = λ i histogram e. absurd (cc (got_same n i None (Some histogram) e))
 
-pub met_on : (hists : List HistRecord) (old new : Recorder) (met : List (Option Hist)) → KnowsOn old new → HaveMet hists old met → HaveMet hists new met
+pub met_on : (hists : List HistRecord) (old new : Recorder) (met : List (Option Hist)) → KnowsOn old.state new.state → HaveMet hists old met → HaveMet hists new met
 met_on hists old new met on has = λ i histogram e.
     let (hist, at, named) = has i histogram e in (hist, at, named_on old new hist.name hist.spec histogram on named)
 
-pub met_same : (hists : List HistRecord) (old new : Recorder) (met : List (Option Hist)) → IsSameRecorder old new → HaveMet hists old met → HaveMet hists new met
+pub met_same : (hists : List HistRecord) (old new : Recorder) (met : List (Option Hist)) → IsSameRecorder old.state new.state → HaveMet hists old met → HaveMet hists new met
 met_same hists old new met still has = λ i histogram e.
     let (hist, at, named) = has i histogram e in (hist, at, named_same old new hist.name hist.spec histogram still named)
 
 met_by : (hists : List HistRecord) (new : Recorder) (met : List (Option Hist)) (index : ℕ) (hist : HistRecord) (found : Hist) → slice_get hists index ≡ Some hist
-    → IsNamed hist.name hist.spec new found → HaveMet hists new met
+    → IsNamed hist.name hist.spec new.state found → HaveMet hists new met
     → (i : ℕ) (histogram : Hist) → ((i ≡ index) × (Some histogram ≡ Some found)) ⊎ (slice_get met i ≡ Some (Some histogram))
-    → (hist : HistRecord) × (slice_get hists i ≡ Some hist) × IsNamed hist.name hist.spec new histogram
+    → (hist : HistRecord) × (slice_get hists i ≡ Some hist) × IsNamed hist.name hist.spec new.state histogram
 met_by hists new met index hist found at named has i histogram (inl here) =
     let same : histogram ≡ found = cc here.1 in
-    (hist, ap (slice_get hists) here.0 ∙ at, subst (λ (h : Hist). IsNamed hist.name hist.spec new h) (sym same) named)
+    (hist, ap (slice_get hists) here.0 ∙ at, subst (λ (h : Hist). IsNamed hist.name hist.spec new.state h) (sym same) named)
 met_by hists new met index hist found at named has i histogram (inr before) = has i histogram before
 
-pub met_more : (hists : List HistRecord) (old new : Recorder) (met : List (Option Hist)) (index : ℕ) (hist : HistRecord) (found : Hist) → KnowsOn old new
-    → HaveMet hists old met → slice_get hists index ≡ Some hist → IsNamed hist.name hist.spec new found → HaveMet hists new (slice_set met index (Some found))
+pub met_more : (hists : List HistRecord) (old new : Recorder) (met : List (Option Hist)) (index : ℕ) (hist : HistRecord) (found : Hist) → KnowsOn old.state new.state
+    → HaveMet hists old met → slice_get hists index ≡ Some hist → IsNamed hist.name hist.spec new.state found → HaveMet hists new (slice_set met index (Some found))
 met_more hists old new met index hist found on has at named = λ i histogram e.
     met_by hists new met index hist found at named (met_on hists old new met on has) i histogram (got_set met index i (Some found) (Some histogram) e)
 
 -- ---- a call on a histogram
 
 pub added_so : (fault : Option Refusal) (old new : Recorder) (histogram : Hist) (value : ℤ) (count : ℕ) (result : Result (Unit {0}) Refusal)
-    → MatchOption fault ((known : Known) → Means old histogram known → AnswersSample known value count (view_of_recorder old) result (view_of_recorder new))
-    (λ why. (result ≡ Err why) × (new ≡ old))
-    → OnOk result ((hists : List HistRecord) (hist : HistRecord) → IsNamed hist.name hist.spec old histogram
+    → MatchOption fault ((known : Known) → Means old.state histogram known → AnswersSample known value count (view_of_recorder old) result (view_of_recorder new))
+    (λ why. (result ≡ Err why) × (new.state ≡ old.state))
+    → OnOk result ((hists : List HistRecord) (hist : HistRecord) → IsNamed hist.name hist.spec old.state histogram
     → HasRecorded hists (deeds_in (Some hist) (kind.Add value count)) (view_of_recorder old) (view_of_recorder new))
 added_so fault old new histogram value count (Err why) answer = tt
 added_so None old new histogram value count (Ok done) answer = λ hists hist named.

@@ -11,7 +11,7 @@ use Rattle.segment_machine.specs.Actor.{log_of, made_of, outstanding_of}
 use Rattle.segment_machine.specs.Seats.{joined}
 use Rattle.live_segment.specs.declared.recorder.Hist.{Hist}
 use Rattle.live_segment.specs.declared.recorder.Recorder.{Recorder}
-use Rattle.live_segment.specs.Hist.Answer.{IsNamed}
+use Rattle.live_segment.specs.RecorderState.{IsNamed}
 use Rattle.live_segment.specs.Holders.{view_of_recorder}
 use Rattle.persist_report_core.specs.declared.script.Script as code
 use Rattle.persist_report_core.specs.Script.{HistRecord, Script, script_view}
@@ -78,7 +78,7 @@ KnowsOf a hist = (known : Known) × Contains a.answers.names known × (known.nam
 -- the histograms that a recorder has asked for, each at the index of its `hist` record
 abbrev pub HaveMet : List HistRecord → Recorder → List (Option Hist) → Type 0
 HaveMet hists recorder met = (i : ℕ) (histogram : Hist) → slice_get met i ≡ Some (Some histogram)
-    → (hist : HistRecord) × (slice_get hists i ≡ Some hist) × IsNamed hist.name hist.spec recorder histogram
+    → (hist : HistRecord) × (slice_get hists i ≡ Some hist) × IsNamed hist.name hist.spec recorder.state histogram
 
 -- a recorder has asked for all histograms of `hist` records, and has recorded nothing
 abbrev pub HasAsked : List HistRecord → Actor → Actor → Type 0
@@ -117,7 +117,7 @@ pub record IsReady (segment : TableId) (opener : Actor) (script : code.Script) (
   pub number_is : part.part ≡ number
   pub workers_are : part.workers ≡ workers
   pub script_is : has ≡ script
-  pub at : recorder.seat.table_id ≡ segment
+  pub at : recorder.state.seat.table_id ≡ segment
   pub fresh : IsFresh (view_of_recorder recorder)
   pub before : made_of (view_of_recorder recorder).role ≡ made_of opener.role + number
   pub outstanding : outstanding_of (view_of_recorder recorder).role ≡ outstanding_of opener.role + number
@@ -125,7 +125,7 @@ pub record IsReady (segment : TableId) (opener : Actor) (script : code.Script) (
 -- a worker that was started has ended: its recorder is of the same segment, and where it ended well it has made all of its calls; else it
 -- tells want of memory as such
 pub record HasEnded (script : code.Script) (part : Part) (old : Recorder) (ended : Ended) : Type 0 where
-  pub at : ended.recorder.seat.table_id ≡ old.seat.table_id
+  pub at : ended.recorder.state.seat.table_id ≡ old.state.seat.table_id
   pub worked : OnOk ended.outcome (HasWorked (script_view script) part.workers part.part (view_of_recorder old) (view_of_recorder ended.recorder))
   pub tells : IfErr ended.outcome StopTellsWant
 
@@ -141,7 +141,7 @@ EndedWell ended = ended.outcome ≡ Ok tt
 
 -- it is of a segment
 abbrev pub EndedAt : TableId → Ended → Type 0
-EndedAt segment ended = ended.recorder.seat.table_id ≡ segment
+EndedAt segment ended = ended.recorder.state.seat.table_id ≡ segment
 
 -- recorders are joined, one behind the other
 abbrev pub all_joined : Actor → List Actor → Actor

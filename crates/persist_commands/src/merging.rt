@@ -3,8 +3,8 @@
 ghost use Rattle.std.specs.Prelude.{◌≡◌, ◌≢◌, ◌↔◌, ◌⊎◌, ◌++◌, ℕ, List, true, false, OnOk, IfOk, IfErr, IfSome, IsErrOf};
 ghost use Rattle.std.specs.Io.KnownBytes.{Appends};
 ghost use Rattle.image_reader.specs.Views.{reading_view};
-ghost use Rattle.live_segment.specs.Hist.Answer.{KnowsOn};
 ghost use Rattle.live_segment.specs.Holders.{view_of_recorder};
+ghost use Rattle.live_segment.specs.RecorderState.{KnowsOn};
 ghost use Rattle.persist_commands.specs.MergeFiles.{AreMerged, HasStopped, IsImage, IsImageOf, IsMergeFault, IsStopOf, fault_of_stop};
 ghost use Rattle.persist_report_core.specs.Report.{IsCausedBy};
 ghost use Rattle.segment_image.specs.Watched.{has_failed, is_flushed, watched_inner};
@@ -55,7 +55,7 @@ fn read_image<R: Read>(alloc: Global, reader: &mut Watched<R>) -> Result<Input, 
 
 // Merges a reading whole.
 fn merge_whole(alloc: Global, recorder: &mut Recorder, reading: &Reading) -> Result<(), CliFault>
-    ensures same { KnowsOn recorder.old recorder.new }
+    ensures same { KnowsOn recorder.old.state recorder.new.state }
     ensures merged { OnOk result (IsMerged (reading_view reading.now).hists (view_of_recorder recorder.old) (view_of_recorder recorder.new)) }
     ensures fault { IfErr result (HasStopped (reading_view reading.now).hists (view_of_recorder recorder.old) (view_of_recorder recorder.new)) }
 {
@@ -87,7 +87,7 @@ fn merge_both(
     base: &Reading,
     dead: &Reading,
 ) -> Result<(), CliFault>
-    ensures beside { recorder.new.seat.table_id ≡ recorder.old.seat.table_id }
+    ensures beside { recorder.new.state.seat.table_id ≡ recorder.old.state.seat.table_id }
     ensures merged { OnOk result (IsMerged ((reading_view base.now).hists ++ (reading_view dead.now).hists) (view_of_recorder recorder.old) (view_of_recorder recorder.new)) }
     ensures fault { IfErr result (HasStopped ((reading_view base.now).hists ++ (reading_view dead.now).hists) (view_of_recorder recorder.old) (view_of_recorder recorder.new)) }
 {

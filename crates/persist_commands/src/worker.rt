@@ -1,8 +1,8 @@
 //! One worker of a run.
 
 ghost use Rattle.std.specs.Prelude.{◌≡◌, ◌<◌, ◌==◌, ◌%◌, List, [], ◌∷◌, length, map, replicate, slice_get, Some, None, IfOk, IfErr, OnOk};
-ghost use Rattle.live_segment.specs.Hist.Answer.{IsNamed};
-ghost use Rattle.live_segment.specs.Holders.{IsSameRecorder, Knows, view_of_recorder};
+ghost use Rattle.live_segment.specs.Holders.{view_of_recorder};
+ghost use Rattle.live_segment.specs.RecorderState.{IsNamed, IsSameRecorder, Knows};
 ghost use Rattle.persist_report_core.specs.Script.{HistRecord, hist_view, script_view};
 ghost use Rattle.persist_commands.specs.Entries.{deeds_in, deeds_of, deeds_of_call};
 ghost use Rattle.persist_commands.specs.Parts.{part_from, part_of};
@@ -73,10 +73,10 @@ fn meet(
 ) -> Result<Hist, Refusal>
     requires len { length met.old ≡ length hists.now }
     requires met { HaveMet (map hist_view hists.now) recorder.old met.old }
-    ensures beside { recorder.new.seat.table_id ≡ recorder.old.seat.table_id }
+    ensures beside { recorder.new.state.seat.table_id ≡ recorder.old.state.seat.table_id }
     ensures went { OnOk result (HasRecorded (map hist_view hists.now) [] (view_of_recorder recorder.old) (view_of_recorder recorder.new)) }
     ensures met { OnOk result (HaveMet (map hist_view hists.now) recorder.new met.new) }
-    ensures found { IfOk result (λ histogram. (hist : HistRecord) × (slice_get (map hist_view hists.now) index ≡ Some hist) × IsNamed hist.name hist.spec recorder.new histogram) }
+    ensures found { IfOk result (λ histogram. (hist : HistRecord) × (slice_get (map hist_view hists.now) index ≡ Some hist) × IsNamed hist.name hist.spec recorder.new.state histogram) }
 {
     let Some(hist) = hists.get(index) else {
         return Err(Refusal::BadName);
@@ -91,9 +91,9 @@ fn meet(
 
 // Makes a call on a histogram.
 fn record_call(recorder: &mut Recorder, histogram: Hist, kind: CallKind) -> Result<(), Refusal>
-    requires { Knows recorder.old histogram }
-    ensures same { IsSameRecorder recorder.old recorder.new }
-    ensures went { OnOk result ((hists : List HistRecord) (hist : HistRecord) → IsNamed hist.name hist.spec recorder.old histogram → HasRecorded hists (deeds_in (Some hist) kind) (view_of_recorder recorder.old) (view_of_recorder recorder.new)) }
+    requires { Knows recorder.old.state histogram }
+    ensures same { IsSameRecorder recorder.old.state recorder.new.state }
+    ensures went { OnOk result ((hists : List HistRecord) (hist : HistRecord) → IsNamed hist.name hist.spec recorder.old.state histogram → HasRecorded hists (deeds_in (Some hist) kind) (view_of_recorder recorder.old) (view_of_recorder recorder.new)) }
 {
     match kind {
         CallKind::Add { value, count } => recorder.add(histogram, value, count),
@@ -115,7 +115,7 @@ fn make_call<G: Gate>(
 ) -> Result<(), Stop>
     requires len { length met.old ≡ length hists.now }
     requires met { HaveMet (map hist_view hists.now) recorder.old met.old }
-    ensures beside { recorder.new.seat.table_id ≡ recorder.old.seat.table_id }
+    ensures beside { recorder.new.state.seat.table_id ≡ recorder.old.state.seat.table_id }
     ensures tells { IfErr result StopTellsWant }
     ensures went { OnOk result (HasRecorded (map hist_view hists.now) (deeds_of_call (map hist_view hists.now) call.now) (view_of_recorder recorder.old) (view_of_recorder recorder.new)) }
     ensures met { OnOk result (HaveMet (map hist_view hists.now) recorder.new met.new) }
@@ -148,7 +148,7 @@ fn make_if_own<G: Gate>(
     requires part { part.part < part.workers }
     requires len { length met.old ≡ length hists.now }
     requires met { HaveMet (map hist_view hists.now) recorder.old met.old }
-    ensures beside { recorder.new.seat.table_id ≡ recorder.old.seat.table_id }
+    ensures beside { recorder.new.state.seat.table_id ≡ recorder.old.state.seat.table_id }
     ensures tells { IfErr result StopTellsWant }
     ensures went { OnOk result (HasRecorded (map hist_view hists.now) (deeds_of (map hist_view hists.now) (part_from number part.workers part.part (call.now ∷ []))) (view_of_recorder recorder.old) (view_of_recorder recorder.new)) }
     ensures met { OnOk result (HaveMet (map hist_view hists.now) recorder.new met.new) }
@@ -182,7 +182,7 @@ fn make_own<G: Gate>(
     requires part { part.part < part.workers }
     requires len { length met.old ≡ length hists.now }
     requires met { HaveMet (map hist_view hists.now) recorder.old met.old }
-    ensures beside { recorder.new.seat.table_id ≡ recorder.old.seat.table_id }
+    ensures beside { recorder.new.state.seat.table_id ≡ recorder.old.state.seat.table_id }
     ensures tells { IfErr result StopTellsWant }
     ensures went { OnOk result (HasRecorded (map hist_view hists.now) (deeds_of (map hist_view hists.now) (part_of part.workers part.part calls.now)) (view_of_recorder recorder.old) (view_of_recorder recorder.new)) }
 {
@@ -201,7 +201,7 @@ fn make_calls<G: Gate>(
     part: Part,
 ) -> Result<(), Stop>
     requires { part.part < part.workers }
-    ensures beside { recorder.new.seat.table_id ≡ recorder.old.seat.table_id }
+    ensures beside { recorder.new.state.seat.table_id ≡ recorder.old.state.seat.table_id }
     ensures tells { IfErr result StopTellsWant }
     ensures worked { OnOk result (HasWorked (script_view script.now) part.workers part.part (view_of_recorder recorder.old) (view_of_recorder recorder.new)) }
 {

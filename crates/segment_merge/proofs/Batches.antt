@@ -18,9 +18,10 @@ use Rattle.segment_calls.specs.declared.refusal.Refusal.TheVariants.{NoUnits}
 use Rattle.live_segment.specs.declared.recorder.Hist.{Hist}
 use Rattle.live_segment.specs.declared.recorder.Recorder.{Recorder}
 use Rattle.live_segment.specs.Add.Batch.{IsBatched, IsCutShort, batch_checks}
-use Rattle.live_segment.specs.Hist.Answer.{IsAnsweredWith, IsNamed, KnowsOn}
-use Rattle.live_segment.specs.Holders.{IsSameRecorder, Means, view_of_recorder}
-use Rattle.live_segment.proofs.Seating.Callers.{same_names}
+use Rattle.live_segment.specs.declared.recorder.state.RecorderState.{RecorderState}
+use Rattle.live_segment.specs.Hist.Answer.{IsAnsweredWith}
+use Rattle.live_segment.specs.Holders.{view_of_recorder}
+use Rattle.live_segment.specs.RecorderState.{IsNamed, IsSameRecorder, KnowsOn, Means, view_of_state}
 use Rattle.segment_promises.proofs.Growing.{grows_on, grows_same}
 use Rattle.segment_merge.specs.Merge.{HasFound, IsMerged, StopsAt, cost_left, items_left, sum_left}
 use Rattle.segment_merge.specs.Remainder.{HasRemainder, IsRemainderOf, left_of, marked}
@@ -70,7 +71,7 @@ abbrev pub IsBatchAnswer : Histogram → Known → Actor → Result ⊤ BatchRef
 IsBatchAnswer h known a result b =
     MatchOption (first_fault (batch_checks a (items_left h) (sum_left h)))
     (MatchResult result (λ _. IsBatched known (items_left h) (sum_left h) a b) (λ refusal. IsCutShort known (items_left h) refusal a b))
-    (λ why. (result ≡ Err (record { added = 0; why = why })) × (b ≡ a))
+    (λ why. (result ≡ Err (record { added = 0; why = why })) × (b.state ≡ a.state))
 
 -- and what comes of it
 abbrev pub IsAddedOrStops : Histogram → Actor → Result ⊤ BatchRefusal → Actor → Type 0
@@ -106,10 +107,10 @@ batch_outcome h known a b c result found answer = elim (cases_lt b.units.share (
 
 -- what the recorder's call says is that
 batch_says : (h : Histogram) (histogram : Hist) (known : Known) (items : List (ℤ × ℕ)) (sum : ℤ) (a b : Recorder) (result : Result ⊤ BatchRefusal)
-    → items ≡ items_left h → sum ≡ sum_left h → Means a histogram known
+    → items ≡ items_left h → sum ≡ sum_left h → Means a.state histogram known
     → MatchOption (first_fault (batch_checks (view_of_recorder a) items sum))
-    ((known : Known) → Means a histogram known → MatchResult result (λ _. IsBatched known items sum (view_of_recorder a) (view_of_recorder b)) (λ refusal. IsCutShort known items refusal (view_of_recorder a) (view_of_recorder b)))
-    (λ why. (result ≡ Err (record { added = 0; why = why })) × (b ≡ a))
+    ((known : Known) → Means a.state histogram known → MatchResult result (λ _. IsBatched known items sum (view_of_recorder a) (view_of_recorder b)) (λ refusal. IsCutShort known items refusal (view_of_recorder a) (view_of_recorder b)))
+    (λ why. (result ≡ Err (record { added = 0; why = why })) × (b.state ≡ a.state))
     → IsBatchAnswer h known (view_of_recorder a) result (view_of_recorder b)
 batch_says h histogram known items sum a b result items_are sum_is means says =
     subst (λ (of : List (ℤ × ℕ) × ℤ). MatchOption (first_fault (batch_checks (view_of_recorder a) of.0 of.1))
@@ -119,18 +120,18 @@ batch_says h histogram known items sum a b result items_are sum_is means says =
   where
     seen : (fault : Option Refusal)
         → MatchOption fault
-        ((known : Known) → Means a histogram known → MatchResult result (λ _. IsBatched known items sum (view_of_recorder a) (view_of_recorder b)) (λ refusal. IsCutShort known items refusal (view_of_recorder a) (view_of_recorder b)))
-        (λ why. (result ≡ Err (record { added = 0; why = why })) × (b ≡ a))
+        ((known : Known) → Means a.state histogram known → MatchResult result (λ _. IsBatched known items sum (view_of_recorder a) (view_of_recorder b)) (λ refusal. IsCutShort known items refusal (view_of_recorder a) (view_of_recorder b)))
+        (λ why. (result ≡ Err (record { added = 0; why = why })) × (b.state ≡ a.state))
         → MatchOption fault
         (MatchResult result (λ _. IsBatched known items sum (view_of_recorder a) (view_of_recorder b)) (λ refusal. IsCutShort known items refusal (view_of_recorder a) (view_of_recorder b)))
         (λ why. (result ≡ Err (record { added = 0; why = why })) × (view_of_recorder b ≡ view_of_recorder a))
     seen None done = done known means
-    seen (Some why) (refused, same) = (refused, ap view_of_recorder same)
+    seen (Some why) (refused, same) = (refused, ap view_of_state same)
 
 -- a histogram that was found, by what the recorder's call says
 pub found_named : (h : HistReading) (name : List ℕ) (histogram : Hist) (old found : Recorder) → name ≡ h.name.items
-    → IsAnsweredWith name h.spec histogram (view_of_recorder old) (view_of_recorder found) → IsNamed name h.spec found histogram
-    → (known : Known) × Means found histogram known × HasFound (histogram_view h) known (view_of_recorder old) (view_of_recorder found)
+    → IsAnsweredWith name h.spec histogram (view_of_recorder old) (view_of_recorder found) → IsNamed name h.spec found.state histogram
+    → (known : Known) × Means found.state histogram known × HasFound (histogram_view h) known (view_of_recorder old) (view_of_recorder found)
 found_named h name histogram old found same answered (knows, (known, means, named, spec)) = (
   known,
   means,
@@ -144,11 +145,11 @@ found_named h name histogram old found same answered (knows, (known, means, name
 
 -- and then counted
 pub batch_comes : (h : HistReading) (remainder : Remainder) (histogram : Hist) (known : Known) (items : List (ℤ × ℕ)) (old found new : Recorder)
-    (result : Result ⊤ BatchRefusal) → IsRemainderOf h remainder → items ≡ remainder.items.items → FitsSigned w64 remainder.sum → Means found histogram known
+    (result : Result ⊤ BatchRefusal) → IsRemainderOf h remainder → items ≡ remainder.items.items → FitsSigned w64 remainder.sum → Means found.state histogram known
     → HasFound (histogram_view h) known (view_of_recorder old) (view_of_recorder found)
     → MatchOption (first_fault (batch_checks (view_of_recorder found) items (to_z w64 (of_z w64 remainder.sum))))
-    ((known : Known) → Means found histogram known → MatchResult result (λ _. IsBatched known items (to_z w64 (of_z w64 remainder.sum)) (view_of_recorder found) (view_of_recorder new)) (λ refusal. IsCutShort known items refusal (view_of_recorder found) (view_of_recorder new)))
-    (λ why. (result ≡ Err (record { added = 0; why = why })) × (new ≡ found))
+    ((known : Known) → Means found.state histogram known → MatchResult result (λ _. IsBatched known items (to_z w64 (of_z w64 remainder.sum)) (view_of_recorder found) (view_of_recorder new)) (λ refusal. IsCutShort known items refusal (view_of_recorder found) (view_of_recorder new)))
+    (λ why. (result ≡ Err (record { added = 0; why = why })) × (new.state ≡ found.state))
     → IsAddedOrStops (histogram_view h) (view_of_recorder old) result (view_of_recorder new)
 batch_comes h remainder histogram known items old found new result left same fits means has says =
     batch_outcome (histogram_view h) known (view_of_recorder old) (view_of_recorder found) (view_of_recorder new) result has
@@ -158,26 +159,23 @@ batch_comes h remainder histogram known items old found new result left same fit
 -- ---- the recorder
 
 -- it knows on, from one call to the next
-pub knows_then : (a b c : Recorder) → KnowsOn a b → KnowsOn b c → KnowsOn a c
+pub knows_then : (a b c : RecorderState) → KnowsOn a b → KnowsOn b c → KnowsOn a c
 knows_then a b c first second = record {
-  segment = second.segment ∙ first.segment;
   table = second.table ∙ first.table;
   fresh = second.fresh ∙ first.fresh;
-  known = grows_on (view_of_recorder a).answers.names (view_of_recorder b).answers.names (view_of_recorder c).answers.names first.known second.known;
+  known = grows_on (view_of_state a).answers.names (view_of_state b).answers.names (view_of_state c).answers.names first.known second.known;
 }
 
-pub knows_same_on : (a b : Recorder) → IsSameRecorder a b → KnowsOn a b
+pub knows_same_on : (a b : RecorderState) → IsSameRecorder a b → KnowsOn a b
 knows_same_on a b same = record {
-  segment = same.segment;
   table = same.table;
   fresh = same.fresh;
-  known = grows_same (view_of_recorder a).answers.names (view_of_recorder b).answers.names (same_names a b same);
+  known = grows_same (view_of_state a).answers.names (view_of_state b).answers.names same.names;
 }
 
-pub knows_itself : (a : Recorder) → KnowsOn a a
+pub knows_itself : (a : RecorderState) → KnowsOn a a
 knows_itself a = record {
-  segment = refl;
   table = refl;
   fresh = refl;
-  known = grows_same (view_of_recorder a).answers.names (view_of_recorder a).answers.names refl;
+  known = grows_same (view_of_state a).answers.names (view_of_state a).answers.names refl;
 }

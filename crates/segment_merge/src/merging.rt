@@ -4,8 +4,8 @@ ghost use Rattle.std.specs.Prelude.{◌≡◌, ◌+◌, ◌≤◌, ◌<◌, ◌�
 ghost use Rattle.bucket_ranges.specs.Tally.{units_of};
 ghost use Rattle.segment_calls.specs.declared.refusal.Refusal.TheVariants.{NoMemory};
 ghost use Rattle.image_reader.specs.Views.{histogram_view, reading_view};
-ghost use Rattle.live_segment.specs.Hist.Answer.{KnowsOn};
 ghost use Rattle.live_segment.specs.Holders.{view_of_recorder};
+ghost use Rattle.live_segment.specs.RecorderState.{KnowsOn};
 ghost use Rattle.segment_merge.specs.Merge.{IsMerged, Reports, StopsAt, units_left};
 ghost use Rattle.segment_merge.specs.Parts.{ArePartsOf, IsPartOf, Merges};
 ghost use Rattle.segment_merge.specs.Remainder.{IsLeftOf};
@@ -69,7 +69,8 @@ pub fn merge(
     recorder: &mut Recorder,
     reading: &Reading,
 ) -> Result<MergeReport, Refusal>
-    ensures same { KnowsOn recorder.old recorder.new }
+    ensures kept { recorder.new.segment ≡ recorder.old.segment }
+    ensures same { KnowsOn recorder.old.state recorder.new.state }
     ensures answer { MatchResult result (λ report. Reports (reading_view reading.now).hists report (view_of_recorder recorder.old) (view_of_recorder recorder.new)) (λ why. (why ≡ NoMemory) × (recorder.new ≡ recorder.old)) }
 {
     let parts = parts_of(alloc, reading)?;
@@ -118,7 +119,8 @@ fn merge_next(
 ) -> Option<MergeStop>
     requires part { IsPartOf histogram.now part }
     requires room { vec_len added.old < vec_capacity added.old }
-    ensures same { KnowsOn recorder.old recorder.new }
+    ensures kept { recorder.new.segment ≡ recorder.old.segment }
+    ensures same { KnowsOn recorder.old.state recorder.new.state }
     ensures room { (vec_len added.new ≡ vec_len added.old + 1) × (vec_capacity added.new ≡ vec_capacity added.old) }
     ensures answer { Merges (histogram_view histogram.now) added.old.items result added.new.items (view_of_recorder recorder.old) (view_of_recorder recorder.new) }
 {
@@ -152,7 +154,8 @@ fn add_left(
 ) -> Result<u64, BatchRefusal>
     requires left { IsLeftOf histogram.now left }
     requires few { (view_of_recorder recorder.old).units.share ≤ 4294967295 }
-    ensures same { KnowsOn recorder.old recorder.new }
+    ensures kept { recorder.new.segment ≡ recorder.old.segment }
+    ensures same { KnowsOn recorder.old.state recorder.new.state }
     ensures answer { MatchResult result (λ units. IsMerged (histogram_view histogram.now ∷ []) (view_of_recorder recorder.old) (view_of_recorder recorder.new) × (units ≡ units_left (histogram_view histogram.now))) (λ refusal. StopsAt (histogram_view histogram.now) refusal.added refusal.why (view_of_recorder recorder.old) (view_of_recorder recorder.new)) }
 {
     let known = match recorder.hist(&histogram.name, &histogram.spec) {

@@ -1,6 +1,6 @@
 //! Samples and batches of one histogram: packed, then mounted, up to a full segment.
 
-ghost use Rattle.live_segment.specs.Holders.{IsSameRecorder, Knows};
+ghost use Rattle.live_segment.specs.RecorderState.{IsSameRecorder, Knows};
 
 use crate::images::{THREE_SAMPLES, stand};
 use bucket_ranges::Spec;
@@ -18,8 +18,8 @@ const IN_BUCKET_1: u64 = 1 << 32;
 
 // Adds samples to a histogram.
 fn add_all(recorder: &mut Recorder, histogram: Hist, samples: &[(i32, u32)]) -> Result<(), Refusal>
-    requires { Knows recorder.old histogram }
-    ensures { IsSameRecorder recorder.old recorder.new }
+    requires { Knows recorder.old.state histogram }
+    ensures { IsSameRecorder recorder.old.state recorder.new.state }
 {
     for (value, count) in samples {
         recorder.add(histogram, *value, *count)?;

@@ -1,32 +1,27 @@
 -- What those who call an opener and its recorders rest on: an opener is of its segment still when it has made, lent to or joined a recorder; a
 -- histogram that a recorder knows it knows still behind any of its calls; and what threads give back has what each call promises.
-use Rattle.std.proofs.Common.{◌≡◌, ℕ, ◌<◌, List, [], ◌∷◌, All, map, length, slice_index_or, sym, ap, ◌∙◌, subst, arith}
+use Rattle.std.proofs.Common.{◌≡◌, ℕ, ◌<◌, List, [], ◌∷◌, All, length, slice_index_or, sym, ap, ◌∙◌, subst, arith}
 use Rattle.std.proofs.lemmas.List.{length-append}
 use Rattle.segment_machine.specs.declared.actor.Actor.{Actor}
 use Rattle.segment_machine.specs.declared.actor.Known.{Known}
 use Rattle.segment_machine.specs.Seats.{giver, joined, offering, parent}
 use Rattle.live_segment.specs.declared.opener.Opener.{Opener}
 use Rattle.live_segment.specs.declared.recorder.Hist.{Hist}
-use Rattle.live_segment.specs.declared.recorder.Recorder.{Recorder}
-use Rattle.live_segment.specs.Hist.Answer.{KnowsOn}
+use Rattle.live_segment.specs.declared.recorder.state.RecorderState.{RecorderState}
 use Rattle.live_segment.specs.declared.segment.Segment.{Segment}
-use Rattle.live_segment.specs.Holders.{IsMadeWith, IsSameOpener, IsSameRecorder, Knows, view_of_opener, view_of_recorder}
-use Rattle.live_segment.specs.Known.{known_view}
+use Rattle.live_segment.specs.Holders.{IsMadeWith, IsSameOpener, view_of_opener}
+use Rattle.live_segment.specs.RecorderState.{IsSameRecorder, Knows, KnowsOn, view_of_state}
 use Rattle.live_segment.specs.Rule.{IsOf}
 
 -- it knows the same histograms
-pub same_names : (old new : Recorder) → IsSameRecorder old new → (view_of_recorder new).answers.names ≡ (view_of_recorder old).answers.names
-same_names old new same = sym new.listed ∙ (ap (λ known. map known_view known.items) same.known ∙ old.listed)
-
-pub knows_same : (old new : Recorder) (histogram : Hist) → IsSameRecorder old new → Knows old histogram → Knows new histogram
-knows_same old new histogram same knows =
-    subst (λ (names : List Known). histogram.index < length names) (sym (same_names old new same)) knows
+pub knows_same : (old new : RecorderState) (histogram : Hist) → IsSameRecorder old new → Knows old histogram → Knows new histogram
+knows_same old new histogram same knows = subst (λ (names : List Known). histogram.index < length names) (sym same.names) knows
 
 -- it has come to know more, if anything
-pub knows_on : (old new : Recorder) (histogram : Hist) → KnowsOn old new → Knows old histogram → Knows new histogram
+pub knows_on : (old new : RecorderState) (histogram : Hist) → KnowsOn old new → Knows old histogram → Knows new histogram
 knows_on old new histogram on knows =
     let (more, grown) = on.known in
-    let longer = ap length grown ∙ length-append (view_of_recorder old).answers.names more in
+    let longer = ap length grown ∙ length-append (view_of_state old).answers.names more in
     omega (arith, longer, knows)
 
 -- ---- an opener

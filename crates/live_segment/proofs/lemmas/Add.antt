@@ -7,7 +7,6 @@ pub mod Beginning
 pub mod Blocks
 pub mod Counted
 pub mod CountsAlone
-pub mod Desks
 pub mod Disabled
 pub mod Ended
 pub mod Finished

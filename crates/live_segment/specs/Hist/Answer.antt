@@ -14,9 +14,6 @@ use Rattle.segment_calls.specs.declared.refusal.Refusal.TheVariants.{NoMemory, O
 use Rattle.segment_calls.specs.Asked.{IsAskedFor, IsRefusedFor, IsTooLarge}
 use Rattle.live_segment.specs.declared.recorder.Hist.{Hist}
 use Rattle.live_segment.specs.declared.recorder.KnownHistogram.{KnownHistogram}
-use Rattle.live_segment.specs.declared.recorder.Recorder.{Recorder}
-use Rattle.live_segment.specs.Holders.{Knows, Means, view_of_recorder}
-use Rattle.segment_promises.specs.Onward.{Grows}
 use Rattle.live_segment.specs.Hist.Outcome.{ComesToKnow, IsRefusedBy, LooksAround}
 
 -- ---- which it knows
@@ -28,20 +25,6 @@ IsKnownAt list name index = (known : KnownHistogram) × (get_elem? list index �
 -- none of them has the name
 abbrev pub NoneHasName : List KnownHistogram → List ℕ → Type 0
 NoneHasName list name = (i : ℕ) (known : KnownHistogram) → get_elem? list i ≡ some known → known.name.items ≢ name
-
--- ---- a recorder
-
--- It goes on with the same segment and was given no fresh records. Each histogram that it knew it knows still, at the same place.
-pub record KnowsOn (old new : Recorder) : Type 0 where
-  pub segment : new.segment ≡ old.segment
-  pub table : new.seat.table_id ≡ old.seat.table_id
-  pub fresh : new.fresh ≡ old.fresh
-  pub known : Grows (view_of_recorder old).answers.names (view_of_recorder new).answers.names
-
--- it knows a histogram, which is of the name and has the same spec
-abbrev pub IsNamed : List ℕ → Spec → Recorder → Hist → Type 0
-IsNamed name spec recorder histogram =
-    Knows recorder histogram × ((known : Known) × Means recorder histogram known × (known.name ≡ name) × SameSpec known.spec spec)
 
 -- ---- its answer
 

@@ -1,6 +1,7 @@
 //! The calls of the recorder of an adopted segment.
 
-ghost use Rattle.live_segment.specs.Holders.{IsSameRecorder, Knows, SharesSegment};
+ghost use Rattle.live_segment.specs.Holders.{SharesSegment};
+ghost use Rattle.live_segment.specs.RecorderState.{IsSameRecorder, Knows};
 
 use crate::threads::calls::{NAMES, spec_of};
 use crate::threads::lines::show_delta;
@@ -28,8 +29,8 @@ fn add(
     histogram: Hist,
     turn: usize,
 ) -> io::Result<()>
-    requires { Knows recorder.old histogram }
-    ensures { IsSameRecorder recorder.old recorder.new }
+    requires { Knows recorder.old.state histogram }
+    ensures { IsSameRecorder recorder.old.state recorder.new.state }
 {
     let (value, count) = SAMPLES[turn % SAMPLES.len()];
     match recorder.add(histogram, value, count) {
@@ -39,8 +40,8 @@ fn add(
 }
 
 fn batch(rt: &impl Print, recorder: &mut Recorder, name: &str, histogram: Hist) -> io::Result<()>
-    requires { Knows recorder.old histogram }
-    ensures { IsSameRecorder recorder.old recorder.new }
+    requires { Knows recorder.old.state histogram }
+    ensures { IsSameRecorder recorder.old.state recorder.new.state }
 {
     match recorder.batch(histogram, &[(0, 1), (3, 2)], 5) {
         Ok(()) => println!(rt; "batch,{name},5,0,1,3,2"),
@@ -52,8 +53,8 @@ fn batch(rt: &impl Print, recorder: &mut Recorder, name: &str, histogram: Hist) 
 }
 
 fn delta(rt: &impl Print, recorder: &mut Recorder, name: &str, histogram: Hist) -> Result<()>
-    requires { Knows recorder.old histogram }
-    ensures { IsSameRecorder recorder.old recorder.new }
+    requires { Knows recorder.old.state histogram }
+    ensures { IsSameRecorder recorder.old.state recorder.new.state }
 {
     let delta = recorder.delta(histogram)?;
     show_delta(rt, name, &delta)?;
@@ -68,7 +69,7 @@ fn record_into(
     histogram: Hist,
     turn: usize,
 ) -> Result<()>
-    requires { Knows recorder.old histogram }
+    requires { Knows recorder.old.state histogram }
     ensures { SharesSegment recorder.old recorder.new }
 {
     println!(rt; "hist,{name}")?;

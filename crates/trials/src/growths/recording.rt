@@ -1,8 +1,8 @@
 //! The calls of a segment, its opener and its recorders.
 
 ghost use Rattle.std.specs.Prelude.{◌<◌, IfOk};
-ghost use Rattle.live_segment.specs.Hist.Answer.{KnowsOn};
-ghost use Rattle.live_segment.specs.Holders.{HasCursor, IsMadeWith, IsSameRecorder, Knows, SharesSegment};
+ghost use Rattle.live_segment.specs.Holders.{HasCursor, IsMadeWith, SharesSegment};
+ghost use Rattle.live_segment.specs.RecorderState.{IsSameRecorder, Knows, KnowsOn};
 
 use crate::growths::again::{show_refused, show_try};
 use crate::growths::making::custom;
@@ -31,8 +31,8 @@ fn create(rt: &(impl Print + AllocGlobal)) -> io::Result<Result<(Segment, Opener
 }
 
 fn hist(rt: &impl Print, recorder: &mut Recorder, name: &str, spec: &Spec) -> Result<Hist>
-    ensures same { KnowsOn recorder.old recorder.new }
-    ensures knows { IfOk result (λ histogram. Knows recorder.new histogram) }
+    ensures same { KnowsOn recorder.old.state recorder.new.state }
+    ensures knows { IfOk result (λ histogram. Knows recorder.new.state histogram) }
 {
     show_try(rt, "hist")?;
     match recorder.hist(name.as_bytes(), spec) {
@@ -45,8 +45,8 @@ fn hist(rt: &impl Print, recorder: &mut Recorder, name: &str, spec: &Spec) -> Re
 }
 
 fn delta(rt: &impl Print, recorder: &mut Recorder, histogram: Hist) -> Result<Delta>
-    requires { Knows recorder.old histogram }
-    ensures { IsSameRecorder recorder.old recorder.new }
+    requires { Knows recorder.old.state histogram }
+    ensures { IsSameRecorder recorder.old.state recorder.new.state }
 {
     show_try(rt, "delta")?;
     match recorder.delta(histogram) {
@@ -59,8 +59,8 @@ fn delta(rt: &impl Print, recorder: &mut Recorder, histogram: Hist) -> Result<De
 }
 
 fn snapshot(rt: &impl Print, recorder: &mut Recorder, histogram: Hist) -> Result<Snapshot>
-    requires { Knows recorder.old histogram }
-    ensures { IsSameRecorder recorder.old recorder.new }
+    requires { Knows recorder.old.state histogram }
+    ensures { IsSameRecorder recorder.old.state recorder.new.state }
 {
     show_try(rt, "snapshot")?;
     match recorder.snapshot(histogram) {
@@ -100,8 +100,8 @@ fn fresh_records(rt: &impl Print, recorder: &mut Recorder) -> Result<Vec<u64>>
 
 // Counts what fits into a single word, what does not, and a batch.
 fn show_counting(rt: &impl Print, recorder: &mut Recorder, histogram: Hist) -> io::Result<()>
-    requires { Knows recorder.old histogram }
-    ensures { IsSameRecorder recorder.old recorder.new }
+    requires { Knows recorder.old.state histogram }
+    ensures { IsSameRecorder recorder.old.state recorder.new.state }
 {
     show_try(rt, "add")?;
     let small = recorder.add(histogram, 1, 2);

@@ -1,7 +1,8 @@
 //! The calls of one thread.
 
 ghost use Rattle.std.specs.Prelude.{◌<◌, IfOk};
-ghost use Rattle.live_segment.specs.Holders.{Knows, SharesSegment};
+ghost use Rattle.live_segment.specs.Holders.{SharesSegment};
+ghost use Rattle.live_segment.specs.RecorderState.{Knows};
 
 use live_segment::{CustomValues, Delta, Hist, Recorder, Refusal, Snapshot, Spec};
 use std::alloc::Global;
@@ -146,7 +147,7 @@ fn batch_of(alloc: Global, numbers: &mut Numbers, name: &'static str) -> Result<
 
 impl<'a> Worker<'a> {
     fn add(&mut self, name: &'static str, histogram: Hist) -> Result<(), Refusal>
-        requires { Knows self.old.done.recorder histogram }
+        requires { Knows self.old.done.recorder.state histogram }
         ensures { SharesSegment self.old.done.recorder self.new.done.recorder }
     {
         let sample = sample_of(&mut self.numbers, name);
@@ -157,7 +158,7 @@ impl<'a> Worker<'a> {
     }
 
     fn batch(&mut self, name: &'static str, histogram: Hist) -> Result<(), Refusal>
-        requires { Knows self.old.done.recorder histogram }
+        requires { Knows self.old.done.recorder.state histogram }
         ensures { SharesSegment self.old.done.recorder self.new.done.recorder }
     {
         let batch = batch_of(self.alloc, &mut self.numbers, name)?;
@@ -169,7 +170,7 @@ impl<'a> Worker<'a> {
     }
 
     fn take(&mut self, name: &'static str, histogram: Hist) -> Result<(), Refusal>
-        requires { Knows self.old.done.recorder histogram }
+        requires { Knows self.old.done.recorder.state histogram }
         ensures { SharesSegment self.old.done.recorder self.new.done.recorder }
     {
         let delta = self.done.recorder.delta(histogram)?;
@@ -177,7 +178,7 @@ impl<'a> Worker<'a> {
     }
 
     fn look(&mut self, name: &'static str, histogram: Hist) -> Result<(), Refusal>
-        requires { Knows self.old.done.recorder histogram }
+        requires { Knows self.old.done.recorder.state histogram }
         ensures { SharesSegment self.old.done.recorder self.new.done.recorder }
     {
         let snapshot = self.done.recorder.snapshot(histogram)?;

@@ -4,7 +4,7 @@
 //! these in no order, in picoseconds for each sample.
 
 ghost use Rattle.std.specs.Prelude.{◌<◌};
-ghost use Rattle.live_segment.specs.Holders.{Knows};
+ghost use Rattle.live_segment.specs.RecorderState.{Knows};
 
 use anyhow::{Result, bail};
 use live_segment::{Hist, Recorder, Refusal, Segment, Spec, VERSION_FROZEN};
@@ -20,8 +20,8 @@ fn value_of(number: u32) -> i32 {
 
 // Records a sample of each value.
 fn record_each(recorder: &mut Recorder, histogram: Hist, values: u32) -> Result<(), Refusal>
-    requires { Knows recorder.old histogram }
-    ensures { Knows recorder.new histogram }
+    requires { Knows recorder.old.state histogram }
+    ensures { Knows recorder.new.state histogram }
 {
     for number in 0..values {
         recorder.add(histogram, value_of(number), 1)?;
@@ -31,7 +31,7 @@ fn record_each(recorder: &mut Recorder, histogram: Hist, values: u32) -> Result<
 
 // Records samples of these values, in no order.
 fn record_some(recorder: &mut Recorder, histogram: Hist, values: u32) -> Result<(), Refusal>
-    requires known { Knows recorder.old histogram }
+    requires known { Knows recorder.old.state histogram }
     requires some { 0 < values }
 {
     let mut state: u32 = 1;

@@ -17,8 +17,6 @@ use Rattle.live_segment.specs.List.Records.{HasWalked}
 use Rattle.live_segment.specs.Hist.Search.{HasSearched}
 use Rattle.live_segment.proofs.lemmas.List.Indexed.{indexed_still}
 use Rattle.live_segment.proofs.lemmas.Hist.Settled.{refused_around}
-use Rattle.live_segment.proofs.lemmas.List.Sharing.{answer_grows}
-use Rattle.live_segment.proofs.lemmas.List.Walked.{walk_grows}
 
 module _ {of_kind : KeyKind} (size : ℕ) (index : RecordIndex) where
   -- a recorder has seen more
@@ -48,17 +46,15 @@ module _ {of_kind : KeyKind} (size : ℕ) (index : RecordIndex) where
       let (looks, room, chain, words, owed, not_other) = refused_around (4 + length asked.payload.items) a b cause rests allocates in
       indexed_still of_kind a.seen b.seen (grows_same a.seen.words b.seen.words words) size index (grows_same a.seen.chain b.seen.chain chain) indexed
 
-  -- a walk
-  pub walked_on : (a b : Actor) (given : List ℕ) → HasWalked a given b → IsIndexed of_kind size a.seen index → IsIndexed of_kind size b.seen index
-  walked_on a b given walked indexed =
-      indexed_still of_kind a.seen b.seen (grows_same a.seen.words b.seen.words (ap (λ (x : Actor). x.seen.words) walked.view)) size index (walk_grows a given b walked) indexed
+-- ---- what it has seen of words
 
-  -- a shared cursor
-  pub answered_on : (cursor : ℕ) (a : Actor) (answer : Option ℕ) (b : Actor) → AnswersNext cursor a answer b → IsIndexed of_kind size a.seen index → IsIndexed of_kind size b.seen index
-  answered_on cursor a answer b is indexed = indexed_still of_kind a.seen b.seen (answer_words a answer b is) size index (answer_grows cursor a answer b is) indexed
-    where
-      answer_words : (a : Actor) (answer : Option ℕ) (b : Actor) → AnswersNext cursor a answer b → Grows a.seen.words b.seen.words
-      answer_words a (Some reference) b is =
-          grows_same a.seen.words b.seen.words (ap (λ (x : Actor). x.seen.words) is.view ∙ ap (λ (x : Actor). x.seen.words) is.before.same)
-      answer_words a None b is =
-          grows_same a.seen.words b.seen.words (ap (λ (x : Actor). x.seen.words) is.view ∙ ap (λ (x : Actor). x.seen.words) is.before.same)
+-- on a walk
+pub walk_words : (a b : Actor) (given : List ℕ) → HasWalked a given b → Grows a.seen.words b.seen.words
+walk_words a b given walked = grows_same a.seen.words b.seen.words (ap (λ (x : Actor). x.seen.words) walked.view)
+
+-- at a shared cursor
+pub answer_words : (cursor : ℕ) (a : Actor) (answer : Option ℕ) (b : Actor) → AnswersNext cursor a answer b → Grows a.seen.words b.seen.words
+answer_words cursor a (Some reference) b is =
+    grows_same a.seen.words b.seen.words (ap (λ (x : Actor). x.seen.words) is.view ∙ ap (λ (x : Actor). x.seen.words) is.before.same)
+answer_words cursor a None b is =
+    grows_same a.seen.words b.seen.words (ap (λ (x : Actor). x.seen.words) is.view ∙ ap (λ (x : Actor). x.seen.words) is.before.same)

@@ -1,7 +1,8 @@
 use Rattle.std.proofs.Common.{◌≡◌, ◌∙◌, List, ℕ, All, map, refl, subst, sym, take, length, arith}
 use Rattle.std.proofs.Math.Seq.{take-length}
-use Rattle.live_segment.specs.Hist.Answer.{IsAnsweredWith, IsNamed}
+use Rattle.live_segment.specs.Hist.Answer.{IsAnsweredWith}
 use Rattle.live_segment.specs.Holders.{view_of_recorder}
+use Rattle.live_segment.specs.RecorderState.{IsNamed}
 use Rattle.persist_report_core.specs.declared.script.ScriptHist.{ScriptHist}
 use Rattle.persist_report_core.specs.Script.{hist_view}
 use Rattle.persist_commands.specs.Recording.{KnowsOf}
@@ -22,7 +23,7 @@ loop-hist-preserved c =
     let x = c.hist-item.result in
     let next = asked_next c.args.hists.now c.loop-hist.hist-index x c.args.recorder.now c.loop-hist.recorder c.hist.new.self c.in_default.field-0
     c.loop-hist-test.true c.hist-item.is at.1 at.2 c.in_default.ensures.same
-    (subst (λ (name : List ℕ). IsNamed name x.spec c.hist.new.self c.in_default.field-0) c.deref.ensures.value c.in_default.ensures.named)
+    (subst (λ (name : List ℕ). IsNamed name x.spec c.hist.new.self.state c.in_default.field-0) c.deref.ensures.value c.in_default.ensures.named)
     (subst (λ (name : List ℕ). IsAnsweredWith name x.spec c.in_default.field-0 (view_of_recorder c.loop-hist.recorder) (view_of_recorder c.hist.new.self)) c.deref.ensures.value
     c.in_default.ensures.answer) in
     (c.in_default.ensures.same.table ∙ at.0, next.0, next.1)

@@ -2,8 +2,8 @@ use Rattle.std.proofs.Common.{rules, ◌≡◌, List, ℤ, Some, OnOk, FitsSigne
 use Rattle.std.proofs.lemmas.Int.{to_z-of_z}
 use Rattle.segment_image.specs.Checks.{first_fault}
 use Rattle.live_segment.specs.Add.Sample.{add_checks}
-use Rattle.live_segment.specs.Hist.Answer.{IsNamed}
 use Rattle.live_segment.specs.Holders.{view_of_recorder}
+use Rattle.live_segment.specs.RecorderState.{IsNamed}
 use Rattle.persist_report_core.specs.declared.script.CallKind.{CallKind}
 use Rattle.persist_report_core.specs.declared.script.CallKind.TheVariants as kind
 use Rattle.persist_report_core.specs.Script.{HistRecord}
@@ -17,7 +17,7 @@ pub returns-in-Add-clause-went : goal.returns-in-Add-clause-went
 returns-in-Add-clause-went c =
     let value : FitsSigned w32 c.in-Add.value = search rules in
     let same : to_z w32 (of_z w32 c.in-Add.value) ≡ c.in-Add.value = to_z-of_z w32 c.in-Add.value value in
-    let Goes : CallKind → Type 0 = λ k. OnOk c.add.result ((hists : List HistRecord) (hist : HistRecord) → IsNamed hist.name hist.spec c.args.recorder.now c.args.histogram
+    let Goes : CallKind → Type 0 = λ k. OnOk c.add.result ((hists : List HistRecord) (hist : HistRecord) → IsNamed hist.name hist.spec c.args.recorder.now.state c.args.histogram
     → HasRecorded hists (deeds_in (Some hist) k) (view_of_recorder c.args.recorder.now) (view_of_recorder c.add.new.self)) in
     subst Goes (sym c.in-Add.is)
     (subst (λ (z : ℤ). Goes (kind.Add z c.in-Add.count)) same

@@ -23,8 +23,9 @@ loop-part-init c =
       tt,
       ap (λ (l : List (Vec ℕ Global × ℕ)). drop (length l) list) (sym none),
       search rules,
-      record { segment = refl; table = refl; fresh = refl; known = grows_not a.answers.names },
+      record { table = refl; fresh = refl; known = grows_not a.answers.names },
       subst (λ (l : List (Vec ℕ Global × ℕ)). IsUnderWay views l a a) (sym none) (under_way_none views a),
+      refl,
     )
 
 pub merge_next-stopped-requires-clause-part : goal.merge_next-stopped-requires-clause-part
@@ -74,9 +75,10 @@ loop-part-preserved c =
       tt,
       behind ∙ ap (λ (k : ℕ). drop k list) (sym more),
       search rules,
-      knows_then c.args.recorder.now c.loop-part.recorder c.merge_next-stopped.new.recorder c.loop-part.invariant.4 c.merge_next-stopped.ensures.same,
+      knows_then c.args.recorder.now.state c.loop-part.recorder.state c.merge_next-stopped.new.recorder.state c.loop-part.invariant.4 c.merge_next-stopped.ensures.same,
       goes_on views (histogram_view h) c.loop-part.added.items c.merge_next-stopped.new.added.items c.merge_next-stopped.result (view_of_recorder c.args.recorder.now)
           (view_of_recorder c.loop-part.recorder) (view_of_recorder c.merge_next-stopped.new.recorder) (sym c.is_some.ensures ∙ c.if-is_some.false)
           (omega (arith, below, long)) (get_or-map histogram_view hists n h (histogram_view h) below ∙ ap histogram_view (sym here)) c.loop-part.invariant.5
           c.merge_next-stopped.ensures.answer,
+      c.merge_next-stopped.ensures.kept ∙ c.loop-part.invariant.6,
     )

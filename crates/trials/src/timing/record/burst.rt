@@ -1,6 +1,7 @@
 //! One burst: threads record beside one another, and the time from their start to the end of the last.
 
-ghost use Rattle.live_segment.specs.Holders.{IsMadeWith, Knows};
+ghost use Rattle.live_segment.specs.Holders.{IsMadeWith};
+ghost use Rattle.live_segment.specs.RecorderState.{Knows};
 
 use crate::timing::record::plan::{Plan, VALUES};
 use anyhow::{Result, bail};
@@ -70,7 +71,7 @@ fn record_into(
     samples: u32,
     values: &[i32; VALUES],
 ) -> Result<(), Refusal>
-    requires { Knows recorder.old histogram }
+    requires { Knows recorder.old.state histogram }
 {
     for i in 0..samples as usize {
         recorder.add(histogram, values[i % VALUES], 1)?;

@@ -6,9 +6,8 @@ pub loop-value-preserved : goal.loop-value-preserved
 loop-value-preserved c =
     let same = c.add.ensures.same in
     let before = c.loop-value.invariant.1 in (
-      knows_same c.loop-value.recorder c.add.new.self _ same c.loop-value.invariant.0,
+      knows_same c.loop-value.recorder.state c.add.new.self.state _ same c.loop-value.invariant.0,
       record {
-        segment = same.segment ∙ before.segment;
         table = same.table ∙ before.table;
         known = same.known ∙ before.known;
         names = same.names ∙ before.names;

@@ -1,9 +1,9 @@
 use Rattle.std.proofs.Common.{ℤ, w32, subst}
 use Rattle.std.proofs.lemmas.Int.{to_z-of_z}
-use Rattle.owned_recorder.specs.Answers.{ClaimsAdd}
+use Rattle.live_segment.specs.Answers.{ClaimsAdd}
 use Rattle.owned_recorder.proofs.owned.OwnedRecorder.add.Goals as goal
 
 pub returns-clause-claims : goal.returns-clause-claims
 returns-clause-claims c =
-    subst (λ (value : ℤ). ClaimsAdd c.args.histogram value c.args.self.now.desk c.add.result c.add.new.self)
+    subst (λ (value : ℤ). ClaimsAdd c.args.histogram value c.args.self.now.state c.add.result c.add.new.self)
     (to_z-of_z w32 c.args.value c.ranges.value) c.add.ensures.claims

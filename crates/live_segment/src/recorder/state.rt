@@ -1,0 +1,320 @@
+//! What a recorder has beside its segment, and its calls, each of which is passed the segment.
+
+ghost use Rattle.std.specs.Prelude.{◌≡◌, []};
+ghost use Rattle.segment_machine.specs.Seats.{getter, purse};
+ghost use Rattle.live_segment.specs.Rule.{IsOf};
+ghost use Rattle.live_segment.specs.Steps.{IsAtRest};
+ghost use Rattle.live_segment.specs.RecorderState.{IsRecorderAt};
+ghost use Rattle.live_segment.specs.declared.segment.Segment.{Segment as SomeSegment};
+
+use super::{Hist, KnownHistogram, has_too_many_values};
+use crate::add::cost::{price, units_of_items};
+use crate::hist::known_names::KnownNames;
+use crate::list::index::{KeyKind, RecordIndex};
+use crate::list::walk::WalkPlace;
+use crate::rule::Pass;
+use crate::segment::Segment;
+use bucket_ranges::{Spec, SpecFault};
+use segment_calls::{Asked, BatchRefusal, Delta, Refusal, Snapshot};
+use segment_image::layout::{BLOCK_LEAST, HEADER_WORDS};
+use std::alloc::Global;
+
+/// All that a recorder has but its segment. A caller that keeps the segment alive otherwise than by a borrow keeps this beside it, and
+/// passes the segment to each call. The calls are those of [`Recorder`](super::Recorder), with its clauses and faults.
+#[derive(Drop)]
+pub struct RecorderState {
+    // For its lists.
+    alloc: Global,
+    pub(crate) seat: Pass,
+    pub(crate) units: u32,
+    known: Vec<KnownHistogram>,
+    // Up to where it was given fresh records.
+    fresh: WalkPlace,
+    // Where what it knows stands, by names.
+    names: KnownNames,
+    // What it met along the list: the records of histograms, and the samples of sparse ones.
+    index: RecordIndex,
+    samples: RecordIndex,
+}
+
+impl RecorderState {
+    ghost use Rattle.std.specs.Prelude.{◌↔◌, ◌<◌, ◌≤◌, ◌++◌, IsTrue, IfOk, MatchOption, MatchResult, length};
+    ghost use Rattle.segment_machine.specs.declared.actor.Known.{Known};
+    ghost use Rattle.live_segment.specs.Alloc.Allocation.{spoiled};
+    ghost use Rattle.live_segment.specs.List.SharedCursors.{AnswersNext, gift};
+    ghost use Rattle.live_segment.specs.Hist.Answer.{IsAnsweredWith, IsKnownAt, IsRefusedWith, NoneHasName};
+    ghost use Rattle.live_segment.specs.List.Values.{AreMostKeys};
+    ghost use Rattle.live_segment.specs.RecorderState.{given_fresh, IsNamed, IsSameRecorder, Knows, KnowsOn, Means, view_of_state};
+    ghost use Rattle.live_segment.specs.Answers.{AnswersAdd, AnswersBatch, AnswersDelta, AnswersFirst, AnswersFresh, AnswersFront, AnswersHist, AnswersList, AnswersRecords, AnswersSnapshot, ClaimsAdd, ClaimsBatch, ClaimsHist, ShowsEnough, ShowsFewKeys, ShowsUnits, TakesEnough, TakesFewKeys};
+
+    // That of a recorder that has done nothing, at a seat with these units.
+    pub(crate) fn new(alloc: Global, segment: &Segment, seat: Pass, units: u32) -> RecorderState
+        requires fits { (seat.table_id ≡ segment.now.table.shared.table_id) × (seat.me.1 ≡ []) }
+        requires set { IsOf segment.now.setting seat.me.0 }
+        requires rests { IsAtRest seat.me.0 × (units ≡ seat.me.0.units.share) × (seat.me.0.answers.names ≡ []) }
+        ensures at { IsRecorderAt segment.now result }
+        ensures new { (result.seat ≡ seat) × (given_fresh result ≡ 0) }
+    {
+        let names = KnownNames::new(alloc);
+        let index = RecordIndex::new(alloc, KeyKind::Name);
+        let samples = RecordIndex::new(alloc, KeyKind::Sample);
+        RecorderState {
+            alloc,
+            seat,
+            units,
+            known: Vec::new(alloc),
+            fresh: WalkPlace::start(),
+            names,
+            index,
+            samples,
+        }
+    }
+
+    // Gets the units of a purse of the segment.
+    pub(crate) fn get(&mut self, segment: &Segment, filled: Pass, units: u32)
+        requires at { IsRecorderAt segment.now self.old }
+        requires filled { (filled.table_id ≡ self.old.seat.table_id) × (filled.me ≡ (purse units, [])) }
+        ensures at { IsRecorderAt segment.now self.new }
+        ensures view { IsSameRecorder self.old self.new × (view_of_state self.new ≡ getter (view_of_state self.old) units) }
+    {
+        segment.pour_out(&mut self.seat, &mut self.units, filled, units);
+    }
+
+    /// The units that it may still spend.
+    pub fn units(&self) -> u32
+        requires { (segment : SomeSegment) × IsRecorderAt segment self.now }
+        ensures { result ≡ (view_of_state self.now).units.share }
+    {
+        self.units
+    }
+
+    /// Whether it knows a histogram: the calls that take one ask for that.
+    pub fn knows(&self, histogram: Hist) -> bool
+        requires { (segment : SomeSegment) × IsRecorderAt segment self.now }
+        ensures { IsTrue result ↔ Knows self.now histogram }
+    {
+        histogram.index < self.known.len()
+    }
+
+    /// The histogram that it knows at a place.
+    pub fn hist_at(&self, place: usize) -> Option<Hist>
+        requires { (segment : SomeSegment) × IsRecorderAt segment self.now }
+        ensures { MatchOption result (length (view_of_state self.now).answers.names ≤ place) (λ histogram. (histogram.index ≡ place) × Knows self.now histogram) }
+    {
+        if place < self.known.len() {
+            Some(Hist { index: place })
+        } else {
+            None
+        }
+    }
+
+    /// How many keys a histogram may have, as [`Recorder::most_keys`](super::Recorder::most_keys) has it.
+    pub fn most_keys(&self, segment: &Segment, histogram: Hist) -> usize
+        requires at { IsRecorderAt segment.now self.now }
+        requires knows { Knows self.now histogram }
+        ensures { (known : Known) → Means self.now histogram known → AreMostKeys segment.now known result }
+    {
+        segment.keys_of(&self.known[histogram.index])
+    }
+
+    // The place of the histogram of a name among those that it knows.
+    fn index_of(&self, name: &[u8]) -> Option<usize>
+        requires { (segment : SomeSegment) × IsRecorderAt segment self.now }
+        ensures { MatchOption result (NoneHasName self.now.known.items name.now) (IsKnownAt self.now.known.items name.now) }
+    {
+        let known = self.known.as_slice();
+        self.names.find(known, name)
+    }
+
+    // What a `hist` of a name that it knows is answered, by the histogram at a place. It takes memory only where the spec is
+    // another: then name and spec are looked at whole, since `BadSpec` and `TooLarge` come first.
+    fn known_at(
+        &self,
+        segment: &Segment,
+        index: usize,
+        name: &[u8],
+        spec: &Spec,
+    ) -> Result<Hist, Refusal>
+        requires at { IsRecorderAt segment.now self.now }
+        requires known { IsKnownAt self.now.known.items name.now index }
+        ensures named { IfOk result (IsNamed name.now spec.now self.now) }
+        ensures answer { MatchResult result (λ histogram. IsAnsweredWith name.now spec.now histogram (view_of_state self.now) (view_of_state self.now)) (λ why. IsRefusedWith name.now spec.now why (view_of_state self.now) (view_of_state self.now)) }
+    {
+        if !self.known[index].spec.is_same(spec) {
+            Asked::of(self.alloc, segment.setting.shape, name, spec)?;
+            return Err(Refusal::OtherSpec);
+        }
+        if has_too_many_values(spec) {
+            return Err(Refusal::BadSpec(SpecFault::TooMany));
+        }
+        Ok(Hist { index })
+    }
+
+    /// The histogram of a name, as [`Recorder::hist`](super::Recorder::hist).
+    pub fn hist(&mut self, segment: &Segment, name: &[u8], spec: &Spec) -> Result<Hist, Refusal>
+        requires { IsRecorderAt segment.now self.old }
+        ensures at { IsRecorderAt segment.now self.new }
+        ensures same { KnowsOn self.old self.new }
+        ensures named { IfOk result (IsNamed name.now spec.now self.new) }
+        ensures answer { AnswersHist name.now spec.now self.old result self.new }
+        ensures first { AnswersFirst segment.now result self.new }
+        ensures claims { ClaimsHist name.now spec.now self.old result self.new }
+    {
+        if let Some(index) = self.index_of(name) {
+            segment.stand(&mut self.seat);
+            return self.known_at(segment, index, name, spec);
+        }
+        let asked = Asked::of(self.alloc, segment.setting.shape, name, spec)?;
+        self.known.reserve(1)?;
+        let known = segment.ask(&mut self.seat, &mut self.index, asked)?;
+        let index = self.known.len();
+        let before = self.known.as_slice();
+        self.names.enter(before, name);
+        self.known.push_reserved(known);
+        Ok(Hist { index })
+    }
+
+    /// Adds a sample, as [`Recorder::add`](super::Recorder::add).
+    // Inlined with the calls on its way: what a call keeps in memory, the next atomic step waits for.
+    #[inline(always)]
+    pub fn add(
+        &mut self,
+        segment: &Segment,
+        histogram: Hist,
+        value: i32,
+        count: u32,
+    ) -> Result<(), Refusal>
+        requires at { IsRecorderAt segment.now self.old }
+        requires knows { Knows self.old histogram }
+        ensures at { IsRecorderAt segment.now self.new }
+        ensures same { IsSameRecorder self.old self.new }
+        ensures answer { AnswersAdd histogram value count self.old result self.new }
+        ensures claims { ClaimsAdd histogram value self.old result self.new }
+    {
+        if count == 0 {
+            return Err(Refusal::ZeroCount);
+        }
+        if count > self.units {
+            return Err(Refusal::NoUnits);
+        }
+        let known = &self.known[histogram.index];
+        segment.add_sample(&mut self.seat, &mut self.samples, known, value, count)?;
+        self.units -= count;
+        Ok(())
+    }
+
+    /// Counts a batch, as [`Recorder::batch`](super::Recorder::batch).
+    pub fn batch(
+        &mut self,
+        segment: &Segment,
+        histogram: Hist,
+        items: &[(i32, u32)],
+        sum: i64,
+    ) -> Result<(), BatchRefusal>
+        requires at { IsRecorderAt segment.now self.old }
+        requires knows { Knows self.old histogram }
+        ensures at { IsRecorderAt segment.now self.new }
+        ensures same { IsSameRecorder self.old self.new }
+        ensures answer { AnswersBatch histogram items.now sum self.old result self.new }
+        ensures claims { ClaimsBatch histogram items.now self.old result self.new }
+    {
+        let cost = match price(items, sum, self.units) {
+            Ok(cost) => cost,
+            Err(why) => return Err(BatchRefusal { added: 0, why }),
+        };
+        let known = &self.known[histogram.index];
+        let counted = segment.count_batch(&mut self.seat, &mut self.samples, known, items, sum);
+        if let Err(refusal) = counted {
+            self.units -= units_of_items(&items[..refusal.added]) as u32;
+            return Err(refusal);
+        }
+        self.units -= cost;
+        Ok(())
+    }
+
+    /// Takes a delta, as [`Recorder::delta`](super::Recorder::delta).
+    pub fn delta(&mut self, segment: &Segment, histogram: Hist) -> Result<Delta, Refusal>
+        requires at { IsRecorderAt segment.now self.old }
+        requires knows { Knows self.old histogram }
+        ensures at { IsRecorderAt segment.now self.new }
+        ensures same { IsSameRecorder self.old self.new }
+        ensures taken { AnswersDelta histogram self.old result self.new }
+        ensures few { TakesFewKeys segment.now histogram self.old result }
+        ensures owed { TakesEnough segment.now histogram self.old result self.new }
+    {
+        let known = &self.known[histogram.index];
+        let has_all = segment.look_for_own(&mut self.seat, &mut self.samples, known);
+        let own = self.samples.own(has_all, known.reference);
+        let mut counts = Vec::with_capacity(self.alloc, segment.most_keys(known, own))?;
+        let sum = segment.take_delta(&mut self.seat, known, own, &mut counts);
+        Ok(Delta { counts, sum })
+    }
+
+    /// What a histogram has, as [`Recorder::snapshot`](super::Recorder::snapshot).
+    pub fn snapshot(&mut self, segment: &Segment, histogram: Hist) -> Result<Snapshot, Refusal>
+        requires at { IsRecorderAt segment.now self.old }
+        requires knows { Knows self.old histogram }
+        ensures at { IsRecorderAt segment.now self.new }
+        ensures same { IsSameRecorder self.old self.new }
+        ensures answer { AnswersSnapshot histogram self.old result self.new }
+        ensures few { ShowsFewKeys segment.now histogram self.old result }
+        ensures owed { ShowsEnough histogram self.old result self.new }
+        ensures values { ShowsUnits histogram self.old result }
+    {
+        let known = &self.known[histogram.index];
+        let has_all = segment.look_for_own(&mut self.seat, &mut self.samples, known);
+        let own = self.samples.own(has_all, known.reference);
+        let totals = segment.opening_totals(self.alloc, known, own)?;
+        let snapshot = segment.take_snapshot(&mut self.seat, known, own, totals);
+        Ok(snapshot)
+    }
+
+    /// Marks the segment as corrupt, as [`Recorder::set_corrupt`](super::Recorder::set_corrupt).
+    pub fn set_corrupt(&mut self, segment: &Segment)
+        requires { IsRecorderAt segment.now self.old }
+        ensures at { IsRecorderAt segment.now self.new }
+        ensures same { IsSameRecorder self.old self.new }
+        ensures flag { view_of_state self.new ≡ spoiled (view_of_state self.old) }
+    {
+        segment.set_corrupt(&mut self.seat);
+    }
+
+    /// The references of all records of the list, as [`Recorder::records`](super::Recorder::records).
+    pub fn records(&mut self, segment: &Segment) -> Result<Vec<u64>, Refusal>
+        requires { IsRecorderAt segment.now self.old }
+        ensures at { IsRecorderAt segment.now self.new }
+        ensures same { IsSameRecorder self.old self.new }
+        ensures walked { AnswersRecords self.old result self.new }
+        ensures all { AnswersList segment.now result self.new }
+    {
+        let size = segment.setting.shape.size() as usize;
+        let mut records = Vec::with_capacity(self.alloc, (size - HEADER_WORDS) / BLOCK_LEAST)?;
+        segment.walk(&mut self.seat, &mut WalkPlace::start(), &mut records);
+        Ok(records)
+    }
+
+    /// Those that no earlier call gave, as [`Recorder::fresh_records`](super::Recorder::fresh_records).
+    pub fn fresh_records(&mut self, segment: &Segment) -> Result<Vec<u64>, Refusal>
+        requires { IsRecorderAt segment.now self.old }
+        ensures at { IsRecorderAt segment.now self.new }
+        ensures fresh { AnswersFresh self.old result self.new }
+    {
+        let size = segment.setting.shape.size() as usize;
+        let mut records = Vec::with_capacity(self.alloc, (size - HEADER_WORDS) / BLOCK_LEAST)?;
+        segment.walk(&mut self.seat, &mut self.fresh, &mut records);
+        Ok(records)
+    }
+
+    /// The next record of a shared cursor, as [`Recorder::next_shared`](super::Recorder::next_shared).
+    pub fn next_shared(&mut self, segment: &Segment, cursor: usize) -> Option<u64>
+        requires at { IsRecorderAt segment.now self.old }
+        requires cursor { cursor < (view_of_state self.old).segment.cursors }
+        ensures at { IsRecorderAt segment.now self.new }
+        ensures same { IsSameRecorder self.old self.new }
+        ensures answer { AnswersNext cursor (view_of_state self.old) result (view_of_state self.new) }
+        ensures given { (view_of_state self.new).done.given ≡ (view_of_state self.old).done.given ++ gift cursor result }
+        ensures shared { AnswersFront segment.now cursor result self.new }
+    {
+        segment.next_shared(&mut self.seat, cursor)
+    }
+}

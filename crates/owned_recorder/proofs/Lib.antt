@@ -1,2 +1,0 @@
-mod Carried
-pub mod Callers

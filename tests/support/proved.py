@@ -30,9 +30,6 @@ WIDTH = 140
 SHORT = 80
 # The crates whose doc comments do not name their clauses yet: docs/PROVED_BY_HAND.md has what is proved of them.
 LEFT = (
-    "list_index",
-    "live_segment",
-    "owned_recorder",
     "povundiri_c",
     "reading_shows",
     "persist_report_core",

@@ -22,7 +22,8 @@ pub struct Firsts {
 }
 
 impl Firsts {
-    /// Nothing was entered, and it has no limit but memory. It takes no memory.
+    /// Nothing was entered, with any key [first] or group [all], and it has no groups [alone]. None was counted
+    /// [entered], and there is no limit but memory [limit]. It takes no memory.
     pub fn new(alloc: Global) -> Firsts
         ensures first { (key : ℕ) → first_of result key ≡ None }
         ensures all { (group : ℕ) → all_of result group ≡ [] }
@@ -39,7 +40,8 @@ impl Firsts {
         }
     }
 
-    /// The same, with groups.
+    /// Nothing was entered, with any key [first] or group [all], and it has groups [grouping]. None was counted
+    /// [entered], and there is no limit but memory [limit]. It takes no memory.
     pub fn with_groups(alloc: Global) -> Firsts
         ensures first { (key : ℕ) → first_of result key ≡ None }
         ensures all { (group : ℕ) → all_of result group ≡ [] }
@@ -56,8 +58,9 @@ impl Firsts {
         }
     }
 
-    /// Sets how many numbers may be entered in all, for whoever has little memory: from that many on `enter` returns false. What was
-    /// entered stays. Each number takes at most 80 bytes (that is not proved).
+    /// Sets how many numbers may be entered in all [limit], for a caller that has little memory: from that many on
+    /// `enter` returns false. What was entered stays [still], as does how many they are [entered], and it has groups
+    /// if it had them before [grouping].
     pub fn set_limit(&mut self, numbers: usize)
         ensures limit { limit_of self.new ≡ numbers }
         ensures entered { entered_of self.new ≡ entered_of self.old }
@@ -67,7 +70,7 @@ impl Firsts {
         self.limit = numbers;
     }
 
-    /// The first number that was entered with a key.
+    /// Returns the first number that was entered with a key, or none.
     #[inline(always)]
     pub fn first(&self, key: u64) -> Option<u64>
         ensures { result ≡ first_of self.now key }
@@ -75,16 +78,19 @@ impl Firsts {
         self.map.get(&key).copied()
     }
 
-    /// The numbers that were entered with keys of a group, in their order, or none where there are no groups.
+    /// Returns the numbers that were entered with keys of a group, in their order; none where there are no groups.
     pub fn all(&self, group: u64) -> &[u64]
         ensures { result.now ≡ all_of self.now group }
     {
         self.groups.numbers(group)
     }
 
-    /// Enters a number with a key. Where the key was entered before, the first number stays.
+    /// Enters a number with a key.
     ///
-    /// Returns false where the limit is reached, or there is no memory for it: then nothing has changed.
+    /// True: the key has the number if it had none before, and every other key has what it had [entered]. Where there
+    /// are groups the number comes after those of its key's group, and every other group has what it had [listed].
+    /// False where the limit is reached [few] or memory runs out: then nothing has changed [kept]. It counts how many
+    /// were entered [counted]. Its limit does not change [limit], and it has groups if it had them before [grouping].
     pub fn enter(&mut self, key: u64, number: u64) -> bool
         ensures entered { result ≡ true → (other : ℕ) → first_of self.new other ≡ option_or (first_of self.old other) (if key == other then Some number else None) }
         ensures listed { result ≡ true → is_grouping self.old ≡ true → (other : ℕ) → all_of self.new other ≡ all_of self.old other ++ (if group_of_key key == other then number ∷ [] else []) }

@@ -9,7 +9,7 @@ use std::collections::HashMap;
 // A group has as many keys, half of them below its number times this.
 const KEYS: u64 = 4_294_967_296;
 
-/// The group of a key: a group has 2^32 keys, as many below its number times 2^32 as from there on.
+/// Returns the group of a key: a group has 2^32 keys, as many below its number times 2^32 as from there on.
 #[inline(always)]
 pub fn group_of(key: u64) -> u64
     ensures { result ≡ group_of_key key }
@@ -35,7 +35,7 @@ impl Groups {
         }
     }
 
-    /// The numbers of a group.
+    /// Returns the numbers of a group, in the order in which they were entered.
     pub fn numbers(&self, group: u64) -> &[u64]
         ensures { result.now ≡ numbers_of self.now group }
     {
@@ -47,7 +47,8 @@ impl Groups {
 
     /// Enters a number with a group.
     ///
-    /// False where there is no memory for it: then nothing has changed.
+    /// True: the number comes after those of its group, and every other group has what it had [entered]. False where
+    /// memory runs out: then nothing has changed [kept].
     pub fn enter(&mut self, group: u64, number: u64) -> bool
         ensures entered { result ≡ true → (other : ℕ) → numbers_of self.new other ≡ numbers_of self.old other ++ (if group == other then number ∷ [] else []) }
         ensures kept { result ≡ false → (other : ℕ) → numbers_of self.new other ≡ numbers_of self.old other }

@@ -9,7 +9,8 @@ const PRIME: u64 = 11_400_714_819_323_198_549;
 // An odd number.
 const FACTOR: u64 = 6_364_136_223_846_793_005;
 
-/// The key of words and one word more, where this is the key of those before it. The key of none is 0.
+/// Returns the key of words and one word more, where `key` is the key of those before it. The key of none is 0. Equal
+/// words have equal keys; different ones may have equal keys too.
 #[inline(always)]
 pub fn next_key(key: u64, word: u64) -> u64
     ensures { result ≡ key_then key word }
@@ -18,7 +19,8 @@ pub fn next_key(key: u64, word: u64) -> u64
     (number % u128::from(PRIME)) as u64
 }
 
-/// The key of bytes and one byte more, where this is the key of those before it. The key of none is 0.
+/// Returns the key of bytes and one byte more, where `key` is the key of those before it. The key of none is 0. Equal
+/// bytes have equal keys; different ones may have equal keys too.
 #[inline(always)]
 pub fn next_byte_key(key: u64, byte: u8) -> u64
     ensures { result ≡ byte_key_then key byte }

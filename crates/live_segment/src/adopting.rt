@@ -47,13 +47,14 @@ impl Segment {
     ghost use Rattle.std.specs.Prelude.{MatchResult};
     ghost use Rattle.live_segment.specs.Adopted.{IsAdopted};
 
-    /// A segment that goes on with the words of an image, of its shape, version, id and full flag; and its opener, which has all units but
-    /// those that the image has used. Its names, counts, sums, marks and free space go on where they stood.
+    /// Returns a segment that continues from the words of an image, of its shape, version, id and full flag, and its
+    /// opener. The segment is opened with these words, and its opener stands for all that they read as along their
+    /// list: it has accepted the image's entries and spent the units that it used, and knows its histograms, their
+    /// redundant counts and what deltas had taken of them. Or the first fault, in the order of [`AdoptFault`], which
+    /// holds where none before it does; or `NoMemory`, also where memory ran out before all was looked at [answer].
     ///
     /// - `words`: those of an image of version 2. They are only lent, and may be any.
     /// - `cursors`: how many cursors along the list the recorders share, as for [`Segment::create`].
-    ///
-    /// The first fault is answered, in the order of [`AdoptFault`]; `NoMemory` also where there was none to look further.
     pub fn adopt(
         alloc: Global,
         words: &[u64],
@@ -64,7 +65,8 @@ impl Segment {
         Segment::adopt_in(alloc, Memory::of_heap(alloc), words, cursors)
     }
 
-    /// The same, and its words lie in this memory, as those of [`Segment::create_in`] do. The image is not in it.
+    /// The same [answer], with its words in this memory, as those of [`Segment::create_in`] are. The image is not in
+    /// it.
     pub fn adopt_in(
         alloc: Global,
         memory: Memory,

@@ -59,23 +59,27 @@ impl Opener {
         seat
     }
 
-    /// The units that no recorder has.
+    /// Returns the units that no recorder has.
     pub fn units(&self) -> u32
         ensures { result ≡ (view_of_opener self.now).units.share }
     {
         self.units
     }
 
-    /// How many recorders were made and are not joined.
+    /// Returns how many recorders were made and are not joined.
     pub fn outstanding(&self) -> u32
         ensures { result ≡ outstanding_of (view_of_opener self.now).role }
     {
         self.outstanding
     }
 
-    /// A recorder with so many units, which may be 0. It may move to another thread. The opener was made with the segment.
+    /// Makes a recorder with so many units, which may be 0. It may move to another thread. The opener was made with
+    /// the segment, and stays that of the segment [made].
     ///
-    /// `NoUnits` where the opener has fewer, then `TooMany` where 256 recorders are not joined. It takes no memory.
+    /// The units are the opener's no more [mine]. The recorder has done nothing, knows no histogram, and has seen
+    /// what the opener has [theirs]. It records into the segment [into]. `NoUnits` where the opener has fewer, then
+    /// `TooMany` where 256 recorders are not joined, only for these causes; then the opener is unchanged [theirs,
+    /// mine]. It takes no memory.
     pub fn recorder<'a>(
         &mut self,
         segment: &'a Segment,
@@ -91,7 +95,9 @@ impl Opener {
         Ok(Recorder { segment, state })
     }
 
-    /// The state of such a recorder, for a caller that keeps the segment alive otherwise than by a borrow: as [`Opener::recorder`].
+    /// The same, for a caller that keeps the segment itself: the opener stays that of the segment [made] and has
+    /// these units no more, or is unchanged [mine]; the state is that of a recorder of the segment [at] that has done
+    /// nothing, or the first cause is returned [theirs].
     pub fn recorder_state(
         &mut self,
         segment: &Segment,
@@ -132,11 +138,14 @@ impl Opener {
         Ok(filled)
     }
 
-    /// Lends a recorder of the same segment so many units more, which may be 0, while it runs: they move from the opener to the recorder's
-    /// share, and nothing else changes in either. The histograms that the recorder knows stay at their places.
+    /// Lends a recorder of the same segment so many units more, which may be 0, while it runs, however many recorders
+    /// are not joined.
     ///
-    /// `NoUnits` where the opener has fewer: then all is as before. It takes no memory and no lock, and makes the same few steps each
-    /// time, also where 256 recorders are not joined.
+    /// The opener has so many fewer [mine] and the recorder so many more, and nothing else that either has done and
+    /// seen has changed; the recorder records into the same segment [kept] and knows the same histograms at their
+    /// places [theirs]. `NoUnits` comes exactly where the opener has fewer [why]; then both are unchanged [mine,
+    /// theirs]. The recorder is still one of the opener's segment [of], and the opener that of its segment [made]. It
+    /// takes no memory and no lock, and makes the same few steps each time.
     pub fn lend(&mut self, recorder: &mut Recorder, units: u32) -> Result<(), Refusal>
         requires { IsRecorderOf recorder.old self.old }
         ensures kept { recorder.new.segment ≡ recorder.old.segment }
@@ -151,7 +160,10 @@ impl Opener {
         Ok(())
     }
 
-    /// As [`Opener::lend`], to the state of a recorder of the segment.
+    /// The same, for a caller that keeps the segment itself: the state is still that of a recorder at the segment
+    /// [at]. The opener has so many units fewer [mine] and the state so many more [theirs]; `NoUnits` comes exactly
+    /// where the opener has fewer, and then both are unchanged [why, mine, theirs]. The state is still one of the
+    /// opener's segment [of], and the opener that of its segment [made].
     pub fn lend_state(
         &mut self,
         segment: &Segment,
@@ -172,8 +184,9 @@ impl Opener {
         Ok(())
     }
 
-    /// Takes a recorder of the same segment back: its log, its deltas, its snapshots and what shared cursors gave it stand
-    /// behind the opener's, and the rest of its units comes back. It takes no memory.
+    /// Takes a recorder of the same segment back: its log, its deltas, its snapshots and what shared cursors gave it
+    /// come after the opener's, and the rest of its units comes back [takes]. The opener stays that of its segment
+    /// [made]. It takes no memory.
     pub fn join(&mut self, recorder: Recorder)
         requires { IsRecorderOf recorder self.old }
         ensures takes { IsSameOpener self.old self.new × (view_of_opener self.new ≡ joined (view_of_opener self.old) (view_of_recorder recorder.entry)) }
@@ -183,7 +196,7 @@ impl Opener {
         self.join_state(segment, state);
     }
 
-    /// As [`Opener::join`], of the state of a recorder of the segment.
+    /// The same, for a caller that keeps the segment itself [takes]. The opener stays that of its segment [made].
     pub fn join_state(&mut self, segment: &Segment, state: RecorderState)
         requires at { IsRecorderAt segment.now state }
         requires of { state.seat.table_id ≡ self.old.seat.table_id }

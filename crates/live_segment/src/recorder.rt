@@ -20,7 +20,7 @@ pub struct Hist {
 }
 
 impl Hist {
-    /// Its place in that list, from 0. A recorder that knows it has it there for good.
+    /// Returns its place in that list, from 0. A recorder that knows it has it there for good.
     pub fn place(&self) -> usize
         ensures { result ≡ self.now.index }
     {
@@ -94,29 +94,29 @@ impl<'a> Recorder<'a> {
     ghost use Rattle.live_segment.specs.RecorderState.{IsNamed, IsSameRecorder, Knows, KnowsOn, Means};
     ghost use Rattle.live_segment.specs.Answers.{AnswersAdd, AnswersBatch, AnswersDelta, AnswersFirst, AnswersFresh, AnswersFront, AnswersHist, AnswersList, AnswersRecords, AnswersSnapshot, ClaimsAdd, ClaimsBatch, ClaimsHist, ShowsEnough, ShowsFewKeys, ShowsUnits, TakesEnough, TakesFewKeys};
 
-    /// The units that it may still spend.
+    /// Returns the units that it may still spend.
     pub fn units(&self) -> u32
         ensures { result ≡ (view_of_recorder self.now).units.share }
     {
         self.state.units()
     }
 
-    /// Whether it knows a histogram: the calls that take one ask for that.
+    /// Returns whether it knows a histogram: the calls that take one ask for that.
     pub fn knows(&self, histogram: Hist) -> bool
         ensures { IsTrue result ↔ Knows self.now.state histogram }
     {
         self.state.knows(histogram)
     }
 
-    /// The histogram that it knows at a place, as [`Hist::place`] has it.
+    /// Returns the histogram that it knows at a place, as [`Hist::place`] has it, or none.
     pub fn hist_at(&self, place: usize) -> Option<Hist>
         ensures { MatchOption result (length (view_of_recorder self.now).answers.names ≤ place) (λ histogram. (histogram.index ≡ place) × Knows self.now.state histogram) }
     {
         self.state.hist_at(place)
     }
 
-    /// How many keys a histogram that it knows may have, whatever others record meanwhile: as many as it has buckets, or of a sparse one as
-    /// many records of the least size as fit in the segment. It is the same each time.
+    /// Returns how many keys a histogram that it knows may have, whatever others record meanwhile: as many as it has
+    /// buckets, or of a sparse one as many records of five words as fit in the segment. It is the same each time.
     pub fn most_keys(&self, histogram: Hist) -> usize
         requires { Knows self.now.state histogram }
         ensures { (known : Known) → Means self.now.state histogram known → AreMostKeys self.now.segment.now known result }
@@ -124,22 +124,37 @@ impl<'a> Recorder<'a> {
         self.state.most_keys(self.segment, histogram)
     }
 
-    /// The histogram of a name: that of the first record of the name on the list, which is made where there is none. One of a
-    /// name that it knows needs no event, and is the same each time. Where it has the same spec, it takes no memory. It is the first of its
-    /// name on the whole list, in a state of the segment in which the call ends.
+    /// Returns the histogram of a name: that of the first record of the name on the list, which is made where there
+    /// is none. The recorder records into the same segment [kept], and each histogram that it knew it knows at the
+    /// same place [same].
     ///
-    /// `BadName`, then `BadSpec`, then `TooLarge` where its record or its counts do not fit in a page, and `NoMemory` where there
-    /// is none, before anything has happened, also where it knows the name with another spec. Then `OtherSpec` where the
-    /// histogram of the name has another spec, and a record that was made for this one stays on the list unused; or `Corrupt` or
-    /// `Full` where the list has no record of the name and no block could be claimed for one. After a refusal it knows the same
-    /// histograms as before. On `Ok` it has not set the full flag.
+    /// On `Ok` it knows the histogram, which has that name and the same spec [named]. It knew that one before, and
+    /// nothing has happened. Or it knew none of the name: then it has come to know the first record of the name on
+    /// the list, whose spec it saw to be the same, after what it knew [answer]. In a kept state of the segment, in
+    /// which the recorder's seat has done and seen what it has, that histogram is the first of its name on the whole
+    /// list, and has the same spec there [first].
     ///
-    /// On `Ok` and on `OtherSpec` it has claimed no block, or the one of the record that it made, and it made one only behind all records
-    /// of the list, of which none has the name.
+    /// `BadName`, then `BadSpec`, then `TooLarge` where its record or its counts do not fit in a page, and `NoMemory`
+    /// come before anything has happened; `NoMemory` only where it knew no histogram of the name, or one with another
+    /// spec. `OtherSpec`: the histogram of the name that it knew has another spec, or the first record of the name
+    /// has; a record that was made for this one stays on the list unused. `Corrupt` or `Full`: the call has found the
+    /// end of the list after the last record that it has seen there, each of these records has another name, and no
+    /// block could be claimed, as for [`Recorder::add`]. After a refusal it knows what it knew. Beyond that it has
+    /// only seen more of the segment, claimed blocks, published a record or, unless it returned `Ok`, set the full
+    /// flag. Each rise of the free pointer that a refused call made wasted the rest of a page that is too short for
+    /// the block that it needs [answer].
     ///
-    /// In all other cases it asks for memory for the name, the values of a custom spec, the boundaries of the buckets and the words of a
-    /// record, and where the list of the histograms that it knows is full, for one twice as long. It also lets its indexes of names
-    /// grow: where there is no memory for that, later calls walk and search further.
+    /// On `Ok`, and on `OtherSpec`, it has claimed and published nothing; or it has claimed one block, of the words
+    /// of the record or up to four more, and that is the one record that it published, of the name and the spec. It
+    /// made it where the list has none of the name: the records that it had visited, all that it had seen of the list
+    /// before the call among them, were all of the list when the call loaded the end of that, and none of them has
+    /// the name. It raises the free pointer only for that block, as [`Recorder::add`] does for its own. The full flag
+    /// is unchanged [claims].
+    ///
+    /// A histogram that it knows with the same spec takes no memory. Else it asks for memory for the name, the values
+    /// of a custom spec, the boundaries of the buckets and the words of a record, and where the list of the
+    /// histograms that it knows is full, for one twice as long. It also lets its indexes of names grow: where memory
+    /// runs out for that, later calls walk and search further.
     pub fn hist(&mut self, name: &[u8], spec: &Spec) -> Result<Hist, Refusal>
         ensures kept { self.new.segment ≡ self.old.segment }
         ensures same { KnowsOn self.old.state self.new.state }
@@ -151,16 +166,37 @@ impl<'a> Recorder<'a> {
         self.state.hist(self.segment, name, spec)
     }
 
-    /// Adds a sample: so many units of a value of a histogram that it knows. Where they are counted, the one entry of the sample stands
-    /// at the end of the log, and they are taken from the share.
+    /// Adds a sample: so many units of a value of a histogram that it knows. It records into the same segment [kept]
+    /// and knows the same histograms [same].
     ///
-    /// `ZeroCount` where there are none and `NoUnits` where the share has fewer, both before anything has happened; then `Corrupt` or
-    /// `Full` where a block was needed for them and none could be claimed. Log, share and deltas are then as before, and no count, sum,
-    /// mark or redundant count has changed. It asks for no memory, but for its index of the samples of sparse histograms, which it lets grow:
-    /// where there is none for that, it walks along the list, and so do later calls.
+    /// `ZeroCount` where there are none, then `NoUnits` where the share has fewer, only for these causes, and nothing
+    /// has happened. `Ok`: the one entry of the sample is at the end of the log, with the key of the value's bucket,
+    /// or with the value if the histogram is sparse. The count was taken from the share and is spent for the
+    /// histogram's name. `Corrupt` or `Full`: a block was needed for the sample and none could be claimed. Log and
+    /// share are unchanged then, and the recorder has come to no count, mark or redundant count. What its calls
+    /// returned, took and were given is unchanged in any case, and it has seen and done no less [answer].
     ///
-    /// On `Ok` it has claimed one block at most: for the counts, where it found none, or for the sample of the value, which is on the list
-    /// then.
+    /// - A block was needed: with buckets, the call has loaded a single word that could not take the units and a
+    ///   counts reference of 0, and the recorder has met no counts. Sparse, the call has found the end of the list
+    ///   after the last record that the recorder has seen there, and none of these records after the histogram's is a
+    ///   sample of the value.
+    /// - None could be claimed: for `Full`, the words that it needs pass the end of the segment from the free pointer
+    ///   that the call loaded last, and for that it has set the full flag. For `Corrupt`, the call has loaded flags
+    ///   with the corrupt one. What an earlier call saw or set is no cause: between two calls a recorder holds no
+    ///   free pointer. The call has claimed and published nothing, and each rise of the free pointer that it made
+    ///   wasted the rest of a page that is too short for these words.
+    ///
+    /// On `Ok` it has claimed and published nothing, and has not raised the free pointer; or it has claimed one
+    /// block, of the words that it needs or up to four more, and each rise before the one of that block wasted the
+    /// rest of a page that is too short for these words. The full flag is unchanged. With buckets the block is for
+    /// counts, the recorder had met none before the call, the call has loaded a counts reference of 0, and it
+    /// publishes nothing. The only other counts reference that the call saw is that block's; or another recorder's,
+    /// which was first, and the block was purged. So a call that found counts claims none. Sparse, the block is the
+    /// one record that it published, the sample of the value: the records that it had visited were all of the list
+    /// when the call loaded the end of that, and none of those after the histogram's is such a sample [claims].
+    ///
+    /// It asks for no memory, but for its index of the samples of sparse histograms, which it lets grow: where memory
+    /// runs out for that, it walks along the list, and so do later calls.
     // Inlined with the calls on its way: what a call keeps in memory, the next atomic step waits for.
     #[inline(always)]
     pub fn add(&mut self, histogram: Hist, value: i32, count: u32) -> Result<(), Refusal>
@@ -173,18 +209,22 @@ impl<'a> Recorder<'a> {
         self.state.add(self.segment, histogram, value, count)
     }
 
-    /// Counts a batch: units of values, in order, of a histogram that it knows, and then an amount that is added to the sum. Where all
-    /// are counted, an entry of amount 0 for each item stands at the end of the log, and behind them one of no units for the sum,
-    /// where that is not 0. Their cost is taken from the share: as many units as the items have, and no fewer than the size of the sum
-    /// has times 2^31, rounded up. One of no items and no sum needs no event.
+    /// Counts a batch: units of values, in order, of a histogram that it knows, and then an amount that is added to
+    /// the sum. The batch costs as many units as the items have, or ceil(|sum| / 2^31) if that is more. The recorder
+    /// records into the same segment [kept] and knows the same histograms [same].
     ///
-    /// `ZeroCount` where an item has no units and `NoUnits` where the share has fewer than it costs, both before anything has happened
-    /// and with no item counted; then `Corrupt` or `Full` where a block was needed for an item and none could be claimed. Then the
-    /// items before it are counted, as many as the refusal says, and only their units are taken; the sum is not added. It asks for memory
-    /// as [`Recorder::add`] does.
+    /// `ZeroCount` where an item has no units, then `NoUnits` where the share has fewer than the batch costs, only
+    /// for these causes, with no item counted and the recorder unchanged. `Ok`: an entry of amount 0 for each item,
+    /// in order, and after them one of no units for the sum, unless that is 0, are at the end of the log. The cost is
+    /// taken from the share. An empty batch with sum 0 does nothing. `Full` or `Corrupt`: the items before one are in
+    /// the log, as many as the refusal says, their units are taken, and the sum is not added. That one needed a
+    /// block, and none could be claimed, as for [`Recorder::add`]: since the items before it were counted, the call
+    /// has loaded what an `add` has, and has claimed and published nothing; the items before it have claimed as on
+    /// `Ok` [answer].
     ///
-    /// For each item that is counted it has claimed what [`Recorder::add`] may claim, and nothing else: of a histogram with buckets one
-    /// block at most.
+    /// On `Ok` it has claimed for each item, in order, what an `add` may claim, and nothing after: for an item that
+    /// claims a block the call has found a counts reference of 0, or the end of the list, after the items before.
+    /// With buckets that is one block at most for all items [claims]. It asks for memory as [`Recorder::add`] does.
     pub fn batch(
         &mut self,
         histogram: Hist,
@@ -200,18 +240,26 @@ impl<'a> Recorder<'a> {
         self.state.batch(self.segment, histogram, items, sum)
     }
 
-    /// Takes a delta of a histogram that it knows: of each of its keys the units that no delta has taken yet, the keys with such units
-    /// alone and in ascending order, and what is new of the sum. What it takes stands behind what its deltas took before.
+    /// Takes a delta of a histogram that it knows: of each of its keys the units that no delta has taken yet, and
+    /// what is new of the sum. The recorder records into the same segment [kept] and knows the same histograms
+    /// [same].
     ///
-    /// All deltas of all recorders together have then taken of each key at least what the recorder had accepted, or seen, before. In
-    /// version 1 one bucket may be excepted, whose units are being moved out of the single word.
+    /// `Ok`: of each bucket, or of each sample that it visited on the list, it has taken all that it saw since the
+    /// call began, and of the sum too. That comes after what its deltas took before. The result has the keys with
+    /// units alone, each once and ascending, with as many units as were taken. Nothing else has changed, but that the
+    /// recorder has seen more. Or `NoMemory`: then the recorder is unchanged; or the histogram is sparse, nothing was
+    /// taken, and the recorder may have seen more of the list and of the words of its records [taken]. There are no
+    /// more keys than [`Recorder::most_keys`] says [few].
     ///
-    /// It has no more keys than [`Recorder::most_keys`] says.
+    /// All deltas of all recorders together have then taken enough, in a kept state of the segment, in which the
+    /// recorder's seat has done and seen what it has: of each key at least what it had accepted before, or was
+    /// accepted before it was made, what it had seen in a single word, and each count that it had seen; in version 2
+    /// a count and a single word together. One exception: in version 1, of the packed bucket, if the call found the
+    /// single word off, at least each count that it had seen, and no more is said [owed].
     ///
-    /// `NoMemory` where there is none for as many keys as the histogram may have, of 16 bytes each: its buckets, or its samples on the list.
-    /// Then nothing has changed, but that of a sparse histogram it may have looked further along the list. It asks for that, and for its index
-    /// of the samples of sparse histograms, which it lets grow: where there is no memory for that, it asks for as many keys as there may be
-    /// samples in the segment, and walks along the list.
+    /// It asks for memory for as many keys as the histogram may have, of 16 bytes each: its buckets, or its samples
+    /// on the list; and for its index of the samples of sparse histograms, which it lets grow: where memory runs out
+    /// for that, it asks for as many keys as there may be samples in the segment, and walks along the list.
     pub fn delta(&mut self, histogram: Hist) -> Result<Delta, Refusal>
         requires { Knows self.old.state histogram }
         ensures kept { self.new.segment ≡ self.old.segment }
@@ -223,14 +271,18 @@ impl<'a> Recorder<'a> {
         self.state.delta(self.segment, histogram)
     }
 
-    /// What a histogram that it knows has: the units of all of its buckets in order, or of a sparse one those of the values that have
-    /// some, ascending; its sum; and its redundant count, which is loaded last. It stands behind what its snapshots answered before.
+    /// Returns what a histogram that it knows has. The recorder records into the same segment [kept] and knows the
+    /// same histograms [same].
     ///
-    /// Of each key it has at least what the recorder had accepted, or seen, before, with the same exception as for [`Recorder::delta`]; and
-    /// the redundant count is at least the units that it had accepted.
+    /// `Ok`: what it saw since the call began: the total of each bucket in order, or of each value that has units the
+    /// count of its first sample; the sum; and the redundant count, which it loaded last. That comes after what its
+    /// snapshots returned before. Or `NoMemory`, and what has changed is as for [`Recorder::delta`] [answer]. There
+    /// are no more keys than [`Recorder::most_keys`] says [few]. Values of a sparse histogram ascend, each once and
+    /// with units [values].
     ///
-    /// It has no more keys than [`Recorder::most_keys`] says. `NoMemory` as for [`Recorder::delta`]: then nothing has changed, but that of a
-    /// sparse histogram it may have looked further along the list. It asks for the same.
+    /// Of each key it has at least what the recorder had accepted, or seen, before, with the same exception as for
+    /// [`Recorder::delta`]. The redundant count is at least the units that the recorder had accepted, and each
+    /// redundant count that it had seen [owed]. It asks for memory as [`Recorder::delta`] does.
     pub fn snapshot(&mut self, histogram: Hist) -> Result<Snapshot, Refusal>
         requires { Knows self.old.state histogram }
         ensures kept { self.new.segment ≡ self.old.segment }
@@ -243,7 +295,9 @@ impl<'a> Recorder<'a> {
         self.state.snapshot(self.segment, histogram)
     }
 
-    /// Marks the segment as corrupt for good: from then on no block is claimed in it. It is never refused.
+    /// Marks the segment as corrupt for good: from then on no block is claimed in it. It is never refused. The
+    /// recorder has set the corrupt flag, and nothing else has changed [flag]; it records into the same segment
+    /// [kept] and knows the same histograms [same].
     pub fn set_corrupt(&mut self)
         ensures kept { self.new.segment ≡ self.old.segment }
         ensures same { IsSameRecorder self.old.state self.new.state }
@@ -252,12 +306,14 @@ impl<'a> Recorder<'a> {
         self.state.set_corrupt(self.segment);
     }
 
-    /// The references of all records of the list in its order, each once: those that it had seen there come first, and each
-    /// record that it made, was given, or saw as the tail or where a shared cursor stood is among them. When the call found the end
-    /// of the list, these were all of it.
+    /// Returns the references of all records of the list in its order, each once and within the segment: first those
+    /// that it had seen there, and among them each that it made, was given, or saw as the tail or where a shared
+    /// cursor stood. The call found the end of the list after the last of them. Nothing else has changed, but that a
+    /// cursor that it had loaded may be let go. Or `NoMemory`, and nothing has changed [walked]. In a kept state of
+    /// the segment, in which the recorder's seat has done and seen what it has, the list has exactly these records
+    /// [all]. The recorder records into the same segment [kept] and knows the same histograms [same].
     ///
-    /// `NoMemory` where there is none for so many as fit in a segment, of eight bytes each; then nothing has changed. It asks for that
-    /// alone.
+    /// It asks for memory for so many as fit in a segment, of eight bytes each, and for that alone.
     pub fn records(&mut self) -> Result<Vec<u64>, Refusal>
         ensures kept { self.new.segment ≡ self.old.segment }
         ensures same { IsSameRecorder self.old.state self.new.state }
@@ -267,11 +323,12 @@ impl<'a> Recorder<'a> {
         self.state.records(self.segment)
     }
 
-    /// The references of the records of the list that no earlier call gave, in its order: those of all calls, one behind the
-    /// other, are what [`Recorder::records`] would answer now.
+    /// Returns the references of the records of the list that no earlier call gave, in its order: those of all calls,
+    /// one after the other, are what [`Recorder::records`] would return now; from then on it was given all of the
+    /// list. Or `NoMemory`, and nothing has changed: the next call gives them [fresh]. It records into the same
+    /// segment [kept].
     ///
-    /// `NoMemory` where there is none for so many as fit in a segment, of eight bytes each; then nothing has changed, and the next call
-    /// gives them. It asks for that alone.
+    /// It asks for memory for so many as fit in a segment, of eight bytes each, and for that alone.
     pub fn fresh_records(&mut self) -> Result<Vec<u64>, Refusal>
         ensures kept { self.new.segment ≡ self.old.segment }
         ensures fresh { AnswersFresh self.old.state result self.new.state }
@@ -279,11 +336,19 @@ impl<'a> Recorder<'a> {
         self.state.fresh_records(self.segment)
     }
 
-    /// The next record of a cursor that all recorders share, and the cursor stands there then: each record goes to one
-    /// recorder alone. So what it gave all recorders is a front of the list. None where the list ends behind the cursor, which then gave all
-    /// of it; a later call may answer again.
-    ///
+    /// Returns the next record of a cursor that all recorders share, which is at that record then: each record goes
+    /// to one recorder alone. The recorder records into the same segment [kept] and knows the same histograms [same].
     /// The cursor is below the number that [`Segment::create`] was given.
+    ///
+    /// Some: a record within the segment, the next one on a chain after the place where the cursor stood. That chain
+    /// has all that the recorder visited, and what each cursor gave it is there in the order in which it was given.
+    /// None: the call loaded the next of the record at which it had found the cursor, and that was the end of the
+    /// list, where a chain ends that has all that the recorder visited; a later call may return a record. Before that
+    /// its exchanges may have come too late [answer]. It was given that record by this cursor, or nothing [given].
+    ///
+    /// In a kept state of the segment, in which the recorder's seat has done and seen what it has, the cursor has
+    /// given all recorders together a front of the list, each record once, and is after it; and what it gave one of
+    /// them is there in that order. Where the call returns None, this front is all of the list [shared].
     pub fn next_shared(&mut self, cursor: usize) -> Option<u64>
         requires { cursor < (view_of_recorder self.old).segment.cursors }
         ensures kept { self.new.segment ≡ self.old.segment }

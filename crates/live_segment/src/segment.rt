@@ -58,21 +58,26 @@ impl Segment {
     ghost use Rattle.live_segment.specs.Steps.{IsAtRest, IsSame, Joinable};
     ghost use Rattle.live_segment.specs.Holders.{IsNew, IsOpened, IsMadeWith, opened_with, view_of_opener};
 
-    /// A new segment without records, and its opener, which has all 4,294,967,295 units.
+    /// Returns a new segment without records, and its opener, which has all 4,294,967,295 units. Its words are those
+    /// of a blank image but for the version.
     ///
-    /// - `size`: how many words of 64 bits it has, 16 of them for the header. Whole pages, 1,048,576 words at most. It does not
-    ///   grow: where a record finds no room, its call is refused as `Full`.
-    /// - `page`: how many words a page has. A multiple of 16, from 64 to 65,536. A block lies in one page, so a record of more
-    ///   words is refused as `TooLarge`, and so are counts: a histogram of n buckets takes 4 + 2n words for them.
-    /// - `id`: any number. It stands in the header of the image, for whoever has to tell segments apart; no call looks at it.
-    /// - `cursors`: how many cursors along the list the recorders share ([`Recorder::next_shared`](crate::Recorder::next_shared)),
-    ///   0 to [`MAX_CURSORS`]. They are numbered from 0, and are no part of the image. 0 where no thread reads what others record.
-    /// - `version`: which format the image has. [`VERSION_FROZEN`](crate::VERSION_FROZEN), 2, unless a reader that knows only
-    ///   [`VERSION_MOVING`](crate::VERSION_MOVING), 1, is to read it. In version 1 units move out of a packed bucket when a histogram
-    ///   gets counts, and those of a thread that stops in between are missing in the image; in version 2 no unit moves.
+    /// - `size`: how many words of 64 bits it has, 16 of them for the header. Whole pages, 1,048,576 words at most.
+    ///   It does not grow: where a record finds no room, its call is refused as `Full`.
+    /// - `page`: how many words a page has. A multiple of 16, from 64 to 65,536. A block lies in one page, so a
+    ///   record of more words is refused as `TooLarge`, and so are counts: a histogram of n buckets takes 4 + 2n
+    ///   words for them.
+    /// - `id`: any number. It is in the header of the image, for a caller that has to tell segments apart; no call
+    ///   looks at it.
+    /// - `cursors`: how many cursors along the list the recorders share
+    ///   ([`Recorder::next_shared`](crate::Recorder::next_shared)), 0 to [`MAX_CURSORS`]. They are numbered from 0,
+    ///   and are no part of the image. 0 where no thread reads what others record.
+    /// - `version`: which format the image has. [`VERSION_FROZEN`](crate::VERSION_FROZEN), 2, unless a reader that
+    ///   knows only [`VERSION_MOVING`](crate::VERSION_MOVING), 1, is to read it. In version 1 units move out of a
+    ///   packed bucket when a histogram gets counts, and those of a thread that stops in between are missing in the
+    ///   image; in version 2 no unit moves.
     ///
-    /// The first fault is answered: `BadShape` where page, size or version is not lawful, `BadCursors` where there are to
-    /// be more than eight; then `NoMemory`.
+    /// Else the first fault is returned: `BadShape` where page, size or version is not valid, `BadCursors` where
+    /// there are to be more than eight; then `NoMemory`.
     pub fn create(
         alloc: Global,
         size: u64,
@@ -94,8 +99,8 @@ impl Segment {
         )
     }
 
-    /// The same, and its words lie in this memory, behind one more: in a room that is lent they begin at its byte 8, and it has to have
-    /// 8 bytes for each word and each cursor, and 8 more. `NoMemory` also where it has fewer.
+    /// The same, with its words in this memory, after one more: in a room that is lent they begin at its byte 8, and
+    /// it has to have 8 bytes for each word and each cursor, and 8 more. `NoMemory` also where it has fewer.
     ///
     /// When the segment is closed or dropped, the room is with its [`Lender`](crate::Lender) again.
     pub fn create_in(
@@ -166,15 +171,41 @@ impl Segment {
         Ok((segment, Opener::new(alloc, seat, units)))
     }
 
-    /// How many words it has: as many as its image.
+    /// Returns how many words it has: as many as its image.
     pub fn size(&self) -> u64
         ensures { result ≡ self.now.setting.shape.size }
     {
         self.setting.shape.size()
     }
 
-    /// Ends the segment, which no recorder holds any more, and gives its image. The opener was made with it. An image of version 2 that nobody
-    /// marked as corrupt can be recorded into again, by [`Segment::adopt`].
+    /// Ends the segment, which no recorder holds any more, and returns its image. The opener was made with it. An
+    /// image of version 2 that nobody marked as corrupt may be adopted, joined or not: it can be recorded into again,
+    /// by [`Segment::adopt`] [goes_on].
+    ///
+    /// The image has a valid header, with the shape, the version and the id that the segment was opened as, and a
+    /// reading [image].
+    ///
+    /// If all recorders are joined:
+    ///
+    /// - A reading of the image has no bad record, and the list does not stop. Its names are exactly those that the
+    ///   segment was opened with and that `hist` returned, each once, with the spec of each. Of each histogram the
+    ///   units of each key and the sum are what the opener's log adds up to, which begins with what the segment was
+    ///   opened with: of a new one nothing. The redundant count is that of the opening and the units since. Marks and
+    ///   sum mark are what deltas took. The id is that of the opening. The corrupt flag is set exactly if a call has
+    ///   set it; the full one also if the segment was opened with it, which a new one is not [joined].
+    /// - After a final delta of a histogram, all deltas together took its totals and its sum. Of any delta whose
+    ///   recorder was made when none was outstanding, and is the last that was made, the deltas up to it took exactly
+    ///   what the log before it adds up to [deltas].
+    /// - No bucket of any snapshot is above its total; a final snapshot has the totals, the sum and the redundant
+    ///   count [snapshots].
+    ///
+    /// Whether all are joined or not, the image is that of a kept state of a segment that was opened with the words
+    /// of this one, in which the opener has done and seen what it had, and its reading is as `stopped_reads` says of
+    /// that state. So words 9 to 11 and the other bits of the flags are those of the opening; and the records that
+    /// were listed then are first on the list, those of other types and the later ones of a name with the words that
+    /// they had. Each histogram that a joined recorder knows is read. Of each key the total, in version 1 with the
+    /// units in transit, is at least what the opener's log has. All units beyond the log are at most those that were
+    /// handed out and have not come back. The opener knows the redundant counts of the opening [stopped].
     pub fn close(self, opener: Opener) -> Image
         requires { IsMadeWith self opener }
         ensures image { IsImageOf self.setting result }

@@ -17,7 +17,10 @@ use segment_calls::Refusal;
 use std::alloc::Global;
 use std::sync::Arc;
 
-/// A recorder with so many units that keeps the segment alive, as [`Opener::recorder`] makes one that borrows it.
+/// Makes a recorder with so many units that keeps the segment alive, as [`Opener::recorder`] makes one that borrows
+/// it: these units are the opener's no more [mine]; the recorder is of this segment, has done nothing, knows no
+/// histogram, and has seen what the opener has; or the first cause is returned, `NoUnits` or `TooMany` [theirs]. It
+/// records into the segment [into], and the opener stays that of the segment [made].
 pub fn owned_recorder(
     opener: &mut Opener,
     segment: Arc<Segment, Global>,
@@ -33,7 +36,10 @@ pub fn owned_recorder(
     Ok(OwnedRecorder { segment, state })
 }
 
-/// Lends a recorder so many units more while it runs, as [`Opener::lend`] does.
+/// Lends a recorder so many units more while it runs, as [`Opener::lend`] does: the opener has so many fewer [mine]
+/// and the recorder so many more [theirs]; `NoUnits` comes exactly where the opener has fewer, and then both are
+/// unchanged [why, mine, theirs]. The recorder keeps its segment [kept] and is still one of the opener's [of], and
+/// the opener stays that of its segment [made].
 pub fn lend(opener: &mut Opener, owned: &mut OwnedRecorder, units: u32) -> Result<(), Refusal>
     requires { IsRecorderOf owned.old opener.old }
     ensures kept { owned.new.segment ≡ owned.old.segment }
@@ -46,7 +52,8 @@ pub fn lend(opener: &mut Opener, owned: &mut OwnedRecorder, units: u32) -> Resul
     opener.lend_state(&owned.segment, &mut owned.state, units)
 }
 
-/// Takes a recorder back, as [`Opener::join`] does. Where nobody else keeps the segment alive, it ends.
+/// Takes a recorder back, as [`Opener::join`] does [takes]. The opener stays that of its segment [made]. Where nobody
+/// else keeps the segment alive, it ends.
 pub fn join(opener: &mut Opener, owned: OwnedRecorder)
     requires { IsRecorderOf owned opener.old }
     ensures takes { IsSameOpener opener.old opener.new × (view_of_opener opener.new ≡ joined (view_of_opener opener.old) (view_of_owned owned)) }

@@ -28,28 +28,28 @@ pub struct OwnedRecorder {
 }
 
 impl OwnedRecorder {
-    /// The units that it may still spend.
+    /// Returns the units that it may still spend.
     pub fn units(&self) -> u32
         ensures { result ≡ (view_of_owned self.now).units.share }
     {
         self.state.units()
     }
 
-    /// Whether it knows a histogram: the calls that take one ask for that.
+    /// Returns whether it knows a histogram: the calls that take one ask for that.
     pub fn knows(&self, histogram: Hist) -> bool
         ensures { IsTrue result ↔ Knows self.now.state histogram }
     {
         self.state.knows(histogram)
     }
 
-    /// The histogram that it knows at a place, as [`Hist::place`] has it.
+    /// Returns the histogram that it knows at a place, as [`Hist::place`] has it, or none.
     pub fn hist_at(&self, place: usize) -> Option<Hist>
         ensures { MatchOption result (length (view_of_owned self.now).answers.names ≤ place) (λ histogram. (histogram.index ≡ place) × Knows self.now.state histogram) }
     {
         self.state.hist_at(place)
     }
 
-    /// How many keys a histogram may have, as [`Recorder::most_keys`](live_segment::Recorder::most_keys) has it.
+    /// Returns how many keys a histogram may have, as [`Recorder::most_keys`] does.
     pub fn most_keys(&self, histogram: Hist) -> usize
         requires { Knows self.now.state histogram }
         ensures { (known : Known) → Means self.now.state histogram known → AreMostKeys (arc_value self.now.segment) known result }
@@ -57,7 +57,8 @@ impl OwnedRecorder {
         self.state.most_keys(&self.segment, histogram)
     }
 
-    /// The histogram of a name, as [`Recorder::hist`](live_segment::Recorder::hist).
+    /// Returns the histogram of a name, as [`Recorder::hist`] does [same, named, answer, first, claims]. It keeps its
+    /// segment [kept].
     pub fn hist(&mut self, name: &[u8], spec: &Spec) -> Result<Hist, Refusal>
         ensures kept { self.new.segment ≡ self.old.segment }
         ensures same { KnowsOn self.old.state self.new.state }
@@ -69,7 +70,7 @@ impl OwnedRecorder {
         self.state.hist(&self.segment, name, spec)
     }
 
-    /// Adds a sample, as [`Recorder::add`](live_segment::Recorder::add).
+    /// Adds a sample, as [`Recorder::add`] does [same, answer, claims]. It keeps its segment [kept].
     #[inline(always)]
     pub fn add(&mut self, histogram: Hist, value: i32, count: u32) -> Result<(), Refusal>
         requires { Knows self.old.state histogram }
@@ -81,7 +82,7 @@ impl OwnedRecorder {
         self.state.add(&self.segment, histogram, value, count)
     }
 
-    /// Counts a batch, as [`Recorder::batch`](live_segment::Recorder::batch).
+    /// Counts a batch, as [`Recorder::batch`] does [same, answer, claims]. It keeps its segment [kept].
     pub fn batch(
         &mut self,
         histogram: Hist,
@@ -97,7 +98,7 @@ impl OwnedRecorder {
         self.state.batch(&self.segment, histogram, items, sum)
     }
 
-    /// Takes a delta, as [`Recorder::delta`](live_segment::Recorder::delta).
+    /// Takes a delta, as [`Recorder::delta`] does [same, taken, few, owed]. It keeps its segment [kept].
     pub fn delta(&mut self, histogram: Hist) -> Result<Delta, Refusal>
         requires { Knows self.old.state histogram }
         ensures kept { self.new.segment ≡ self.old.segment }
@@ -109,7 +110,8 @@ impl OwnedRecorder {
         self.state.delta(&self.segment, histogram)
     }
 
-    /// What a histogram has, as [`Recorder::snapshot`](live_segment::Recorder::snapshot).
+    /// Returns what a histogram has, as [`Recorder::snapshot`] does [same, answer, few, owed, values]. It keeps its
+    /// segment [kept].
     pub fn snapshot(&mut self, histogram: Hist) -> Result<Snapshot, Refusal>
         requires { Knows self.old.state histogram }
         ensures kept { self.new.segment ≡ self.old.segment }
@@ -122,7 +124,7 @@ impl OwnedRecorder {
         self.state.snapshot(&self.segment, histogram)
     }
 
-    /// Marks the segment as corrupt, as [`Recorder::set_corrupt`](live_segment::Recorder::set_corrupt).
+    /// Marks the segment as corrupt, as [`Recorder::set_corrupt`] does [same, flag]. It keeps its segment [kept].
     pub fn set_corrupt(&mut self)
         ensures kept { self.new.segment ≡ self.old.segment }
         ensures same { IsSameRecorder self.old.state self.new.state }
@@ -131,7 +133,8 @@ impl OwnedRecorder {
         self.state.set_corrupt(&self.segment);
     }
 
-    /// The references of all records of the list, as [`Recorder::records`](live_segment::Recorder::records).
+    /// Returns the references of all records of the list, as [`Recorder::records`] does [same, walked, all]. It keeps
+    /// its segment [kept].
     pub fn records(&mut self) -> Result<Vec<u64>, Refusal>
         ensures kept { self.new.segment ≡ self.old.segment }
         ensures same { IsSameRecorder self.old.state self.new.state }
@@ -141,7 +144,8 @@ impl OwnedRecorder {
         self.state.records(&self.segment)
     }
 
-    /// Those that no earlier call gave, as [`Recorder::fresh_records`](live_segment::Recorder::fresh_records).
+    /// Returns those that no earlier call gave, as [`Recorder::fresh_records`] does [fresh]. It keeps its segment
+    /// [kept].
     pub fn fresh_records(&mut self) -> Result<Vec<u64>, Refusal>
         ensures kept { self.new.segment ≡ self.old.segment }
         ensures fresh { AnswersFresh self.old.state result self.new.state }
@@ -149,7 +153,8 @@ impl OwnedRecorder {
         self.state.fresh_records(&self.segment)
     }
 
-    /// The next record of a shared cursor, as [`Recorder::next_shared`](live_segment::Recorder::next_shared).
+    /// Returns the next record of a shared cursor, as [`Recorder::next_shared`] does [same, answer, given, shared].
+    /// It keeps its segment [kept].
     pub fn next_shared(&mut self, cursor: usize) -> Option<u64>
         requires { cursor < (view_of_owned self.old).segment.cursors }
         ensures kept { self.new.segment ≡ self.old.segment }

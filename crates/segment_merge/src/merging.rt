@@ -59,7 +59,7 @@ struct Part {
 /// could be claimed. The recorder's deltas and snapshots, and what shared cursors gave it, are unchanged, and it has
 /// seen and done no less. The histograms that it has come to know are of the reading [answer].
 ///
-/// It records into the same segment, and each histogram that it knew it knows at the same place [same].
+/// It records into the same segment [kept], and each histogram that it knew it knows at the same place [same].
 ///
 /// The one error is `NoMemory`, where memory runs out for the report: the recorder is then unchanged [answer]. It
 /// asks for 120 bytes for each histogram, for its name twice, and for eight bytes for each of its keys; then for what

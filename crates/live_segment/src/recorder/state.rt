@@ -150,7 +150,8 @@ impl RecorderState {
         Ok(Hist { index })
     }
 
-    /// The histogram of a name, as [`Recorder::hist`](super::Recorder::hist).
+    /// The histogram of a name, as [`Recorder::hist`](super::Recorder::hist) returns it [same, named, answer, first,
+    /// claims]. It is still the state of a recorder at the segment [at].
     pub fn hist(&mut self, segment: &Segment, name: &[u8], spec: &Spec) -> Result<Hist, Refusal>
         requires { IsRecorderAt segment.now self.old }
         ensures at { IsRecorderAt segment.now self.new }
@@ -174,7 +175,8 @@ impl RecorderState {
         Ok(Hist { index })
     }
 
-    /// Adds a sample, as [`Recorder::add`](super::Recorder::add).
+    /// Adds a sample, as [`Recorder::add`](super::Recorder::add) does [same, answer, claims]. It is still the state
+    /// of a recorder at the segment [at].
     // Inlined with the calls on its way: what a call keeps in memory, the next atomic step waits for.
     #[inline(always)]
     pub fn add(
@@ -203,7 +205,8 @@ impl RecorderState {
         Ok(())
     }
 
-    /// Counts a batch, as [`Recorder::batch`](super::Recorder::batch).
+    /// Counts a batch, as [`Recorder::batch`](super::Recorder::batch) does [same, answer, claims]. It is still the
+    /// state of a recorder at the segment [at].
     pub fn batch(
         &mut self,
         segment: &Segment,
@@ -232,7 +235,8 @@ impl RecorderState {
         Ok(())
     }
 
-    /// Takes a delta, as [`Recorder::delta`](super::Recorder::delta).
+    /// Takes a delta, as [`Recorder::delta`](super::Recorder::delta) does [same, taken, few, owed]. It is still the
+    /// state of a recorder at the segment [at].
     pub fn delta(&mut self, segment: &Segment, histogram: Hist) -> Result<Delta, Refusal>
         requires at { IsRecorderAt segment.now self.old }
         requires knows { Knows self.old histogram }
@@ -250,7 +254,8 @@ impl RecorderState {
         Ok(Delta { counts, sum })
     }
 
-    /// What a histogram has, as [`Recorder::snapshot`](super::Recorder::snapshot).
+    /// Returns what a histogram has, as [`Recorder::snapshot`](super::Recorder::snapshot) does [same, answer, few,
+    /// owed, values]. It is still the state of a recorder at the segment [at].
     pub fn snapshot(&mut self, segment: &Segment, histogram: Hist) -> Result<Snapshot, Refusal>
         requires at { IsRecorderAt segment.now self.old }
         requires knows { Knows self.old histogram }
@@ -269,7 +274,8 @@ impl RecorderState {
         Ok(snapshot)
     }
 
-    /// Marks the segment as corrupt, as [`Recorder::set_corrupt`](super::Recorder::set_corrupt).
+    /// Marks the segment as corrupt, as [`Recorder::set_corrupt`](super::Recorder::set_corrupt) does [same, flag]. It
+    /// is still the state of a recorder at the segment [at].
     pub fn set_corrupt(&mut self, segment: &Segment)
         requires { IsRecorderAt segment.now self.old }
         ensures at { IsRecorderAt segment.now self.new }
@@ -279,7 +285,8 @@ impl RecorderState {
         segment.set_corrupt(&mut self.seat);
     }
 
-    /// The references of all records of the list, as [`Recorder::records`](super::Recorder::records).
+    /// Returns the references of all records of the list, as [`Recorder::records`](super::Recorder::records) does
+    /// [same, walked, all]. It is still the state of a recorder at the segment [at].
     pub fn records(&mut self, segment: &Segment) -> Result<Vec<u64>, Refusal>
         requires { IsRecorderAt segment.now self.old }
         ensures at { IsRecorderAt segment.now self.new }
@@ -293,7 +300,8 @@ impl RecorderState {
         Ok(records)
     }
 
-    /// Those that no earlier call gave, as [`Recorder::fresh_records`](super::Recorder::fresh_records).
+    /// Returns those that no earlier call gave, as [`Recorder::fresh_records`](super::Recorder::fresh_records) does
+    /// [fresh]. It is still the state of a recorder at the segment [at].
     pub fn fresh_records(&mut self, segment: &Segment) -> Result<Vec<u64>, Refusal>
         requires { IsRecorderAt segment.now self.old }
         ensures at { IsRecorderAt segment.now self.new }
@@ -305,7 +313,8 @@ impl RecorderState {
         Ok(records)
     }
 
-    /// The next record of a shared cursor, as [`Recorder::next_shared`](super::Recorder::next_shared).
+    /// Returns the next record of a shared cursor, as [`Recorder::next_shared`](super::Recorder::next_shared) does
+    /// [same, answer, given, shared]. It is still the state of a recorder at the segment [at].
     pub fn next_shared(&mut self, segment: &Segment, cursor: usize) -> Option<u64>
         requires at { IsRecorderAt segment.now self.old }
         requires cursor { cursor < (view_of_state self.old).segment.cursors }

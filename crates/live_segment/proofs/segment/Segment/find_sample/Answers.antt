@@ -41,8 +41,8 @@ returns-then-next-eq-QUEUE-clause-ended c =
     (searched was.seated walks _ _ c.load_next-next.ensures.step).ends (grows_not new.ends) refl
     (found_end was.seated walks _ _ c.load_next-next.ensures.step c.load_next-next.ensures.once c.if-next-eq-QUEUE.true)
 
-pub shows_value-requires-clause-meets : goal.shows_value-requires-clause-meets
-shows_value-requires-clause-meets c =
+pub shows_value-requires : goal.shows_value-requires
+shows_value-requires c =
     let was = c.loop-from.invariant in record {
       seated = seat_on c.load_next-next.new.seat was.seated c.load_next-next.ensures.step.same (searched was.seated (was.walks c.args.value (sym (to_z-of_z w32 c.args.value c.ranges.value))) _ _ c.load_next-next.ensures.step);
       met = meets was.seated (was.walks c.args.value (sym (to_z-of_z w32 c.args.value c.ranges.value))) _ _ c.load_next-next.ensures.step c.if-next-eq-QUEUE.false;

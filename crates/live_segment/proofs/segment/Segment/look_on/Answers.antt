@@ -31,8 +31,8 @@ returns-then-next-eq-QUEUE-clause-few c =
     let was = c.loop-kind.invariant in
     λ yes. few_seen _ was.seated was.free was.indexed _ _ c.load_next-next.ensures.step
 
-pub key_at-key-requires-clause-meets : goal.key_at-key-requires-clause-meets
-key_at-key-requires-clause-meets c =
+pub key_at-key-requires : goal.key_at-key-requires
+key_at-key-requires c =
     let was = c.loop-kind.invariant in record {
       seated = seat_on c.load_next-next.new.seat was.seated c.load_next-next.ensures.step.same (searched was.seated (way _ was.seated was.free was.indexed) _ _ c.load_next-next.ensures.step);
       met = meets was.seated (way _ was.seated was.free was.indexed) _ _ c.load_next-next.ensures.step c.if-next-eq-QUEUE.false;

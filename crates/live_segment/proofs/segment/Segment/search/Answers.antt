@@ -9,8 +9,8 @@ use Rattle.live_segment.specs.List.Index.{IsIndexed}
 use Rattle.live_segment.proofs.lemmas.List.Indexed.{of_own}
 use Rattle.live_segment.proofs.segment.Segment.search.Goals as goal
 
-pub look_for-requires-clause-walks : goal.look_for-requires-clause-walks
-look_for-requires-clause-walks c = record {
+pub look_for-requires : goal.look_for-requires
+look_for-requires c = record {
   seated = c.requires.walks.seated;
   free = c.requires.walks.free;
   indexed = of_own _ _ _ _ c.requires.walks.indexed;

@@ -12,8 +12,8 @@ use Rattle.live_segment.proofs.lemmas.List.Indexed.{of_own}
 use Rattle.live_segment.proofs.lemmas.List.IndexKept as kept
 use Rattle.live_segment.proofs.segment.Segment.search_sample.Goals as goal
 
-pub look_for-has_passed_all-requires-clause-walks : goal.look_for-has_passed_all-requires-clause-walks
-look_for-has_passed_all-requires-clause-walks c = record {
+pub look_for-has_passed_all-requires : goal.look_for-has_passed_all-requires
+look_for-has_passed_all-requires c = record {
   seated = c.requires.ready.seated;
   free = c.requires.free;
   indexed = of_own _ _ _ _ c.requires.ready.indexed;

@@ -8,8 +8,8 @@ use Rattle.live_segment.proofs.lemmas.Add.SampleOf.{split_there, walk_begins}
 use Rattle.live_segment.proofs.lemmas.Hist.Searching.{searched_on, seat_on, sees_searched}
 use Rattle.live_segment.proofs.segment.Segment.search_sample_at.Goals as goal
 
-pub shows_value-requires-clause-meets : goal.shows_value-requires-clause-meets
-shows_value-requires-clause-meets c = record {
+pub shows_value-requires : goal.shows_value-requires
+shows_value-requires c = record {
   seated = c.requires.ready.seated;
   met = meets_sample c.args.histogram.now.reference c.args.value c.args.seat.now.me.0 c.requires.free c.requires.ready.indexed c.requires.first;
   room = room_sample c.args.histogram.now.reference c.args.value c.args.seat.now.me.0 c.requires.free c.requires.ready.indexed c.requires.first;

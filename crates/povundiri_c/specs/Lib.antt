@@ -1,6 +1,7 @@
 pub mod Asking
 pub mod Calls
 pub mod Joins
+pub mod Lent
 pub mod Recorders
 pub mod Reports
 pub mod Sealed

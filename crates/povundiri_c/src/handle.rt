@@ -10,7 +10,7 @@ use crate::held::Held;
 use crate::owner::Request;
 use crate::seal::Seal;
 use crate::status::{EMPTY, NOT_EMPTY};
-use core::mem::{replace, replace_with};
+use core::mem::replace;
 
 /// A segment, a recorder, or nothing. C begins with zeros.
 #[repr(C)]
@@ -45,17 +45,6 @@ impl Handle {
         *self = Handle::of(boxed);
     }
 
-    fn into_box(self) -> Result<Box<Held>, Handle>
-        ensures { MatchResult result (λ boxed. self.seal.held ≡ Some boxed.value) (λ handle. (handle ≡ self) × (self.seal.held ≡ None)) }
-    {
-        let Handle { full, seal } = self;
-        if full {
-            Ok(seal.open())
-        } else {
-            Err(Handle { full, seal })
-        }
-    }
-
     /// What it holds. It is empty then: `none`, which is, takes its place.
     pub(crate) fn take(&mut self, none: Handle) -> Result<Box<Held>, u32>
         ensures taken { MatchResult result (λ boxed. (self.old.seal.held ≡ Some boxed.value) × (self.new.seal.held ≡ None)) (λ _. self.new ≡ self.old) }
@@ -68,47 +57,18 @@ impl Handle {
         if !self.full {
             return Err(EMPTY);
         }
-        let Ok(boxed) = replace(self, none).into_box() else {
-            unreachable!()
-        };
-        Ok(boxed)
-    }
-
-    fn serve_within(self, asked: (Box<Held>, Request)) -> (Handle, (u32, Option<Box<Held>>))
-        ensures { AnswersGuest asked.1 asked.0.value self.seal.held (result.1.0, option_map (λ back. back.value) result.1.1) result.0.seal.held }
-    {
-        let (guest, request) = asked;
-        match self.into_box() {
-            Ok(mut boxed) => {
-                let answer = boxed.serve(guest, request);
-                (Handle::of(boxed), answer)
-            }
-            Err(handle) => (handle, (EMPTY, Some(guest))),
-        }
+        let Handle { full: _, seal } = replace(self, none);
+        Ok(seal.open())
     }
 
     /// Does what the recorder that the guest is is passed for. The status, and the guest where it comes back.
     pub(crate) fn serve(&mut self, guest: Box<Held>, request: Request) -> (u32, Option<Box<Held>>)
         ensures { AnswersGuest request guest.value self.old.seal.held (result.0, option_map (λ back. back.value) result.1) self.new.seal.held }
     {
-        replace_with(self, (guest, request), Handle::serve_within)
-    }
-
-    // `call`, of a handle by value.
-    fn call_within<B, F: FnOnce(&mut Held) -> B>(self, asked: (B, F)) -> (Handle, B)
-    where
-        B: Drop,
-        requires { F.IsAlwaysCallable asked.1 }
-        ensures { ByHandle asked.0 (FnOnceReturnsAtMut F.FnOnce asked.1) self.seal.held result.1 result.0.seal.held }
-    {
-        let (empty, call) = asked;
-        match self.into_box() {
-            Ok(mut boxed) => {
-                let answer = call(boxed.as_mut());
-                (Handle::of(boxed), answer)
-            }
-            Err(handle) => (handle, empty),
+        if !self.full {
+            return (EMPTY, Some(guest));
         }
+        self.seal.get_mut().serve(guest, request)
     }
 
     /// Calls what it holds. A handle that holds nothing answers `empty`, and stays so.
@@ -118,6 +78,9 @@ impl Handle {
         requires { F.IsAlwaysCallable call }
         ensures { ByHandle empty (FnOnceReturnsAtMut F.FnOnce call) self.old.seal.held result self.new.seal.held }
     {
-        replace_with(self, (empty, call), Handle::call_within)
+        if !self.full {
+            return empty;
+        }
+        call(self.seal.get_mut())
     }
 }

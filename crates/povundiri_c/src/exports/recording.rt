@@ -6,7 +6,7 @@ ghost use Rattle.povundiri_c.specs.Calls.{OfRecorder};
 ghost use Rattle.povundiri_c.specs.Recorders.{Adds, AtPlace, Marks};
 
 use crate::handle::Handle;
-use crate::status::{BAD_KIND, DONE, EMPTY, NO_MEMORY, Refused};
+use crate::status::{BAD_KIND, DONE, EMPTY, NO_MEMORY};
 use crate::types::{HistSpec, Item};
 use live_segment::{CustomValues, Spec};
 use std::alloc::{AllocError, Global};
@@ -52,7 +52,7 @@ pub extern "C" fn povundiri_proved_hist(
     values: &[u32],
     hist: &mut usize,
 ) -> u32
-    ensures { AnswersHistCall name.now (spec_asked spec values.now) recorder.old.seal.held result hist.old hist.new recorder.new.seal.held }
+    ensures { AnswersHistCall name.now (spec_asked spec values.now) recorder.old.boxed.held result hist.old hist.new recorder.new.boxed.held }
 {
     if !recorder.is_full() {
         return EMPTY;
@@ -61,7 +61,7 @@ pub extern "C" fn povundiri_proved_hist(
         Ok(spec) => spec,
         Err(status) => return status,
     };
-    match recorder.call(Err(EMPTY), |held| held.hist(name, &spec)) {
+    match recorder.call_recorder(|recorder| recorder.hist(name, &spec)) {
         Ok(place) => {
             *hist = place;
             DONE
@@ -78,9 +78,9 @@ pub extern "C" fn povundiri_proved_add(
     value: i32,
     count: u32,
 ) -> u32
-    ensures { OfRecorder (AtPlace 8 (Adds value count) hist) recorder.old.seal.held result recorder.new.seal.held }
+    ensures { OfRecorder (AtPlace 8 (Adds value count) hist) recorder.old.boxed.held result recorder.new.boxed.held }
 {
-    recorder.call(EMPTY, move |held| held.add(hist, value, count))
+    recorder.call_recorder(move |recorder| recorder.add(hist, value, count))
 }
 
 /// Counts a batch; and how many of its items are counted, also where it is refused.
@@ -93,7 +93,7 @@ pub extern "C" fn povundiri_proved_batch(
     sum: i64,
     added: &mut usize,
 ) -> u32
-    ensures { AnswersBatchCall hist items.now sum recorder.old.seal.held result added.old added.new recorder.new.seal.held }
+    ensures { AnswersBatchCall hist items.now sum recorder.old.boxed.held result added.old added.new recorder.new.boxed.held }
 {
     if !recorder.is_full() {
         return EMPTY;
@@ -101,10 +101,7 @@ pub extern "C" fn povundiri_proved_batch(
     let Ok(pairs) = pairs_of(alloc, items) else {
         return NO_MEMORY;
     };
-    match recorder.call(
-        Err(Refused::of(EMPTY)),
-        |held| held.batch(hist, &pairs, sum),
-    ) {
+    match recorder.call_recorder(|recorder| recorder.batch(hist, &pairs, sum)) {
         Ok(()) => {
             *added = items.len();
             DONE
@@ -119,7 +116,7 @@ pub extern "C" fn povundiri_proved_batch(
 /// Marks the segment as corrupt.
 #[unsafe(no_mangle)]
 pub extern "C" fn povundiri_proved_set_corrupt(recorder: &mut Handle) -> u32
-    ensures { OfRecorder Marks recorder.old.seal.held result recorder.new.seal.held }
+    ensures { OfRecorder Marks recorder.old.boxed.held result recorder.new.boxed.held }
 {
-    recorder.call(EMPTY, |held| held.set_corrupt())
+    recorder.call_recorder(|recorder| recorder.set_corrupt())
 }

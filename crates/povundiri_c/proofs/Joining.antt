@@ -12,7 +12,7 @@ use Rattle.owned_recorder.specs.declared.owned.OwnedRecorder.{OwnedRecorder}
 use Rattle.povundiri_c.specs.declared.joinable_recorder.JoinableRecorder.{JoinableRecorder}
 use Rattle.povundiri_c.specs.declared.mailbox.Mailbox.{Mailbox}
 use Rattle.povundiri_c.specs.declared.owned_segment.OwnedSegment.{OwnedSegment}
-use Rattle.povundiri_c.specs.Joins.{HasGone, HasJoined, HasLent, HasOpener, IsFound, IsLent, IsNotFound, IsPassed, IsSameSegment, KeepsSegment}
+use Rattle.povundiri_c.specs.Joins.{HasJoined, HasOpener, IsFound, IsLent, IsNotFound, IsPassed, IsSameSegment, KeepsSegment, mailbox_of_recorder, mailbox_of_segment}
 use Rattle.povundiri_c.specs.Mailbox.{BelongsTo, HasMet, IsOfOpener, MailboxSeat, Passes}
 use Rattle.povundiri_c.proofs.Holding.{of_opener}
 
@@ -20,27 +20,53 @@ use Rattle.povundiri_c.proofs.Holding.{of_opener}
 pub matched : {A : Type 0} (P : Type 0) (Q : A → Type 0) (found : Option A) (one : A) → found ≡ Some one → Q one → MatchOption found P Q
 matched {A} P Q found one is holds = subst (λ (it : Option A). MatchOption it P Q) (sym is) holds
 
-module _ (from to : TableId) (key : Opener) (recorder : OwnedRecorder) (before after : MailboxSeat × MailboxSeat) (result : Result (Option OwnedRecorder × Option OwnedRecorder) OwnedRecorder)
-    (passes : Passes from to key recorder before result after) where
-  abbrev at : Result (Option OwnedRecorder × Option OwnedRecorder) OwnedRecorder → Type 0
-  at one = Passes from to key recorder before one after
+-- what `pass` says of a recorder, of the mailboxes that it and the segment have
+module _ (joinable : JoinableRecorder) (old : OwnedSegment) (its own : Mailbox) (result : Result (Option OwnedRecorder × Option OwnedRecorder) OwnedRecorder) (after : MailboxSeat × MailboxSeat)
+    (are : (its ≡ arc_value joinable.mailbox) × (own ≡ arc_value old.mailbox))
+    (passes : Passes its.table.shared.table_id own.table.shared.table_id own.table.shared.key joinable.owned (old.keeper, old.gone) result after) where
+  abbrev from : TableId
+  from = mailbox_of_recorder joinable
+
+  abbrev to : TableId
+  to = mailbox_of_segment old
+
+  abbrev key : Opener
+  key = (arc_value old.mailbox).table.shared.key
+
+  abbrev Says : Result (Option OwnedRecorder × Option OwnedRecorder) OwnedRecorder → Type 0
+  Says one = Passes from to key joinable.owned (old.keeper, old.gone) one after
+
+  said : Says result
+  said = subst (λ (x : Mailbox × Mailbox). Passes x.0.table.shared.table_id x.1.table.shared.table_id x.1.table.shared.key joinable.owned (old.keeper, old.gone) result after)
+      (λ i. (are.0 i, are.1 i)) passes
 
   -- it has come back, so it is of another segment
   pub back_is : (met : Option OwnedRecorder) (back : OwnedRecorder) → result ≡ Ok (met, Some back)
-      → (back ≡ recorder) × (after.1 ≡ before.1) × (met ≡ None → after.0 ≡ before.0) × (from ≢ to) × IsOfOpener key met
-  back_is met back is = let it = subst at is passes in (it.1.0, it.1.1, it.2, (λ e. absurd (cc (ap (λ (x : Option OwnedRecorder × Option OwnedRecorder). x.1) (it.3 e)))), it.0)
+      → (back ≡ joinable.owned) × (after.1 ≡ old.gone) × (met ≡ None → after.0 ≡ old.keeper) × (from ≢ to)
+  back_is met back is =
+      let it = subst Says is said in
+      (it.1.0, it.1.1, it.2, λ e. absurd (cc (ap (λ (x : Option OwnedRecorder × Option OwnedRecorder). x.1) (it.3 e))))
 
-  -- it has not come back, and one was found
-  pub found_is : (found : OwnedRecorder) → result ≡ Ok (Some found, None) → BelongsTo found key × (from ≡ to → found ≡ recorder) × (from ≢ to → HasMet from recorder after.1)
-  found_is found is = let it = subst at is passes in (it.0, (λ e. cc (ap (λ (x : Option OwnedRecorder × Option OwnedRecorder). x.0) (it.3 e))), it.1)
+  -- what was met is of the segment
+  pub met_is : (met back : Option OwnedRecorder) → result ≡ Ok (met, back) → IsOfOpener key met
+  met_is met back is = (subst Says is said).0
 
-  -- it has not come back, and none was found
-  pub gone_is : result ≡ Ok (None, None) → (from ≢ to) × (from ≢ to → HasMet from recorder after.1)
-  gone_is is = let it = subst at is passes in ((λ e. absurd (cc (ap (λ (x : Option OwnedRecorder × Option OwnedRecorder). x.0) (it.3 e)))), it.1)
+  -- it has not come back, and this was found
+  pub found_is : (found : OwnedRecorder) → result ≡ Ok (Some found, None)
+      → BelongsTo found key × (from ≡ to → found ≡ joinable.owned) × (from ≢ to → HasMet from joinable.owned after.1)
+  found_is found is =
+      let it = subst Says is said in
+      (it.0, (λ e. cc (ap (λ (x : Option OwnedRecorder × Option OwnedRecorder). x.0) (it.3 e))), it.1)
+
+  -- it has not come back, and nothing was found
+  pub gone_is : result ≡ Ok (None, None) → (from ≢ to) × (from ≢ to → HasMet from joinable.owned after.1)
+  gone_is is =
+      let it = subst Says is said in
+      ((λ e. absurd (cc (ap (λ (x : Option OwnedRecorder × Option OwnedRecorder). x.0) (it.3 e)))), it.1)
 
   -- its mailbox was in use
-  pub busy_is : (back : OwnedRecorder) → result ≡ Err back → (back ≡ recorder) × (after ≡ before)
-  busy_is back is = subst at is passes
+  pub busy_is : (back : OwnedRecorder) → result ≡ Err back → (back ≡ joinable.owned) × (after ≡ (old.keeper, old.gone))
+  busy_is back is = subst Says is said
 
 -- what was met is joined, if anything
 pub met_or : (met : Option OwnedRecorder) (old mid new : OwnedSegment) → (met ≡ None → IsSameSegment old mid) → MatchOption met (new ≡ mid) (λ owned. HasJoined owned old new)

@@ -44,17 +44,21 @@ impl OwnedSegment {
             .mailbox
             .pass(&mut self.keeper, &mut self.gone, &mailbox, owned);
         match passed {
-            Ok((Some(found), None)) => Ok(found),
-            Ok((None, None)) => Err((ELSEWHERE, None)),
-            Ok((met, Some(owned))) => {
-                self.join_met(met);
-                let joinable = JoinableRecorder {
-                    owned,
-                    mailbox,
-                    cursors,
-                };
-                Err((OTHER_SEGMENT, Some(joinable)))
-            }
+            Ok((met, back)) => match back {
+                Some(owned) => {
+                    self.join_met(met);
+                    let joinable = JoinableRecorder {
+                        owned,
+                        mailbox,
+                        cursors,
+                    };
+                    Err((OTHER_SEGMENT, Some(joinable)))
+                }
+                None => match met {
+                    Some(found) => Ok(found),
+                    None => Err((ELSEWHERE, None)),
+                },
+            },
             Err(owned) => {
                 let joinable = JoinableRecorder {
                     owned,

@@ -1,0 +1,13 @@
+use Rattle.std.proofs.Common.{rules}
+use Rattle.povundiri_c.specs.Calls.{KeepsMailbox}
+use Rattle.povundiri_c.specs.Recorders.{TakesNext}
+use Rattle.povundiri_c.proofs.Calling.{of_recorder}
+use Rattle.povundiri_c.proofs.exports.reading.povundiri_proved_next_shared.Goals as goal
+
+pub returns-in-Ok : goal.returns-in-Ok
+returns-in-Ok c =
+    (_, of_recorder _ _ _ (KeepsMailbox (TakesNext c.args.cursor)) (λ old new answer called. search (called, rules)) _ _ _ c.call_recorder.ensures, search (c.in-Ok.is, rules))
+
+pub returns-in-Err : goal.returns-in-Err
+returns-in-Err c =
+    (_, of_recorder _ _ _ (KeepsMailbox (TakesNext c.args.cursor)) (λ old new answer called. search (called, rules)) _ _ _ c.call_recorder.ensures, search (c.in-Err.is, rules))

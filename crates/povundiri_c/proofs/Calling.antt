@@ -9,39 +9,22 @@ use Rattle.povundiri_c.specs.declared.status.Refused.{Refused}
 use Rattle.povundiri_c.specs.declared.joinable_recorder.JoinableRecorder.{JoinableRecorder}
 use Rattle.povundiri_c.specs.declared.owned_segment.OwnedSegment.{OwnedSegment}
 use Rattle.povundiri_c.specs.declared.owned_segment.Request.{Request}
-use Rattle.povundiri_c.specs.Calls.{ByHandle, ByRecorder, BySegment}
-use Rattle.povundiri_c.specs.Joins.{Serves, ServesPassed, recorder_in}
+use Rattle.povundiri_c.specs.Calls.{ByRecorder}
+use Rattle.povundiri_c.specs.Joins.{BySegment, Serves, ServesPassed, recorder_in}
 use Rattle.povundiri_c.specs.Recorders.{AtPlaceInRoom, Finds, refused_with}
 
 -- a recorder is held
-pub by_recorder : {A : Type 0} (other : A) (Calls : JoinableRecorder → A → JoinableRecorder → Type 0) (it : Contents) (joinable after : JoinableRecorder) (answer : A)
-    → it ≡ contents.Recorder joinable → Calls joinable answer after → ByRecorder other Calls it answer (contents.Recorder after)
-by_recorder other Calls it joinable after answer is calls =
-    subst (λ (one : Contents). ByRecorder other Calls one answer (contents.Recorder after)) (sym is) (after, refl, calls)
+pub by_recorder : {A : Type 0} (other : A) (Calls : OwnedRecorder → A → OwnedRecorder → Type 0) (it : Contents) (joinable after : JoinableRecorder) (answer : A)
+    → it ≡ contents.Recorder joinable → after.mailbox ≡ joinable.mailbox → Calls joinable.owned answer after.owned
+    → ByRecorder other Calls it answer (contents.Recorder after)
+by_recorder other Calls it joinable after answer is kept calls =
+    subst (λ (one : Contents). ByRecorder other Calls one answer (contents.Recorder after)) (sym is) (after, refl, kept, calls)
 
 -- a segment is held
 pub by_segment : {A : Type 0} (other : A) (Calls : OwnedSegment → A → OwnedSegment → Type 0) (it : Contents) (owned after : OwnedSegment) (answer : A)
     → it ≡ contents.Segment owned → Calls owned answer after → BySegment other Calls it answer (contents.Segment after)
 by_segment other Calls it owned after answer is calls =
     subst (λ (one : Contents). BySegment other Calls one answer (contents.Segment after)) (sym is) (after, refl, calls)
-
--- what each call of a recorder is, each call by a handle is of its recorder
-pub of_recorder : {A : Type 0} (empty other : A) (P Q : JoinableRecorder → A → JoinableRecorder → Type 0)
-    → ((old new : JoinableRecorder) (answer : A) → P old answer new → Q old answer new)
-    → (old new : Option Contents) (answer : A) → ByHandle empty (ByRecorder other P) old answer new → ByHandle empty (ByRecorder other Q) old answer new
-of_recorder empty other P Q each None new answer is = is
-of_recorder empty other P Q each (Some (contents.Recorder joinable)) new answer (after, same, (mine, is, calls)) = (after, same, (mine, is, each joinable mine answer calls))
-of_recorder empty other P Q each (Some (contents.Segment owned)) new answer is = is
-of_recorder empty other P Q each (Some contents.Nothing) new answer is = is
-
--- the same of a segment
-pub of_segment : {A : Type 0} (empty other : A) (P Q : OwnedSegment → A → OwnedSegment → Type 0)
-    → ((old new : OwnedSegment) (answer : A) → P old answer new → Q old answer new)
-    → (old new : Option Contents) (answer : A) → ByHandle empty (BySegment other P) old answer new → ByHandle empty (BySegment other Q) old answer new
-of_segment empty other P Q each None new answer is = is
-of_segment empty other P Q each (Some (contents.Segment owned)) new answer (after, same, (mine, is, calls)) = (after, same, (mine, is, each owned mine answer calls))
-of_segment empty other P Q each (Some (contents.Recorder joinable)) new answer is = is
-of_segment empty other P Q each (Some contents.Nothing) new answer is = is
 
 -- what is passed is no recorder
 pub serves_none : (request : Request) (passed left : Contents) (owned : OwnedSegment) → recorder_in passed ≡ None → left ≡ passed → ServesPassed request passed owned (5, Some left) owned

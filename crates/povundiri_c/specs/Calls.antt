@@ -6,9 +6,8 @@ use Rattle.owned_recorder.specs.Desks.{view_of_desk}
 use Rattle.owned_recorder.specs.declared.owned.OwnedRecorder.{OwnedRecorder}
 use Rattle.povundiri_c.specs.declared.contents.Contents.{Contents}
 use Rattle.povundiri_c.specs.declared.contents.Contents.TheVariants as contents
-use Rattle.povundiri_c.specs.declared.joinable_recorder.JoinableRecorder.{JoinableRecorder}
-use Rattle.povundiri_c.specs.declared.owned_segment.OwnedSegment.{OwnedSegment}
 use Rattle.povundiri_c.specs.declared.status.Refused.{Refused}
+use Rattle.povundiri_c.specs.declared.joinable_recorder.JoinableRecorder.{JoinableRecorder}
 use Rattle.povundiri_c.specs.Recorders.{refused_with}
 
 -- ---- what a call only asks
@@ -42,34 +41,21 @@ abbrev pub ByHandle : {A : Type 0} → A → (Contents → A → Contents → Ty
 ByHandle empty Calls None answer new = (answer ≡ empty) × (new ≡ None)
 ByHandle empty Calls (Some held) answer new = (after : Contents) × (new ≡ Some after) × Calls held answer after
 
--- What is no recorder returns that, and is unchanged; else the call is of the recorder.
-abbrev pub ByRecorder : {A : Type 0} → A → (JoinableRecorder → A → JoinableRecorder → Type 0) → Contents → A → Contents → Type 0
-ByRecorder other Calls (contents.Recorder joinable) answer new = (after : JoinableRecorder) × (new ≡ contents.Recorder after) × Calls joinable answer after
+-- What is no recorder returns that, and is unchanged; else the call is of the recorder, which keeps its mailbox.
+abbrev pub ByRecorder : {A : Type 0} → A → (OwnedRecorder → A → OwnedRecorder → Type 0) → Contents → A → Contents → Type 0
+ByRecorder other Calls (contents.Recorder joinable) answer new =
+    (after : JoinableRecorder) × (new ≡ contents.Recorder after) × (after.mailbox ≡ joinable.mailbox) × Calls joinable.owned answer after.owned
 ByRecorder other Calls (contents.Segment owned) answer new = (answer ≡ other) × (new ≡ contents.Segment owned)
 ByRecorder other Calls contents.Nothing answer new = (answer ≡ other) × (new ≡ contents.Nothing)
 
--- What is no segment returns that, and is unchanged; else the call is of the segment.
-abbrev pub BySegment : {A : Type 0} → A → (OwnedSegment → A → OwnedSegment → Type 0) → Contents → A → Contents → Type 0
-BySegment other Calls (contents.Segment owned) answer new = (after : OwnedSegment) × (new ≡ contents.Segment after) × Calls owned answer after
-BySegment other Calls (contents.Recorder joinable) answer new = (answer ≡ other) × (new ≡ contents.Recorder joinable)
-BySegment other Calls contents.Nothing answer new = (answer ≡ other) × (new ≡ contents.Nothing)
-
--- the call is of the owned recorder, and the mailbox is the same
-abbrev pub KeepsMailbox : {A : Type 0} → (OwnedRecorder → A → OwnedRecorder → Type 0) → JoinableRecorder → A → JoinableRecorder → Type 0
-KeepsMailbox Calls old answer new = (new.mailbox ≡ old.mailbox) × Calls old.owned answer new.owned
-
 -- a call that returns a status
 abbrev pub OfRecorder : (OwnedRecorder → ℕ → OwnedRecorder → Type 0) → Option Contents → ℕ → Option Contents → Type 0
-OfRecorder Calls = ByHandle 3 (ByRecorder 5 (KeepsMailbox Calls))
+OfRecorder Calls = ByHandle 3 (ByRecorder 5 Calls)
 
 -- one that returns a value or a status
 abbrev pub GivesOfRecorder : {A : Type 0} → (OwnedRecorder → Result A ℕ → OwnedRecorder → Type 0) → Option Contents → Result A ℕ → Option Contents → Type 0
-GivesOfRecorder Calls = ByHandle (Err 3) (ByRecorder (Err 5) (KeepsMailbox Calls))
+GivesOfRecorder Calls = ByHandle (Err 3) (ByRecorder (Err 5) Calls)
 
 -- one that returns a value, or a status with a length
 abbrev pub SizesOfRecorder : {A : Type 0} → (OwnedRecorder → Result A Refused → OwnedRecorder → Type 0) → Option Contents → Result A Refused → Option Contents → Type 0
-SizesOfRecorder Calls = ByHandle (Err (refused_with 3)) (ByRecorder (Err (refused_with 5)) (KeepsMailbox Calls))
-
--- one of a segment that returns a value or a status
-abbrev pub GivesOfSegment : {A : Type 0} → (OwnedSegment → Result A ℕ → OwnedSegment → Type 0) → Option Contents → Result A ℕ → Option Contents → Type 0
-GivesOfSegment Calls = ByHandle (Err 3) (BySegment (Err 5) Calls)
+SizesOfRecorder Calls = ByHandle (Err (refused_with 3)) (ByRecorder (Err (refused_with 5)) Calls)

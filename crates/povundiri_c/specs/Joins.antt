@@ -17,9 +17,21 @@ use Rattle.povundiri_c.specs.declared.owned_segment.OwnedSegment.{OwnedSegment}
 use Rattle.povundiri_c.specs.declared.owned_segment.Request.{Request}
 use Rattle.povundiri_c.specs.declared.owned_segment.Request.TheVariants.{Join, Lend}
 use Rattle.povundiri_c.specs.declared.joinable_recorder.JoinableRecorder.{JoinableRecorder}
-use Rattle.povundiri_c.specs.Calls.{ByHandle, BySegment, GivesOfSegment}
+use Rattle.povundiri_c.specs.Calls.{ByHandle}
 use Rattle.povundiri_c.specs.Status.{status_of_refusal}
 use Rattle.povundiri_c.specs.Mailbox.{BelongsTo, HasMet}
+
+-- ---- a call of a segment
+
+-- What is no segment returns that, and is unchanged; else the call is of the segment.
+abbrev pub BySegment : {A : Type 0} → A → (OwnedSegment → A → OwnedSegment → Type 0) → Contents → A → Contents → Type 0
+BySegment other Calls (contents.Segment owned) answer new = (after : OwnedSegment) × (new ≡ contents.Segment after) × Calls owned answer after
+BySegment other Calls (contents.Recorder joinable) answer new = (answer ≡ other) × (new ≡ contents.Recorder joinable)
+BySegment other Calls contents.Nothing answer new = (answer ≡ other) × (new ≡ contents.Nothing)
+
+-- one that returns a value or a status
+abbrev pub GivesOfSegment : {A : Type 0} → (OwnedSegment → Result A ℕ → OwnedSegment → Type 0) → Option Contents → Result A ℕ → Option Contents → Type 0
+GivesOfSegment Calls = ByHandle (Err 3) (BySegment (Err 5) Calls)
 
 -- it keeps its segment and its mailbox
 abbrev pub KeepsSegment : OwnedSegment → OwnedSegment → Type 0

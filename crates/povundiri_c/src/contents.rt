@@ -1,16 +1,16 @@
 //! What a handle holds.
 
-ghost use Rattle.std.specs.Prelude.{◌≡◌, None, MatchResult, option_map};
-ghost use Rattle.std.specs.Fn.{FnOnceReturnsAtMut};
-ghost use Rattle.povundiri_c.specs.Calls.{ByRecorder, BySegment, units_of};
-ghost use Rattle.povundiri_c.specs.Joins.{ServesContents, recorder_in};
+ghost use Rattle.std.specs.Prelude.{◌≡◌, Err, None, MatchResult, option_map};
+ghost use Rattle.povundiri_c.specs.Calls.{ByRecorder, outstanding_in, units_of};
+ghost use Rattle.povundiri_c.specs.Joins.{BySegment, GivesRecorder, ServesContents, recorder_in};
+ghost use Rattle.povundiri_c.specs.Recorders.{Adds, AtPlace, AtPlaceInRoom, Batches, FindsHist, Marks, refused_with, TakesDelta, TakesNext, TakesSnapshot, WalksAll};
 ghost use Rattle.povundiri_c.specs.Segments.{AnswersClose};
 
 use crate::joinable_recorder::JoinableRecorder;
 use crate::owned_segment::{OwnedSegment, Request};
-use crate::status::{FromStatus, IN_USE, OTHER_KIND, Refused, SHORT};
+use crate::status::{DONE, IN_USE, OTHER_KIND, Refused, SHORT};
 use core::mem::replace_with;
-use live_segment::Image;
+use live_segment::{Delta, Image, Snapshot, Spec};
 
 /// A segment, or a recorder; or nothing, while it is let go.
 #[derive(Drop)]
@@ -21,54 +21,26 @@ pub enum Contents {
 }
 
 impl Contents {
-    /// Calls the recorder. Anything else stays as it is, and the call returns `OTHER_KIND`.
-    pub(crate) fn call_recorder<B: FromStatus, F: FnOnce(&mut JoinableRecorder) -> B>(
-        &mut self,
-        call: F,
-    ) -> B
-        requires { F.IsAlwaysCallable call }
-        ensures { ByRecorder (B.with_status 5) (FnOnceReturnsAtMut F.FnOnce call) self.old result self.new }
-    {
-        match self {
-            Contents::Recorder(recorder) => call(recorder),
-            _ => B::from_status(OTHER_KIND),
-        }
-    }
-
-    /// Calls the segment. Anything else stays as it is, and the call returns `OTHER_KIND`.
-    pub(crate) fn call_segment<B: FromStatus, F: FnOnce(&mut OwnedSegment) -> B>(
-        &mut self,
-        call: F,
-    ) -> B
-        requires { F.IsAlwaysCallable call }
-        ensures { BySegment (B.with_status 5) (FnOnceReturnsAtMut F.FnOnce call) self.old result self.new }
-    {
-        match self {
-            Contents::Segment(segment) => call(segment),
-            _ => B::from_status(OTHER_KIND),
-        }
-    }
-
     // Its image, where it is a segment without recorders whose words fit so many.
     fn closed(self, room: usize) -> (Contents, Result<Image, Refused>)
         ensures answer { AnswersClose room self result.1 }
         ensures after { MatchResult result.1 (λ _. result.0 ≡ Contents.Nothing) (λ _. result.0 ≡ self) }
     {
         match self {
-            Contents::Segment(segment) => {
-                let size = segment.size() as usize;
+            Contents::Segment(owned) => {
+                let size = owned.size() as usize;
                 if room < size {
                     return (
-                        Contents::Segment(segment),
+                        Contents::Segment(owned),
                         Err(Refused {
                             status: SHORT,
                             length: size,
                         }),
                     );
                 }
-                match segment.close() {
+                match owned.close() {
                     Ok(image) => (Contents::Nothing, Ok(image)),
-                    Err(segment) => (Contents::Segment(segment), Err(Refused::of(IN_USE))),
+                    Err(owned) => (Contents::Segment(owned), Err(Refused::of(IN_USE))),
                 }
             }
             other => (other, Err(Refused::of(OTHER_KIND))),
@@ -88,8 +60,17 @@ impl Contents {
         ensures { (result.1 ≡ recorder_in self) × (recorder_in self ≡ None → result.0 ≡ self) }
     {
         match self {
-            Contents::Recorder(recorder) => (Contents::Nothing, Some(recorder)),
+            Contents::Recorder(joinable) => (Contents::Nothing, Some(joinable)),
             other => (other, None),
+        }
+    }
+
+    pub(crate) fn recorder(&mut self, units: u32) -> Result<JoinableRecorder, u32>
+        ensures { BySegment (Err 5) (GivesRecorder units) self.old result self.new }
+    {
+        match self {
+            Contents::Segment(owned) => owned.recorder(units),
+            _ => Err(OTHER_KIND),
         }
     }
 
@@ -101,15 +82,15 @@ impl Contents {
     ) -> (u32, Option<Box<Contents>>)
         ensures { ServesContents request passed.value self.old (result.0, option_map (λ back. back.value) result.1) self.new }
     {
-        let Contents::Segment(segment) = self else {
+        let Contents::Segment(owned) = self else {
             return (OTHER_KIND, Some(passed));
         };
-        let Some(recorder) = replace_with(passed.as_mut(), (), Contents::parted) else {
+        let Some(joinable) = replace_with(passed.as_mut(), (), Contents::parted) else {
             return (OTHER_KIND, Some(passed));
         };
-        let (status, back) = segment.serve(recorder, request);
+        let (status, back) = owned.serve(joinable, request);
         match back {
-            Some(recorder) => (status, Some(Contents::Recorder(recorder).put_into(passed))),
+            Some(joinable) => (status, Some(Contents::Recorder(joinable).put_into(passed))),
             None => (status, None),
         }
     }
@@ -126,9 +107,98 @@ impl Contents {
         ensures { (result ≡ units_of self.old) × (self.new ≡ self.old) }
     {
         match self {
-            Contents::Segment(segment) => Ok(segment.units()),
-            Contents::Recorder(recorder) => Ok(recorder.owned.units()),
+            Contents::Segment(owned) => Ok(owned.units()),
+            Contents::Recorder(joinable) => Ok(joinable.owned.units()),
             Contents::Nothing => Err(OTHER_KIND),
+        }
+    }
+
+    pub(crate) fn outstanding(&mut self) -> Result<u32, u32>
+        ensures { (result ≡ outstanding_in self.old) × (self.new ≡ self.old) }
+    {
+        match self {
+            Contents::Segment(owned) => Ok(owned.outstanding()),
+            _ => Err(OTHER_KIND),
+        }
+    }
+
+    pub(crate) fn hist(&mut self, name: &[u8], spec: &Spec) -> Result<usize, u32>
+        ensures { ByRecorder (Err 5) (FindsHist name.now spec.now) self.old result self.new }
+    {
+        match self {
+            Contents::Recorder(joinable) => joinable.hist(name, spec),
+            _ => Err(OTHER_KIND),
+        }
+    }
+
+    pub(crate) fn add(&mut self, place: usize, value: i32, count: u32) -> u32
+        ensures { ByRecorder 5 (AtPlace 8 (Adds value count) place) self.old result self.new }
+    {
+        match self {
+            Contents::Recorder(joinable) => joinable.add(place, value, count),
+            _ => OTHER_KIND,
+        }
+    }
+
+    pub(crate) fn batch(
+        &mut self,
+        place: usize,
+        items: &[(i32, u32)],
+        sum: i64,
+    ) -> Result<(), Refused>
+        ensures { ByRecorder (Err (refused_with 5)) (AtPlace (Err (refused_with 8)) (Batches items.now sum) place) self.old result self.new }
+    {
+        match self {
+            Contents::Recorder(joinable) => joinable.batch(place, items, sum),
+            _ => Err(Refused::of(OTHER_KIND)),
+        }
+    }
+
+    pub(crate) fn delta(&mut self, place: usize, room: usize) -> Result<Delta, Refused>
+        ensures { ByRecorder (Err (refused_with 5)) (AtPlaceInRoom place room TakesDelta) self.old result self.new }
+    {
+        match self {
+            Contents::Recorder(joinable) => joinable.delta(place, room),
+            _ => Err(Refused::of(OTHER_KIND)),
+        }
+    }
+
+    pub(crate) fn snapshot(&mut self, place: usize, room: usize) -> Result<Snapshot, Refused>
+        ensures { ByRecorder (Err (refused_with 5)) (AtPlaceInRoom place room TakesSnapshot) self.old result self.new }
+    {
+        match self {
+            Contents::Recorder(joinable) => joinable.snapshot(place, room),
+            _ => Err(Refused::of(OTHER_KIND)),
+        }
+    }
+
+    pub(crate) fn set_corrupt(&mut self) -> u32
+        ensures { ByRecorder 5 Marks self.old result self.new }
+    {
+        match self {
+            Contents::Recorder(joinable) => {
+                joinable.owned.set_corrupt();
+                DONE
+            }
+            _ => OTHER_KIND,
+        }
+    }
+
+    pub(crate) fn records(&mut self) -> Result<Vec<u64>, u32>
+        ensures { ByRecorder (Err 5) WalksAll self.old result self.new }
+    {
+        match self {
+            Contents::Recorder(joinable) => joinable.records(),
+            _ => Err(OTHER_KIND),
+        }
+    }
+
+    pub(crate) fn next_shared(&mut self, cursor: usize) -> Result<u64, u32>
+        ensures { ByRecorder (Err 5) (TakesNext cursor) self.old result self.new }
+    {
+        match self {
+            Contents::Recorder(joinable) => joinable.next_shared(cursor),
+            _ => Err(OTHER_KIND),
         }
     }
 }

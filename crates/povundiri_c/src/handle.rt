@@ -2,15 +2,14 @@
 
 ghost use Rattle.std.specs.Prelude.{◌≡◌, false, true, Err, Some, None, IfErr, MatchResult, option_map};
 ghost use Rattle.std.specs.Fn.{FnOnceReturnsAtMut};
-ghost use Rattle.povundiri_c.specs.Calls.{ByHandle, ByRecorder, BySegment, units_of};
+ghost use Rattle.povundiri_c.specs.Calls.{ByHandle};
 ghost use Rattle.povundiri_c.specs.Joins.{AnswersPassed};
 ghost use Rattle.povundiri_c.specs.OpaqueBoxes.{is_some};
 
 use crate::contents::Contents;
-use crate::joinable_recorder::JoinableRecorder;
 use crate::opaque_box::OpaqueBox;
-use crate::owned_segment::{OwnedSegment, Request};
-use crate::status::{EMPTY, FromStatus, NOT_EMPTY};
+use crate::owned_segment::Request;
+use crate::status::{EMPTY, NOT_EMPTY};
 use core::mem::replace;
 
 /// A segment, a recorder, or nothing. C begins with zeros.
@@ -76,41 +75,16 @@ impl Handle {
         self.boxed.get_mut().serve(passed, request)
     }
 
-    /// The units of what it holds: those that a segment has left to give, or that a recorder may still spend.
-    pub(crate) fn units(&mut self) -> Result<u32, u32>
-        ensures { ByHandle (Err 3) (λ held units after. (units ≡ units_of held) × (after ≡ held)) self.old.boxed.held result self.new.boxed.held }
-    {
-        if !self.full {
-            return Err(EMPTY);
-        }
-        self.boxed.get_mut().units()
-    }
-
-    /// Calls the recorder that it holds, which stays where it is. Without one, nothing changes, and the call returns `EMPTY` or `OTHER_KIND`.
-    pub(crate) fn call_recorder<B: FromStatus, F: FnOnce(&mut JoinableRecorder) -> B>(
-        &mut self,
-        call: F,
-    ) -> B
+    /// Calls what it holds, which stays where it is. A handle that holds nothing returns `empty`, and stays so.
+    pub(crate) fn call<B, F: FnOnce(&mut Contents) -> B>(&mut self, empty: B, call: F) -> B
+    where
+        B: Drop,
         requires { F.IsAlwaysCallable call }
-        ensures { ByHandle (B.with_status 3) (ByRecorder (B.with_status 5) (FnOnceReturnsAtMut F.FnOnce call)) self.old.boxed.held result self.new.boxed.held }
+        ensures { ByHandle empty (FnOnceReturnsAtMut F.FnOnce call) self.old.boxed.held result self.new.boxed.held }
     {
         if !self.full {
-            return B::from_status(EMPTY);
+            return empty;
         }
-        self.boxed.get_mut().call_recorder(call)
-    }
-
-    /// Calls the segment that it holds in the same way.
-    pub(crate) fn call_segment<B: FromStatus, F: FnOnce(&mut OwnedSegment) -> B>(
-        &mut self,
-        call: F,
-    ) -> B
-        requires { F.IsAlwaysCallable call }
-        ensures { ByHandle (B.with_status 3) (BySegment (B.with_status 5) (FnOnceReturnsAtMut F.FnOnce call)) self.old.boxed.held result self.new.boxed.held }
-    {
-        if !self.full {
-            return B::from_status(EMPTY);
-        }
-        self.boxed.get_mut().call_segment(call)
+        call(self.boxed.get_mut())
     }
 }

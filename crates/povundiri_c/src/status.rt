@@ -1,6 +1,6 @@
 //! What each export returns: 0, or the number of what went wrong.
 
-ghost use Rattle.std.specs.Prelude.{◌≡◌, ℕ, Err};
+ghost use Rattle.std.specs.Prelude.{◌≡◌};
 ghost use Rattle.povundiri_c.specs.Recorders.{refused_with};
 ghost use Rattle.povundiri_c.specs.Status.{status_of_refusal, status_of_open_fault, status_of_adopt_fault, status_of_image_fault};
 
@@ -65,38 +65,6 @@ impl Refused {
         ensures { result ≡ refused_with status }
     {
         Refused { status, length: 0 }
-    }
-}
-
-/// What a call returns that is refused for a status, with no length.
-pub(crate) trait FromStatus {
-    ghost with_status: { ℕ → Self };
-
-    fn from_status(status: u32) -> Self
-        ensures { result ≡ with_status status };
-}
-
-impl FromStatus for u32 {
-    ghost with_status = { λ status. status };
-
-    fn from_status(status: u32) -> u32 {
-        status
-    }
-}
-
-impl<A> FromStatus for Result<A, u32> {
-    ghost with_status = { λ status. Err status };
-
-    fn from_status(status: u32) -> Result<A, u32> {
-        Err(status)
-    }
-}
-
-impl<A> FromStatus for Result<A, Refused> {
-    ghost with_status = { λ status. Err (refused_with status) };
-
-    fn from_status(status: u32) -> Result<A, Refused> {
-        Err(Refused::of(status))
     }
 }
 

@@ -4,7 +4,7 @@ ghost use Rattle.std.specs.Prelude.{◌≡◌, ◌≤◌, length};
 ghost use Rattle.povundiri_c.specs.Asking.{AnswersDeltaCall, AnswersNextCall, AnswersRecordsCall, AnswersSnapshotCall, AreGiven};
 
 use crate::handle::Handle;
-use crate::status::{DONE, SHORT};
+use crate::status::{DONE, EMPTY, Refused, SHORT};
 use crate::types::{Count, Totals};
 
 // Writes counts to the front of an array that has room for them.
@@ -29,7 +29,7 @@ pub extern "C" fn povundiri_proved_delta(
     ensures { AnswersDeltaCall hist recorder.old.boxed.held result totals.old totals.new counts.old counts.new recorder.new.boxed.held }
 {
     let room = counts.len();
-    match recorder.call_recorder(|recorder| recorder.delta(hist, room)) {
+    match recorder.call(Err(Refused::of(EMPTY)), |held| held.delta(hist, room)) {
         Ok(delta) => {
             write_counts(&delta.counts, counts);
             *totals = Totals {
@@ -57,7 +57,7 @@ pub extern "C" fn povundiri_proved_snapshot(
     ensures { AnswersSnapshotCall hist recorder.old.boxed.held result totals.old totals.new counts.old counts.new recorder.new.boxed.held }
 {
     let room = counts.len();
-    match recorder.call_recorder(|recorder| recorder.snapshot(hist, room)) {
+    match recorder.call(Err(Refused::of(EMPTY)), |held| held.snapshot(hist, room)) {
         Ok(snapshot) => {
             write_counts(&snapshot.counts, counts);
             *totals = Totals {
@@ -83,7 +83,7 @@ pub extern "C" fn povundiri_proved_records(
 ) -> u32
     ensures { AnswersRecordsCall recorder.old.boxed.held result needed.old needed.new records.old records.new recorder.new.boxed.held }
 {
-    let found = match recorder.call_recorder(|recorder| recorder.records()) {
+    let found = match recorder.call(Err(EMPTY), |held| held.records()) {
         Ok(found) => found,
         Err(status) => return status,
     };
@@ -104,7 +104,7 @@ pub extern "C" fn povundiri_proved_next_shared(
 ) -> u32
     ensures { AnswersNextCall cursor recorder.old.boxed.held result «record».old «record».new recorder.new.boxed.held }
 {
-    match recorder.call_recorder(|recorder| recorder.next_shared(cursor)) {
+    match recorder.call(Err(EMPTY), |held| held.next_shared(cursor)) {
         Ok(next) => {
             *record = next;
             DONE

@@ -6,7 +6,7 @@ ghost use Rattle.povundiri_c.specs.Calls.{OfRecorder};
 ghost use Rattle.povundiri_c.specs.Recorders.{Adds, AtPlace, Marks};
 
 use crate::handle::Handle;
-use crate::status::{BAD_KIND, DONE, EMPTY, NO_MEMORY};
+use crate::status::{BAD_KIND, DONE, EMPTY, NO_MEMORY, Refused};
 use crate::types::{HistSpec, Item};
 use live_segment::{CustomValues, Spec};
 use std::alloc::{AllocError, Global};
@@ -61,7 +61,7 @@ pub extern "C" fn povundiri_proved_hist(
         Ok(spec) => spec,
         Err(status) => return status,
     };
-    match recorder.call_recorder(|recorder| recorder.hist(name, &spec)) {
+    match recorder.call(Err(EMPTY), |held| held.hist(name, &spec)) {
         Ok(place) => {
             *hist = place;
             DONE
@@ -80,7 +80,7 @@ pub extern "C" fn povundiri_proved_add(
 ) -> u32
     ensures { OfRecorder (AtPlace 8 (Adds value count) hist) recorder.old.boxed.held result recorder.new.boxed.held }
 {
-    recorder.call_recorder(move |recorder| recorder.add(hist, value, count))
+    recorder.call(EMPTY, move |held| held.add(hist, value, count))
 }
 
 /// Counts a batch; and how many of its items are counted, also where it is refused.
@@ -101,7 +101,10 @@ pub extern "C" fn povundiri_proved_batch(
     let Ok(pairs) = pairs_of(alloc, items) else {
         return NO_MEMORY;
     };
-    match recorder.call_recorder(|recorder| recorder.batch(hist, &pairs, sum)) {
+    match recorder.call(
+        Err(Refused::of(EMPTY)),
+        |held| held.batch(hist, &pairs, sum),
+    ) {
         Ok(()) => {
             *added = items.len();
             DONE
@@ -118,5 +121,5 @@ pub extern "C" fn povundiri_proved_batch(
 pub extern "C" fn povundiri_proved_set_corrupt(recorder: &mut Handle) -> u32
     ensures { OfRecorder Marks recorder.old.boxed.held result recorder.new.boxed.held }
 {
-    recorder.call_recorder(|recorder| recorder.set_corrupt())
+    recorder.call(EMPTY, |held| held.set_corrupt())
 }

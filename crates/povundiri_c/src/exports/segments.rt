@@ -11,7 +11,7 @@ ghost use Rattle.povundiri_c.specs.Segments.{AnswersCloseCall, InLentRoom, IntoE
 use crate::contents::Contents;
 use crate::handle::Handle;
 use crate::owned_segment::{OwnedSegment, Request};
-use crate::status::{DONE, NO_MEMORY, NOT_EMPTY, of_adopt_fault, of_open_fault};
+use crate::status::{DONE, EMPTY, NO_MEMORY, NOT_EMPTY, of_adopt_fault, of_open_fault};
 use crate::types::SegmentShape;
 use live_segment::{Lender, Memory, Opener, Room, Segment};
 use std::alloc::Global;
@@ -210,7 +210,7 @@ pub extern "C" fn povundiri_proved_recorder(
     let Ok(place) = Box::new(alloc, Contents::Nothing) else {
         return NO_MEMORY;
     };
-    match segment.call_segment(|segment| segment.recorder(units)) {
+    match segment.call(Err(EMPTY), |held| held.recorder(units)) {
         Ok(joinable) => {
             out.put(Contents::Recorder(joinable).put_into(place));
             DONE
@@ -275,7 +275,7 @@ pub extern "C" fn povundiri_proved_units(handle: &mut Handle, units: &mut u32) -
     ensures answer { IsGiven (asked_of units_of handle.old.boxed.held) result units.old units.new }
     ensures same { handle.new.boxed.held ≡ handle.old.boxed.held }
 {
-    match handle.units() {
+    match handle.call(Err(EMPTY), |held| held.units()) {
         Ok(found) => {
             *units = found;
             DONE
@@ -290,7 +290,7 @@ pub extern "C" fn povundiri_proved_outstanding(segment: &mut Handle, outstanding
     ensures answer { IsGiven (asked_of outstanding_in segment.old.boxed.held) result outstanding.old outstanding.new }
     ensures same { segment.new.boxed.held ≡ segment.old.boxed.held }
 {
-    match segment.call_segment(|segment| Ok(segment.outstanding())) {
+    match segment.call(Err(EMPTY), |held| held.outstanding()) {
         Ok(found) => {
             *outstanding = found;
             DONE

@@ -1,9 +1,0 @@
-use Rattle.std.proofs.Common.{refl}
-use Rattle.std.specs.Fn.{FnOnceReturnsAtMut}
-use Rattle.povundiri_c.proofs.Calling.{by_recorder}
-use Rattle.povundiri_c.proofs.contents.Contents.call_recorder.Goals as goal
-
-pub returns-in-Recorder : goal.returns-in-Recorder
-returns-in-Recorder g c =
-    by_recorder _ (FnOnceReturnsAtMut g.F.FnOnce c.args.call) _ c.in-Recorder.recorder _ _ c.in-Recorder.is
-    (record { shown = _; shows = refl; left = _; met = c.call.ensures; leaves = refl })

@@ -3,42 +3,42 @@ use Rattle.std.proofs.Common.{◌≡◌, ℕ, ap, sym, subst, refl, Option, Some
 use Rattle.std.proofs.lemmas.Result.{MatchResult-at_err, MatchResult-at_ok}
 use Rattle.live_segment.specs.declared.recorder.Hist.{Hist}
 use Rattle.owned_recorder.specs.declared.owned.OwnedRecorder.{OwnedRecorder}
-use Rattle.povundiri_c.specs.declared.held.Held.{Held}
-use Rattle.povundiri_c.specs.declared.held.Held.TheVariants as held
+use Rattle.povundiri_c.specs.declared.contents.Contents.{Contents}
+use Rattle.povundiri_c.specs.declared.contents.Contents.TheVariants as contents
 use Rattle.povundiri_c.specs.declared.status.Refused.{Refused}
-use Rattle.povundiri_c.specs.declared.worker.Worker.{Worker}
-use Rattle.povundiri_c.specs.declared.owner.Owner.{Owner}
-use Rattle.povundiri_c.specs.declared.owner.Request.{Request}
+use Rattle.povundiri_c.specs.declared.joinable_recorder.JoinableRecorder.{JoinableRecorder}
+use Rattle.povundiri_c.specs.declared.owned_segment.OwnedSegment.{OwnedSegment}
+use Rattle.povundiri_c.specs.declared.owned_segment.Request.{Request}
 use Rattle.povundiri_c.specs.Calls.{ByRecorder}
-use Rattle.povundiri_c.specs.Joins.{BySegment, Serves, ServesGuest, worker_of}
+use Rattle.povundiri_c.specs.Joins.{BySegment, Serves, ServesPassed, recorder_in}
 use Rattle.povundiri_c.specs.Recorders.{AtPlaceInRoom, Finds, refused_with}
 
 -- a recorder is held
-pub by_worker : {A : Type 0} (other : A) (Calls : OwnedRecorder → A → OwnedRecorder → Type 0) (it : Held) (worker after : Worker) (answer : A)
-    → it ≡ held.Worker worker → after.tray ≡ worker.tray → Calls worker.recorder answer after.recorder
-    → ByRecorder other Calls it answer (held.Worker after)
-by_worker other Calls it worker after answer is kept calls =
-    subst (λ (one : Held). ByRecorder other Calls one answer (held.Worker after)) (sym is) (after, refl, kept, calls)
+pub by_recorder : {A : Type 0} (other : A) (Calls : OwnedRecorder → A → OwnedRecorder → Type 0) (it : Contents) (joinable after : JoinableRecorder) (answer : A)
+    → it ≡ contents.Recorder joinable → after.mailbox ≡ joinable.mailbox → Calls joinable.owned answer after.owned
+    → ByRecorder other Calls it answer (contents.Recorder after)
+by_recorder other Calls it joinable after answer is kept calls =
+    subst (λ (one : Contents). ByRecorder other Calls one answer (contents.Recorder after)) (sym is) (after, refl, kept, calls)
 
 -- a segment is held
-pub by_owner : {A : Type 0} (other : A) (Calls : Owner → A → Owner → Type 0) (it : Held) (owner after : Owner) (answer : A)
-    → it ≡ held.Owner owner → Calls owner answer after → BySegment other Calls it answer (held.Owner after)
-by_owner other Calls it owner after answer is calls =
-    subst (λ (one : Held). BySegment other Calls one answer (held.Owner after)) (sym is) (after, refl, calls)
+pub by_segment : {A : Type 0} (other : A) (Calls : OwnedSegment → A → OwnedSegment → Type 0) (it : Contents) (owned after : OwnedSegment) (answer : A)
+    → it ≡ contents.Segment owned → Calls owned answer after → BySegment other Calls it answer (contents.Segment after)
+by_segment other Calls it owned after answer is calls =
+    subst (λ (one : Contents). BySegment other Calls one answer (contents.Segment after)) (sym is) (after, refl, calls)
 
--- the guest is no recorder
-pub serves_none : (request : Request) (guest left : Held) (owner : Owner) → worker_of guest ≡ None → left ≡ guest → ServesGuest request guest owner (5, Some left) owner
-serves_none request guest left owner none same =
-    subst (λ (one : Option Worker). MatchOption one (◌≡◌ {A = ℕ × Option Held} (5, Some left) (5, Some guest) × (owner ≡ owner))
-    (λ worker. (back : Option Worker) × (Some left ≡ option_map held.Worker back) × Serves request worker owner 5 back owner)) (sym none)
+-- what is passed is no recorder
+pub serves_none : (request : Request) (passed left : Contents) (owned : OwnedSegment) → recorder_in passed ≡ None → left ≡ passed → ServesPassed request passed owned (5, Some left) owned
+serves_none request passed left owned none same =
+    subst (λ (one : Option JoinableRecorder). MatchOption one (◌≡◌ {A = ℕ × Option Contents} (5, Some left) (5, Some passed) × (owned ≡ owned))
+    (λ joinable. (back : Option JoinableRecorder) × (Some left ≡ option_map contents.Recorder back) × Serves request joinable owned 5 back owned)) (sym none)
     (λ i. (5, Some (same i)), refl)
 
--- the guest is a recorder
-pub serves_some : (request : Request) (guest : Held) (worker : Worker) (owner after : Owner) (answer : ℕ × Option Held) (back : Option Worker) → worker_of guest ≡ Some worker
-    → answer.1 ≡ option_map held.Worker back → Serves request worker owner answer.0 back after → ServesGuest request guest owner answer after
-serves_some request guest worker owner after answer back is same served =
-    subst (λ (one : Option Worker). MatchOption one ((answer ≡ (5, Some guest)) × (after ≡ owner))
-    (λ worker. (back : Option Worker) × (answer.1 ≡ option_map held.Worker back) × Serves request worker owner answer.0 back after)) (sym is)
+-- it is a recorder
+pub serves_some : (request : Request) (passed : Contents) (joinable : JoinableRecorder) (owned after : OwnedSegment) (answer : ℕ × Option Contents) (back : Option JoinableRecorder) → recorder_in passed ≡ Some joinable
+    → answer.1 ≡ option_map contents.Recorder back → Serves request joinable owned answer.0 back after → ServesPassed request passed owned answer after
+serves_some request passed joinable owned after answer back is same served =
+    subst (λ (one : Option JoinableRecorder). MatchOption one ((answer ≡ (5, Some passed)) × (after ≡ owned))
+    (λ joinable. (back : Option JoinableRecorder) × (answer.1 ≡ option_map contents.Recorder back) × Serves request joinable owned answer.0 back after)) (sym is)
     (back, same, served)
 
 -- ---- with room for all keys of a histogram

@@ -7,7 +7,7 @@ use Rattle.segment_image.specs.Words.{word_at}
 use Rattle.image_reader.proofs.Headers.{checked_ok}
 use Rattle.live_segment.specs.Closing.{IsImageOf}
 use Rattle.live_segment.specs.declared.rule.Setting.{Setting}
-use Rattle.povundiri_c.specs.declared.held.Held.{Held}
+use Rattle.povundiri_c.specs.declared.contents.Contents.{Contents}
 use Rattle.povundiri_c.specs.declared.status.Refused.{Refused}
 use Rattle.povundiri_c.specs.Segments.{AnswersClose, AnswersCloseCall, IsClosedWith}
 
@@ -19,8 +19,8 @@ whole setting words is =
     sym size ∙ ap (λ (shape : Dimensions). shape.size) is.shape
 
 -- what a handle held was closed
-pub answers_some : (old new : Option Held) (it : Held) (answer : Result (List ℕ) Refused) (status needed needed' : ℕ) (words words' : List ℕ) → old ≡ Some it
+pub answers_some : (old new : Option Contents) (it : Contents) (answer : Result (List ℕ) Refused) (status needed needed' : ℕ) (words words' : List ℕ) → old ≡ Some it
     → AnswersClose (length words) it answer → IsClosedWith it answer status needed' words words' new
     → AnswersCloseCall old status needed needed' words words' new
 answers_some old new it answer status needed needed' words words' is answers closed =
-    subst (λ (one : Option Held). AnswersCloseCall one status needed needed' words words' new) (sym is) (answer, answers, closed)
+    subst (λ (one : Option Contents). AnswersCloseCall one status needed needed' words words' new) (sym is) (answer, answers, closed)

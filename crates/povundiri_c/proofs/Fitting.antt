@@ -12,8 +12,8 @@ use Rattle.live_segment.specs.List.Values.{AreFewKeys}
 use Rattle.owned_recorder.specs.Answers.{ShowsFewKeys, TakesFewKeys}
 use Rattle.owned_recorder.specs.Desks.{Means, view_of_desk}
 use Rattle.owned_recorder.specs.declared.owned.OwnedRecorder.{OwnedRecorder}
-use Rattle.povundiri_c.specs.declared.held.Held.{Held}
-use Rattle.povundiri_c.specs.declared.held.Held.TheVariants as held
+use Rattle.povundiri_c.specs.declared.contents.Contents.{Contents}
+use Rattle.povundiri_c.specs.declared.contents.Contents.TheVariants as contents
 use Rattle.povundiri_c.specs.declared.status.Refused.{Refused}
 use Rattle.povundiri_c.specs.Calls.{SizesOfRecorder}
 use Rattle.povundiri_c.specs.Recorders.{AtPlaceInRoom, TakesDelta, TakesSnapshot, known_by, with_refused}
@@ -70,8 +70,8 @@ module _ {A : Type 0} (counts : A → List (ℤ × ℕ)) (Calls : Hist → Owned
       (λ behind. absurd (answered value _ (unknown behind).0))
       (cases_lt place (known_by old))
 
-  pub fits : (held held' : Option Held) → SizesOfRecorder (AtPlaceInRoom place room Calls) held (Ok value) held' → length (counts value) ≤ room
+  pub fits : (held held' : Option Contents) → SizesOfRecorder (AtPlaceInRoom place room Calls) held (Ok value) held' → length (counts value) ≤ room
   fits None held' (is, same) = absurd (answered value _ is)
-  fits (Some (held.Owner owner)) held' (after, new, (is, same)) = absurd (answered value _ is)
-  fits (Some held.Nothing) held' (after, new, (is, same)) = absurd (answered value _ is)
-  fits (Some (held.Worker worker)) held' (after, new, (mine, is, tray, calls)) = fits_recorder worker.recorder mine.recorder calls
+  fits (Some (contents.Segment owned)) held' (after, new, (is, same)) = absurd (answered value _ is)
+  fits (Some contents.Nothing) held' (after, new, (is, same)) = absurd (answered value _ is)
+  fits (Some (contents.Recorder joinable)) held' (after, new, (mine, is, mailbox, calls)) = fits_recorder joinable.owned mine.owned calls

@@ -1,4 +1,4 @@
--- What a segment's owner and its tray have is of that segment.
+-- What a segment that C holds and its mailbox have is of that segment.
 use Rattle.std.proofs.Common.{◌≡◌, ◌<◌, ◌≤◌, ℕ, refl, sym, ap, ◌∙◌, subst, Option, Some, None, Result, Ok, Err, MatchOption, MatchResult, arith}
 use Rattle.std.proofs.Props.{props}
 use Rattle.std.proofs.lemmas.Result.{MatchResult-at_ok}
@@ -14,10 +14,10 @@ use Rattle.live_segment.specs.Holders.{IsMadeWith, IsSameOpener, view_of_opener}
 use Rattle.live_segment.specs.Lending.{HasUnits}
 use Rattle.owned_recorder.specs.Desks.{IsSameDesk, view_of_desk}
 use Rattle.owned_recorder.specs.Holders.{IsRecorderOf, RecordsInto, view_of_owned}
-use Rattle.povundiri_c.specs.declared.worker.Worker.{Worker}
-use Rattle.povundiri_c.specs.Tray.{IsGuestOf, cursors_of}
+use Rattle.povundiri_c.specs.declared.joinable_recorder.JoinableRecorder.{JoinableRecorder}
+use Rattle.povundiri_c.specs.Mailbox.{BelongsTo, cursors_of}
 
--- ---- a segment's owner
+-- ---- a segment that C holds
 
 -- its segment has as many shared cursors as the opener says
 pub counts : (segment : Segment) (cursors : ℕ) (opener : Opener) → IsMadeWith segment opener → cursors ≡ segment.setting.cursors → cursors ≡ cursors_of opener
@@ -25,20 +25,20 @@ counts segment cursors opener made is = is ∙ sym made.of.cursors
 
 -- ---- a recorder
 
--- one of the segment is one of the tray's opener
-pub of_tray : (segment : Segment) (key : Opener) (owned : OwnedRecorder) → IsMadeWith segment key → arc_value owned.segment ≡ segment
-    → RecordsInto segment owned → IsGuestOf owned key
-of_tray segment key owned first is into =
+-- one of the segment is one of the mailbox's opener
+pub of_mailbox : (segment : Segment) (key : Opener) (owned : OwnedRecorder) → IsMadeWith segment key → arc_value owned.segment ≡ segment
+    → RecordsInto segment owned → BelongsTo owned key
+of_mailbox segment key owned first is into =
     (into ∙ sym first.table, ap (λ (one : Segment). one.setting.cursors) is ∙ sym first.of.cursors)
 
--- one of the tray's opener is one of the segment's
-pub of_opener : (segment : Segment) (key opener : Opener) (owned : OwnedRecorder) → IsMadeWith segment key → IsMadeWith segment opener → IsGuestOf owned key
+-- one of the mailbox's opener is one of the segment's
+pub of_opener : (segment : Segment) (key opener : Opener) (owned : OwnedRecorder) → IsMadeWith segment key → IsMadeWith segment opener → BelongsTo owned key
     → IsRecorderOf owned opener
 of_opener segment key opener owned first made of = of.0 ∙ first.table ∙ sym made.table
 
 -- one that was lent units is one of the same opener's segment still
-pub guest_still : (key : Opener) (old new : OwnedRecorder) → new.segment ≡ old.segment → IsSameDesk old.desk new.desk → IsGuestOf old key → IsGuestOf new key
-guest_still key old new kept same of = (same.table ∙ of.0, ap (λ (segment : Arc Segment Global). (arc_value segment).setting.cursors) kept ∙ of.1)
+pub belongs_still : (key : Opener) (old new : OwnedRecorder) → new.segment ≡ old.segment → IsSameDesk old.desk new.desk → BelongsTo old key → BelongsTo new key
+belongs_still key old new kept same of = (same.table ∙ of.0, ap (λ (segment : Arc Segment Global). (arc_value segment).setting.cursors) kept ∙ of.1)
 
 -- units that the opener had were lent
 pub lent : (units : ℕ) (result : Result (Unit {0}) Refusal) (old new : Opener) (before after : OwnedRecorder) → HasUnits units (view_of_opener old) result
@@ -57,19 +57,19 @@ unrefused {T} None result owned P held is = (refl, MatchResult-at_ok P (λ _. �
 unrefused {T} (Some why) result owned P held is = absurd (subst (λ (one : Result OwnedRecorder T). MatchResult one (λ _. Unit {0}) (λ _. ⊥)) (sym is ∙ held) tt)
 
 -- one that came back is the one that it was
-pub same_worker : (worker : Worker) (owned : OwnedRecorder) (fits : IsGuestOf owned (arc_value worker.tray).table.shared.key)
-    (counted : worker.cursors ≡ cursors_of (arc_value worker.tray).table.shared.key) → owned ≡ worker.recorder
-    → ◌≡◌ {A = Worker} (record { recorder = owned; tray = worker.tray; cursors = worker.cursors; fits = fits; counted = counted }) worker
-same_worker worker owned fits counted is =
-    let key = (arc_value worker.tray).table.shared.key in
-    let guests : IsProp (IsGuestOf worker.recorder key) = hlevel props in
-    let counts : IsProp (worker.cursors ≡ cursors_of key) = hlevel props in
-    subst (λ (one : OwnedRecorder). (of : IsGuestOf one key)
-    → ◌≡◌ {A = Worker} (record { recorder = one; tray = worker.tray; cursors = worker.cursors; fits = of; counted = counted }) worker) (sym is)
-    (λ of i. record { recorder = worker.recorder; tray = worker.tray; cursors = worker.cursors; fits = guests of worker.fits i; counted = counts counted worker.counted i }) fits
+pub same_recorder : (joinable : JoinableRecorder) (owned : OwnedRecorder) (fits : BelongsTo owned (arc_value joinable.mailbox).table.shared.key)
+    (counted : joinable.cursors ≡ cursors_of (arc_value joinable.mailbox).table.shared.key) → owned ≡ joinable.owned
+    → ◌≡◌ {A = JoinableRecorder} (record { owned = owned; mailbox = joinable.mailbox; cursors = joinable.cursors; fits = fits; counted = counted }) joinable
+same_recorder joinable owned fits counted is =
+    let key = (arc_value joinable.mailbox).table.shared.key in
+    let fitting : IsProp (BelongsTo joinable.owned key) = hlevel props in
+    let counts : IsProp (joinable.cursors ≡ cursors_of key) = hlevel props in
+    subst (λ (one : OwnedRecorder). (of : BelongsTo one key)
+    → ◌≡◌ {A = JoinableRecorder} (record { owned = one; mailbox = joinable.mailbox; cursors = joinable.cursors; fits = of; counted = counted }) joinable) (sym is)
+    (λ of i. record { owned = joinable.owned; mailbox = joinable.mailbox; cursors = joinable.cursors; fits = fitting of joinable.fits i; counted = counts counted joinable.counted i }) fits
 
 -- its segment has a shared cursor of this number
-pub has_cursor : (key : Opener) (owned : OwnedRecorder) (cursor cursors : ℕ) → IsGuestOf owned key → cursors ≡ cursors_of key → cursor < cursors
+pub has_cursor : (key : Opener) (owned : OwnedRecorder) (cursor cursors : ℕ) → BelongsTo owned key → cursors ≡ cursors_of key → cursor < cursors
     → cursor < (view_of_desk owned.desk).segment.cursors
 has_cursor key owned cursor cursors of is below =
     subst (λ (n : ℕ). cursor < n) (is ∙ sym of.1 ∙ sym owned.fits.seated.of.cursors) below

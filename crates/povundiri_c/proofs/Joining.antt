@@ -1,50 +1,138 @@
 -- What a segment makes of a recorder that is passed to it.
-use Rattle.std.proofs.Common.{◌≡◌, ◌≢◌, ◌⊎◌, inl, inr, true, is_some, Option, Some, None, MatchOption, Result, Ok, Err, refl, sym, subst, ap}
+use Rattle.std.proofs.Common.{◌≡◌, ◌≢◌, ◌⊎◌, ℕ, inl, inr, Option, Some, None, MatchOption, Result, Ok, Err, refl, sym, subst, ap, ◌∙◌}
+use Rattle.std.specs.Arc.{arc_value}
+use Rattle.std.specs.declared.alloc.Global.{Global}
+use Rattle.std.specs.declared.sync.Arc.{Arc}
 use Rattle.atomic_table.specs.Seated.{TableId}
+use Rattle.segment_machine.specs.Seats.{giver, joined}
+use Rattle.live_segment.specs.Holders.{IsSameOpener, view_of_opener}
 use Rattle.live_segment.specs.declared.opener.Opener.{Opener}
+use Rattle.owned_recorder.specs.Holders.{IsRecorderOf, view_of_owned}
 use Rattle.owned_recorder.specs.declared.owned.OwnedRecorder.{OwnedRecorder}
-use Rattle.povundiri_c.specs.declared.owner.Owner.{Owner}
-use Rattle.povundiri_c.specs.Joins.{HasJoined, IsSameOwner}
-use Rattle.povundiri_c.specs.Tray.{HasMet, Passes, TraySeat}
+use Rattle.povundiri_c.specs.declared.joinable_recorder.JoinableRecorder.{JoinableRecorder}
+use Rattle.povundiri_c.specs.declared.mailbox.Mailbox.{Mailbox}
+use Rattle.povundiri_c.specs.declared.owned_segment.OwnedSegment.{OwnedSegment}
+use Rattle.povundiri_c.specs.Joins.{HasJoined, HasOpener, IsFound, IsLent, IsNotFound, IsPassed, IsSameSegment, KeepsSegment, mailbox_of_recorder, mailbox_of_segment}
+use Rattle.povundiri_c.specs.Mailbox.{BelongsTo, HasMet, IsOfOpener, MailboxSeat, Passes}
+use Rattle.povundiri_c.proofs.Holding.{of_opener}
 
 -- what a recorder was found to be
 pub matched : {A : Type 0} (P : Type 0) (Q : A → Type 0) (found : Option A) (one : A) → found ≡ Some one → Q one → MatchOption found P Q
 matched {A} P Q found one is holds = subst (λ (it : Option A). MatchOption it P Q) (sym is) holds
 
-module _ (from to : TableId) (key : Opener) (recorder : OwnedRecorder) (before after : TraySeat × TraySeat) (result : Result (Option OwnedRecorder × Option OwnedRecorder) OwnedRecorder)
-    (passes : Passes from to key recorder before result after) where
-  abbrev at : Result (Option OwnedRecorder × Option OwnedRecorder) OwnedRecorder → Type 0
-  at one = Passes from to key recorder before one after
+-- what `pass` says of a recorder, of the mailboxes that it and the segment have
+module _ (joinable : JoinableRecorder) (old : OwnedSegment) (its own : Mailbox) (result : Result (Option OwnedRecorder × Option OwnedRecorder) OwnedRecorder) (after : MailboxSeat × MailboxSeat)
+    (are : (its ≡ arc_value joinable.mailbox) × (own ≡ arc_value old.mailbox))
+    (passes : Passes its.table.shared.table_id own.table.shared.table_id own.table.shared.key joinable.owned (old.keeper, old.gone) result after) where
+  abbrev from : TableId
+  from = mailbox_of_recorder joinable
+
+  abbrev to : TableId
+  to = mailbox_of_segment old
+
+  abbrev key : Opener
+  key = (arc_value old.mailbox).table.shared.key
+
+  abbrev Says : Result (Option OwnedRecorder × Option OwnedRecorder) OwnedRecorder → Type 0
+  Says one = Passes from to key joinable.owned (old.keeper, old.gone) one after
+
+  said : Says result
+  said = subst (λ (x : Mailbox × Mailbox). Passes x.0.table.shared.table_id x.1.table.shared.table_id x.1.table.shared.key joinable.owned (old.keeper, old.gone) result after)
+      (λ i. (are.0 i, are.1 i)) passes
 
   -- it has come back, so it is of another segment
   pub back_is : (met : Option OwnedRecorder) (back : OwnedRecorder) → result ≡ Ok (met, Some back)
-      → (back ≡ recorder) × (after.1 ≡ before.1) × (met ≡ None → after.0 ≡ before.0) × (from ≢ to)
-  back_is met back is = let it = subst at is passes in (it.1.0, it.1.1, it.2, λ e. absurd (cc (ap (λ (x : Option OwnedRecorder × Option OwnedRecorder). x.1) (it.3 e))))
+      → (back ≡ joinable.owned) × (after.1 ≡ old.gone) × (met ≡ None → after.0 ≡ old.keeper) × (from ≢ to)
+  back_is met back is =
+      let it = subst Says is said in
+      (it.1.0, it.1.1, it.2, λ e. absurd (cc (ap (λ (x : Option OwnedRecorder × Option OwnedRecorder). x.1) (it.3 e))))
 
-  -- it has not come back
-  pub gone_is : (met : Option OwnedRecorder) → result ≡ Ok (met, None)
-      → (from ≢ to → HasMet from recorder after.1) × (met ≡ None → after.0 ≡ before.0) × (from ≡ to → met ≡ Some recorder)
-  gone_is met is = let it = subst at is passes in (it.1, it.2, λ e. ap (λ (x : Option OwnedRecorder × Option OwnedRecorder). x.0) (it.3 e))
+  -- what was met is of the segment
+  pub met_is : (met back : Option OwnedRecorder) → result ≡ Ok (met, back) → IsOfOpener key met
+  met_is met back is = (subst Says is said).0
 
-  -- its tray was in use
-  pub busy_is : (back : OwnedRecorder) → result ≡ Err back → (back ≡ recorder) × (after ≡ before)
-  busy_is back is = subst at is passes
+  -- it has not come back, and this was found
+  pub found_is : (found : OwnedRecorder) → result ≡ Ok (Some found, None)
+      → BelongsTo found key × (from ≡ to → found ≡ joinable.owned) × (from ≢ to → HasMet from joinable.owned after.1)
+  found_is found is =
+      let it = subst Says is said in
+      (it.0, (λ e. cc (ap (λ (x : Option OwnedRecorder × Option OwnedRecorder). x.0) (it.3 e))), it.1)
+
+  -- it has not come back, and nothing was found
+  pub gone_is : result ≡ Ok (None, None) → (from ≢ to) × (from ≢ to → HasMet from joinable.owned after.1)
+  gone_is is =
+      let it = subst Says is said in
+      ((λ e. absurd (cc (ap (λ (x : Option OwnedRecorder × Option OwnedRecorder). x.0) (it.3 e)))), it.1)
+
+  -- its mailbox was in use
+  pub busy_is : (back : OwnedRecorder) → result ≡ Err back → (back ≡ joinable.owned) × (after ≡ (old.keeper, old.gone))
+  busy_is back is = subst Says is said
 
 -- what was met is joined, if anything
-pub met_or : (met : Option OwnedRecorder) (old mid new : Owner) → (met ≡ None → IsSameOwner old mid) → MatchOption met (new ≡ mid) (λ owned. HasJoined owned old new)
-    → IsSameOwner old new ⊎ ((owned : OwnedRecorder) × HasJoined owned old new)
-met_or None old mid new same is = inl (subst (IsSameOwner old) (sym is) (same refl))
+pub met_or : (met : Option OwnedRecorder) (old mid new : OwnedSegment) → (met ≡ None → IsSameSegment old mid) → MatchOption met (new ≡ mid) (λ owned. HasJoined owned old new)
+    → IsSameSegment old new ⊎ ((owned : OwnedRecorder) × HasJoined owned old new)
+met_or None old mid new same is = inl (subst (IsSameSegment old) (sym is) (same refl))
 met_or (Some owned) old mid new same is = inr (owned, is)
 
--- the same of what is said of it
-pub either_met : {P : Type 0} {Q : OwnedRecorder → Type 0} (met : Option OwnedRecorder) → MatchOption met P Q → P ⊎ ((owned : OwnedRecorder) × Q owned)
-either_met None is = inl is
-either_met (Some owned) is = inr (owned, is)
+-- ---- what is done with a recorder that was found
 
-pub was_met : (P : Type 0) (Q : OwnedRecorder → Type 0) (met : Option OwnedRecorder) (recorder : OwnedRecorder) → met ≡ Some recorder → MatchOption met P Q → Q recorder
-was_met P Q met recorder is holds = subst (λ (it : Option OwnedRecorder). MatchOption it P Q) is holds
+-- it is a recorder of the opener
+pub found_of : (joinable : JoinableRecorder) (found : OwnedRecorder) (old mid : OwnedSegment) → IsFound joinable found old mid → IsRecorderOf found mid.opener
+found_of joinable found old mid is =
+    of_opener (arc_value mid.segment) (arc_value mid.mailbox).table.shared.key mid.opener found mid.first mid.made
+    (subst (λ (mailbox : Arc Mailbox Global). BelongsTo found (arc_value mailbox).table.shared.key) (sym is.0.1) is.1)
 
--- where there was one, that is it
-pub one_met : (P : Type 0) (Q : OwnedRecorder → Type 0) (met : Option OwnedRecorder) → is_some met ≡ true → MatchOption met P Q → (owned : OwnedRecorder) × Q owned
-one_met P Q None some is = absurd (cc some)
-one_met P Q (Some owned) some is = (owned, is)
+keeps_since : (old mid new : OwnedSegment) → HasOpener old mid → KeepsSegment mid new → KeepsSegment old new
+keeps_since old mid new has keeps =
+    (keeps.0 ∙ has.0, keeps.1 ∙ has.1, keeps.2 ∙ has.2, subst (λ (opener : Opener). IsSameOpener opener new.opener) has.3 keeps.3)
+
+-- what it is joined to is the segment as it was
+pub joined_since : (found : OwnedRecorder) (old mid new : OwnedSegment) → HasOpener old mid → HasJoined found mid new → HasJoined found old new
+joined_since found old mid new has is = (
+  keeps_since old mid new has is.0,
+  subst (λ (opener : Opener). IsRecorderOf found opener) has.3 is.1,
+  subst (λ (opener : Opener). view_of_opener new.opener ≡ joined (view_of_opener opener) (view_of_owned found)) has.3 is.2,
+)
+
+-- and so is what lends it units
+pub lent_since : (units : ℕ) (found : OwnedRecorder) (old mid new : OwnedSegment) (status : ℕ) (back : Option JoinableRecorder)
+    → HasOpener old mid → IsLent units found mid status back new → IsLent units found old status back new
+lent_since units found old mid new status back has (done, (after, is, (keeps, of, shared, kept, mine, theirs))) = (
+  done,
+  (
+    after,
+    is,
+    (
+      keeps_since old mid new has keeps,
+      subst (λ (opener : Opener). IsRecorderOf found opener) has.3 of,
+      shared,
+      kept,
+      subst (λ (opener : Opener). view_of_opener new.opener ≡ giver (view_of_opener opener) units) has.3 mine,
+      theirs,
+    ),
+  ),
+)
+
+module _ (Does : OwnedRecorder → OwnedSegment → ℕ → Option JoinableRecorder → OwnedSegment → Type 0) (Refuses : ℕ → Type 0)
+    (joinable : JoinableRecorder) (old : OwnedSegment) (status : ℕ) (back : Option JoinableRecorder) (new : OwnedSegment) where
+  -- it was found, and this is done with it
+  pub passed : (found : OwnedRecorder) (mid : OwnedSegment) → IsFound joinable found old mid → new.gone ≡ mid.gone → Does found old status back new
+      → IsPassed Does Refuses joinable old status back new
+  passed found mid is same does = (
+    λ own. inl (subst (λ (one : OwnedRecorder). Does one old status back new) (is.2 own) does),
+    λ other. inr (inr (subst (λ (seat : MailboxSeat). HasMet _ joinable.owned seat) (sym same) (is.3 other), inr (found, does))),
+  )
+
+  -- none was found
+  pub not_passed : Refuses 15 → IsNotFound joinable old status back new → IsPassed Does Refuses joinable old status back new
+  not_passed busy is = (
+    λ own. inr (kept (is.0 own)),
+    λ other. elim (is.1 other) [
+      | inl foreign ↦ inl foreign
+      | inr (inl one) ↦ inr (inl (kept one))
+      | inr (inr (gone, elsewhere)) ↦ inr (inr (gone, inl elsewhere))
+    ],
+  )
+    where
+      kept : {P : Type 0} → (status ≡ 15) × P → Refuses status × P
+      kept one = (subst Refuses (sym one.0) busy, one.1)

@@ -8,4 +8,4 @@ pub mod Making
 pub mod Passing
 pub mod Present
 pub mod Reporting
-pub mod Trays
+pub mod Mailboxes

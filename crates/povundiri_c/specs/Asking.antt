@@ -1,4 +1,4 @@
--- What C asks beside a handle, and how it is answered.
+-- What C passes beside a handle, and what a call returns.
 use Rattle.std.specs.Prelude.{◌≡◌, ◌≢◌, ◌<◌, ◌≤◌, ◌⊎◌, ◌==◌, ◌++◌, if◌then◌else◌, ℕ, ℤ, List, length, map, drop, Option, Some, None, Result, Ok, Err}
 use Rattle.std.specs.declared.vec.Vec.{Vec}
 use Rattle.std.specs.declared.alloc.Global.{Global}
@@ -6,7 +6,7 @@ use Rattle.bucket_ranges.specs.declared.spec.Spec.{Spec}
 use Rattle.bucket_ranges.specs.declared.spec.Spec.TheVariants.{Linear, Boolean, Custom, Sparse}
 use Rattle.segment_calls.specs.declared.answer.Delta.{Delta}
 use Rattle.segment_calls.specs.declared.answer.Snapshot.{Snapshot}
-use Rattle.povundiri_c.specs.declared.held.Held.{Held}
+use Rattle.povundiri_c.specs.declared.contents.Contents.{Contents}
 use Rattle.povundiri_c.specs.declared.status.Refused.{Refused}
 use Rattle.povundiri_c.specs.declared.types.Count.{Count}
 use Rattle.povundiri_c.specs.declared.types.HistSpec.{HistSpec}
@@ -24,11 +24,11 @@ spec_asked asked values =
     else (if asked.kind == 2 then Some Boolean else (if asked.kind == 3 then Some (Custom values) else (if asked.kind == 4 then Some Sparse else None)))
 
 -- The handle is empty, there is no such kind, or there was no memory for the values.
-abbrev pub IsNoHist : Option Held → Option Spec → ℕ → Type 0
+abbrev pub IsNoHist : Option Contents → Option Spec → ℕ → Type 0
 IsNoHist held spec status = ((held ≡ None) × (status ≡ 3)) ⊎ (((spec ≡ None) × (status ≡ 10)) ⊎ (status ≡ 13))
 
--- The place of a histogram of that spec is answered, or the status says why not. Or nothing was asked, and all is as before.
-abbrev pub AnswersHistCall : List ℕ → Option Spec → Option Held → ℕ → ℕ → ℕ → Option Held → Type 0
+-- The place of a histogram of that spec is returned, or the status says why not. Or nothing was called, and all is unchanged.
+abbrev pub AnswersHistCall : List ℕ → Option Spec → Option Contents → ℕ → ℕ → ℕ → Option Contents → Type 0
 AnswersHistCall name asked held status place place' held' =
     ((spec : Spec) × (asked ≡ Some spec) × (answer : Result ℕ ℕ) × GivesOfRecorder (FindsHist name spec) held answer held' × IsGiven answer status place place')
     ⊎ ((held' ≡ held) × (place' ≡ place) × IsNoHist held asked status)
@@ -39,14 +39,14 @@ AnswersHistCall name asked held status place place' held' =
 abbrev pub pair_of : Item → ℤ × ℕ
 pair_of item = (item.value, item.count)
 
--- All items are counted; or the status says why not, and beside it stands how many are counted all the same.
+-- All items are counted; or the status says why not, and it comes with how many are counted all the same.
 abbrev pub IsCounted : ℕ → Result (Unit {0}) Refused → ℕ → ℕ → Type 0
 IsCounted all (Ok _) status added = (status ≡ 0) × (added ≡ all)
 IsCounted all (Err refused) status added = (status ≡ refused.status) × (added ≡ refused.length)
 
--- The batch is counted, or the status says why not. Or nothing was asked, since the handle is empty or there was no memory for the items, and
--- all is as before.
-abbrev pub AnswersBatchCall : ℕ → List Item → ℤ → Option Held → ℕ → ℕ → ℕ → Option Held → Type 0
+-- The batch is counted, or the status says why not. Or nothing was called, since the handle is empty or there was no memory for the items, and
+-- all is unchanged.
+abbrev pub AnswersBatchCall : ℕ → List Item → ℤ → Option Contents → ℕ → ℕ → ℕ → Option Contents → Type 0
 AnswersBatchCall place items sum held status added added' held' =
     ((answer : Result (Unit {0}) Refused) × (held ≢ None)
     × SizesOfRecorder (AtPlace (Err (refused_with 8)) (Batches (map pair_of items) sum) place) held answer held'
@@ -59,11 +59,11 @@ AnswersBatchCall place items sum held status added added' held' =
 abbrev pub count_of : ℤ × ℕ → Count
 count_of given = record { key = given.0; count = given.1 }
 
--- all counts stand at the front of the array, which has room for them; what stands behind them is as before
+-- all counts are at the front of the array, which has room for them; what comes after them is unchanged
 abbrev pub AreGiven : List (ℤ × ℕ) → List Count → List Count → Type 0
 AreGiven counts old new = (length counts ≤ length old) × (new ≡ map count_of counts ++ drop (length counts) old)
 
--- The status says why a call is refused, and the length that goes with it is told; all else is as before.
+-- The status says why a call is refused, and its length is returned; all else is unchanged.
 abbrev pub IsRefused : Refused → ℕ → Totals → Totals → List Count → List Count → Type 0
 IsRefused refused status totals totals' old new =
     (status ≡ refused.status) × (totals' ≡ record totals { length = refused.length }) × (new ≡ old)
@@ -82,22 +82,22 @@ IsSnapshotGiven (Ok snapshot) status totals totals' old new =
     × AreGiven snapshot.counts.items old new
 IsSnapshotGiven (Err refused) status totals totals' old new = IsRefused refused status totals totals' old new
 
--- a delta of the histogram at a place is answered, where the array has room for all of its keys, or the status says why not
-abbrev pub AnswersDeltaCall : ℕ → Option Held → ℕ → Totals → Totals → List Count → List Count → Option Held → Type 0
+-- a delta of the histogram at a place is returned, where the array has room for all of its keys, or the status says why not
+abbrev pub AnswersDeltaCall : ℕ → Option Contents → ℕ → Totals → Totals → List Count → List Count → Option Contents → Type 0
 AnswersDeltaCall place held status totals totals' old new held' =
     (answer : Result Delta Refused) × SizesOfRecorder (AtPlaceInRoom place (length old) TakesDelta) held answer held'
     × IsDeltaGiven answer status totals totals' old new
 
--- a snapshot of it is answered in the same way
-abbrev pub AnswersSnapshotCall : ℕ → Option Held → ℕ → Totals → Totals → List Count → List Count → Option Held → Type 0
+-- a snapshot of it is returned in the same way
+abbrev pub AnswersSnapshotCall : ℕ → Option Contents → ℕ → Totals → Totals → List Count → List Count → Option Contents → Type 0
 AnswersSnapshotCall place held status totals totals' old new held' =
     (answer : Result Snapshot Refused) × SizesOfRecorder (AtPlaceInRoom place (length old) TakesSnapshot) held answer held'
     × IsSnapshotGiven answer status totals totals' old new
 
 -- ---- `records`
 
--- How many there are is answered. Where there is room for all, they stand at the front of the array; else the array is as before. Where there
--- are none for another reason, the status says why, and all is as before.
+-- How many there are is returned. Where there is room for all, they are at the front of the array; else the array is unchanged. Where there
+-- are none for another reason, the status says why, and all is unchanged.
 abbrev pub AreListed : Result (Vec ℕ Global) ℕ → ℕ → ℕ → ℕ → List ℕ → List ℕ → Type 0
 AreListed (Ok found) status needed needed' old new =
     (needed' ≡ length found.items)
@@ -105,14 +105,14 @@ AreListed (Ok found) status needed needed' old new =
     × (length old < length found.items → (status ≡ 7) × (new ≡ old))
 AreListed (Err why) status needed needed' old new = (status ≡ why) × (needed' ≡ needed) × (new ≡ old)
 
--- the records of the list are answered so
-abbrev pub AnswersRecordsCall : Option Held → ℕ → ℕ → ℕ → List ℕ → List ℕ → Option Held → Type 0
+-- the records of the list are returned so
+abbrev pub AnswersRecordsCall : Option Contents → ℕ → ℕ → ℕ → List ℕ → List ℕ → Option Contents → Type 0
 AnswersRecordsCall held status needed needed' old new held' =
     (answer : Result (Vec ℕ Global) ℕ) × GivesOfRecorder WalksAll held answer held' × AreListed answer status needed needed' old new
 
 -- ---- `next_shared`
 
--- the next record of the cursor is answered, or the status says why not
-abbrev pub AnswersNextCall : ℕ → Option Held → ℕ → ℕ → ℕ → Option Held → Type 0
+-- the next record of the cursor is returned, or the status says why not
+abbrev pub AnswersNextCall : ℕ → Option Contents → ℕ → ℕ → ℕ → Option Contents → Type 0
 AnswersNextCall cursor held status next next' held' =
     (answer : Result ℕ ℕ) × GivesOfRecorder (TakesNext cursor) held answer held' × IsGiven answer status next next'

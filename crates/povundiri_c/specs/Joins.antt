@@ -11,199 +11,204 @@ use Rattle.live_segment.specs.Steps.{recorder_checks}
 use Rattle.owned_recorder.specs.Desks.{given_fresh, IsSameDesk}
 use Rattle.owned_recorder.specs.Holders.{IsRecorderOf, view_of_owned}
 use Rattle.owned_recorder.specs.declared.owned.OwnedRecorder.{OwnedRecorder}
-use Rattle.povundiri_c.specs.declared.held.Held.{Held}
-use Rattle.povundiri_c.specs.declared.held.Held.TheVariants as held
-use Rattle.povundiri_c.specs.declared.owner.Owner.{Owner}
-use Rattle.povundiri_c.specs.declared.owner.Request.{Request}
-use Rattle.povundiri_c.specs.declared.owner.Request.TheVariants.{Join, Lend}
-use Rattle.povundiri_c.specs.declared.worker.Worker.{Worker}
+use Rattle.povundiri_c.specs.declared.contents.Contents.{Contents}
+use Rattle.povundiri_c.specs.declared.contents.Contents.TheVariants as contents
+use Rattle.povundiri_c.specs.declared.owned_segment.OwnedSegment.{OwnedSegment}
+use Rattle.povundiri_c.specs.declared.owned_segment.Request.{Request}
+use Rattle.povundiri_c.specs.declared.owned_segment.Request.TheVariants.{Join, Lend}
+use Rattle.povundiri_c.specs.declared.joinable_recorder.JoinableRecorder.{JoinableRecorder}
 use Rattle.povundiri_c.specs.Calls.{ByHandle}
 use Rattle.povundiri_c.specs.Status.{status_of_refusal}
-use Rattle.povundiri_c.specs.Tray.{HasMet}
+use Rattle.povundiri_c.specs.Mailbox.{BelongsTo, HasMet}
 
 -- ---- a call of a segment
 
--- What is no segment answers that, and stays the same; else the call is of the segment.
-abbrev pub BySegment : {A : Type 0} → A → (Owner → A → Owner → Type 0) → Held → A → Held → Type 0
-BySegment other Calls (held.Owner owner) answer new = (after : Owner) × (new ≡ held.Owner after) × Calls owner answer after
-BySegment other Calls (held.Worker worker) answer new = (answer ≡ other) × (new ≡ held.Worker worker)
-BySegment other Calls held.Nothing answer new = (answer ≡ other) × (new ≡ held.Nothing)
+-- What is no segment returns that, and is unchanged; else the call is of the segment.
+abbrev pub BySegment : {A : Type 0} → A → (OwnedSegment → A → OwnedSegment → Type 0) → Contents → A → Contents → Type 0
+BySegment other Calls (contents.Segment owned) answer new = (after : OwnedSegment) × (new ≡ contents.Segment after) × Calls owned answer after
+BySegment other Calls (contents.Recorder joinable) answer new = (answer ≡ other) × (new ≡ contents.Recorder joinable)
+BySegment other Calls contents.Nothing answer new = (answer ≡ other) × (new ≡ contents.Nothing)
 
--- one that answers a value or a status
-abbrev pub GivesOfSegment : {A : Type 0} → (Owner → Result A ℕ → Owner → Type 0) → Option Held → Result A ℕ → Option Held → Type 0
+-- one that returns a value or a status
+abbrev pub GivesOfSegment : {A : Type 0} → (OwnedSegment → Result A ℕ → OwnedSegment → Type 0) → Option Contents → Result A ℕ → Option Contents → Type 0
 GivesOfSegment Calls = ByHandle (Err 3) (BySegment (Err 5) Calls)
 
--- it goes on with the same segment and the same tray
-abbrev pub KeepsSegment : Owner → Owner → Type 0
-KeepsSegment old new = (new.segment ≡ old.segment) × (new.tray ≡ old.tray) × (new.cursors ≡ old.cursors) × IsSameOpener old.opener new.opener
+-- it keeps its segment and its mailbox
+abbrev pub KeepsSegment : OwnedSegment → OwnedSegment → Type 0
+KeepsSegment old new = (new.segment ≡ old.segment) × (new.mailbox ≡ old.mailbox) × (new.cursors ≡ old.cursors) × IsSameOpener old.opener new.opener
 
 -- ---- a recorder is made
 
 -- why there is no recorder with so many units, if anything
-abbrev pub fault_of_recorder : Owner → ℕ → Option Refusal
-fault_of_recorder owner units = first_fault (recorder_checks (view_of_opener owner.opener) units)
+abbrev pub fault_of_recorder : OwnedSegment → ℕ → Option Refusal
+fault_of_recorder owned units = first_fault (recorder_checks (view_of_opener owned.opener) units)
 
 -- A recorder of the segment has those units of its opener, as `owned_recorder` says.
-abbrev pub HasMade : ℕ → Owner → Worker → Owner → Type 0
-HasMade units old worker new =
-    (fault_of_recorder old units ≡ None) × KeepsSegment old new × IsRecorderOf worker.recorder new.opener × (arc_value worker.tray ≡ arc_value new.tray)
+abbrev pub HasMade : ℕ → OwnedSegment → JoinableRecorder → OwnedSegment → Type 0
+HasMade units old joinable new =
+    (fault_of_recorder old units ≡ None) × KeepsSegment old new × IsRecorderOf joinable.owned new.opener × (arc_value joinable.mailbox ≡ arc_value new.mailbox)
     × (view_of_opener new.opener ≡ parent (offering (view_of_opener old.opener) units))
-    × (view_of_owned worker.recorder ≡ newcomer (offering (view_of_opener old.opener) units)) × (given_fresh worker.recorder.desk ≡ 0)
+    × (view_of_owned joinable.owned ≡ newcomer (offering (view_of_opener old.opener) units)) × (given_fresh joinable.owned.desk ≡ 0)
 
--- There is none for the first check that fails, or for want of memory.
-abbrev pub IsNoRecorder : ℕ → Owner → ℕ → Type 0
-IsNoRecorder units owner status = ((why : Refusal) × (fault_of_recorder owner units ≡ Some why) × (status ≡ status_of_refusal why)) ⊎ (status ≡ 13)
+-- There is none because of the first check that fails, or because memory ran out.
+abbrev pub IsNoRecorder : ℕ → OwnedSegment → ℕ → Type 0
+IsNoRecorder units owned status = ((why : Refusal) × (fault_of_recorder owned units ≡ Some why) × (status ≡ status_of_refusal why)) ⊎ (status ≡ 13)
 
--- a recorder is made; or the status says why not, and the segment is the same
-abbrev pub GivesRecorder : ℕ → Owner → Result Worker ℕ → Owner → Type 0
-GivesRecorder units old answer new = MatchResult answer (λ worker. HasMade units old worker new) (λ status. (new ≡ old) × IsNoRecorder units old status)
+-- a recorder is made; or the status says why not, and the segment is unchanged
+abbrev pub GivesRecorder : ℕ → OwnedSegment → Result JoinableRecorder ℕ → OwnedSegment → Type 0
+GivesRecorder units old answer new = MatchResult answer (λ joinable. HasMade units old joinable new) (λ status. (new ≡ old) × IsNoRecorder units old status)
 
 -- a recorder stands in the handle that was empty; or the status says why not, and it is empty still
-abbrev pub IsHanded : Result Worker ℕ → ℕ → Option Held → Type 0
-IsHanded (Ok worker) status out = (status ≡ 0) × (out ≡ Some (held.Worker worker))
+abbrev pub IsHanded : Result JoinableRecorder ℕ → ℕ → Option Contents → Type 0
+IsHanded (Ok joinable) status out = (status ≡ 0) × (out ≡ Some (contents.Recorder joinable))
 IsHanded (Err why) status out = (status ≡ why) × (out ≡ None)
 
--- A recorder of the segment is answered, or the status says why not. Or there was no memory for it, and the segment is the same.
-abbrev pub AnswersRecorderCall : ℕ → Option Held → ℕ → Option Held → Option Held → Type 0
+-- A recorder of the segment is returned, or the status says why not. Or there was no memory for it, and the segment is unchanged.
+abbrev pub AnswersRecorderCall : ℕ → Option Contents → ℕ → Option Contents → Option Contents → Type 0
 AnswersRecorderCall units segment status segment' out =
-    ((answer : Result Worker ℕ) × GivesOfSegment (GivesRecorder units) segment answer segment' × IsHanded answer status out)
+    ((answer : Result JoinableRecorder ℕ) × GivesOfSegment (GivesRecorder units) segment answer segment' × IsHanded answer status out)
     ⊎ ((status ≡ 13) × (segment' ≡ segment) × (out ≡ None))
 
 -- ---- which segment a recorder is of
 
--- A recorder is one of a segment where they have one tray: no other segment has the same.
-abbrev pub tray_of_worker : Worker → TableId
-tray_of_worker worker = (arc_value worker.tray).table.shared.table_id
+-- A recorder is one of a segment where they have one mailbox: no other segment has the same.
+abbrev pub mailbox_of_recorder : JoinableRecorder → TableId
+mailbox_of_recorder joinable = (arc_value joinable.mailbox).table.shared.table_id
 
-abbrev pub tray_of_owner : Owner → TableId
-tray_of_owner owner = (arc_value owner.tray).table.shared.table_id
+abbrev pub mailbox_of_segment : OwnedSegment → TableId
+mailbox_of_segment owned = (arc_value owned.mailbox).table.shared.table_id
 
 -- ---- a recorder comes back, or does not
 
+-- a segment has its opener still, and all that its recorders share
+abbrev pub HasOpener : OwnedSegment → OwnedSegment → Type 0
+HasOpener old new = (new.segment ≡ old.segment) × (new.mailbox ≡ old.mailbox) × (new.cursors ≡ old.cursors) × (new.opener ≡ old.opener)
+
 -- a segment has all that it had
-abbrev pub IsSameOwner : Owner → Owner → Type 0
-IsSameOwner old new =
-    (new.segment ≡ old.segment) × (new.opener ≡ old.opener) × (new.tray ≡ old.tray) × (new.keeper ≡ old.keeper) × (new.gone ≡ old.gone)
+abbrev pub IsSameSegment : OwnedSegment → OwnedSegment → Type 0
+IsSameSegment old new =
+    (new.segment ≡ old.segment) × (new.opener ≡ old.opener) × (new.mailbox ≡ old.mailbox) × (new.keeper ≡ old.keeper) × (new.gone ≡ old.gone)
     × (new.cursors ≡ old.cursors)
 
--- it comes back as it was, and the segment is the same
-abbrev pub IsKept : Worker → Owner → Option Worker → Owner → Type 0
-IsKept worker old back new = (back ≡ Some worker) × IsSameOwner old new
+-- it comes back as it was, and the segment is unchanged
+abbrev pub IsKept : JoinableRecorder → OwnedSegment → Option JoinableRecorder → OwnedSegment → Type 0
+IsKept joinable old back new = (back ≡ Some joinable) × IsSameSegment old new
 
 -- the segment has taken back a recorder of its own
-abbrev pub HasJoined : OwnedRecorder → Owner → Owner → Type 0
+abbrev pub HasJoined : OwnedRecorder → OwnedSegment → OwnedSegment → Type 0
 HasJoined owned old new =
     KeepsSegment old new × IsRecorderOf owned old.opener × (view_of_opener new.opener ≡ joined (view_of_opener old.opener) (view_of_owned owned))
 
 -- It comes back, since it is of another segment. One of this segment, which another thread passed to another, may have been met.
-abbrev pub IsOfOther : Worker → Owner → ℕ → Option Worker → Owner → Type 0
-IsOfOther worker old status back new =
-    (status ≡ 6) × (back ≡ Some worker) × (IsSameOwner old new ⊎ ((owned : OwnedRecorder) × HasJoined owned old new))
+abbrev pub IsOfOther : JoinableRecorder → OwnedSegment → ℕ → Option JoinableRecorder → OwnedSegment → Type 0
+IsOfOther joinable old status back new =
+    (status ≡ 6) × (back ≡ Some joinable) × (IsSameSegment old new ⊎ ((owned : OwnedRecorder) × HasJoined owned old new))
 
--- It was laid on its own tray, and that one's keeper has taken it from there: the segment has the seat then that had laid it.
-abbrev pub HasGone : Worker → Owner → Type 0
-HasGone worker new = HasMet (tray_of_worker worker) worker.recorder new.gone
+-- It was laid in its own mailbox, and that one's keeper has taken it from there: the segment has the seat then that had laid it.
+abbrev pub HasGone : JoinableRecorder → OwnedSegment → Type 0
+HasGone joinable new = HasMet (mailbox_of_recorder joinable) joinable.owned new.gone
 
 -- it does not come back, and nothing was met here
-abbrev pub IsElsewhere : Owner → ℕ → Option Worker → Owner → Type 0
-IsElsewhere old status back new =
-    (status ≡ 14) × (back ≡ None) × (new.segment ≡ old.segment) × (new.tray ≡ old.tray) × (new.cursors ≡ old.cursors) × (new.opener ≡ old.opener)
+abbrev pub IsElsewhere : OwnedSegment → ℕ → Option JoinableRecorder → OwnedSegment → Type 0
+IsElsewhere old status back new = (status ≡ 14) × (back ≡ None) × HasOpener old new
+
+-- ---- how a segment finds a recorder
+
+-- A recorder of the segment is found. It is the one that was passed where that is of this segment; else that one has gone.
+abbrev pub IsFound : JoinableRecorder → OwnedRecorder → OwnedSegment → OwnedSegment → Type 0
+IsFound joinable found old new =
+    HasOpener old new × BelongsTo found (arc_value old.mailbox).table.shared.key
+    × (mailbox_of_recorder joinable ≡ mailbox_of_segment old → found ≡ joinable.owned)
+    × (mailbox_of_recorder joinable ≢ mailbox_of_segment old → HasGone joinable new)
+
+-- None is found. One of this segment comes back, since another thread passes one of this segment at the same moment. One of another segment
+-- comes back too, unless its own has met it, by a call of another thread.
+abbrev pub IsNotFound : JoinableRecorder → OwnedSegment → ℕ → Option JoinableRecorder → OwnedSegment → Type 0
+IsNotFound joinable old status back new =
+    (mailbox_of_recorder joinable ≡ mailbox_of_segment old → (status ≡ 15) × IsKept joinable old back new)
+    × (mailbox_of_recorder joinable ≢ mailbox_of_segment old
+    → IsOfOther joinable old status back new ⊎ ((status ≡ 15) × IsKept joinable old back new) ⊎ (HasGone joinable new × IsElsewhere old status back new))
+
+-- What is done with a recorder of the segment that is found, or one of these statuses says why nothing was: then it comes back. One of
+-- another segment comes back too, unless its own has met it, by a call of another thread; it is done then with what this segment has met.
+abbrev pub IsPassed : (OwnedRecorder → OwnedSegment → ℕ → Option JoinableRecorder → OwnedSegment → Type 0) → (ℕ → Type 0)
+    → JoinableRecorder → OwnedSegment → ℕ → Option JoinableRecorder → OwnedSegment → Type 0
+IsPassed Does Refuses joinable old status back new =
+    (mailbox_of_recorder joinable ≡ mailbox_of_segment old → Does joinable.owned old status back new ⊎ (Refuses status × IsKept joinable old back new))
+    × (mailbox_of_recorder joinable ≢ mailbox_of_segment old
+    → IsOfOther joinable old status back new ⊎ (Refuses status × IsKept joinable old back new)
+    ⊎ (HasGone joinable new × (IsElsewhere old status back new ⊎ ((owned : OwnedRecorder) × Does owned old status back new))))
 
 -- ---- a recorder is taken back
 
--- One of this segment: it is joined; or it comes back, since another thread joins one of this segment at the same moment.
-abbrev pub JoinsOwn : Worker → Owner → ℕ → Option Worker → Owner → Type 0
-JoinsOwn worker old status back new =
-    ((status ≡ 0) × (back ≡ None) × HasJoined worker.recorder old new) ⊎ ((status ≡ 15) × IsKept worker old back new)
+-- it is joined, and does not come back
+abbrev pub IsJoined : OwnedRecorder → OwnedSegment → ℕ → Option JoinableRecorder → OwnedSegment → Type 0
+IsJoined owned old status back new = (status ≡ 0) × (back ≡ None) × HasJoined owned old new
 
--- One of another segment comes back, unless its own has met it, by a call of another thread. What this segment has met then is joined.
-abbrev pub JoinsOther : Worker → Owner → ℕ → Option Worker → Owner → Type 0
-JoinsOther worker old status back new =
-    IsOfOther worker old status back new ⊎ ((status ≡ 15) × IsKept worker old back new)
-    ⊎ (HasGone worker new
-    × (IsElsewhere old status back new ⊎ ((status ≡ 0) × (back ≡ None) × ((owned : OwnedRecorder) × HasJoined owned old new))))
-
--- what is answered where a segment is given a recorder back
-abbrev pub Joins : Worker → Owner → ℕ → Option Worker → Owner → Type 0
-Joins worker old status back new =
-    (tray_of_worker worker ≡ tray_of_owner old → JoinsOwn worker old status back new)
-    × (tray_of_worker worker ≢ tray_of_owner old → JoinsOther worker old status back new)
+-- What is returned where a segment is given a recorder back. It comes back where another thread passes one of the same segment at the same
+-- moment.
+abbrev pub Joins : JoinableRecorder → OwnedSegment → ℕ → Option JoinableRecorder → OwnedSegment → Type 0
+Joins = IsPassed IsJoined (λ status. status ≡ 15)
 
 -- ---- a recorder is lent units
 
 -- a recorder of the segment was lent units of its opener, as `lend` says, and what C holds of it then is this
-abbrev pub HasLent : ℕ → OwnedRecorder → Owner → Worker → Owner → Type 0
-HasLent units owned old worker new =
-    KeepsSegment old new × IsRecorderOf owned old.opener × (arc_value worker.tray ≡ arc_value new.tray) × (worker.recorder.segment ≡ owned.segment)
+abbrev pub HasLent : ℕ → OwnedRecorder → OwnedSegment → JoinableRecorder → OwnedSegment → Type 0
+HasLent units owned old joinable new =
+    KeepsSegment old new × IsRecorderOf owned old.opener × (arc_value joinable.mailbox ≡ arc_value new.mailbox) × (joinable.owned.segment ≡ owned.segment)
     × (view_of_opener new.opener ≡ giver (view_of_opener old.opener) units)
-    × (view_of_owned worker.recorder ≡ getter (view_of_owned owned) units) × IsSameDesk owned.desk worker.recorder.desk
+    × (view_of_owned joinable.owned ≡ getter (view_of_owned owned) units) × IsSameDesk owned.desk joinable.owned.desk
 
 -- it is lent them, and comes back
-abbrev pub IsLent : ℕ → OwnedRecorder → Owner → ℕ → Option Worker → Owner → Type 0
-IsLent units owned old status back new = (status ≡ 0) × ((after : Worker) × (back ≡ Some after) × HasLent units owned old after new)
+abbrev pub IsLent : ℕ → OwnedRecorder → OwnedSegment → ℕ → Option JoinableRecorder → OwnedSegment → Type 0
+IsLent units owned old status back new = (status ≡ 0) × ((after : JoinableRecorder) × (back ≡ Some after) × HasLent units owned old after new)
 
 -- the units that a segment has left to give
-abbrev pub units_left : Owner → ℕ
-units_left owner = (view_of_opener owner.opener).units.share
+abbrev pub units_left : OwnedSegment → ℕ
+units_left owned = (view_of_opener owned.opener).units.share
 
--- It comes back as it was: no more may share its tray, or another thread passes one of the same segment at the same moment.
-abbrev pub IsNotPassed : Worker → Owner → ℕ → Option Worker → Owner → Type 0
-IsNotPassed worker old status back new = ((status ≡ 13) ⊎ (status ≡ 15)) × IsKept worker old back new
+-- What is returned where the segment has the units. It comes back as it was where no more may share its mailbox, or another thread passes
+-- one of the same segment at the same moment.
+abbrev pub LendsOrNot : ℕ → JoinableRecorder → OwnedSegment → ℕ → Option JoinableRecorder → OwnedSegment → Type 0
+LendsOrNot units = IsPassed (IsLent units) (λ status. (status ≡ 13) ⊎ (status ≡ 15))
 
--- one of this segment is lent the units, or comes back
-abbrev pub LendsOwn : ℕ → Worker → Owner → ℕ → Option Worker → Owner → Type 0
-LendsOwn units worker old status back new = IsLent units worker.recorder old status back new ⊎ IsNotPassed worker old status back new
-
--- One of another segment comes back, unless its own has met it, by a call of another thread. What this segment has met then is lent the
--- units, and comes back in its place.
-abbrev pub LendsOther : ℕ → Worker → Owner → ℕ → Option Worker → Owner → Type 0
-LendsOther units worker old status back new =
-    IsOfOther worker old status back new ⊎ IsNotPassed worker old status back new
-    ⊎ (HasGone worker new × (IsElsewhere old status back new ⊎ ((owned : OwnedRecorder) × IsLent units owned old status back new)))
-
--- what is answered where the segment has the units
-abbrev pub LendsOrNot : ℕ → Worker → Owner → ℕ → Option Worker → Owner → Type 0
-LendsOrNot units worker old status back new =
-    (tray_of_worker worker ≡ tray_of_owner old → LendsOwn units worker old status back new)
-    × (tray_of_worker worker ≢ tray_of_owner old → LendsOther units worker old status back new)
-
--- where the segment has fewer, that is answered, whichever segment the recorder is of, and all is as before
-abbrev pub Lends : ℕ → Worker → Owner → ℕ → Option Worker → Owner → Type 0
-Lends units worker old status back new =
-    ((units_left old < units) × (status ≡ status_of_refusal NoUnits) × IsKept worker old back new)
-    ⊎ ((units ≤ units_left old) × LendsOrNot units worker old status back new)
+-- where the segment has fewer, that is returned, whichever segment the recorder is of, and all is unchanged
+abbrev pub Lends : ℕ → JoinableRecorder → OwnedSegment → ℕ → Option JoinableRecorder → OwnedSegment → Type 0
+Lends units joinable old status back new =
+    ((units_left old < units) × (status ≡ status_of_refusal NoUnits) × IsKept joinable old back new)
+    ⊎ ((units ≤ units_left old) × LendsOrNot units joinable old status back new)
 
 -- ---- a recorder is passed to a segment
 
--- what is answered is by what it is passed for
-abbrev pub Serves : Request → Worker → Owner → ℕ → Option Worker → Owner → Type 0
+-- what is returned, by what it is passed for
+abbrev pub Serves : Request → JoinableRecorder → OwnedSegment → ℕ → Option JoinableRecorder → OwnedSegment → Type 0
 Serves Join = Joins
 Serves (Lend units) = Lends units
 
 -- the recorder that is held, if it is one
-abbrev pub worker_of : Held → Option Worker
-worker_of (held.Worker worker) = Some worker
-worker_of (held.Owner owner) = None
-worker_of held.Nothing = None
+abbrev pub recorder_in : Contents → Option JoinableRecorder
+recorder_in (contents.Recorder joinable) = Some joinable
+recorder_in (contents.Segment owned) = None
+recorder_in contents.Nothing = None
 
--- A guest that is no recorder comes back for that, and the segment is the same; else the recorder is served, and may come back. The answer
--- is the status, and the guest where it comes back.
-abbrev pub ServesGuest : Request → Held → Owner → ℕ × Option Held → Owner → Type 0
-ServesGuest request guest old answer new =
-    MatchOption (worker_of guest) ((answer ≡ (5, Some guest)) × (new ≡ old))
-    (λ worker. (back : Option Worker) × (answer.1 ≡ option_map held.Worker back) × Serves request worker old answer.0 back new)
+-- What is passed and is no recorder comes back for that, and the segment is unchanged; else the recorder is served, and may come back. The
+-- answer is the status, and what was passed where it comes back.
+abbrev pub ServesPassed : Request → Contents → OwnedSegment → ℕ × Option Contents → OwnedSegment → Type 0
+ServesPassed request passed old answer new =
+    MatchOption (recorder_in passed) ((answer ≡ (5, Some passed)) × (new ≡ old))
+    (λ joinable. (back : Option JoinableRecorder) × (answer.1 ≡ option_map contents.Recorder back) × Serves request joinable old answer.0 back new)
 
 -- the same of what is held, which comes back too from what is no segment
-abbrev pub ServesHeld : Request → Held → Held → ℕ × Option Held → Held → Type 0
-ServesHeld request guest = BySegment (5, Some guest) (ServesGuest request guest)
+abbrev pub ServesContents : Request → Contents → Contents → ℕ × Option Contents → Contents → Type 0
+ServesContents request passed = BySegment (5, Some passed) (ServesPassed request passed)
 
 -- and of a handle, which may be empty
-abbrev pub AnswersGuest : Request → Held → Option Held → ℕ × Option Held → Option Held → Type 0
-AnswersGuest request guest = ByHandle (3, Some guest) (ServesHeld request guest)
+abbrev pub AnswersPassed : Request → Contents → Option Contents → ℕ × Option Contents → Option Contents → Type 0
+AnswersPassed request passed = ByHandle (3, Some passed) (ServesContents request passed)
 
 -- a recorder is taken back so, or lent units
-abbrev pub AnswersJoinCall : Held → Option Held → ℕ × Option Held → Option Held → Type 0
-AnswersJoinCall = AnswersGuest Join
+abbrev pub AnswersJoinCall : Contents → Option Contents → ℕ × Option Contents → Option Contents → Type 0
+AnswersJoinCall = AnswersPassed Join
 
-abbrev pub AnswersLendCall : ℕ → Held → Option Held → ℕ × Option Held → Option Held → Type 0
-AnswersLendCall units = AnswersGuest (Lend units)
+abbrev pub AnswersLendCall : ℕ → Contents → Option Contents → ℕ × Option Contents → Option Contents → Type 0
+AnswersLendCall units = AnswersPassed (Lend units)

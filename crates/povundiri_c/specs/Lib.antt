@@ -1,10 +1,11 @@
 pub mod Asking
 pub mod Calls
 pub mod Joins
+pub mod Lending
 pub mod Recorders
 pub mod Reports
-pub mod Sealed
+pub mod OpaqueBoxes
 pub mod Seats
 pub mod Segments
 pub mod Status
-pub mod Tray
+pub mod Mailbox

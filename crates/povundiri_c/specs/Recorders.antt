@@ -1,4 +1,4 @@
--- What a call of a recorder that C holds answers, and what it makes of the recorder: the clauses of `OwnedRecorder`, with a status in the
+-- What a call of a recorder that C holds returns, and what it makes of the recorder: the clauses of `OwnedRecorder`, with a status in the
 -- place of a refusal.
 use Rattle.std.specs.Prelude.{◌≡◌, ◌≤◌, ◌<◌, ℕ, ℤ, List, length, Option, Some, None, Result, Ok, Err, ◌++◌, IfOk}
 use Rattle.std.specs.declared.vec.Vec.{Vec}
@@ -20,7 +20,7 @@ use Rattle.owned_recorder.specs.declared.owned.OwnedRecorder.{OwnedRecorder}
 use Rattle.povundiri_c.specs.declared.status.Refused.{Refused}
 use Rattle.povundiri_c.specs.Status.{status_of_refusal}
 
--- ---- what is the same behind a call
+-- ---- what is unchanged after a call
 
 -- it keeps its segment, knows the same histograms, and was given no fresh records
 abbrev pub GoesOn : OwnedRecorder → OwnedRecorder → Type 0
@@ -46,7 +46,7 @@ abbrev pub with_status : {A : Type 0} → Result A Refusal → Result A ℕ
 with_status (Ok value) = Ok value
 with_status (Err why) = Err (status_of_refusal why)
 
--- the place of the histogram that is answered
+-- the place of the histogram that is returned
 abbrev pub place_of_answer : Result Hist Refusal → Result ℕ ℕ
 place_of_answer (Ok histogram) = Ok histogram.index
 place_of_answer (Err why) = Err (status_of_refusal why)
@@ -72,7 +72,7 @@ next_of None = Err 12
 
 -- ---- calls that name a histogram by its place
 
--- Where it knows none there, that is answered, and it is the same; else the call is of the histogram there.
+-- Where it knows none there, that is returned, and it is unchanged; else the call is of the histogram there.
 abbrev pub AtPlace : {A : Type 0} → A → (Hist → OwnedRecorder → A → OwnedRecorder → Type 0) → ℕ → OwnedRecorder → A → OwnedRecorder → Type 0
 AtPlace unknown Calls place old answer new =
     (known_by old ≤ place → (answer ≡ unknown) × (new ≡ old))
@@ -96,7 +96,7 @@ Batches items sum histogram old given new =
 abbrev pub AreMost : Hist → OwnedRecorder → ℕ → Type 0
 AreMost histogram owned most = (known : Known) → Means owned.desk histogram known → AreMostKeys (arc_value owned.segment) known most
 
--- Where there is too little room, it answers how much is needed, and is the same; else the call is made.
+-- Where there is too little room, how much is needed is returned, and it is unchanged; else the call is made.
 abbrev pub InRoom : {A : Type 0} → ℕ → (Hist → OwnedRecorder → Result A Refused → OwnedRecorder → Type 0)
     → Hist → OwnedRecorder → Result A Refused → OwnedRecorder → Type 0
 InRoom room Calls histogram old given new =
@@ -109,7 +109,7 @@ abbrev pub AtPlaceInRoom : {A : Type 0} → ℕ → ℕ → (Hist → OwnedRecor
     → OwnedRecorder → Result A Refused → OwnedRecorder → Type 0
 AtPlaceInRoom place room Calls = AtPlace (Err (refused_with 8)) (InRoom room Calls) place
 
--- the histogram itself is answered, and nothing else happens
+-- the histogram itself is returned, and nothing else happens
 abbrev pub Finds : Hist → OwnedRecorder → Result Hist Refused → OwnedRecorder → Type 0
 Finds histogram old given new = (given ≡ Ok histogram) × (new ≡ old)
 
@@ -120,7 +120,7 @@ TakesDelta histogram old given new =
     × AnswersDelta histogram old.desk answer new.desk × TakesEnough (arc_value new.segment) histogram old.desk answer new.desk
     × TakesFewKeys (arc_value old.segment) histogram old.desk answer
 
--- a snapshot is answered as `OwnedRecorder::snapshot` says
+-- a snapshot is taken as `OwnedRecorder::snapshot` says
 abbrev pub TakesSnapshot : Hist → OwnedRecorder → Result Snapshot Refused → OwnedRecorder → Type 0
 TakesSnapshot histogram old given new =
     (answer : Result Snapshot Refusal) × (given ≡ with_refused answer) × GoesOn old new

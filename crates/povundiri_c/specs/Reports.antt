@@ -14,7 +14,7 @@ pub record IsReportOfWords (words text : List ℕ) : Type 0 where
   pub reading_is : IsReading words head reading
   pub text_is : IsTextOf reading text
 
--- the report of the words stands at the front of the array, which had room for it; the bytes behind it are the same
+-- the report of the words is at the front of the array, which had room for it; the bytes after it are unchanged
 abbrev pub IsReportWritten : List ℕ → List ℕ → List ℕ → ℕ → Type 0
 IsReportWritten words old new needed = (text : List ℕ) × IsReportOfWords words text × (needed ≡ length text) × (new ≡ text ++ drop (length text) old)
 

@@ -1,4 +1,4 @@
-//! What each export answers: 0, or the number of what went wrong.
+//! What each export returns: 0, or the number of what went wrong.
 
 ghost use Rattle.std.specs.Prelude.{◌≡◌};
 ghost use Rattle.povundiri_c.specs.Recorders.{refused_with};
@@ -7,7 +7,7 @@ ghost use Rattle.povundiri_c.specs.Status.{status_of_refusal, status_of_open_fau
 use live_segment::{AdoptFault, OpenFault, Refusal};
 use segment_image::ImageFault;
 
-/// All went well.
+/// The call did what it says.
 pub(crate) const DONE: u32 = 0;
 
 /// The handle holds nothing.
@@ -37,23 +37,23 @@ pub(crate) const BAD_KIND: u32 = 10;
 /// A recorder of the segment is left.
 pub(crate) const IN_USE: u32 = 11;
 
-/// No record is behind the cursor.
+/// The cursor is at the end of the list.
 pub(crate) const LIST_ENDS: u32 = 12;
 
-/// There was no memory for what C's side needs.
+/// Out of memory.
 pub(crate) const NO_MEMORY: u32 = 13;
 
 /// The recorder's own segment has met it, by another thread, while it was to be joined to another.
 pub(crate) const ELSEWHERE: u32 = 14;
 
-/// Another thread joins a recorder of the same segment at this moment.
+/// Another thread passes a recorder of the same segment at this moment.
 pub(crate) const BUSY: u32 = 15;
 
-/// The image reads as more keys than the caller wants.
+/// The image has more keys than the caller allows.
 pub(crate) const TOO_MANY_KEYS: u32 = 17;
 
-/// Why a call is refused: its status, and the length that goes with it: what is needed where it is `SHORT`, and 0 or what was done
-/// else.
+/// Why a call is refused: its status, and a length: how much room is needed where the status is `SHORT`; of a batch, how many items were
+/// counted; else 0.
 #[derive(Clone, Copy)]
 pub(crate) struct Refused {
     pub(crate) status: u32,

@@ -16,7 +16,7 @@ pub struct SegmentShape {
     pub version: u64,
 }
 
-/// How a histogram splits the values. What its kind does not ask for is not looked at.
+/// How a histogram splits the values. Fields that its kind has no use for are not read.
 #[repr(C)]
 #[derive(Clone, Copy)]
 pub struct HistSpec {
@@ -50,7 +50,7 @@ pub struct Count {
     pub count: u64,
 }
 
-/// What a delta or a snapshot answers beside its counts.
+/// What a delta or a snapshot returns beside its counts.
 #[repr(C)]
 #[derive(Clone, Copy)]
 pub struct Totals {

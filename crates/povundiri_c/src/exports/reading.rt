@@ -26,7 +26,7 @@ pub extern "C" fn povundiri_proved_delta(
     counts: &mut [Count],
     totals: &mut Totals,
 ) -> u32
-    ensures { AnswersDeltaCall hist recorder.old.seal.held result totals.old totals.new counts.old counts.new recorder.new.seal.held }
+    ensures { AnswersDeltaCall hist recorder.old.boxed.held result totals.old totals.new counts.old counts.new recorder.new.boxed.held }
 {
     let room = counts.len();
     match recorder.call(Err(Refused::of(EMPTY)), |held| held.delta(hist, room)) {
@@ -54,7 +54,7 @@ pub extern "C" fn povundiri_proved_snapshot(
     counts: &mut [Count],
     totals: &mut Totals,
 ) -> u32
-    ensures { AnswersSnapshotCall hist recorder.old.seal.held result totals.old totals.new counts.old counts.new recorder.new.seal.held }
+    ensures { AnswersSnapshotCall hist recorder.old.boxed.held result totals.old totals.new counts.old counts.new recorder.new.boxed.held }
 {
     let room = counts.len();
     match recorder.call(Err(Refused::of(EMPTY)), |held| held.snapshot(hist, room)) {
@@ -81,7 +81,7 @@ pub extern "C" fn povundiri_proved_records(
     records: &mut [u64],
     needed: &mut usize,
 ) -> u32
-    ensures { AnswersRecordsCall recorder.old.seal.held result needed.old needed.new records.old records.new recorder.new.seal.held }
+    ensures { AnswersRecordsCall recorder.old.boxed.held result needed.old needed.new records.old records.new recorder.new.boxed.held }
 {
     let found = match recorder.call(Err(EMPTY), |held| held.records()) {
         Ok(found) => found,
@@ -102,7 +102,7 @@ pub extern "C" fn povundiri_proved_next_shared(
     cursor: usize,
     record: &mut u64,
 ) -> u32
-    ensures { AnswersNextCall cursor recorder.old.seal.held result «record».old «record».new recorder.new.seal.held }
+    ensures { AnswersNextCall cursor recorder.old.boxed.held result «record».old «record».new recorder.new.boxed.held }
 {
     match recorder.call(Err(EMPTY), |held| held.next_shared(cursor)) {
         Ok(next) => {

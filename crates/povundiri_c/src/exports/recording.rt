@@ -52,7 +52,7 @@ pub extern "C" fn povundiri_proved_hist(
     values: &[u32],
     hist: &mut usize,
 ) -> u32
-    ensures { AnswersHistCall name.now (spec_asked spec values.now) recorder.old.seal.held result hist.old hist.new recorder.new.seal.held }
+    ensures { AnswersHistCall name.now (spec_asked spec values.now) recorder.old.boxed.held result hist.old hist.new recorder.new.boxed.held }
 {
     if !recorder.is_full() {
         return EMPTY;
@@ -78,7 +78,7 @@ pub extern "C" fn povundiri_proved_add(
     value: i32,
     count: u32,
 ) -> u32
-    ensures { OfRecorder (AtPlace 8 (Adds value count) hist) recorder.old.seal.held result recorder.new.seal.held }
+    ensures { OfRecorder (AtPlace 8 (Adds value count) hist) recorder.old.boxed.held result recorder.new.boxed.held }
 {
     recorder.call(EMPTY, move |held| held.add(hist, value, count))
 }
@@ -93,7 +93,7 @@ pub extern "C" fn povundiri_proved_batch(
     sum: i64,
     added: &mut usize,
 ) -> u32
-    ensures { AnswersBatchCall hist items.now sum recorder.old.seal.held result added.old added.new recorder.new.seal.held }
+    ensures { AnswersBatchCall hist items.now sum recorder.old.boxed.held result added.old added.new recorder.new.boxed.held }
 {
     if !recorder.is_full() {
         return EMPTY;
@@ -119,7 +119,7 @@ pub extern "C" fn povundiri_proved_batch(
 /// Marks the segment as corrupt.
 #[unsafe(no_mangle)]
 pub extern "C" fn povundiri_proved_set_corrupt(recorder: &mut Handle) -> u32
-    ensures { OfRecorder Marks recorder.old.seal.held result recorder.new.seal.held }
+    ensures { OfRecorder Marks recorder.old.boxed.held result recorder.new.boxed.held }
 {
     recorder.call(EMPTY, |held| held.set_corrupt())
 }

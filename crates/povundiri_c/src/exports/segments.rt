@@ -2,23 +2,23 @@
 
 ghost use Rattle.std.specs.Prelude.{◌≡◌, ◌⊎◌, true, false, Some, None};
 ghost use Rattle.live_segment.specs.Holders.{IsMadeWith};
-ghost use Rattle.povundiri_c.specs.declared.held.Held.{Held as SomeHeld};
+ghost use Rattle.povundiri_c.specs.declared.contents.Contents.{Contents as SomeContents};
 ghost use Rattle.povundiri_c.specs.Calls.{asked_of, IsGiven, outstanding_in, units_of};
-ghost use Rattle.povundiri_c.specs.Joins.{AnswersGuest, AnswersJoinCall, AnswersLendCall, AnswersRecorderCall};
-ghost use Rattle.povundiri_c.specs.Sealed.{is_some};
+ghost use Rattle.povundiri_c.specs.Joins.{AnswersPassed, AnswersJoinCall, AnswersLendCall, AnswersRecorderCall};
+ghost use Rattle.povundiri_c.specs.OpaqueBoxes.{is_some};
 ghost use Rattle.povundiri_c.specs.Segments.{AnswersCloseCall, InLentRoom, IntoEmpty, IsCreated, IsFilledWith, IsTakenUp};
 
+use crate::contents::Contents;
 use crate::handle::Handle;
-use crate::held::Held;
-use crate::owner::{Owner, Request};
+use crate::owned_segment::{OwnedSegment, Request};
 use crate::status::{DONE, EMPTY, NO_MEMORY, NOT_EMPTY, of_adopt_fault, of_open_fault};
 use crate::types::SegmentShape;
 use live_segment::{Lender, Memory, Opener, Room, Segment};
 use std::alloc::Global;
 
 // Fills a handle, which is empty.
-fn fill(alloc: Global, out: &mut Handle, held: Held) -> u32
-    ensures { ((result ≡ 0) × (out.new.seal.held ≡ Some held)) ⊎ ((result ≡ 13) × (out.new.seal.held ≡ out.old.seal.held)) }
+fn fill(alloc: Global, out: &mut Handle, held: Contents) -> u32
+    ensures { ((result ≡ 0) × (out.new.boxed.held ≡ Some held)) ⊎ ((result ≡ 13) × (out.new.boxed.held ≡ out.old.boxed.held)) }
 {
     match Box::new(alloc, held) {
         Ok(boxed) => {
@@ -39,17 +39,17 @@ fn fill_with_segment(
 ) -> u32
     requires made { IsMadeWith segment opener }
     requires counted { cursors ≡ segment.setting.cursors }
-    ensures { IsFilledWith segment opener result out.old.seal.held out.new.seal.held }
+    ensures { IsFilledWith segment opener result out.old.boxed.held out.new.boxed.held }
 {
-    match Owner::new(alloc, segment, opener, cursors) {
-        Ok(owner) => fill(alloc, out, Held::Owner(owner)),
+    match OwnedSegment::new(alloc, segment, opener, cursors) {
+        Ok(owned) => fill(alloc, out, Contents::Segment(owned)),
         Err(_) => NO_MEMORY,
     }
 }
 
 // A new segment in a memory.
 fn create_in(alloc: Global, memory: Memory, shape: SegmentShape, out: &mut Handle) -> u32
-    ensures { IsCreated shape result out.old.seal.held out.new.seal.held }
+    ensures { IsCreated shape result out.old.boxed.held out.new.boxed.held }
 {
     let made = Segment::create_in(
         alloc,
@@ -68,7 +68,7 @@ fn create_in(alloc: Global, memory: Memory, shape: SegmentShape, out: &mut Handl
 
 // A segment in a memory that goes on with an image.
 fn adopt_in(alloc: Global, memory: Memory, words: &[u64], cursors: usize, out: &mut Handle) -> u32
-    ensures { IsTakenUp words.now cursors result out.old.seal.held out.new.seal.held }
+    ensures { IsTakenUp words.now cursors result out.old.boxed.held out.new.boxed.held }
 {
     match Segment::adopt_in(alloc, memory, words, cursors) {
         Ok((segment, opener)) => fill_with_segment(alloc, out, segment, opener, cursors),
@@ -83,7 +83,7 @@ pub extern "C" fn povundiri_proved_create(
     shape: SegmentShape,
     out: &mut Handle,
 ) -> u32
-    ensures { IntoEmpty (IsCreated shape) out.old.seal.held result out.new.seal.held }
+    ensures { IntoEmpty (IsCreated shape) out.old.boxed.held result out.new.boxed.held }
 {
     if out.is_full() {
         return NOT_EMPTY;
@@ -99,7 +99,7 @@ pub extern "C" fn povundiri_proved_create_in(
     shape: SegmentShape,
     out: &mut Handle,
 ) -> u32
-    ensures { IntoEmpty (InLentRoom (IsCreated shape)) out.old.seal.held result out.new.seal.held }
+    ensures { IntoEmpty (InLentRoom (IsCreated shape)) out.old.boxed.held result out.new.boxed.held }
 {
     if out.is_full() {
         return NOT_EMPTY;
@@ -118,7 +118,7 @@ pub extern "C" fn povundiri_proved_adopt(
     cursors: usize,
     out: &mut Handle,
 ) -> u32
-    ensures { IntoEmpty (IsTakenUp words.now cursors) out.old.seal.held result out.new.seal.held }
+    ensures { IntoEmpty (IsTakenUp words.now cursors) out.old.boxed.held result out.new.boxed.held }
 {
     if out.is_full() {
         return NOT_EMPTY;
@@ -135,7 +135,7 @@ pub extern "C" fn povundiri_proved_adopt_in(
     cursors: usize,
     out: &mut Handle,
 ) -> u32
-    ensures { IntoEmpty (InLentRoom (IsTakenUp words.now cursors)) out.old.seal.held result out.new.seal.held }
+    ensures { IntoEmpty (InLentRoom (IsTakenUp words.now cursors)) out.old.boxed.held result out.new.boxed.held }
 {
     if out.is_full() {
         return NOT_EMPTY;
@@ -154,8 +154,8 @@ pub extern "C" fn povundiri_proved_close(
     words: &mut [u64],
     needed: &mut usize,
 ) -> u32
-    ensures full { is_some none.seal.held ≡ true → (result ≡ 4) × (needed.new ≡ needed.old) × (words.new ≡ words.old) × (segment.new ≡ segment.old) }
-    ensures answer { is_some none.seal.held ≡ false → AnswersCloseCall segment.old.seal.held result needed.old needed.new words.old words.new segment.new.seal.held }
+    ensures full { is_some none.boxed.held ≡ true → (result ≡ 4) × (needed.new ≡ needed.old) × (words.new ≡ words.old) × (segment.new ≡ segment.old) }
+    ensures answer { is_some none.boxed.held ≡ false → AnswersCloseCall segment.old.boxed.held result needed.old needed.new words.old words.new segment.new.boxed.held }
 {
     let mut boxed = match segment.take(none) {
         Ok(boxed) => boxed,
@@ -179,9 +179,9 @@ pub extern "C" fn povundiri_proved_close(
 /// Lets a segment or a recorder go: its handle is empty then, and `none` stands in its place.
 #[unsafe(no_mangle)]
 pub extern "C" fn povundiri_proved_drop(handle: &mut Handle, none: Handle) -> u32
-    ensures full { is_some none.seal.held ≡ true → (result ≡ 4) × (handle.new ≡ handle.old) }
-    ensures empty { is_some none.seal.held ≡ false → is_some handle.old.seal.held ≡ false → (result ≡ 3) × (handle.new ≡ handle.old) }
-    ensures done { is_some none.seal.held ≡ false → is_some handle.old.seal.held ≡ true → (result ≡ 0) × (handle.new.seal.held ≡ None) }
+    ensures full { is_some none.boxed.held ≡ true → (result ≡ 4) × (handle.new ≡ handle.old) }
+    ensures empty { is_some none.boxed.held ≡ false → is_some handle.old.boxed.held ≡ false → (result ≡ 3) × (handle.new ≡ handle.old) }
+    ensures done { is_some none.boxed.held ≡ false → is_some handle.old.boxed.held ≡ true → (result ≡ 0) × (handle.new.boxed.held ≡ None) }
 {
     match handle.take(none) {
         Ok(boxed) => {
@@ -201,18 +201,18 @@ pub extern "C" fn povundiri_proved_recorder(
     units: u32,
     out: &mut Handle,
 ) -> u32
-    ensures full { is_some out.old.seal.held ≡ true → (result ≡ 4) × (segment.new ≡ segment.old) × (out.new ≡ out.old) }
-    ensures answer { is_some out.old.seal.held ≡ false → AnswersRecorderCall units segment.old.seal.held result segment.new.seal.held out.new.seal.held }
+    ensures full { is_some out.old.boxed.held ≡ true → (result ≡ 4) × (segment.new ≡ segment.old) × (out.new ≡ out.old) }
+    ensures answer { is_some out.old.boxed.held ≡ false → AnswersRecorderCall units segment.old.boxed.held result segment.new.boxed.held out.new.boxed.held }
 {
     if out.is_full() {
         return NOT_EMPTY;
     }
-    let Ok(place) = Box::new(alloc, Held::Nothing) else {
+    let Ok(place) = Box::new(alloc, Contents::Nothing) else {
         return NO_MEMORY;
     };
     match segment.call(Err(EMPTY), |held| held.recorder(units)) {
-        Ok(worker) => {
-            out.put(Held::Worker(worker).put_into(place));
+        Ok(joinable) => {
+            out.put(Contents::Recorder(joinable).put_into(place));
             DONE
         }
         Err(status) => status,
@@ -221,17 +221,17 @@ pub extern "C" fn povundiri_proved_recorder(
 
 // Passes a recorder to a segment. `none` stands in the recorder's place, and the recorder there again where it comes back.
 fn pass(segment: &mut Handle, recorder: &mut Handle, none: Handle, request: Request) -> u32
-    ensures full { is_some none.seal.held ≡ true → (result ≡ 4) × (segment.new ≡ segment.old) × (recorder.new ≡ recorder.old) }
-    ensures empty { is_some none.seal.held ≡ false → recorder.old.seal.held ≡ None → (result ≡ 3) × (segment.new ≡ segment.old) × (recorder.new ≡ recorder.old) }
-    ensures answer { is_some none.seal.held ≡ false → (guest : SomeHeld) → recorder.old.seal.held ≡ Some guest → AnswersGuest request guest segment.old.seal.held (result, recorder.new.seal.held) segment.new.seal.held }
+    ensures full { is_some none.boxed.held ≡ true → (result ≡ 4) × (segment.new ≡ segment.old) × (recorder.new ≡ recorder.old) }
+    ensures empty { is_some none.boxed.held ≡ false → recorder.old.boxed.held ≡ None → (result ≡ 3) × (segment.new ≡ segment.old) × (recorder.new ≡ recorder.old) }
+    ensures answer { is_some none.boxed.held ≡ false → (passed : SomeContents) → recorder.old.boxed.held ≡ Some passed → AnswersPassed request passed segment.old.boxed.held (result, recorder.new.boxed.held) segment.new.boxed.held }
 {
-    let guest = match recorder.take(none) {
-        Ok(guest) => guest,
+    let passed = match recorder.take(none) {
+        Ok(passed) => passed,
         Err(status) => return status,
     };
-    match segment.serve(guest, request) {
-        (status, Some(guest)) => {
-            recorder.put(guest);
+    match segment.serve(passed, request) {
+        (status, Some(passed)) => {
+            recorder.put(passed);
             status
         }
         (status, None) => status,
@@ -247,9 +247,9 @@ pub extern "C" fn povundiri_proved_lend(
     units: u32,
     none: Handle,
 ) -> u32
-    ensures full { is_some none.seal.held ≡ true → (result ≡ 4) × (segment.new ≡ segment.old) × (recorder.new ≡ recorder.old) }
-    ensures empty { is_some none.seal.held ≡ false → recorder.old.seal.held ≡ None → (result ≡ 3) × (segment.new ≡ segment.old) × (recorder.new ≡ recorder.old) }
-    ensures answer { is_some none.seal.held ≡ false → (guest : SomeHeld) → recorder.old.seal.held ≡ Some guest → AnswersLendCall units guest segment.old.seal.held (result, recorder.new.seal.held) segment.new.seal.held }
+    ensures full { is_some none.boxed.held ≡ true → (result ≡ 4) × (segment.new ≡ segment.old) × (recorder.new ≡ recorder.old) }
+    ensures empty { is_some none.boxed.held ≡ false → recorder.old.boxed.held ≡ None → (result ≡ 3) × (segment.new ≡ segment.old) × (recorder.new ≡ recorder.old) }
+    ensures answer { is_some none.boxed.held ≡ false → (passed : SomeContents) → recorder.old.boxed.held ≡ Some passed → AnswersLendCall units passed segment.old.boxed.held (result, recorder.new.boxed.held) segment.new.boxed.held }
 {
     pass(segment, recorder, none, Request::Lend(units))
 }
@@ -262,9 +262,9 @@ pub extern "C" fn povundiri_proved_join(
     recorder: &mut Handle,
     none: Handle,
 ) -> u32
-    ensures full { is_some none.seal.held ≡ true → (result ≡ 4) × (segment.new ≡ segment.old) × (recorder.new ≡ recorder.old) }
-    ensures empty { is_some none.seal.held ≡ false → recorder.old.seal.held ≡ None → (result ≡ 3) × (segment.new ≡ segment.old) × (recorder.new ≡ recorder.old) }
-    ensures answer { is_some none.seal.held ≡ false → (guest : SomeHeld) → recorder.old.seal.held ≡ Some guest → AnswersJoinCall guest segment.old.seal.held (result, recorder.new.seal.held) segment.new.seal.held }
+    ensures full { is_some none.boxed.held ≡ true → (result ≡ 4) × (segment.new ≡ segment.old) × (recorder.new ≡ recorder.old) }
+    ensures empty { is_some none.boxed.held ≡ false → recorder.old.boxed.held ≡ None → (result ≡ 3) × (segment.new ≡ segment.old) × (recorder.new ≡ recorder.old) }
+    ensures answer { is_some none.boxed.held ≡ false → (passed : SomeContents) → recorder.old.boxed.held ≡ Some passed → AnswersJoinCall passed segment.old.boxed.held (result, recorder.new.boxed.held) segment.new.boxed.held }
 {
     pass(segment, recorder, none, Request::Join)
 }
@@ -272,8 +272,8 @@ pub extern "C" fn povundiri_proved_join(
 /// The units that no recorder has; or those that a recorder may still spend.
 #[unsafe(no_mangle)]
 pub extern "C" fn povundiri_proved_units(handle: &mut Handle, units: &mut u32) -> u32
-    ensures answer { IsGiven (asked_of units_of handle.old.seal.held) result units.old units.new }
-    ensures same { handle.new.seal.held ≡ handle.old.seal.held }
+    ensures answer { IsGiven (asked_of units_of handle.old.boxed.held) result units.old units.new }
+    ensures same { handle.new.boxed.held ≡ handle.old.boxed.held }
 {
     match handle.call(Err(EMPTY), |held| held.units()) {
         Ok(found) => {
@@ -287,8 +287,8 @@ pub extern "C" fn povundiri_proved_units(handle: &mut Handle, units: &mut u32) -
 /// How many recorders were made and are not joined.
 #[unsafe(no_mangle)]
 pub extern "C" fn povundiri_proved_outstanding(segment: &mut Handle, outstanding: &mut u32) -> u32
-    ensures answer { IsGiven (asked_of outstanding_in segment.old.seal.held) result outstanding.old outstanding.new }
-    ensures same { segment.new.seal.held ≡ segment.old.seal.held }
+    ensures answer { IsGiven (asked_of outstanding_in segment.old.boxed.held) result outstanding.old outstanding.new }
+    ensures same { segment.new.boxed.held ≡ segment.old.boxed.held }
 {
     match segment.call(Err(EMPTY), |held| held.outstanding()) {
         Ok(found) => {

@@ -10,7 +10,7 @@ pub write_counts-requires : goal.write_counts-requires
 write_counts-requires c =
     let room = length c.args.counts.now in
     let Calls : Result Delta Refused → Type 0 =
-    λ answer. SizesOfRecorder (AtPlaceInRoom c.args.hist room TakesDelta) c.args.recorder.now.seal.held answer c.call.new.self.seal.held in
+    λ answer. SizesOfRecorder (AtPlaceInRoom c.args.hist room TakesDelta) c.args.recorder.now.boxed.held answer c.call.new.self.boxed.held in
     let calls : Calls c.call.result = search (c.call.ensures, rules) in
     let few = fits counts_of_delta TakesDelta few_of_delta c.args.hist room c.in-Ok.delta _ _ (subst Calls c.in-Ok.is calls) in
     let long = ap length c.deref.ensures.value in omega (arith, few, long)

@@ -10,7 +10,7 @@ pub write_counts-requires : goal.write_counts-requires
 write_counts-requires c =
     let room = length c.args.counts.now in
     let Calls : Result Snapshot Refused → Type 0 =
-    λ answer. SizesOfRecorder (AtPlaceInRoom c.args.hist room TakesSnapshot) c.args.recorder.now.seal.held answer c.call.new.self.seal.held in
+    λ answer. SizesOfRecorder (AtPlaceInRoom c.args.hist room TakesSnapshot) c.args.recorder.now.boxed.held answer c.call.new.self.boxed.held in
     let calls : Calls c.call.result = search (c.call.ensures, rules) in
     let few = fits counts_of_snapshot TakesSnapshot few_of_snapshot c.args.hist room c.in-Ok.snapshot _ _ (subst Calls c.in-Ok.is calls) in
     let long = ap length c.deref.ensures.value in omega (arith, few, long)

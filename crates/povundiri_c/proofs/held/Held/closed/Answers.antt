@@ -1,5 +1,0 @@
-use Rattle.std.proofs.Common.{arith}
-use Rattle.povundiri_c.proofs.held.Held.closed.Goals as goal
-
-pub returns-in-Ok-clause-answer : goal.returns-in-Ok-clause-answer
-returns-in-Ok-clause-answer c = (c.in-Owner.owner, c.in-Owner.is, omega (arith, c.size-size.ensures, c.if-room-size.false), c.in-Ok.ensures)

@@ -1,5 +1,0 @@
-use Rattle.povundiri_c.proofs.Calling.{by_worker}
-use Rattle.povundiri_c.proofs.held.Held.next_shared.Goals as goal
-
-pub returns-in-Worker : goal.returns-in-Worker
-returns-in-Worker c = by_worker _ _ _ _ _ _ c.in-Worker.is c.next_shared.ensures.kept c.next_shared.ensures.answer

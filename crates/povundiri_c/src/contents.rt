@@ -1,0 +1,204 @@
+//! What a handle holds.
+
+ghost use Rattle.std.specs.Prelude.{◌≡◌, Err, None, MatchResult, option_map};
+ghost use Rattle.povundiri_c.specs.Calls.{ByRecorder, outstanding_in, units_of};
+ghost use Rattle.povundiri_c.specs.Joins.{BySegment, GivesRecorder, ServesContents, recorder_in};
+ghost use Rattle.povundiri_c.specs.Recorders.{Adds, AtPlace, AtPlaceInRoom, Batches, FindsHist, Marks, refused_with, TakesDelta, TakesNext, TakesSnapshot, WalksAll};
+ghost use Rattle.povundiri_c.specs.Segments.{AnswersClose};
+
+use crate::joinable_recorder::JoinableRecorder;
+use crate::owned_segment::{OwnedSegment, Request};
+use crate::status::{DONE, IN_USE, OTHER_KIND, Refused, SHORT};
+use core::mem::replace_with;
+use live_segment::{Delta, Image, Snapshot, Spec};
+
+/// A segment, or a recorder; or nothing, while it is let go.
+#[derive(Drop)]
+pub enum Contents {
+    Segment(OwnedSegment),
+    Recorder(JoinableRecorder),
+    Nothing,
+}
+
+impl Contents {
+    // Its image, where it is a segment without recorders whose words fit so many.
+    fn closed(self, room: usize) -> (Contents, Result<Image, Refused>)
+        ensures answer { AnswersClose room self result.1 }
+        ensures after { MatchResult result.1 (λ _. result.0 ≡ Contents.Nothing) (λ _. result.0 ≡ self) }
+    {
+        match self {
+            Contents::Segment(owned) => {
+                let size = owned.size() as usize;
+                if room < size {
+                    return (
+                        Contents::Segment(owned),
+                        Err(Refused {
+                            status: SHORT,
+                            length: size,
+                        }),
+                    );
+                }
+                match owned.close() {
+                    Ok(image) => (Contents::Nothing, Ok(image)),
+                    Err(owned) => (Contents::Segment(owned), Err(Refused::of(IN_USE))),
+                }
+            }
+            other => (other, Err(Refused::of(OTHER_KIND))),
+        }
+    }
+
+    /// The box with this in it.
+    pub(crate) fn put_into(self, mut place: Box<Contents>) -> Box<Contents>
+        ensures { result.value ≡ self }
+    {
+        *place = self;
+        place
+    }
+
+    // Its recorder, where it is one.
+    fn parted(self, _nothing: ()) -> (Contents, Option<JoinableRecorder>)
+        ensures { (result.1 ≡ recorder_in self) × (recorder_in self ≡ None → result.0 ≡ self) }
+    {
+        match self {
+            Contents::Recorder(joinable) => (Contents::Nothing, Some(joinable)),
+            other => (other, None),
+        }
+    }
+
+    pub(crate) fn recorder(&mut self, units: u32) -> Result<JoinableRecorder, u32>
+        ensures { BySegment (Err 5) (GivesRecorder units) self.old result self.new }
+    {
+        match self {
+            Contents::Segment(owned) => owned.recorder(units),
+            _ => Err(OTHER_KIND),
+        }
+    }
+
+    /// Does what a recorder, in its box, is passed to the segment for. The status, and the box where it comes back.
+    pub(crate) fn serve(
+        &mut self,
+        mut passed: Box<Contents>,
+        request: Request,
+    ) -> (u32, Option<Box<Contents>>)
+        ensures { ServesContents request passed.value self.old (result.0, option_map (λ back. back.value) result.1) self.new }
+    {
+        let Contents::Segment(owned) = self else {
+            return (OTHER_KIND, Some(passed));
+        };
+        let Some(joinable) = replace_with(passed.as_mut(), (), Contents::parted) else {
+            return (OTHER_KIND, Some(passed));
+        };
+        let (status, back) = owned.serve(joinable, request);
+        match back {
+            Some(joinable) => (status, Some(Contents::Recorder(joinable).put_into(passed))),
+            None => (status, None),
+        }
+    }
+
+    /// Ends the segment, whose image has to fit so many words.
+    pub(crate) fn close(&mut self, room: usize) -> Result<Image, Refused>
+        ensures answer { AnswersClose room self.old result }
+        ensures after { MatchResult result (λ _. self.new ≡ Contents.Nothing) (λ _. self.new ≡ self.old) }
+    {
+        replace_with(self, room, Contents::closed)
+    }
+
+    pub(crate) fn units(&mut self) -> Result<u32, u32>
+        ensures { (result ≡ units_of self.old) × (self.new ≡ self.old) }
+    {
+        match self {
+            Contents::Segment(owned) => Ok(owned.units()),
+            Contents::Recorder(joinable) => Ok(joinable.owned.units()),
+            Contents::Nothing => Err(OTHER_KIND),
+        }
+    }
+
+    pub(crate) fn outstanding(&mut self) -> Result<u32, u32>
+        ensures { (result ≡ outstanding_in self.old) × (self.new ≡ self.old) }
+    {
+        match self {
+            Contents::Segment(owned) => Ok(owned.outstanding()),
+            _ => Err(OTHER_KIND),
+        }
+    }
+
+    pub(crate) fn hist(&mut self, name: &[u8], spec: &Spec) -> Result<usize, u32>
+        ensures { ByRecorder (Err 5) (FindsHist name.now spec.now) self.old result self.new }
+    {
+        match self {
+            Contents::Recorder(joinable) => joinable.hist(name, spec),
+            _ => Err(OTHER_KIND),
+        }
+    }
+
+    pub(crate) fn add(&mut self, place: usize, value: i32, count: u32) -> u32
+        ensures { ByRecorder 5 (AtPlace 8 (Adds value count) place) self.old result self.new }
+    {
+        match self {
+            Contents::Recorder(joinable) => joinable.add(place, value, count),
+            _ => OTHER_KIND,
+        }
+    }
+
+    pub(crate) fn batch(
+        &mut self,
+        place: usize,
+        items: &[(i32, u32)],
+        sum: i64,
+    ) -> Result<(), Refused>
+        ensures { ByRecorder (Err (refused_with 5)) (AtPlace (Err (refused_with 8)) (Batches items.now sum) place) self.old result self.new }
+    {
+        match self {
+            Contents::Recorder(joinable) => joinable.batch(place, items, sum),
+            _ => Err(Refused::of(OTHER_KIND)),
+        }
+    }
+
+    pub(crate) fn delta(&mut self, place: usize, room: usize) -> Result<Delta, Refused>
+        ensures { ByRecorder (Err (refused_with 5)) (AtPlaceInRoom place room TakesDelta) self.old result self.new }
+    {
+        match self {
+            Contents::Recorder(joinable) => joinable.delta(place, room),
+            _ => Err(Refused::of(OTHER_KIND)),
+        }
+    }
+
+    pub(crate) fn snapshot(&mut self, place: usize, room: usize) -> Result<Snapshot, Refused>
+        ensures { ByRecorder (Err (refused_with 5)) (AtPlaceInRoom place room TakesSnapshot) self.old result self.new }
+    {
+        match self {
+            Contents::Recorder(joinable) => joinable.snapshot(place, room),
+            _ => Err(Refused::of(OTHER_KIND)),
+        }
+    }
+
+    pub(crate) fn set_corrupt(&mut self) -> u32
+        ensures { ByRecorder 5 Marks self.old result self.new }
+    {
+        match self {
+            Contents::Recorder(joinable) => {
+                joinable.owned.set_corrupt();
+                DONE
+            }
+            _ => OTHER_KIND,
+        }
+    }
+
+    pub(crate) fn records(&mut self) -> Result<Vec<u64>, u32>
+        ensures { ByRecorder (Err 5) WalksAll self.old result self.new }
+    {
+        match self {
+            Contents::Recorder(joinable) => joinable.records(),
+            _ => Err(OTHER_KIND),
+        }
+    }
+
+    pub(crate) fn next_shared(&mut self, cursor: usize) -> Result<u64, u32>
+        ensures { ByRecorder (Err 5) (TakesNext cursor) self.old result self.new }
+    {
+        match self {
+            Contents::Recorder(joinable) => joinable.next_shared(cursor),
+            _ => Err(OTHER_KIND),
+        }
+    }
+}

@@ -4,11 +4,11 @@ use Rattle.csv.specs.Records.{field_at}
 use Rattle.fault_texts.specs.Field.{may_stand}
 use Rattle.fault_texts.specs.declared.complaint.Complaint.{Complaint}
 use Rattle.fault_texts.specs.declared.complaint.Complaint.TheVariants as complaint
-use Rattle.fault_texts.specs.declared.complaint.Form.{Form}
-use Rattle.fault_texts.specs.declared.complaint.Form.TheVariants.{Segment, Add, Delta, Hist, Alone, Linear, Custom}
+use Rattle.fault_texts.specs.declared.complaint.RecordForm.{RecordForm}
+use Rattle.fault_texts.specs.declared.complaint.RecordForm.TheVariants.{Segment, Add, Delta, Hist, Alone, Linear, Custom}
 
 -- whether a record of this form may have so many fields; of a histogram by itself not more is said than that it has a kind
-abbrev pub may_have : Form → ℕ → Bool
+abbrev pub may_have : RecordForm → ℕ → Bool
 may_have Segment count = count == 4
 may_have Add count = count == 4
 may_have Delta count = count == 2

@@ -1,7 +1,7 @@
 //! What is told of an image that is recorded into again, and of the script that is to be recorded there.
 
 use crate::lines::{Source, image_lines, word_at};
-use crate::place::place_of;
+use crate::records::record_of;
 use crate::specs_of::{spec_lines, survey_of, words_of};
 use image_adoption::{AdoptFault, Adoptable, check};
 use persist_report_core::CliFault;
@@ -73,8 +73,13 @@ pub fn base_lines(
         CliFault::Refused {
             number,
             why: Refusal::OtherSpec,
-        } => match place_of(alloc, script.bytes, *number)? {
-            Some(place) => spec_lines(alloc, "BASE", base, place.fields.get(1).unwrap_or_default()),
+        } => match record_of(alloc, script.bytes, *number)? {
+            Some(record) => spec_lines(
+                alloc,
+                "BASE",
+                base,
+                record.fields.get(1).unwrap_or_default(),
+            ),
             None => Ok(String::new(alloc)),
         },
         CliFault::Refused {

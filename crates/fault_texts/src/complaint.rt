@@ -10,7 +10,7 @@ use std::fmt;
 
 /// The forms of records.
 #[derive(Clone, Copy, Debug, PartialEq, Eq)]
-pub enum Form {
+pub enum RecordForm {
     Segment,
     Add,
     Delta,
@@ -30,7 +30,7 @@ pub enum Complaint {
     /// The field with this index, from 0, is none that may stand there.
     Field { index: usize, wanted: Wanted },
     /// It has not as many fields as its form.
-    Count(Form),
+    Count(RecordForm),
     /// It is the first record, and no `segment` record.
     NotFirst,
     /// Its size and its page are no lawful shape.
@@ -45,18 +45,18 @@ pub enum Complaint {
     UnknownName,
 }
 
-impl Form {
+impl RecordForm {
     // Whether a record of this form may have so many fields.
     fn may_have(self, count: usize) -> bool
         ensures { result ≡ may_have self count }
     {
         match self {
-            Form::Segment | Form::Add => count == 4,
-            Form::Delta => count == 2,
-            Form::Hist => count >= 3,
-            Form::Alone => count == 3,
-            Form::Linear => count == 6,
-            Form::Custom => count >= 4,
+            RecordForm::Segment | RecordForm::Add => count == 4,
+            RecordForm::Delta => count == 2,
+            RecordForm::Hist => count >= 3,
+            RecordForm::Alone => count == 3,
+            RecordForm::Linear => count == 6,
+            RecordForm::Custom => count >= 4,
         }
     }
 
@@ -100,20 +100,20 @@ fn check_numbers(fields: &ByteRecord, start: usize) -> Option<Complaint>
 fn check_hist(fields: &ByteRecord) -> Option<Complaint>
     ensures { IfSome result (IsSo (fields_of fields.now)) }
 {
-    if let Some(complaint) = Form::Hist.check(fields) {
+    if let Some(complaint) = RecordForm::Hist.check(fields) {
         return Some(complaint);
     }
     let kind = fields.get(2)?;
     if kind == b"linear".as_slice() {
-        Form::Linear
+        RecordForm::Linear
             .check(fields)
             .or_else(|| check_numbers(fields, 3))
     } else if kind == b"custom".as_slice() {
-        Form::Custom
+        RecordForm::Custom
             .check(fields)
             .or_else(|| check_numbers(fields, 3))
     } else if kind == b"boolean".as_slice() || kind == b"sparse".as_slice() {
-        Form::Alone.check(fields)
+        RecordForm::Alone.check(fields)
     } else {
         check(fields, 2, Wanted::Kind)
     }
@@ -126,18 +126,18 @@ pub fn complaint_of(fields: &ByteRecord) -> Option<Complaint>
 {
     let word = fields.get(0)?;
     if word == b"segment".as_slice() {
-        Form::Segment
+        RecordForm::Segment
             .check(fields)
             .or_else(|| check(fields, 1, Wanted::Unsigned))
             .or_else(|| check(fields, 2, Wanted::Unsigned))
             .or_else(|| check(fields, 3, Wanted::Long))
     } else if word == b"add".as_slice() {
-        Form::Add
+        RecordForm::Add
             .check(fields)
             .or_else(|| check(fields, 2, Wanted::Signed))
             .or_else(|| check(fields, 3, Wanted::Unsigned))
     } else if word == b"delta".as_slice() {
-        Form::Delta.check(fields)
+        RecordForm::Delta.check(fields)
     } else if word == b"hist".as_slice() {
         check_hist(fields)
     } else {
@@ -145,16 +145,16 @@ pub fn complaint_of(fields: &ByteRecord) -> Option<Complaint>
     }
 }
 
-impl fmt::Display for Form {
+impl fmt::Display for RecordForm {
     fn fmt<W: fmt::Write>(&self, f: &mut fmt::Formatter<W>) -> fmt::Result {
         f.write_str(match self {
-            Form::Segment => "segment,SIZE,PAGE,ID",
-            Form::Add => "add,NAME,VALUE,COUNT",
-            Form::Delta => "delta,NAME",
-            Form::Hist => "hist,NAME,KIND and what the kind needs",
-            Form::Alone => "hist,NAME,boolean or hist,NAME,sparse",
-            Form::Linear => "hist,NAME,linear,MIN,MAX,BUCKETS",
-            Form::Custom => "hist,NAME,custom,VALUE,.. with one value or more",
+            RecordForm::Segment => "segment,SIZE,PAGE,ID",
+            RecordForm::Add => "add,NAME,VALUE,COUNT",
+            RecordForm::Delta => "delta,NAME",
+            RecordForm::Hist => "hist,NAME,KIND and what the kind needs",
+            RecordForm::Alone => "hist,NAME,boolean or hist,NAME,sparse",
+            RecordForm::Linear => "hist,NAME,linear,MIN,MAX,BUCKETS",
+            RecordForm::Custom => "hist,NAME,custom,VALUE,.. with one value or more",
         })
     }
 }

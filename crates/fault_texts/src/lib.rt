@@ -9,22 +9,22 @@ mod complaint;
 mod field;
 mod header;
 mod lines;
-mod place;
+mod records;
 mod script;
 mod shown;
 mod specs_of;
 mod table;
 
 pub use adopting::{adopt_lines, base_lines};
-pub use complaint::{Complaint, Form, complaint_of};
+pub use complaint::{Complaint, RecordForm, complaint_of};
 pub use field::Wanted;
 pub use header::{wanted_of, word_of};
 pub use lines::{
     Origin, Source, device_lines, image_lines, remedy_lines, remedy_lines_of, script_lines,
     size_lines,
 };
-pub use place::{Place, is_named, line_of, place_of};
+pub use records::{ScriptRecord, is_named, line_of, record_of};
 pub use script::{Finding, finding_of};
 pub use shown::{Shown, ShownSpec};
 pub use specs_of::merge_lines;
-pub use table::{AllTexts, FaultText, TEXTS, text_of};
+pub use table::{AllTexts, FaultText, TEXTS, fault_text};

@@ -4,7 +4,7 @@ use crate::complaint::Complaint;
 use crate::header::{wanted_of, word_of};
 use crate::script::{Finding, finding_of};
 use crate::shown::Shown;
-use crate::table::{FaultText, text_of};
+use crate::table::{FaultText, fault_text};
 use persist_report_core::CliFault;
 use segment_image::ImageFault;
 use segment_image::layout::COOKIE_WORD;
@@ -41,7 +41,7 @@ impl fmt::Display for Origin<'_> {
 
 // The text of a fault: that of the last word of its line that has one.
 fn text_of_line(line: &str) -> Option<FaultText<'static>> {
-    line.rsplit(' ').find_map(text_of)
+    line.rsplit(' ').find_map(fault_text)
 }
 
 /// What a fault means by the words of its line, and what to do.

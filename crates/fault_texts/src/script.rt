@@ -1,7 +1,7 @@
 //! What is wrong with a record of a script, and where.
 
 use crate::complaint::{Complaint, complaint_of};
-use crate::place::{Place, is_named, line_of, place_of};
+use crate::records::{ScriptRecord, is_named, line_of, record_of};
 use csv::ByteRecord;
 use persist_report_core::unsigned_number;
 use segment_image::Shape;
@@ -45,25 +45,25 @@ fn misplaced(
     alloc: Global,
     text: &[u8],
     number: u32,
-    place: &Place,
+    record: &ScriptRecord,
 ) -> Result<Option<Complaint>, AllocError> {
-    let Some(word) = place.fields.get(0) else {
+    let Some(word) = record.fields.get(0) else {
         return Ok(None);
     };
     if number <= 1 {
-        return Ok(Some(misbegun(&place.fields)));
+        return Ok(Some(misbegun(&record.fields)));
     }
     if word == b"segment".as_slice() {
         return Ok(Some(Complaint::LateSegment));
     }
     if word == b"hist".as_slice() {
-        return Ok(if place.is_behind_calls {
+        return Ok(if record.is_behind_calls {
             Some(Complaint::LateHist)
         } else {
             None
         });
     }
-    let Some(name) = place.fields.get(1) else {
+    let Some(name) = record.fields.get(1) else {
         return Ok(None);
     };
     let is_known = is_named(alloc, text, number - 1, name)?;
@@ -76,19 +76,19 @@ fn misplaced(
 
 /// What is wrong with the record of a script that has this number.
 pub fn finding_of(alloc: Global, text: &[u8], number: u32) -> Result<Finding, AllocError> {
-    let Some(place) = place_of(alloc, text, number)? else {
+    let Some(record) = record_of(alloc, text, number)? else {
         return Ok(Finding {
             fields: ByteRecord::new(alloc),
             line: line_of(text, text.len()),
             complaint: Some(Complaint::NoRecord),
         });
     };
-    let complaint = match complaint_of(&place.fields) {
+    let complaint = match complaint_of(&record.fields) {
         Some(complaint) => Some(complaint),
-        None => misplaced(alloc, text, number, &place)?,
+        None => misplaced(alloc, text, number, &record)?,
     };
-    let line = line_of(text, place.start);
-    let Place { fields, .. } = place;
+    let line = line_of(text, record.start);
+    let ScriptRecord { fields, .. } = record;
     Ok(Finding {
         fields,
         line,

@@ -51,7 +51,7 @@ fn find_text<'a>(table: &'a [(&'a str, &'a str, &'a str)], name: &str) -> Option
 }
 
 /// The text of a fault by its name, where there is one.
-pub fn text_of(name: &str) -> Option<FaultText<'static>>
+pub fn fault_text(name: &str) -> Option<FaultText<'static>>
     ensures { IfSome result (λ text. text.name.now ≡ name.now) }
 {
     find_text(&TEXTS, name)

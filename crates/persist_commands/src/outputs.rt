@@ -7,7 +7,7 @@ ghost use Rattle.segment_image.specs.Words.{bytes_of_words};
 ghost use Rattle.segment_image.specs.Watched.{has_failed, is_flushed, watched_inner};
 ghost use Rattle.persist_commands.specs.Run.{IsReportOfImage};
 
-use persist_report_core::{CliFault, text_of};
+use persist_report_core::{CliFault, report_text};
 use segment_image::{Watched, write_words};
 use std::alloc::Global;
 use std::io::Write;
@@ -19,7 +19,7 @@ pub(crate) fn text_of_image(alloc: Global, words: &[u64]) -> Result<Vec<u8>, Cli
     ensures fault { IfErr result (λ fault. fault ≡ CliFault.NoMemory) }
 {
     let reading = image_reader::read(alloc, words)?;
-    Ok(text_of(alloc, &reading)?)
+    Ok(report_text(alloc, &reading)?)
 }
 
 /// Writes the words of an image out to the device itself.

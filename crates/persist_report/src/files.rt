@@ -8,13 +8,13 @@ ghost use Rattle.segment_image.specs.Watched.{has_failed};
 use crate::cause::Cause;
 use crate::explaining::{Known, told, unopened, unopened_out};
 use crate::failure::Failure;
-use crate::form::{Form, write_form};
 use crate::noted::Noted;
 use crate::output::{Output, open_output};
 use crate::workers::Workers;
 use fault_texts::{Origin, Source};
 use persist_commands::{OpenGate, merge_files, resume_script, run_script};
 use persist_report_core::CliFault;
+use reading_shows::{Form, write_text};
 use segment_image::Watched;
 use std::fs::File;
 use std::io::Read;
@@ -114,7 +114,7 @@ fn write_from<R: Print + AllocGlobal, I: Read + Drop>(
     ensures { IfErr result UsageIsMistake }
 {
     let mut writer = Watched::new(Noted::new(io::writer(rt)));
-    let Err(fault) = write_form(rt.alloc(), form, &mut reader, &mut writer) else {
+    let Err(fault) = write_text(rt.alloc(), form, &mut reader, &mut writer) else {
         return Ok(());
     };
     let (reader, writer) = (reader.into_inner(), writer.into_inner());

@@ -7,7 +7,6 @@ mod explaining;
 mod extracting;
 mod failure;
 mod files;
-mod form;
 mod lock;
 mod noted;
 mod nth;

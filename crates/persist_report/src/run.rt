@@ -6,12 +6,11 @@ ghost use Rattle.persist_report.specs.Failure.{UsageIsMistake};
 use crate::extracting::extract_file;
 use crate::failure::Failure;
 use crate::files::{merge_files_into, resume_file, run_file, write_file};
-use crate::form::Form;
 use crate::request::{Request, no_fault, no_prefix, not_text};
 use crate::terminal::is_terminal;
-use fault_texts::{AllTexts, text_of};
+use fault_texts::{AllTexts, fault_text};
 use persist_report_core::CliFault;
-use reading_shows::{Choice, Style};
+use reading_shows::{Choice, Form, Style};
 use reading_texts::is_prefix;
 use std::fs::File;
 use std::random::RandomSource;
@@ -65,7 +64,7 @@ fn explain<R: Print + AllocGlobal>(rt: &R, name: Option<&str>) -> Result<(), Fai
 {
     match name {
         None => rt.print(AllTexts).map_err(|_| CliFault::Write)?,
-        Some(name) => match text_of(name) {
+        Some(name) => match fault_text(name) {
             Some(text) => rt.print(text).map_err(|_| CliFault::Write)?,
             None => return Err(Failure::Usage(no_fault(rt.alloc())?)),
         },

@@ -7,7 +7,6 @@ use Rattle.bucket_ranges.specs.Reading.{Reading, IsReading}
 use Rattle.persist_report_core.specs.declared.fault.CliFault.{CliFault}
 use Rattle.persist_report_core.specs.declared.fault.CliFault.TheVariants.{Read, Write, TooLong, NotWords, Image, BadLine, Refused, Gate, Merge, NoThread, NoMemory, Adopt, NoSegment}
 use Rattle.reading_texts.specs.Text.{IsTextOf}
-use Rattle.reading_texts.specs.Exporting.{IsExportOf}
 
 -- the words of 64 bits that the bytes are; a number past them would have the bytes of another word
 pub record AreWordsOf (bytes words : List ℕ) : Type 0 where
@@ -31,10 +30,6 @@ pub record IsOfBytes (IsOf : Reading → List ℕ → Type 0) (bytes text : List
 -- the text is the report of that reading
 abbrev pub IsReportOf : List ℕ → List ℕ → Type 0
 IsReportOf bytes text = IsOfBytes IsTextOf bytes text
-
--- the text is that of that reading for what scrapes metrics; their names begin so
-abbrev pub IsExportedFrom : List ℕ → List ℕ → List ℕ → Type 0
-IsExportedFrom prefix bytes text = IsOfBytes (IsExportOf prefix) bytes text
 
 -- A fault has its cause in the bytes of the image. Devices that fail and want of memory have none there. The faults of
 -- scripts, of merges, of workers and of images that are recorded into again come of no report.

@@ -3,6 +3,8 @@
 //! The text is defined in `specs/Showing.antt`, and the page in `specs/Page.antt`, over the rows that every text of a reading is
 //! made of. All numbers in them come from whole-number arithmetic, which `specs/Shares.antt` defines with its rounding. Each is
 //! composed whole and only then written, so that nothing is written but for a writer that fails.
+//!
+//! [`write_text`] reads an image and writes it in one of four [`Form`]s: these two, the report and the metrics.
 #![tactic(auto)]
 
 mod bars;
@@ -10,6 +12,7 @@ mod choice;
 mod columns;
 mod ending;
 mod escapes;
+mod form;
 mod heading;
 mod lines;
 mod most;
@@ -22,7 +25,8 @@ mod style;
 mod writing;
 
 pub use choice::Choice;
+pub use form::Form;
 pub use page::page_text;
 pub use showing::show_text;
 pub use style::Style;
-pub use writing::{page_of, show, show_of, show_page};
+pub use writing::write_text;

@@ -59,20 +59,12 @@ bucket_line prefix label row =
     prefix ∷ codes "_histogram_bucket{histogram=\"" ∷ label ∷ codes "\",le=\"" ∷ signed_decimal (row.high -ℤ pos 1)
     ∷ codes "\"} " ∷ decimal row.up_to ∷ codes "\n" ∷ [])
 
--- the line of all buckets
-abbrev pub all_line : List ℕ → List ℕ → Histogram → List ℕ
-all_line prefix label hist =
-    joined (prefix ∷ codes "_histogram_bucket{histogram=\"" ∷ label ∷ codes "\",le=\"+Inf\"} " ∷ decimal (units_of hist) ∷ codes "\n" ∷ [])
-
--- the line of the sum
-abbrev pub sum_line : List ℕ → List ℕ → Histogram → List ℕ
-sum_line prefix label hist =
-    joined (prefix ∷ codes "_histogram_sum{histogram=\"" ∷ label ∷ codes "\"} " ∷ signed_decimal hist.sum ∷ codes "\n" ∷ [])
-
--- the line of the count, which is that of the buckets
-abbrev pub count_line : List ℕ → List ℕ → Histogram → List ℕ
-count_line prefix label hist =
-    joined (prefix ∷ codes "_histogram_count{histogram=\"" ∷ label ∷ codes "\"} " ∷ decimal (units_of hist) ∷ codes "\n" ∷ [])
+-- a line of a histogram as a whole: the metric of this name, the label, what stands behind it in the braces, and the number
+abbrev pub total_line : List ℕ → List ℕ → List ℕ → List ℕ → List ℕ → List ℕ
+total_line prefix name label end number =
+    joined (
+    prefix ∷ name ∷ codes "{histogram=\"" ∷ label ∷ codes "\"" ∷ end ∷ codes "} " ∷ number
+    ∷ codes "\n" ∷ [])
 
 -- the line of a value of a sparse histogram: its units
 abbrev pub value_line : List ℕ → List ℕ → HistRow → List ℕ
@@ -115,9 +107,12 @@ is_sparse (Linear min max n) = false
 is_sparse Boolean = false
 is_sparse (Custom values) = false
 
--- the lines of all units, of the sum and of the count
+-- the lines of all units, of the sum and of the count, which is that of the buckets
 abbrev pub total_lines : List ℕ → List ℕ → Histogram → List ℕ
-total_lines prefix label hist = all_line prefix label hist ++ sum_line prefix label hist ++ count_line prefix label hist
+total_lines prefix label hist =
+    total_line prefix (codes "_histogram_bucket") label (codes ",le=\"+Inf\"") (decimal (units_of hist))
+    ++ total_line prefix (codes "_histogram_sum") label (codes "") (signed_decimal hist.sum)
+    ++ total_line prefix (codes "_histogram_count") label (codes "") (decimal (units_of hist))
 
 -- the lines of a histogram that has ranges: each of its buckets, also those without units, and its totals
 abbrev pub ranged_lines : List ℕ → Histogram → List ℕ

@@ -5,7 +5,7 @@ ghost use Rattle.std.specs.List.{flat_map, list_all};
 ghost use Rattle.image_reader.specs.Views.{histogram_view, reading_view};
 ghost use Rattle.image_reader.specs.Readable.{IsReadable};
 ghost use Rattle.reading_texts.specs.Rows.{rows_of as rows_of_histogram};
-ghost use Rattle.reading_texts.specs.Exporting.{family, bucket_line, value_line, row_line, ranged_lines, sparse_lines, flag_line, bad_line, is_metric_prefix, is_first_byte, is_later_byte, all_line, sum_line, count_line, total_lines, flag_value as value_of_flag, label_value as label_value_of, IsExportOf};
+ghost use Rattle.reading_texts.specs.Exporting.{family, bucket_line, value_line, row_line, ranged_lines, sparse_lines, flag_line, bad_line, is_metric_prefix, is_first_byte, is_later_byte, total_line, total_lines, flag_value as value_of_flag, label_value as label_value_of, IsExportOf};
 
 use crate::labels::label_value;
 use crate::order::in_order;
@@ -137,75 +137,28 @@ fn put_buckets(
     Ok(())
 }
 
-// The line of all units.
-fn put_all(
-    alloc: Global,
+// Puts a line of a histogram as a whole: the name of the metric, the label, what stands behind it, and the number.
+fn put_total(
     text: &mut Vec<u8>,
     prefix: &[u8],
+    name: &[u8],
     label: &[u8],
-    hist: &HistReading,
+    end: &[u8],
+    number: &[u8],
 ) -> Result<(), AllocError>
-    requires { IsReadable (histogram_view hist.now) }
-    ensures { OnOk result (text.new.items ≡ text.old.items ++ all_line prefix.now label.now (histogram_view hist.now)) }
+    ensures { OnOk result (text.new.items ≡ text.old.items ++ total_line prefix.now name.now label.now end.now number.now) }
 {
-    let units = units(hist).to_string(alloc)?;
     put_parts(
         text,
         &[
             prefix,
-            b"_histogram_bucket{histogram=\"",
+            name,
+            b"{histogram=\"",
             label,
-            b"\",le=\"+Inf\"} ",
-            units.as_bytes(),
-            b"\n",
-        ],
-    )
-}
-
-// The line of the sum.
-fn put_sum(
-    alloc: Global,
-    text: &mut Vec<u8>,
-    prefix: &[u8],
-    label: &[u8],
-    hist: &HistReading,
-) -> Result<(), AllocError>
-    ensures { OnOk result (text.new.items ≡ text.old.items ++ sum_line prefix.now label.now (histogram_view hist.now)) }
-{
-    let sum = hist.sum.to_string(alloc)?;
-    put_parts(
-        text,
-        &[
-            prefix,
-            b"_histogram_sum{histogram=\"",
-            label,
-            b"\"} ",
-            sum.as_bytes(),
-            b"\n",
-        ],
-    )
-}
-
-// The line of the count.
-fn put_count(
-    alloc: Global,
-    text: &mut Vec<u8>,
-    prefix: &[u8],
-    label: &[u8],
-    hist: &HistReading,
-) -> Result<(), AllocError>
-    requires { IsReadable (histogram_view hist.now) }
-    ensures { OnOk result (text.new.items ≡ text.old.items ++ count_line prefix.now label.now (histogram_view hist.now)) }
-{
-    let units = units(hist).to_string(alloc)?;
-    put_parts(
-        text,
-        &[
-            prefix,
-            b"_histogram_count{histogram=\"",
-            label,
-            b"\"} ",
-            units.as_bytes(),
+            b"\"",
+            end,
+            b"} ",
+            number,
             b"\n",
         ],
     )
@@ -222,9 +175,19 @@ fn put_totals(
     requires { IsReadable (histogram_view hist.now) }
     ensures { OnOk result (text.new.items ≡ text.old.items ++ total_lines prefix.now label.now (histogram_view hist.now)) }
 {
-    put_all(alloc, text, prefix, label, hist)?;
-    put_sum(alloc, text, prefix, label, hist)?;
-    put_count(alloc, text, prefix, label, hist)?;
+    let units = units(hist).to_string(alloc)?;
+    let sum = hist.sum.to_string(alloc)?;
+    let units = units.as_bytes();
+    put_total(
+        text,
+        prefix,
+        b"_histogram_bucket",
+        label,
+        b",le=\"+Inf\"",
+        units,
+    )?;
+    put_total(text, prefix, b"_histogram_sum", label, b"", sum.as_bytes())?;
+    put_total(text, prefix, b"_histogram_count", label, b"", units)?;
     Ok(())
 }
 

@@ -16,5 +16,5 @@ mod words;
 pub use exporting::{export_text, is_prefix};
 pub use parts::put_parts;
 pub use rows::{HistRow, rows_of, units};
-pub use text::text_of;
+pub use text::report_text;
 pub use words::{image_fault_word, is_sparse, kind_word, record_fault_word};

@@ -17,7 +17,7 @@ use crate::fault::ReplayFault;
 use crate::form::Form;
 use crate::replay::Replay;
 use crate::request::{Request, Show, not_text};
-use persist_report_core::text_of;
+use persist_report_core::report_text;
 use schedule::{Opening, Order, Schedule, read_schedule};
 use segment_image::layout::MAX_SIZE;
 use segment_image::{ImageFault, Watched, read_words, write_words};
@@ -159,7 +159,7 @@ fn write_report<W: Write>(
         Err(ImageFault::NoMemory) => return Err(ReplayFault::NoMemory),
         Err(_) => unreachable!(),
     };
-    let text = text_of(alloc, &reading)?;
+    let text = report_text(alloc, &reading)?;
     writer.write_all(&text).map_err(|_| ReplayFault::Write)?;
     writer.flush().map_err(|_| ReplayFault::Write)
 }

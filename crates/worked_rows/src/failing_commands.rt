@@ -5,7 +5,8 @@ use crate::adopting::image_with;
 use crate::resuming::bytes_of;
 use crate::streams::{FailAt, Sink, Source, image};
 use persist_commands::{OpenGate, merge_files, resume_script, run_script};
-use persist_report_core::{CliFault, report};
+use persist_report_core::CliFault;
+use reading_shows::{Form, write_text};
 use segment_image::Watched;
 use std::alloc::Global;
 use std::process::Abort;
@@ -108,7 +109,7 @@ fn sink(alloc: Global, place: usize) -> Sink {
 fn report_failing(alloc: Global, image: &[u8], places: Places) -> Outcome {
     let mut reader = Watched::new(source(image, places.first));
     let mut writer = Watched::new(sink(alloc, places.second));
-    let fault = report(alloc, &mut reader, &mut writer).err();
+    let fault = write_text(alloc, Form::Report, &mut reader, &mut writer).err();
     let (reader, writer) = (reader.into_inner(), writer.into_inner());
     let made = Places {
         first: reader.calls.made,

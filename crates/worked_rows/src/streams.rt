@@ -4,7 +4,8 @@ ghost use Rattle.std.specs.Prelude.{◌≡◌, false};
 ghost use Rattle.segment_image.specs.Watched.{has_failed};
 
 use crate::images::THREE_SAMPLES;
-use persist_report_core::{CliFault, report};
+use persist_report_core::CliFault;
+use reading_shows::{Form, write_text};
 use segment_image::{ReadFault, Watched, WriteFault, read_bytes, read_words, write_words};
 use std::alloc::Global;
 use std::io;
@@ -131,7 +132,8 @@ fn report_to(alloc: Global, image: &[u8], failing: usize) -> (Option<CliFault>, 
     let calls = FailAt::new(failing);
     let text = Vec::new(alloc);
     let mut sink = Watched::new(Sink { text, calls });
-    let fault = report(alloc, &mut Watched::new(image), &mut sink).err();
+    let mut reader = Watched::new(image);
+    let fault = write_text(alloc, Form::Report, &mut reader, &mut sink).err();
     let Sink { text, calls } = sink.into_inner();
     (fault, calls.made, text)
 }

@@ -7,7 +7,7 @@ ghost use Rattle.povundiri_c.specs.Status.{status_of_image_fault};
 
 use crate::status::{DONE, NO_MEMORY, SHORT, TOO_MANY_KEYS, of_image_fault};
 use image_reader::{has_more_keys, read};
-use reading_texts::text_of;
+use reading_texts::report_text;
 use std::alloc::Global;
 
 /// The report of an image as CSV, where there is room for it; and how many bytes it has.
@@ -71,7 +71,7 @@ fn write_report(alloc: Global, words: &[u64], text: &mut [u8], needed: &mut usiz
         Ok(reading) => reading,
         Err(fault) => return of_image_fault(fault),
     };
-    let Ok(found) = text_of(alloc, &reading) else {
+    let Ok(found) = report_text(alloc, &reading) else {
         return NO_MEMORY;
     };
     *needed = found.len();

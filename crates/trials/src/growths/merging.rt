@@ -6,7 +6,8 @@ use crate::growths::again::{again, show_refused, show_try};
 use anyhow::Result;
 use image_reader::{Reading, read};
 use live_segment::{Opener, Segment};
-use persist_report_core::{report, report_of};
+use persist_report_core::report_of;
+use reading_shows::{Form, write_text};
 use segment_image::{Image, Watched, write_words};
 use segment_merge::{MergeReport, merge};
 use std::alloc::Global;
@@ -23,8 +24,9 @@ fn show_reports(rt: &impl Print, alloc: Global, words: &[u64]) -> Result<()> {
     again!(
         rt,
         "report",
-        report(
+        write_text(
             alloc,
+            Form::Report,
             &mut Watched::new(bytes.as_slice()),
             &mut Watched::new(io::writer(rt))
         )

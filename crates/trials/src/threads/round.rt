@@ -7,7 +7,7 @@ use crate::threads::calls::{Done, NAMES, UNITS, run, spec_of};
 use crate::threads::lines::{show_batch, show_delta, show_sample, show_snapshot};
 use anyhow::Result;
 use live_segment::{Opener, Recorder, Refusal, Segment};
-use persist_report_core::report;
+use reading_shows::{Form, write_text};
 use segment_image::{Watched, write_words};
 use std::alloc::{AllocError, Global};
 use std::thread::Threads;
@@ -137,7 +137,8 @@ fn show_report(rt: &(impl Print + AllocGlobal), alloc: Global, words: &[u64]) ->
     write_words(&mut file, words)?;
     let bytes = file.into_inner();
     let mut writer = Watched::new(io::writer(rt));
-    report(alloc, &mut Watched::new(bytes.as_slice()), &mut writer)?;
+    let mut reader = Watched::new(bytes.as_slice());
+    write_text(alloc, Form::Report, &mut reader, &mut writer)?;
     Ok(())
 }
 

@@ -22,18 +22,18 @@ returns-in-Err-clause-lawful c =
 
 pub returns-then-text-len-clause-short : goal.returns-then-text-len-clause-short
 returns-then-text-len-clause-short c = λ _. (
-  c.in-Ok-text_of.found.items,
-  report_of c.args.words.now (header_of c.args.words.now) c.read.result c.in-Ok.reading c.in-Ok-text_of.found.items (λ fault. fault ≡ NoMemory)
-      refl c.read.ensures.answer c.in-Ok.is c.in-Ok-text_of.ensures,
-  c.len.ensures ∙ c.in-Ok-text_of.found.ok.0,
-  omega (arith, c.len.ensures, c.len-2.ensures, c.in-Ok-text_of.found.ok.0, c.if-text-len.true),
+  c.in-Ok-report_text.found.items,
+  report_of c.args.words.now (header_of c.args.words.now) c.read.result c.in-Ok.reading c.in-Ok-report_text.found.items (λ fault. fault ≡ NoMemory)
+      refl c.read.ensures.answer c.in-Ok.is c.in-Ok-report_text.ensures,
+  c.len.ensures ∙ c.in-Ok-report_text.found.ok.0,
+  omega (arith, c.len.ensures, c.len-2.ensures, c.in-Ok-report_text.found.ok.0, c.if-text-len.true),
 )
 
 pub returns-clause-done : goal.returns-clause-done
 returns-clause-done c = λ _. (
-  c.in-Ok-text_of.found.items,
-  report_of c.args.words.now (header_of c.args.words.now) c.read.result c.in-Ok.reading c.in-Ok-text_of.found.items (λ fault. fault ≡ NoMemory)
-      refl c.read.ensures.answer c.in-Ok.is c.in-Ok-text_of.ensures,
-  c.len.ensures ∙ c.in-Ok-text_of.found.ok.0,
-  in_front _ _ c.args.text.now _ (c.copy_from_slice.ensures.after ∙ c.deref.ensures.value) (c.len-3.ensures ∙ c.in-Ok-text_of.found.ok.0),
+  c.in-Ok-report_text.found.items,
+  report_of c.args.words.now (header_of c.args.words.now) c.read.result c.in-Ok.reading c.in-Ok-report_text.found.items (λ fault. fault ≡ NoMemory)
+      refl c.read.ensures.answer c.in-Ok.is c.in-Ok-report_text.ensures,
+  c.len.ensures ∙ c.in-Ok-report_text.found.ok.0,
+  in_front _ _ c.args.text.now _ (c.copy_from_slice.ensures.after ∙ c.deref.ensures.value) (c.len-3.ensures ∙ c.in-Ok-report_text.found.ok.0),
 )

@@ -4,7 +4,7 @@ use Rattle.std.proofs.lemmas.List.Sorted.{All-permutation, IsPermutation-sym}
 use Rattle.image_reader.specs.Views.{histogram_view}
 use Rattle.image_reader.specs.Readable.{IsReadable}
 use Rattle.reading_texts.specs.Text.{histogram_text}
-use Rattle.reading_texts.proofs.text.text_of.Goals as goal
+use Rattle.reading_texts.proofs.text.report_text.Goals as goal
 
 pub put_histograms-requires : goal.put_histograms-requires
 put_histograms-requires c =

@@ -6,7 +6,7 @@ use Rattle.segment_image.specs.Head.{header_of}
 use Rattle.bucket_ranges.specs.Reading.{IsReading}
 use Rattle.image_reader.specs.Views.{reading_view}
 use Rattle.persist_report_core.proofs.Answering.{reading_cause, header_taken}
-use Rattle.persist_report_core.proofs.reporting.reading_of.Goals as goal
+use Rattle.persist_report_core.proofs.reporting.read_image.Goals as goal
 
 pub returns-in_err-reading-clause-cause : goal.returns-in_err-reading-clause-cause
 returns-in_err-reading-clause-cause c =

@@ -1,4 +1,4 @@
-//! Where a record of a script stands in its file.
+//! The records of a script, and where each stands in its file.
 
 ghost use Rattle.std.specs.Prelude.{◌≡◌, ◌+◌, ◌≤◌, ◌==◌, count_by, length, take, IfSome, IfOk};
 
@@ -9,7 +9,7 @@ use std::io::Read;
 
 /// A record of a script, and where it stands.
 #[derive(Drop)]
-pub struct Place {
+pub struct ScriptRecord {
     /// Its fields.
     pub fields: ByteRecord,
     /// How many bytes stand before it.
@@ -74,8 +74,12 @@ fn start_of(text: &[u8], taken: usize) -> usize
 }
 
 /// The record of a script with this number, from 1, where there is one.
-pub fn place_of(alloc: Global, text: &[u8], number: u32) -> Result<Option<Place>, AllocError>
-    ensures { IfOk result (λ found. IfSome found (λ place. place.start ≤ length text.now)) }
+pub fn record_of(
+    alloc: Global,
+    text: &[u8],
+    number: u32,
+) -> Result<Option<ScriptRecord>, AllocError>
+    ensures { IfOk result (λ found. IfSome found (λ one. one.start ≤ length text.now)) }
 {
     let mut records = records_of(alloc, text);
     let mut fields = ByteRecord::new(alloc);
@@ -92,7 +96,7 @@ pub fn place_of(alloc: Global, text: &[u8], number: u32) -> Result<Option<Place>
     if !next(&mut records, &mut fields)? {
         return Ok(None);
     }
-    Ok(Some(Place {
+    Ok(Some(ScriptRecord {
         fields,
         start,
         is_behind_calls,

@@ -9,8 +9,8 @@ use Rattle.segment_invariant.proofs.Lists.Elements.{there_below}
 use Rattle.segment_machine.specs.declared.actor.Known.{Known}
 use Rattle.live_segment.specs.declared.recorder.Hist.{Hist}
 use Rattle.live_segment.specs.List.Values.{AreFewKeys}
-use Rattle.owned_recorder.specs.Answers.{ShowsFewKeys, TakesFewKeys}
-use Rattle.owned_recorder.specs.Desks.{Means, view_of_desk}
+use Rattle.live_segment.specs.Answers.{ShowsFewKeys, TakesFewKeys}
+use Rattle.live_segment.specs.RecorderState.{Means, view_of_state}
 use Rattle.owned_recorder.specs.declared.owned.OwnedRecorder.{OwnedRecorder}
 use Rattle.povundiri_c.specs.declared.contents.Contents.{Contents}
 use Rattle.povundiri_c.specs.declared.contents.Contents.TheVariants as contents
@@ -25,7 +25,7 @@ answered value why is = subst (λ (r : Result _ _). MatchResult r (λ _. Unit {0
 -- ---- of the histogram
 
 abbrev HasFew : {A : Type 0} → (A → List (ℤ × ℕ)) → Hist → OwnedRecorder → A → Type 0
-HasFew counts histogram old value = (known : Known) → Means old.desk histogram known → AreFewKeys (arc_value old.segment) known (counts value)
+HasFew counts histogram old value = (known : Known) → Means old.state histogram known → AreFewKeys (arc_value old.segment) known (counts value)
 
 abbrev pub counts_of_delta : Delta → List (ℤ × ℕ)
 counts_of_delta delta = delta.counts.items
@@ -37,7 +37,7 @@ pub few_of_delta : (histogram : Hist) (old : OwnedRecorder) (delta : Delta) (new
     → HasFew counts_of_delta histogram old delta
 few_of_delta histogram old delta new (answer, is, on, taken, enough, few) known means = by answer is few
   where
-    by : (answer : Result Delta Refusal) → Ok delta ≡ with_refused answer → TakesFewKeys (arc_value old.segment) histogram old.desk answer
+    by : (answer : Result Delta Refusal) → Ok delta ≡ with_refused answer → TakesFewKeys (arc_value old.segment) histogram old.state answer
         → AreFewKeys (arc_value old.segment) known delta.counts.items
     by (Ok it) is few = subst (λ (r : Result Delta Refused). MatchResult r (λ d. AreFewKeys (arc_value old.segment) known d.counts.items) (λ _. Unit {0}))
         (sym is) (few known means)
@@ -47,7 +47,7 @@ pub few_of_snapshot : (histogram : Hist) (old : OwnedRecorder) (snapshot : Snaps
     → HasFew counts_of_snapshot histogram old snapshot
 few_of_snapshot histogram old snapshot new (answer, is, on, saw, enough, units, few) known means = by answer is few
   where
-    by : (answer : Result Snapshot Refusal) → Ok snapshot ≡ with_refused answer → ShowsFewKeys (arc_value old.segment) histogram old.desk answer
+    by : (answer : Result Snapshot Refusal) → Ok snapshot ≡ with_refused answer → ShowsFewKeys (arc_value old.segment) histogram old.state answer
         → AreFewKeys (arc_value old.segment) known snapshot.counts.items
     by (Ok it) is few = subst (λ (r : Result Snapshot Refused). MatchResult r (λ s. AreFewKeys (arc_value old.segment) known s.counts.items) (λ _. Unit {0}))
         (sym is) (few known means)
@@ -62,7 +62,7 @@ module _ {A : Type 0} (counts : A → List (ℤ × ℕ)) (Calls : Hist → Owned
   fits_recorder old new (unknown, calls) = ⊎_elim
       (λ below.
       let (histogram, is, (most, are_most, short, enough)) = calls below in
-      let (known, means) = there_below (view_of_desk old.desk).answers.names histogram.index (omega (arith, below, is)) in ⊎_elim
+      let (known, means) = there_below (view_of_state old.state).answers.names histogram.index (omega (arith, below, is)) in ⊎_elim
       (λ less. absurd (answered value _ (short less).0))
       (λ fits.
       let all = few histogram old value new (enough fits) known means most (are_most known means) in omega (arith, all, fits))

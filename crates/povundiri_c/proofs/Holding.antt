@@ -12,7 +12,7 @@ use Rattle.owned_recorder.specs.declared.owned.OwnedRecorder.{OwnedRecorder}
 use Rattle.live_segment.specs.declared.segment.Segment.{Segment}
 use Rattle.live_segment.specs.Holders.{IsMadeWith, IsSameOpener, view_of_opener}
 use Rattle.live_segment.specs.Lending.{HasUnits}
-use Rattle.owned_recorder.specs.Desks.{IsSameDesk, view_of_desk}
+use Rattle.live_segment.specs.RecorderState.{IsSameRecorder, view_of_state}
 use Rattle.owned_recorder.specs.Holders.{IsRecorderOf, RecordsInto, view_of_owned}
 use Rattle.povundiri_c.specs.declared.joinable_recorder.JoinableRecorder.{JoinableRecorder}
 use Rattle.povundiri_c.specs.Mailbox.{BelongsTo, cursors_of}
@@ -37,16 +37,16 @@ pub of_opener : (segment : Segment) (key opener : Opener) (owned : OwnedRecorder
 of_opener segment key opener owned first made of = of.0 ∙ first.table ∙ sym made.table
 
 -- one that was lent units is one of the same opener's segment still
-pub belongs_still : (key : Opener) (old new : OwnedRecorder) → new.segment ≡ old.segment → IsSameDesk old.desk new.desk → BelongsTo old key → BelongsTo new key
+pub belongs_still : (key : Opener) (old new : OwnedRecorder) → new.segment ≡ old.segment → IsSameRecorder old.state new.state → BelongsTo old key → BelongsTo new key
 belongs_still key old new kept same of = (same.table ∙ of.0, ap (λ (segment : Arc Segment Global). (arc_value segment).setting.cursors) kept ∙ of.1)
 
 -- units that the opener had were lent
 pub lent : (units : ℕ) (result : Result (Unit {0}) Refusal) (old new : Opener) (before after : OwnedRecorder) → HasUnits units (view_of_opener old) result
     → units ≤ (view_of_opener old).units.share
     → MatchResult result (λ _. IsSameOpener old new × (view_of_opener new ≡ giver (view_of_opener old) units)) (λ _. new ≡ old)
-    → MatchResult result (λ _. IsSameDesk before.desk after.desk × (view_of_owned after ≡ getter (view_of_owned before) units)) (λ _. after ≡ before)
+    → MatchResult result (λ _. IsSameRecorder before.state after.state × (view_of_owned after ≡ getter (view_of_owned before) units)) (λ _. after ≡ before)
     → (IsSameOpener old new × (view_of_opener new ≡ giver (view_of_opener old) units))
-    × (IsSameDesk before.desk after.desk × (view_of_owned after ≡ getter (view_of_owned before) units))
+    × (IsSameRecorder before.state after.state × (view_of_owned after ≡ getter (view_of_owned before) units))
 lent units (Ok done) old new before after has enough mine theirs = (mine, theirs)
 lent units (Err why) old new before after has enough mine theirs = absurd (omega (arith, has.1, enough))
 
@@ -70,6 +70,6 @@ same_recorder joinable owned fits counted is =
 
 -- its segment has a shared cursor of this number
 pub has_cursor : (key : Opener) (owned : OwnedRecorder) (cursor cursors : ℕ) → BelongsTo owned key → cursors ≡ cursors_of key → cursor < cursors
-    → cursor < (view_of_desk owned.desk).segment.cursors
+    → cursor < (view_of_state owned.state).segment.cursors
 has_cursor key owned cursor cursors of is below =
     subst (λ (n : ℕ). cursor < n) (is ∙ sym of.1 ∙ sym owned.fits.seated.of.cursors) below

@@ -2,7 +2,7 @@
 use Rattle.std.specs.Prelude.{◌≡◌, ℕ, Option, Some, None, Result, Ok, Err}
 use Rattle.segment_machine.specs.Actor.{outstanding_of}
 use Rattle.live_segment.specs.Holders.{view_of_opener}
-use Rattle.owned_recorder.specs.Desks.{view_of_desk}
+use Rattle.live_segment.specs.RecorderState.{view_of_state}
 use Rattle.owned_recorder.specs.declared.owned.OwnedRecorder.{OwnedRecorder}
 use Rattle.povundiri_c.specs.declared.contents.Contents.{Contents}
 use Rattle.povundiri_c.specs.declared.contents.Contents.TheVariants as contents
@@ -15,7 +15,7 @@ use Rattle.povundiri_c.specs.Recorders.{refused_with}
 -- the units that a segment has left to give, or that a recorder may still spend
 abbrev pub units_of : Contents → Result ℕ ℕ
 units_of (contents.Segment owned) = Ok (view_of_opener owned.opener).units.share
-units_of (contents.Recorder joinable) = Ok (view_of_desk joinable.owned.desk).units.share
+units_of (contents.Recorder joinable) = Ok (view_of_state joinable.owned.state).units.share
 units_of contents.Nothing = Err 5
 
 -- how many recorders of a segment were made and not joined

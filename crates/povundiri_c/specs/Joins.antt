@@ -8,7 +8,7 @@ use Rattle.segment_image.specs.Checks.{first_fault}
 use Rattle.segment_machine.specs.Seats.{getter, giver, joined, newcomer, offering, parent}
 use Rattle.live_segment.specs.Holders.{IsSameOpener, view_of_opener}
 use Rattle.live_segment.specs.Steps.{recorder_checks}
-use Rattle.owned_recorder.specs.Desks.{given_fresh, IsSameDesk}
+use Rattle.live_segment.specs.RecorderState.{given_fresh, IsSameRecorder}
 use Rattle.owned_recorder.specs.Holders.{IsRecorderOf, view_of_owned}
 use Rattle.owned_recorder.specs.declared.owned.OwnedRecorder.{OwnedRecorder}
 use Rattle.povundiri_c.specs.declared.contents.Contents.{Contents}
@@ -48,7 +48,7 @@ abbrev pub HasMade : ℕ → OwnedSegment → JoinableRecorder → OwnedSegment 
 HasMade units old joinable new =
     (fault_of_recorder old units ≡ None) × KeepsSegment old new × IsRecorderOf joinable.owned new.opener × (arc_value joinable.mailbox ≡ arc_value new.mailbox)
     × (view_of_opener new.opener ≡ parent (offering (view_of_opener old.opener) units))
-    × (view_of_owned joinable.owned ≡ newcomer (offering (view_of_opener old.opener) units)) × (given_fresh joinable.owned.desk ≡ 0)
+    × (view_of_owned joinable.owned ≡ newcomer (offering (view_of_opener old.opener) units)) × (given_fresh joinable.owned.state ≡ 0)
 
 -- There is none because of the first check that fails, or because memory ran out.
 abbrev pub IsNoRecorder : ℕ → OwnedSegment → ℕ → Type 0
@@ -157,7 +157,7 @@ abbrev pub HasLent : ℕ → OwnedRecorder → OwnedSegment → JoinableRecorder
 HasLent units owned old joinable new =
     KeepsSegment old new × IsRecorderOf owned old.opener × (arc_value joinable.mailbox ≡ arc_value new.mailbox) × (joinable.owned.segment ≡ owned.segment)
     × (view_of_opener new.opener ≡ giver (view_of_opener old.opener) units)
-    × (view_of_owned joinable.owned ≡ getter (view_of_owned owned) units) × IsSameDesk owned.desk joinable.owned.desk
+    × (view_of_owned joinable.owned ≡ getter (view_of_owned owned) units) × IsSameRecorder owned.state joinable.owned.state
 
 -- it is lent them, and comes back
 abbrev pub IsLent : ℕ → OwnedRecorder → OwnedSegment → ℕ → Option JoinableRecorder → OwnedSegment → Type 0

@@ -14,8 +14,8 @@ use Rattle.live_segment.specs.Alloc.Allocation.{spoiled}
 use Rattle.live_segment.specs.List.SharedCursors.{AnswersNext, gift}
 use Rattle.live_segment.specs.List.Values.{AreMostKeys}
 use Rattle.live_segment.specs.declared.recorder.Hist.{Hist}
-use Rattle.owned_recorder.specs.Answers.{AnswersAdd, AnswersBatch, AnswersDelta, AnswersFirst, AnswersFront, AnswersHist, AnswersList, AnswersRecords, AnswersSnapshot, ClaimsAdd, ClaimsBatch, ClaimsHist, ShowsEnough, ShowsFewKeys, ShowsUnits, TakesEnough, TakesFewKeys}
-use Rattle.owned_recorder.specs.Desks.{IsNamed, IsSameDesk, KnowsOn, Means, view_of_desk}
+use Rattle.live_segment.specs.Answers.{AnswersAdd, AnswersBatch, AnswersDelta, AnswersFirst, AnswersFront, AnswersHist, AnswersList, AnswersRecords, AnswersSnapshot, ClaimsAdd, ClaimsBatch, ClaimsHist, ShowsEnough, ShowsFewKeys, ShowsUnits, TakesEnough, TakesFewKeys}
+use Rattle.live_segment.specs.RecorderState.{IsNamed, IsSameRecorder, KnowsOn, Means, view_of_state}
 use Rattle.owned_recorder.specs.declared.owned.OwnedRecorder.{OwnedRecorder}
 use Rattle.povundiri_c.specs.declared.status.Refused.{Refused}
 use Rattle.povundiri_c.specs.Status.{status_of_refusal}
@@ -24,15 +24,15 @@ use Rattle.povundiri_c.specs.Status.{status_of_refusal}
 
 -- it keeps its segment, knows the same histograms, and was given no fresh records
 abbrev pub GoesOn : OwnedRecorder → OwnedRecorder → Type 0
-GoesOn old new = (new.segment ≡ old.segment) × IsSameDesk old.desk new.desk
+GoesOn old new = (new.segment ≡ old.segment) × IsSameRecorder old.state new.state
 
 -- how many histograms it knows
 abbrev pub known_by : OwnedRecorder → ℕ
-known_by owned = length (view_of_desk owned.desk).answers.names
+known_by owned = length (view_of_state owned.state).answers.names
 
 -- how many shared cursors its segment has
 abbrev pub cursors_by : OwnedRecorder → ℕ
-cursors_by owned = (view_of_desk owned.desk).segment.cursors
+cursors_by owned = (view_of_state owned.state).segment.cursors
 
 -- ---- answers as C has them
 
@@ -82,19 +82,19 @@ AtPlace unknown Calls place old answer new =
 abbrev pub Adds : ℤ → ℕ → Hist → OwnedRecorder → ℕ → OwnedRecorder → Type 0
 Adds value count histogram old status new =
     (answer : Result (Unit {0}) Refusal) × (status ≡ status_of_answer answer) × GoesOn old new
-    × AnswersAdd histogram value count old.desk answer new.desk × ClaimsAdd histogram value old.desk answer new.desk
+    × AnswersAdd histogram value count old.state answer new.state × ClaimsAdd histogram value old.state answer new.state
 
 -- a batch is counted as `OwnedRecorder::batch` says
 abbrev pub Batches : List (ℤ × ℕ) → ℤ → Hist → OwnedRecorder → Result (Unit {0}) Refused → OwnedRecorder → Type 0
 Batches items sum histogram old given new =
     (answer : Result (Unit {0}) BatchRefusal) × (given ≡ with_refused_batch answer) × GoesOn old new
-    × AnswersBatch histogram items sum old.desk answer new.desk × ClaimsBatch histogram items old.desk answer new.desk
+    × AnswersBatch histogram items sum old.state answer new.state × ClaimsBatch histogram items old.state answer new.state
 
 -- ---- those that want room for all keys of the histogram
 
 -- so many keys the histogram may have
 abbrev pub AreMost : Hist → OwnedRecorder → ℕ → Type 0
-AreMost histogram owned most = (known : Known) → Means owned.desk histogram known → AreMostKeys (arc_value owned.segment) known most
+AreMost histogram owned most = (known : Known) → Means owned.state histogram known → AreMostKeys (arc_value owned.segment) known most
 
 -- Where there is too little room, how much is needed is returned, and it is unchanged; else the call is made.
 abbrev pub InRoom : {A : Type 0} → ℕ → (Hist → OwnedRecorder → Result A Refused → OwnedRecorder → Type 0)
@@ -117,40 +117,40 @@ Finds histogram old given new = (given ≡ Ok histogram) × (new ≡ old)
 abbrev pub TakesDelta : Hist → OwnedRecorder → Result Delta Refused → OwnedRecorder → Type 0
 TakesDelta histogram old given new =
     (answer : Result Delta Refusal) × (given ≡ with_refused answer) × GoesOn old new
-    × AnswersDelta histogram old.desk answer new.desk × TakesEnough (arc_value new.segment) histogram old.desk answer new.desk
-    × TakesFewKeys (arc_value old.segment) histogram old.desk answer
+    × AnswersDelta histogram old.state answer new.state × TakesEnough (arc_value new.segment) histogram old.state answer new.state
+    × TakesFewKeys (arc_value old.segment) histogram old.state answer
 
 -- a snapshot is taken as `OwnedRecorder::snapshot` says
 abbrev pub TakesSnapshot : Hist → OwnedRecorder → Result Snapshot Refused → OwnedRecorder → Type 0
 TakesSnapshot histogram old given new =
     (answer : Result Snapshot Refusal) × (given ≡ with_refused answer) × GoesOn old new
-    × AnswersSnapshot histogram old.desk answer new.desk × ShowsEnough histogram old.desk answer new.desk
-    × ShowsUnits histogram old.desk answer × ShowsFewKeys (arc_value old.segment) histogram old.desk answer
+    × AnswersSnapshot histogram old.state answer new.state × ShowsEnough histogram old.state answer new.state
+    × ShowsUnits histogram old.state answer × ShowsFewKeys (arc_value old.segment) histogram old.state answer
 
 -- ---- other calls
 
 -- the histogram of a name is found or made as `OwnedRecorder::hist` says
 abbrev pub FindsHist : List ℕ → Spec → OwnedRecorder → Result ℕ ℕ → OwnedRecorder → Type 0
 FindsHist name spec old place new =
-    (answer : Result Hist Refusal) × (place ≡ place_of_answer answer) × (new.segment ≡ old.segment) × KnowsOn old.desk new.desk
-    × IfOk answer (IsNamed name spec new.desk) × AnswersHist name spec old.desk answer new.desk × ClaimsHist name spec old.desk answer new.desk
-    × AnswersFirst (arc_value new.segment) answer new.desk
+    (answer : Result Hist Refusal) × (place ≡ place_of_answer answer) × (new.segment ≡ old.segment) × KnowsOn old.state new.state
+    × IfOk answer (IsNamed name spec new.state) × AnswersHist name spec old.state answer new.state × ClaimsHist name spec old.state answer new.state
+    × AnswersFirst (arc_value new.segment) answer new.state
 
 -- the segment is marked as corrupt
 abbrev pub Marks : OwnedRecorder → ℕ → OwnedRecorder → Type 0
-Marks old status new = (status ≡ 0) × GoesOn old new × (view_of_desk new.desk ≡ spoiled (view_of_desk old.desk))
+Marks old status new = (status ≡ 0) × GoesOn old new × (view_of_state new.state ≡ spoiled (view_of_state old.state))
 
 -- the references of all records of the list
 abbrev pub WalksAll : OwnedRecorder → Result (Vec ℕ Global) ℕ → OwnedRecorder → Type 0
 WalksAll old given new =
-    (answer : Result (Vec ℕ Global) Refusal) × (given ≡ with_status answer) × GoesOn old new × AnswersRecords old.desk answer new.desk
-    × AnswersList (arc_value new.segment) answer new.desk
+    (answer : Result (Vec ℕ Global) Refusal) × (given ≡ with_status answer) × GoesOn old new × AnswersRecords old.state answer new.state
+    × AnswersList (arc_value new.segment) answer new.state
 
 -- the next record of a shared cursor, where the segment has that
 abbrev pub TakesNext : ℕ → OwnedRecorder → Result ℕ ℕ → OwnedRecorder → Type 0
 TakesNext cursor old given new =
     (cursors_by old ≤ cursor → (given ≡ Err 9) × (new ≡ old))
     × (cursor < cursors_by old → (answer : Option ℕ) × (given ≡ next_of answer) × GoesOn old new
-    × AnswersNext cursor (view_of_desk old.desk) answer (view_of_desk new.desk)
-    × ((view_of_desk new.desk).done.given ≡ (view_of_desk old.desk).done.given ++ gift cursor answer)
-    × AnswersFront (arc_value new.segment) cursor answer new.desk)
+    × AnswersNext cursor (view_of_state old.state) answer (view_of_state new.state)
+    × ((view_of_state new.state).done.given ≡ (view_of_state old.state).done.given ++ gift cursor answer)
+    × AnswersFront (arc_value new.segment) cursor answer new.state)

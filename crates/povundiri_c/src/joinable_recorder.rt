@@ -2,7 +2,7 @@
 
 ghost use Rattle.std.specs.Arc.{arc_value};
 ghost use Rattle.std.specs.Prelude.{◌≡◌, Err, IfOk};
-ghost use Rattle.owned_recorder.specs.Desks.{Knows};
+ghost use Rattle.live_segment.specs.RecorderState.{Knows};
 ghost use Rattle.povundiri_c.specs.Mailbox.{BelongsTo, cursors_of};
 ghost use Rattle.povundiri_c.specs.Recorders.{Adds, AtPlace, AtPlaceInRoom, Batches, Finds, FindsHist, refused_with, TakesDelta, TakesNext, TakesSnapshot, WalksAll};
 
@@ -74,7 +74,7 @@ impl JoinableRecorder {
 
     // The histogram at a place, where there is room for all of its keys.
     fn hist_within(&self, place: usize, room: usize) -> Result<Hist, Refused>
-        ensures known { IfOk result (Knows self.now.owned.desk) }
+        ensures known { IfOk result (Knows self.now.owned.state) }
         ensures answer { AtPlaceInRoom place room Finds self.now.owned result self.now.owned }
     {
         let Some(histogram) = self.owned.hist_at(place) else {

@@ -28,14 +28,6 @@ INDEX = ROOT / "docs" / "PROVED.md"
 WIDTH = 140
 # How many signs a clause may have that is shown as it stands.
 SHORT = 80
-# The crates whose doc comments do not name their clauses yet: docs/PROVED_BY_HAND.md has what is proved of them.
-LEFT = (
-    "povundiri_c",
-    "reading_shows",
-    "persist_report_core",
-    "fault_texts",
-    "persist_report",
-)
 # Programs of the tests, which promise nothing.
 PROGRAMS_OF_TESTS = ("trials", "worked_lists", "worked_rows", "worked_words")
 
@@ -164,7 +156,7 @@ def promising(crate):
 
 def done():
     """The crates that have a page, in the order of docs/ARCHITECTURE.md."""
-    return [crate for crate in definitions.crates() if crate not in (*LEFT, *PROGRAMS_OF_TESTS) and promising(crate)]
+    return [crate for crate in definitions.crates() if crate not in PROGRAMS_OF_TESTS and promising(crate)]
 
 
 def refused():

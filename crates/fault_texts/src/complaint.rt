@@ -119,8 +119,8 @@ fn check_hist(fields: &ByteRecord) -> Option<Complaint>
     }
 }
 
-/// What is wrong with the form of a record by itself: the first field that is none that may stand there, or that there are
-/// too many or too few.
+/// Returns what is wrong with the form of a record by itself, which is so: the first field that may not stand there,
+/// or that there are too many or too few.
 pub fn complaint_of(fields: &ByteRecord) -> Option<Complaint>
     ensures { IfSome result (IsSo (fields_of fields.now)) }
 {

@@ -42,7 +42,7 @@ fn is_kind(field: &[u8]) -> bool
 }
 
 impl Wanted {
-    /// Whether a field may stand there.
+    /// Returns whether a field may stand there.
     pub fn allows(self, field: &[u8]) -> bool
         ensures { result ≡ may_stand self field.now }
     {

@@ -125,7 +125,7 @@ fn line_feeds(text: &[u8]) -> usize
     text.iter().filter(|byte| **byte == b'\n').count()
 }
 
-/// The line of a file in which a byte stands, from 1: one more than the line feeds before it.
+/// Returns the line of a file in which a byte stands, from 1: one more than the line feeds before it.
 pub fn line_of(text: &[u8], start: usize) -> usize
     requires { start ≤ length text.now }
     ensures { result ≡ 1 + count_by (λ byte. byte == 10) (take start text.now) }

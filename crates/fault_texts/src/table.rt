@@ -50,7 +50,7 @@ fn find_text<'a>(table: &'a [(&'a str, &'a str, &'a str)], name: &str) -> Option
     None
 }
 
-/// The text of a fault by its name, where there is one.
+/// Returns the text of a fault by its name, where there is one; it has that name.
 pub fn fault_text(name: &str) -> Option<FaultText<'static>>
     ensures { IfSome result (λ text. text.name.now ≡ name.now) }
 {

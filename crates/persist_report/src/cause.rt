@@ -15,7 +15,7 @@ pub struct Cause {
 }
 
 impl Cause {
-    /// A fault for which the system gave this reason.
+    /// Returns the cause with this fault, for which the system gave a reason.
     pub fn of(fault: CliFault, reason: io::Error) -> Cause
         ensures { result.fault ≡ fault }
     {
@@ -25,7 +25,7 @@ impl Cause {
         }
     }
 
-    /// A write failed for this reason.
+    /// Returns the cause of a write that failed for this reason.
     pub fn of_write(reason: io::Error) -> Cause
         ensures { result.fault ≡ CliFault.Write }
     {

@@ -64,8 +64,8 @@ fn lines_of(alloc: Global, fault: &CliFault, known: Known<'_, '_>) -> Result<Str
     Ok(lines)
 }
 
-/// The failure of a fault, with the lines that follow it where the command `explains`. Without memory for these the fault
-/// stands alone.
+/// Returns the failure of a fault, with the lines that follow it where the command `explains`. `Usage` comes only for
+/// a mistake on the command line. Where memory runs out for the lines, the fault stands alone.
 pub fn told(alloc: Global, fault: CliFault, explains: bool, known: Known<'_, '_>) -> Failure
     ensures { UsageIsMistake result }
 {
@@ -78,7 +78,7 @@ pub fn told(alloc: Global, fault: CliFault, explains: bool, known: Known<'_, '_>
     }
 }
 
-/// The failure where a file could not be opened.
+/// Returns the failure where a file could not be opened; `Usage` comes only for a mistake on the command line.
 pub fn unopened(alloc: Global, cause: Cause, explains: bool, path: &str) -> Failure
     ensures { UsageIsMistake result }
 {
@@ -105,7 +105,8 @@ fn busy_lines(alloc: Global, path: &str) -> Result<String, AllocError> {
     Ok(lines)
 }
 
-/// The failure where the file that a command writes was not opened.
+/// Returns the failure where the file that a command writes was not opened; `Usage` comes only for a mistake on the
+/// command line.
 pub fn unopened_out(alloc: Global, why: Unopened, explains: bool, path: &str) -> Failure
     ensures { UsageIsMistake result }
 {

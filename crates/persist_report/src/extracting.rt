@@ -56,8 +56,9 @@ fn extract_both<I: Read, W: Write, L: Write>(
     write_line(alloc, line, place)
 }
 
-/// Finds a segment in a file, writes its image to another, and to standard output how many bytes stand before it. The image
-/// takes the other file's place behind that line. No copy is kept of what is read: it may be long.
+/// Finds a segment in a file, writes its image to another, and to standard output how many bytes come before it. The
+/// image takes the other file's place after that line. No copy is kept of what is read: it may be long. `Usage` comes
+/// only for a mistake on the command line.
 pub fn extract_file<'a, R: Files<File = File> + Clock + Print + RandomSource + AllocGlobal>(
     rt: &R,
     file: &'a str,

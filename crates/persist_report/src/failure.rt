@@ -24,7 +24,7 @@ pub enum Failure {
 }
 
 impl Failure {
-    /// The status with which the program ends: 2 for `Usage`, 4 for `Busy`, and else that of the fault.
+    /// Returns the status with which the program ends: 2 for `Usage`, 4 for `Busy`, and else that of the fault.
     pub fn status(&self) -> u8
         ensures { result ≡ failure_status self.now }
     {

@@ -25,7 +25,8 @@ use std::thread::Threads;
 use std::time::Clock;
 use std::{fs, io};
 
-/// A file that is there, to read it. A copy of what is read is kept where it `copies`.
+/// Opens a file that is there, to read it. On `Ok` it has not failed [file]; `Usage` comes only for a mistake on the
+/// command line [fault]. A copy of what is read is kept where it `copies`.
 pub fn open_copying<R: Files + AllocGlobal>(
     rt: &R,
     path: &str,
@@ -44,6 +45,8 @@ pub fn open_copying<R: Files + AllocGlobal>(
     }
 }
 
+/// Opens a file that is there, to read it, with a copy of what is read for what is explained. On `Ok` it has not
+/// failed [file]; `Usage` comes only for a mistake on the command line [fault].
 // A file that is there, to read it, with a copy of what is read for what is explained.
 fn open<R: Files + AllocGlobal>(
     rt: &R,
@@ -56,7 +59,8 @@ fn open<R: Files + AllocGlobal>(
     open_copying(rt, path, explains, explains)
 }
 
-/// The file that is written.
+/// Opens the file that is written. On `Ok` it has not failed [file]; `Usage` comes only for a mistake on the command
+/// line [fault].
 pub fn open_out<R: Files<File = File> + Clock + RandomSource + AllocGlobal>(
     rt: &R,
     path: &str,
@@ -131,8 +135,8 @@ fn write_from<R: Print + AllocGlobal, I: Read + Drop>(
     Err(told(rt.alloc(), fault, explains, known))
 }
 
-/// Writes a form of the image in a file to standard output. The image on standard input is meant where no file is named, or
-/// `-`.
+/// Writes a form of the image in a file to standard output. The image on standard input is meant where no file is
+/// named, or `-`. `Usage` comes only for a mistake on the command line.
 pub fn write_file<R: Files + Input + Print + AllocGlobal>(
     rt: &R,
     form: Form<'_>,
@@ -153,8 +157,8 @@ pub fn write_file<R: Files + Input + Print + AllocGlobal>(
     }
 }
 
-/// Runs the script in a file, and writes the image to another and its report to standard output. The image takes the other
-/// file's place behind the report.
+/// Runs the script in a file, and writes the image to another and its report to standard output. The image takes the
+/// other file's place after the report. `Usage` comes only for a mistake on the command line.
 pub fn run_file<
     'a,
     R: Files<File = File> + Clock + Print + RandomSource + AllocGlobal + Threads + Wait,
@@ -191,8 +195,9 @@ pub fn run_file<
     Err(told(rt.alloc(), cause.fault, explains, known))
 }
 
-/// Goes on with the image in a file and runs the script in another on it. Writes the new image to a third file and its report to
-/// standard output. The image takes the third file's place behind the report.
+/// Continues from the image in a file and runs the script in another on it. Writes the new image to a third file and
+/// its report to standard output. The image takes the third file's place after the report. `Usage` comes only for a
+/// mistake on the command line.
 pub fn resume_file<
     'a,
     R: Files<File = File> + Clock + Print + RandomSource + AllocGlobal + Threads + Wait,
@@ -239,7 +244,8 @@ pub fn resume_file<
     Err(told(rt.alloc(), cause.fault, explains, known))
 }
 
-/// Merges the images in two files into a new one, and writes it to a third.
+/// Merges the images in two files into a new one, and writes it to a third. `Usage` comes only for a mistake on the
+/// command line.
 pub fn merge_files_into<'a, R: Files<File = File> + Clock + RandomSource + AllocGlobal>(
     rt: &R,
     base: &'a str,

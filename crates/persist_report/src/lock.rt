@@ -35,7 +35,8 @@ impl From<Cause> for Unopened {
 
 /// Takes the lock of an open file, which has it until it is closed.
 ///
-/// `Busy` where another has had it for 100 ms, and `Write` where the system cannot lock the file.
+/// The failure is `Busy` where another has had it for 100 ms, or `Write` where the system cannot lock the file; never
+/// another.
 pub fn take_lock<R: Clock>(rt: &R, file: &File) -> Result<(), Unopened>
     ensures { IfErr result IsBusyOrWrite }
 {

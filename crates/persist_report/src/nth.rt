@@ -10,7 +10,7 @@ pub struct Nth {
 }
 
 impl Nth {
-    /// The segment with this number, where there may be one.
+    /// Returns the segment with this number [same], where there may be one: from 1 on [all].
     pub fn of(number: u64) -> Option<Nth>
         ensures all { IsSome result ↔ (1 ≤ number) }
         ensures same { IfSome result (λ nth. nth.number ≡ number) }
@@ -21,7 +21,7 @@ impl Nth {
         Some(Nth { number })
     }
 
-    /// Its number.
+    /// Returns its number [same], which is 1 or more [any].
     pub fn number(&self) -> u64
         ensures same { result ≡ self.now.number }
         ensures any { 1 ≤ result }

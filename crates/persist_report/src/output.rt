@@ -65,8 +65,9 @@ impl<F: Write + OpenFile> Write for Output<F> {
 }
 
 impl<F: Drop> Output<F> {
-    /// Ends the output of a command, whose outcome is given. Where the command did its work, a new file takes OUT's name,
-    /// and it is `Write` where it cannot. Else the new file is removed.
+    /// Ends the output of a command, whose outcome is given. Where the command failed, the new file is removed, and
+    /// the fault is that of the command [same]. Else the new file takes OUT's name, and the fault is `Write` where it
+    /// cannot [write].
     pub fn end<R: Files>(self, rt: &R, outcome: Result<(), CliFault>) -> Result<(), Cause>
         ensures same { IfErr outcome (λ fault. IsErrAnd result (λ cause. cause.fault ≡ fault)) }
         ensures write { OnOk outcome (IfErr result (λ cause. cause.fault ≡ CliFault.Write)) }

@@ -395,7 +395,8 @@ impl<'a> Request<'a> {
     }
 }
 
-/// What is wrong with a command line in which an argument is not UTF-8 text.
+/// Returns what is wrong with a command line in which an argument is not UTF-8 text: a mistake in a value. The one
+/// error is that memory runs out.
 pub fn not_text(alloc: Global) -> Result<Error, AllocError>
     ensures { IfOk result (λ error. kind_of error ≡ ErrorKind.ValueValidation) }
 {
@@ -405,14 +406,16 @@ pub fn not_text(alloc: Global) -> Result<Error, AllocError>
     )
 }
 
-/// What is wrong with a command line that asks for a fault that there is not.
+/// Returns what is wrong with a command line that asks for a fault that there is not: a wrong value. The one error is
+/// that memory runs out.
 pub fn no_fault(alloc: Global) -> Result<Error, AllocError>
     ensures { IfOk result (λ error. kind_of error ≡ ErrorKind.InvalidValue) }
 {
     command(alloc)?.error(ErrorKind::InvalidValue, "no fault has this name")
 }
 
-/// What is wrong with a command line whose prefix is none.
+/// Returns what is wrong with a command line whose prefix is none: a mistake in a value. The one error is that memory
+/// runs out.
 pub fn no_prefix(alloc: Global) -> Result<Error, AllocError>
     ensures { IfOk result (λ error. kind_of error ≡ ErrorKind.ValueValidation) }
 {

@@ -22,8 +22,9 @@ use std::{env, io};
 
 /// Does what the arguments ask for.
 ///
-/// `Usage` where they ask for nothing that the program does; `Fault` where the request failed, `NoMemory` also
-/// where there was none to read the arguments, and `Write` also where a help or version text could not be written.
+/// `Usage` where they ask for nothing that the program does, never for help, the version or where memory runs out;
+/// `Fault` where the request failed, `NoMemory` also where memory ran out when the arguments were read, and `Write`
+/// also where a help or version text could not be written.
 pub fn run<
     R: Env
         + Files<File = File>

@@ -11,7 +11,7 @@ pub struct Workers {
 }
 
 impl Workers {
-    /// So many workers, where a script may be run by them.
+    /// Returns so many workers [same], where a script may be run by them: 1 to 16 [all].
     pub fn of(count: u32) -> Option<Workers>
         ensures all { IsSome result ↔ (1 ≤ count) × (count ≤ 16) }
         ensures same { IfSome result (λ workers. workers.count ≡ count) }
@@ -22,7 +22,7 @@ impl Workers {
         Some(Workers { count })
     }
 
-    /// How many they are.
+    /// Returns how many they are [same], 1 or more [any] and 16 or fewer [few].
     pub fn count(&self) -> u32
         ensures same { result ≡ self.now.count }
         ensures any { 1 ≤ result }

@@ -19,9 +19,11 @@ use std::io::Write;
 /// An image has at most so many words.
 pub const MAX_WORDS: usize = MAX_SIZE as usize;
 
-/// What the image that the words are reads as.
+/// Returns what the image that the words are reads as [reading]. Of each histogram the spec is valid, each bucket has
+/// its count, and the units fit a word [readable].
 ///
-/// `Image` with the first fault of the image's header, and `NoMemory` where there is none; never another.
+/// The fault is `Image` with the first fault of the image's header [cause], or `NoMemory` where memory runs out;
+/// never `Read` or `Write` [other].
 pub fn read_image(alloc: Global, words: &[u64]) -> Result<Reading, CliFault>
     ensures reading { IfOk result (λ reading. IsReadingOf (bytes_of_words words.now) (reading_view reading)) }
     ensures readable { IfOk result (λ reading. All IsReadable (map histogram_view reading.hists.items)) }
@@ -32,10 +34,11 @@ pub fn read_image(alloc: Global, words: &[u64]) -> Result<Reading, CliFault>
     Ok(reading)
 }
 
-/// The text of the report of the image that the words are.
+/// Returns the text of the report of the image that the words are [text].
 ///
-/// Records that are no lawful histograms, and a list of records that is broken, are lines of the report. `Image` with the first
-/// fault of the image's header, and `NoMemory` where there is none; never another.
+/// Records that are no valid histograms, and a list of records that is broken, are lines of the report. The fault is
+/// `Image` with the first fault of the image's header [cause], or `NoMemory` where memory runs out; never `Read` or
+/// `Write` [other].
 pub fn report_of(alloc: Global, words: &[u64]) -> Result<Vec<u8>, CliFault>
     ensures text { IfOk result (λ text. IsReportOf (bytes_of_words words.now) text.items) }
     ensures cause { IfErr result (λ fault. IsCausedBy (bytes_of_words words.now) fault) }
@@ -45,7 +48,8 @@ pub fn report_of(alloc: Global, words: &[u64]) -> Result<Vec<u8>, CliFault>
     Ok(report_text(alloc, &reading)?)
 }
 
-/// Writes bytes out to the device itself, and flushes it. `Write` where the write or the flush fails.
+/// Writes bytes to the device itself [ok], and flushes it [flushed]. The fault is `Write` [err]; the writer has
+/// failed exactly where there is one [failed]. It had not failed before.
 pub fn write_and_flush<W: Write>(writer: &mut Watched<W>, bytes: &[u8]) -> Result<(), CliFault>
     requires { has_failed writer.old ≡ false }
     ensures ok { OnOk result (Appends (W.contents (watched_inner writer.old)) (W.contents (watched_inner writer.new)) bytes.now) }

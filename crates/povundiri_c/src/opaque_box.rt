@@ -29,6 +29,7 @@ impl OpaqueBox {
     ghost use Rattle.std.specs.Borrow.{sem};
     ghost use Rattle.povundiri_c.specs.Lending.{LendsContents};
 
+    /// Hides a box behind a pointer without its type; it holds the value.
     pub fn of(boxed: Box<Contents>) -> OpaqueBox
         ensures { result.held ≡ Some boxed.value }
     {
@@ -56,6 +57,7 @@ impl OpaqueBox {
         }
     }
 
+    /// Returns the box that was hidden, with the value that it holds.
     pub fn open(self) -> Box<Contents>
         requires { (x : Contents) × (self.held ≡ Some x) }
         ensures { self.held ≡ Some result.value }

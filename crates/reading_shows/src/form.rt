@@ -27,7 +27,7 @@ pub enum Form<'a> {
 }
 
 impl Form<'_> {
-    /// The text of a reading in this form. It fails only when out of memory.
+    /// Returns the text of a reading in this form, byte for byte. The one error is that memory runs out.
     pub fn text_of(self, alloc: Global, reading: &Reading) -> Result<Vec<u8>, AllocError>
         requires { All IsReadable (map histogram_view reading.now.hists.items) }
         ensures { IfOk result (λ text. IsTextIn self.entry (reading_view reading.now) text.items) }

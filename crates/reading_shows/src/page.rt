@@ -135,9 +135,10 @@ fn put_sections(
     Ok(())
 }
 
-/// The web page of a reading: HTML that needs nothing else, with the numbers and sentences of [`show_text`](crate::show_text), of
-/// the same histograms in the same order. It begins with a table of contents, bars are SVG, and names are escaped. All values
-/// of sparse histograms have rows, or the 20 with the most units. It fails for want of memory alone.
+/// Returns the web page of a reading, byte for byte: HTML that needs nothing else, with the numbers and sentences of
+/// [`show_text`](crate::show_text), of the same histograms in the same order. It begins with a table of contents,
+/// bars are SVG, and names are escaped. All values of sparse histograms have rows, or the 20 with the most units. The
+/// one error is that memory runs out.
 pub fn page_text(
     alloc: Global,
     reading: &Reading,

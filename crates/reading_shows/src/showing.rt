@@ -54,9 +54,11 @@ fn put_histograms(
     Ok(())
 }
 
-/// The text of a reading for people: of each chosen histogram, by name, its numbers, its quantiles and a bar for each bucket
-/// that has units, or for each of the 20 values of a sparse one with the most units, unless the style shows all; then the flags
-/// that are set and the bad records. It fails for want of memory alone.
+/// Returns the text of a reading for people, byte for byte: of each chosen histogram, by name, its numbers, its
+/// quantiles and a bar for each bucket that has units, or for each of the 20 values of a sparse one with the most
+/// units, unless the style shows all; then the flags that are set and the bad records. Of the values of a sparse
+/// histogram that are left out one line says how many they are, and what units they have together. The one error is
+/// that memory runs out.
 pub fn show_text(
     alloc: Global,
     reading: &Reading,

@@ -12,12 +12,16 @@ use segment_image::{Watched, read_words};
 use std::alloc::Global;
 use std::io::{Read, Write};
 
-/// Writes the text of the image that the reader has left, in a form.
+/// Writes the text of the image that the reader has left, in a form. The reader and the writer have not failed
+/// before.
 ///
-/// On `Ok`, exactly this text was written, and then flushed. Records that are no lawful histograms, and a list of records that is
-/// broken, are no faults: the text names them. `Read` where a read fails; `TooLong` where more than 8,388,608 bytes come;
-/// `NotWords` where their number is no multiple of eight; `Image` with the first fault of the image's header; `NoMemory` when
-/// out of memory. After each of these nothing was written. `Write` where the write or the flush fails.
+/// On `Ok` exactly this text of the input was written [text], and then flushed [flushed]. Records that are no valid
+/// histograms, and a list of records that is broken, are no faults: the text names them.
+///
+/// `TooLong` comes only where there are more than 8,388,608 bytes, `NotWords` only where their number is no multiple
+/// of eight, and `Image` only with the first fault of the image's header [cause]. `Read` comes exactly where a read
+/// failed [read], and `Write` exactly where the write or the flush failed [write]. `NoMemory` comes where memory runs
+/// out. After every fault but `Write` nothing was written [untouched].
 pub fn write_text<R: Read, W: Write>(
     alloc: Global,
     form: Form<'_>,

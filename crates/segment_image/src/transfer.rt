@@ -17,12 +17,12 @@ const BLOCK_WORDS: usize = 1024;
 
 const BLOCK_BYTES: usize = 8192;
 
-/// Reads until a block is full or the reader is at its end, and returns how many bytes came: no more than the block has room for
-/// [within]. They stand at the start of the block, and are the next that the reader had left [bytes]. If they do not fill the block, the
-/// reader is at its end [end].
+/// Reads until a block is full or the reader is at its end, and returns how many bytes came: no more than the block
+/// has room for [within], the next that the reader had left, at the front of the block [bytes]. Where there are
+/// fewer, the reader is at its end [end]. At most as many as the block has room for are taken from it [taken].
 ///
-/// The reader is one that has not failed before. `Device` if a read failed in this call; never another fault [device]. So the reader has
-/// failed exactly if an error is returned [failed] [went]. In any case no more was taken from it than the block has room for [taken].
+/// The reader has not failed before. The fault is `Device` [device]; then the reader has failed [failed], and else it
+/// has not [went].
 pub fn fill<R: Read>(reader: &mut Watched<R>, block: &mut [u8]) -> Result<usize, ReadFault>
     requires { has_failed reader.old ≡ false }
     ensures within { IfOk result (λ n. n ≤ length block.new) }
@@ -95,10 +95,9 @@ fn word(bytes: &[u8]) -> u64
     LittleEndian::read_u64(bytes)
 }
 
-/// Puts the whole words of bytes at the end: eight bytes for each, the least first [words]. Up to seven bytes after them are left out [len];
-/// if there are none of these, the bytes of all words are those of the words before and then these [bytes].
-///
-/// An error if memory ran out for a word; no word is lost [longer], and those before it are at the end.
+/// Appends the whole words of bytes, eight for each, the least first [words]; up to seven bytes after them make none
+/// [len]. Where there are none such, the bytes of the words are what they were, and then these [bytes]. There are no
+/// fewer words than before, also where memory runs out, which is the one error [longer].
 pub fn push_words(words: &mut Vec<u64>, bytes: &[u8]) -> Result<(), AllocError>
     ensures words { OnOk result (words.new.items ≡ words.old.items ++ words_in bytes.now) }
     ensures bytes { length bytes.now % 8 ≡ 0 → OnOk result (bytes_of_words words.new.items ≡ bytes_of_words words.old.items ++ bytes.now) }

@@ -42,7 +42,11 @@ fn pairs_of(alloc: Global, items: &[Item]) -> Result<Vec<(i32, u32)>, AllocError
     Ok(pairs)
 }
 
-/// The place of the histogram of a name among those that the recorder knows.
+/// Returns the place of the histogram of a name among those that the recorder knows, as the library's `hist` does
+/// with the spec that C asks for.
+///
+/// 0 and the place; or the number of the refusal. 3 where the handle holds nothing, 5 where it holds no recorder, 10
+/// where there is no such kind, or 13 where memory runs out before the library is asked: then all is unchanged.
 #[unsafe(no_mangle)]
 pub extern "C" fn povundiri_proved_hist(
     alloc: Global,
@@ -70,7 +74,8 @@ pub extern "C" fn povundiri_proved_hist(
     }
 }
 
-/// Adds a sample.
+/// Adds a sample, as the library's `add` does: 0, or the number of the refusal. 8 where the recorder knows no
+/// histogram at that place; 3 where the handle holds nothing, 5 where it holds no recorder; then it holds the same.
 #[unsafe(no_mangle)]
 pub extern "C" fn povundiri_proved_add(
     recorder: &mut Handle,
@@ -83,7 +88,10 @@ pub extern "C" fn povundiri_proved_add(
     recorder.call(EMPTY, move |held| held.add(hist, value, count))
 }
 
-/// Counts a batch; and how many of its items are counted, also where it is refused.
+/// Counts a batch, as the library's `batch` does. How many items are counted is returned: with 0 all, with 5 and 8
+/// none, and with the number of a refusal those that are counted all the same. 8 where the recorder knows no
+/// histogram at that place; 5 where the handle holds no recorder; then it holds the same. With 3, where it holds
+/// nothing, and with 13, where memory runs out before the library is asked, all is unchanged.
 #[unsafe(no_mangle)]
 pub extern "C" fn povundiri_proved_batch(
     alloc: Global,
@@ -116,7 +124,8 @@ pub extern "C" fn povundiri_proved_batch(
     }
 }
 
-/// Marks the segment as corrupt.
+/// Marks the segment as corrupt: 0. 3 where the handle holds nothing, 5 where it holds no recorder; then it holds the
+/// same.
 #[unsafe(no_mangle)]
 pub extern "C" fn povundiri_proved_set_corrupt(recorder: &mut Handle) -> u32
     ensures { OfRecorder Marks recorder.old.boxed.held result recorder.new.boxed.held }

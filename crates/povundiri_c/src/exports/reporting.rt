@@ -10,7 +10,14 @@ use image_reader::{has_more_keys, read};
 use reading_texts::report_text;
 use std::alloc::Global;
 
-/// The report of an image as CSV, where there is room for it; and how many bytes it has.
+/// Writes the report of an image as CSV, where there is room for it, and how many bytes it has.
+///
+/// - The status is that of the header's first fault, 500 and the fault's number, where it has one [fault]. Else it is
+///   0, 7, 13 or 513: the last two where memory runs out [lawful].
+/// - 0: the report of the words is at the front of the array, its length is returned, and the bytes after it are
+///   unchanged [done].
+/// - 7: the array has no room for the report, whose length is returned [short].
+/// - On any status but 0 the array is unchanged [untouched], and on any but 0 and 7 the length too [alone].
 #[unsafe(no_mangle)]
 pub extern "C" fn povundiri_proved_report(
     alloc: Global,
@@ -28,8 +35,16 @@ pub extern "C" fn povundiri_proved_report(
     write_report(alloc, words, text, needed)
 }
 
-/// The same, of an image that reads as no more keys than `most_keys`: buckets of its histograms, and values of the sparse ones.
-/// Another is refused before anything is read of its counts.
+/// The same, of an image that reads as no more keys than `most_keys`: buckets of its histograms, and values of the
+/// sparse ones. Another is refused before anything is read of its counts.
+///
+/// - The status is that of the header's first fault, 500 and the fault's number, where it has one [fault]. Else it is
+///   0, 7, 13, 17 or 513 [lawful].
+/// - 17: the words read as more keys than the most [many]. 0 and 7: they do not [few].
+/// - 0: the report of the words is at the front of the array, its length is returned, and the bytes after it are
+///   unchanged [done].
+/// - 7: the array has no room for the report, whose length is returned [short].
+/// - On any status but 0 the array is unchanged [untouched], and on any but 0 and 7 the length too [alone].
 #[unsafe(no_mangle)]
 pub extern "C" fn povundiri_proved_report_bounded(
     alloc: Global,

@@ -76,7 +76,9 @@ fn adopt_in(alloc: Global, memory: Memory, words: &[u64], cursors: usize, out: &
     }
 }
 
-/// A new segment in the heap, into a handle that is empty.
+/// Makes a new segment in the heap, into a handle that is empty, as the library's `create` does. 4 where the handle
+/// holds something, and it holds the same. 0: it holds the segment and its opener. Else it holds nothing: the status
+/// is that of the shape's first fault, 200 and its number; where it has none, 203 or 13, where memory runs out.
 #[unsafe(no_mangle)]
 pub extern "C" fn povundiri_proved_create(
     alloc: Global,
@@ -91,7 +93,8 @@ pub extern "C" fn povundiri_proved_create(
     create_in(alloc, Memory::of_heap(alloc), shape, out)
 }
 
-/// A new segment in a room, into a handle that is empty.
+/// The same in a room, as the library's `create_in`: 13 comes also where memory runs out for what lends the room,
+/// whatever the shape is.
 #[unsafe(no_mangle)]
 pub extern "C" fn povundiri_proved_create_in(
     alloc: Global,
@@ -110,7 +113,10 @@ pub extern "C" fn povundiri_proved_create_in(
     }
 }
 
-/// A segment in the heap that goes on with an image, into a handle that is empty.
+/// Makes a segment in the heap that continues from an image, into a handle that is empty, as the library's `adopt`
+/// does. 4 where the handle holds something, and it holds the same. 0: it holds the segment and its opener. Else it
+/// holds nothing: the status is that of the fault that is right for the words, 500 and the number of the header's
+/// first fault or 300 and that of another; or 13, where memory runs out, and then the image may be adopted.
 #[unsafe(no_mangle)]
 pub extern "C" fn povundiri_proved_adopt(
     alloc: Global,
@@ -126,7 +132,8 @@ pub extern "C" fn povundiri_proved_adopt(
     adopt_in(alloc, Memory::of_heap(alloc), words, cursors, out)
 }
 
-/// A segment in a room that goes on with an image, into a handle that is empty.
+/// The same in a room, as the library's `adopt_in`: 13 comes also where memory runs out for what lends the room,
+/// whatever the words are.
 #[unsafe(no_mangle)]
 pub extern "C" fn povundiri_proved_adopt_in(
     alloc: Global,
@@ -146,7 +153,16 @@ pub extern "C" fn povundiri_proved_adopt_in(
     }
 }
 
-/// Ends a segment without recorders, and writes its image: its handle is empty then, and `none` stands in its place.
+/// Ends a segment without recorders, and writes its image: its handle is empty then, and `none` is put in its place.
+///
+/// 4 where `none` holds something, and all is unchanged [full]. Else [answer]:
+///
+/// - 3 where the handle holds nothing, 5 where it holds no segment; 7 exactly where it holds a segment that has more
+///   words than the array, whose number is returned. Else 0 or 11, where a recorder is left. On any but 0 the array
+///   is unchanged, and the handle holds the same.
+/// - 0: the image is at the front of the array, whole: it has as many words as the segment, which is returned. What
+///   comes after it is unchanged, and the handle holds nothing. The clauses of the library's `close` hold of the
+///   image, for the segment and the opener that the handle held.
 #[unsafe(no_mangle)]
 pub extern "C" fn povundiri_proved_close(
     segment: &mut Handle,
@@ -176,7 +192,9 @@ pub extern "C" fn povundiri_proved_close(
     }
 }
 
-/// Lets a segment or a recorder go: its handle is empty then, and `none` stands in its place.
+/// Lets a segment or a recorder go: its handle is empty then, and `none` is put in its place. 4 where `none` holds
+/// something [full], 3 where the handle holds nothing [empty], and all is unchanged; else 0, and it holds nothing
+/// from then on [done].
 #[unsafe(no_mangle)]
 pub extern "C" fn povundiri_proved_drop(handle: &mut Handle, none: Handle) -> u32
     ensures full { is_some none.boxed.held ≡ true → (result ≡ 4) × (handle.new ≡ handle.old) }
@@ -192,8 +210,13 @@ pub extern "C" fn povundiri_proved_drop(handle: &mut Handle, none: Handle) -> u3
     }
 }
 
-/// A recorder of a segment with so many units, into a handle that is empty. What it is put into is made first: where there is no memory
-/// for that, nothing has changed.
+/// Makes a recorder of a segment with so many units, into a handle that is empty, as `owned_recorder` does. 4 where
+/// `out` holds something, and both handles are unchanged [full].
+///
+/// Else, of what the segment's handle holds: 3 where it holds nothing, 5 where it holds no segment, and it holds the
+/// same. 0: `out` holds a recorder of this segment with that many units. Else the status is the number of the first
+/// check that fails, or 13, where memory runs out for what it is put into, which is made first; the segment is
+/// unchanged, and `out` is still empty [answer].
 #[unsafe(no_mangle)]
 pub extern "C" fn povundiri_proved_recorder(
     alloc: Global,
@@ -238,8 +261,16 @@ fn pass(segment: &mut Handle, recorder: &mut Handle, none: Handle, request: Requ
     }
 }
 
-/// Lends a recorder units of its segment, while it runs. Where it has none of them, it is in its handle still, unless its own segment has
-/// met it by another thread.
+/// Lends a recorder units of its segment, while it runs. 4 where `none` holds something [full], 3 where the
+/// recorder's handle holds nothing [empty], and all is unchanged. Else [answer], where the segment's handle holds
+/// nothing 3, where it holds no segment or the other no recorder 5, and all is unchanged; and else:
+///
+/// - 104 exactly where the segment has fewer units, whichever segment the recorder is of: all is unchanged, and the
+///   recorder is in its handle.
+/// - A recorder of this segment: 0, the segment has lent it that many units, as the library's `lend` does, and it is
+///   in the handle. Or 13 or 15, and all is unchanged.
+/// - A recorder of another segment: 6, 13, 14 and 15 as with `povundiri_proved_join`. With 0 another recorder, which
+///   is of this segment and was lent the units, is in the handle.
 #[unsafe(no_mangle)]
 pub extern "C" fn povundiri_proved_lend(
     segment: &mut Handle,
@@ -254,8 +285,19 @@ pub extern "C" fn povundiri_proved_lend(
     pass(segment, recorder, none, Request::Lend(units))
 }
 
-/// Takes a recorder back: its handle is empty then, and `none` stands in its place. Where it is not joined, it is in its handle still,
-/// unless its own segment has met it by another thread.
+/// Takes a recorder back: its handle is empty then, and `none` is put in its place. 4 where `none` holds something
+/// [full], 3 where the recorder's handle holds nothing [empty], and all is unchanged. Else [answer], where the
+/// segment's handle holds nothing 3, where it holds no segment or the other no recorder 5, and all is unchanged; and
+/// else by the tray that a segment shares with the recorders that it has made, and with no others:
+///
+/// - A recorder of this segment: 0, its handle is empty, and the segment has joined it, as the library's `join` does.
+///   Or 15, and all is unchanged: the recorder is in its handle as it was. So none is lost, and none is answered 6 or
+///   14.
+/// - A recorder of another segment: 6, it is in its handle, the same one, and the segment is unchanged, or has joined
+///   another of its own that a thread was to join elsewhere. Or 15, and all is unchanged. Or the recorder's handle is
+///   empty, and it was laid on its own tray and taken from it by that one's owner, which the segment's handle has a
+///   proof of: with 14 the segment is unchanged otherwise, with 0 it has joined another recorder of its own. The
+///   clause of that owner's call says what it has done with it.
 #[unsafe(no_mangle)]
 pub extern "C" fn povundiri_proved_join(
     segment: &mut Handle,
@@ -269,7 +311,9 @@ pub extern "C" fn povundiri_proved_join(
     pass(segment, recorder, none, Request::Join)
 }
 
-/// The units that no recorder has; or those that a recorder may still spend.
+/// Returns 0 and the units that no recorder of a segment has, or those that a recorder may still spend; 3 where the
+/// handle holds nothing, 5 where it is of another kind, and what was there is unchanged [answer]. The handle holds
+/// the same [same].
 #[unsafe(no_mangle)]
 pub extern "C" fn povundiri_proved_units(handle: &mut Handle, units: &mut u32) -> u32
     ensures answer { IsGiven (asked_of units_of handle.old.boxed.held) result units.old units.new }
@@ -284,7 +328,8 @@ pub extern "C" fn povundiri_proved_units(handle: &mut Handle, units: &mut u32) -
     }
 }
 
-/// How many recorders were made and are not joined.
+/// Returns 0 and how many recorders of a segment were made and are not joined; 3 where the handle holds nothing, 5
+/// where it holds no segment, and what was there is unchanged [answer]. The handle holds the same [same].
 #[unsafe(no_mangle)]
 pub extern "C" fn povundiri_proved_outstanding(segment: &mut Handle, outstanding: &mut u32) -> u32
     ensures answer { IsGiven (asked_of outstanding_in segment.old.boxed.held) result outstanding.old outstanding.new }

@@ -16,6 +16,7 @@ impl<T, A: Allocator> Model for BoxParts<T, A> {
 }
 
 impl<T, A: Allocator> BoxParts<T, A> {
+    /// Takes a box apart; it keeps the value.
     pub fn of(b: Box<T, A>) -> BoxParts<T, A>
     where
         T: Drop,
@@ -25,6 +26,7 @@ impl<T, A: Allocator> BoxParts<T, A> {
         BoxParts { ptr, alloc }
     }
 
+    /// Returns the box of this value.
     pub fn into_box(self) -> Box<T, A>
         ensures { result.value ≡ self.value }
     {

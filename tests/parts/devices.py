@@ -36,19 +36,19 @@ HEADER_FAULTS = [
 ]
 
 HELP = b"""\
-Records into segments with shared histograms, reads their images and merges them
+Show, convert, merge and continue the histograms of a Povundiri segment
 
 Usage: persist_report <COMMAND>
 
 Commands:
-  report   Writes the histograms of an image to standard output
-  export   Writes the histograms of an image in the Prometheus text format to standard output
-  show     Writes the histograms of an image for people: numbers, quantiles and bars
-  run      Records what a script says: writes the image to OUT and its report to standard output
-  resume   Goes on with an image and records what a script says: writes the new image to OUT and its report to standard output
-  merge    Merges two images into a new one, which has what no delta took of either
-  extract  Finds a segment in any file: writes its image to OUT, and to standard output at which byte it lay
-  explain  Tells what a fault means and what to do
+  report   Print the histograms of an image as CSV
+  export   Print the histograms of an image in the Prometheus text format
+  show     Show the histograms of an image: numbers, quantiles and bars
+  run      Run a script: write the image to OUT and its report to standard output
+  resume   Continue from image BASE: run a script and write the new image to OUT and its report to standard output
+  merge    Add two images into a new one; counts that a delta has already taken are left out
+  extract  Find a segment in any file, such as a mapped file or a core dump, and write its image to OUT; prints its offset
+  explain  Say what a fault means and what to do
   help     Print this message or the help of the given subcommand(s)
 
 Options:
@@ -56,121 +56,121 @@ Options:
   -V, --version  Print version
 """
 REPORT_HELP = b"""\
-Writes the histograms of an image to standard output
+Print the histograms of an image as CSV
 
 Usage: persist_report report [OPTIONS] [FILE]
 
 Arguments:
-  [FILE]  The image of a segment; standard input where it is left out or -
+  [FILE]  Image file; standard input if it is left out or -
 
 Options:
-      --explain  Tells more of a fault, as on a terminal: its file, line and reason
+      --explain  Explain errors: file, line, reason and what to do (on by default in a terminal)
   -h, --help     Print help
 
 Example:
   persist_report report examples/three_samples.img
 """
 EXPORT_HELP = b"""\
-Writes the histograms of an image in the Prometheus text format to standard output
+Print the histograms of an image in the Prometheus text format
 
 Usage: persist_report export [OPTIONS] [FILE]
 
 Arguments:
-  [FILE]  The image of a segment; standard input where it is left out or -
+  [FILE]  Image file; standard input if it is left out or -
 
 Options:
-      --prefix <PREFIX>  What the names of all metrics begin with: letters, digits, _ and :, no digit first [default: povundiri]
-      --explain          Tells more of a fault, as on a terminal: its file, line and reason
+      --prefix <PREFIX>  Prefix of all metric names: letters, digits, _ and :, no digit first [default: povundiri]
+      --explain          Explain errors: file, line, reason and what to do (on by default in a terminal)
   -h, --help             Print help
 
 Example:
   persist_report export examples/three_samples.img
 """
 SHOW_HELP = b"""\
-Writes the histograms of an image for people: numbers, quantiles and bars
+Show the histograms of an image: numbers, quantiles and bars
 
 Usage: persist_report show [OPTIONS] [FILE] [NAME]...
 
 Arguments:
-  [FILE]     The image of a segment; standard input where it is left out or -
-  [NAME]...  The names of the histograms that are shown; all where none is given
+  [FILE]     Image file; standard input if it is left out or -
+  [NAME]...  Histograms to show; all if none is given
 
 Options:
-      --match <PART>   Shows the histograms whose name has this part
-      --html           Writes a web page, which needs nothing else; it takes no --width and no --ascii
-      --width <CELLS>  How many cells the longest bar has: 20 to 200 [default: 72]
-      --ascii          Draws bars with #, and not with blocks
-      --all            Shows all values of a sparse histogram, and not only the 20 with the most units
-      --explain        Tells more of a fault, as on a terminal: its file, line and reason
+      --match <PART>   Show the histograms whose name contains PART
+      --html           Write one self-contained HTML page (not with --width or --ascii)
+      --width <CELLS>  Width of the longest bar in columns, 20 to 200; a line is 52 columns wider [default: 72]
+      --ascii          Draw bars with # instead of blocks
+      --all            Show all values of a sparse histogram, not only the 20 with the most units
+      --explain        Explain errors: file, line, reason and what to do (on by default in a terminal)
   -h, --help           Print help
 
 Example:
   persist_report show examples/three_samples.img A --width 40
 """
 RUN_HELP = b"""\
-Records what a script says: writes the image to OUT and its report to standard output
+Run a script: write the image to OUT and its report to standard output
 
 Usage: persist_report run [OPTIONS] <SCRIPT> <OUT>
 
 Arguments:
-  <SCRIPT>  What is to be recorded, as CSV
-  <OUT>     Where the image of the segment is written
+  <SCRIPT>  Script to run, as CSV
+  <OUT>     File for the image
 
 Options:
-      --workers <K>  How many workers record, each in a thread of its own: 1 to 16 [default: 1]
-      --explain      Tells more of a fault, as on a terminal: its file, line and reason
+      --workers <K>  Number of recording threads, 1 to 16 [default: 1]
+      --explain      Explain errors: file, line, reason and what to do (on by default in a terminal)
   -h, --help         Print help
 
 Example:
   persist_report run examples/three_samples.csv three.img --workers 2
 """
 RESUME_HELP = b"""\
-Goes on with an image and records what a script says: writes the new image to OUT and its report to standard output
+Continue from image BASE: run a script and write the new image to OUT and its report to standard output
 
 Usage: persist_report resume [OPTIONS] <BASE> <SCRIPT> <OUT>
 
 Arguments:
-  <BASE>    The image to go on with; it is of version 2
-  <SCRIPT>  What is to be recorded, as CSV; its segment record has the size, page and id of BASE
-  <OUT>     Where the new image is written
+  <BASE>    Image to continue from, of version 2
+  <SCRIPT>  Script to run, as CSV; its segment record has the size, page and id of BASE
+  <OUT>     File for the new image
 
 Options:
-      --workers <K>  How many workers record, each in a thread of its own: 1 to 16 [default: 1]
-      --explain      Tells more of a fault, as on a terminal: its file, line and reason
+      --workers <K>  Number of recording threads, 1 to 16 [default: 1]
+      --explain      Explain errors: file, line, reason and what to do (on by default in a terminal)
   -h, --help         Print help
 
 Example:
   persist_report resume three.img examples/three_samples.csv six.img --workers 2
 """
 MERGE_HELP = b"""\
-Merges two images into a new one, which has what no delta took of either
+Add two images into a new one; counts that a delta has already taken are left out
 
 Usage: persist_report merge [OPTIONS] <BASE> <DEAD> <OUT>
 
 Arguments:
-  <BASE>  The image whose size, page and id the new one has
-  <DEAD>  The image that is merged behind it
-  <OUT>   Where the new image is written
+  <BASE>  Image whose size, page and id the new one gets
+  <DEAD>  Image whose counts are added to BASE
+  <OUT>   File for the new image
 
 Options:
-      --explain  Tells more of a fault, as on a terminal: its file, line and reason
+      --explain  Explain errors: file, line, reason and what to do (on by default in a terminal)
   -h, --help     Print help
 
 Example:
   persist_report merge examples/three_samples.img three.img both.img
 """
 EXTRACT_HELP = b"""\
-Finds a segment in any file: writes its image to OUT, and to standard output at which byte it lay
+Find a segment in any file, such as a mapped file or a core dump, and write its image to OUT; prints its offset
 
 Usage: persist_report extract [OPTIONS] <FILE> <OUT>
 
 Arguments:
-  <FILE>  What is searched, as a mapped file or a dump of memory
-  <OUT>   Where the image of the segment is written
+  <FILE>  File to search
+  <OUT>   File for the image
 
 Options:
-      --nth <N>  Which of the segments in the file, from 1 [default: 1]
-      --explain  Tells more of a fault, as on a terminal: its file, line and reason
+      --nth <N>  Which of the segments in the file, counted from 1 [default: 1]
+      --explain  Explain errors: file, line, reason and what to do (on by default in a terminal)
   -h, --help     Print help
 
 Example:

@@ -80,17 +80,17 @@ fn explain_flag<'a>(alloc: Global) -> Arg<'a> {
     Arg::new(alloc, "explain")
         .long("explain")
         .action(ArgAction::SetTrue)
-        .help("Tells more of a fault, as on a terminal: its file, line and reason")
+        .help("Explain errors: file, line, reason and what to do (on by default in a terminal)")
 }
 
 // The image that is read.
 fn image<'a>(alloc: Global) -> Arg<'a> {
-    Arg::new(alloc, "FILE").help("The image of a segment; standard input where it is left out or -")
+    Arg::new(alloc, "FILE").help("Image file; standard input if it is left out or -")
 }
 
 fn report_command<'a>(alloc: Global) -> Result<Command<'a>, AllocError> {
     Command::new(alloc, "report")
-        .about("Writes the histograms of an image to standard output")
+        .about("Print the histograms of an image as CSV")
         .after_help("Example:\n  persist_report report examples/three_samples.img")
         .arg(image(alloc))?
         .arg(explain_flag(alloc))
@@ -101,9 +101,9 @@ fn export_command<'a>(alloc: Global) -> Result<Command<'a>, AllocError> {
         .long("prefix")
         .value_name("PREFIX")
         .default_value("povundiri")
-        .help("What the names of all metrics begin with: letters, digits, _ and :, no digit first");
+        .help("Prefix of all metric names: letters, digits, _ and :, no digit first");
     Command::new(alloc, "export")
-        .about("Writes the histograms of an image in the Prometheus text format to standard output")
+        .about("Print the histograms of an image in the Prometheus text format")
         .after_help("Example:\n  persist_report export examples/three_samples.img")
         .arg(image(alloc))?
         .arg(prefix)?
@@ -117,35 +117,35 @@ fn style_options<'a>(alloc: Global, command: Command<'a>) -> Result<Command<'a>,
         .value_name("CELLS")
         .value_parser(value_parser!(u16).range(20..=200))
         .default_value("72")
-        .help("How many cells the longest bar has: 20 to 200");
+        .help("Width of the longest bar in columns, 20 to 200; a line is 52 columns wider");
     let ascii = Arg::new(alloc, "ascii")
         .long("ascii")
         .action(ArgAction::SetTrue)
-        .help("Draws bars with #, and not with blocks");
+        .help("Draw bars with # instead of blocks");
     let all = Arg::new(alloc, "all")
         .long("all")
         .action(ArgAction::SetTrue)
-        .help("Shows all values of a sparse histogram, and not only the 20 with the most units");
+        .help("Show all values of a sparse histogram, not only the 20 with the most units");
     command.arg(width)?.arg(ascii)?.arg(all)
 }
 
 fn show_command<'a>(alloc: Global) -> Result<Command<'a>, AllocError> {
-    let names = Arg::new(alloc, "NAME").num_args(0..).help(
-        "The names of the histograms that are shown; all where none is given",
-    );
+    let names = Arg::new(alloc, "NAME")
+        .num_args(0..)
+        .help("Histograms to show; all if none is given");
     let part = Arg::new(alloc, "match")
         .long("match")
         .value_name("PART")
         .conflicts_with("NAME")?
-        .help("Shows the histograms whose name has this part");
+        .help("Show the histograms whose name contains PART");
     let html = Arg::new(alloc, "html")
         .long("html")
         .action(ArgAction::SetTrue)
         .conflicts_with("width")?
         .conflicts_with("ascii")?
-        .help("Writes a web page, which needs nothing else; it takes no --width and no --ascii");
+        .help("Write one self-contained HTML page (not with --width or --ascii)");
     let command = Command::new(alloc, "show")
-        .about("Writes the histograms of an image for people: numbers, quantiles and bars")
+        .about("Show the histograms of an image: numbers, quantiles and bars")
         .after_help("Example:\n  persist_report show examples/three_samples.img A --width 40")
         .arg(image(alloc))?
         .arg(names)?
@@ -161,19 +161,17 @@ fn workers_option<'a>(alloc: Global) -> Arg<'a> {
         .value_name("K")
         .value_parser(value_parser!(u32).range(1..=16))
         .default_value("1")
-        .help("How many workers record, each in a thread of its own: 1 to 16")
+        .help("Number of recording threads, 1 to 16")
 }
 
 fn run_command<'a>(alloc: Global) -> Result<Command<'a>, AllocError> {
     Command::new(alloc, "run")
-        .about(
-            "Records what a script says: writes the image to OUT and its report to standard output",
-        )
+        .about("Run a script: write the image to OUT and its report to standard output")
         .after_help(
             "Example:\n  persist_report run examples/three_samples.csv three.img --workers 2",
         )
-        .arg(file(alloc, "SCRIPT", "What is to be recorded, as CSV"))?
-        .arg(file(alloc, "OUT", "Where the image of the segment is written"))?
+        .arg(file(alloc, "SCRIPT", "Script to run, as CSV"))?
+        .arg(file(alloc, "OUT", "File for the image"))?
         .arg(workers_option(alloc))?
         .arg(explain_flag(alloc))
 }
@@ -181,35 +179,35 @@ fn run_command<'a>(alloc: Global) -> Result<Command<'a>, AllocError> {
 fn resume_command<'a>(alloc: Global) -> Result<Command<'a>, AllocError> {
     Command::new(alloc, "resume")
         .about(
-            "Goes on with an image and records what a script says: writes the new image to OUT and its report to standard output",
+            "Continue from image BASE: run a script and write the new image to OUT and its report to standard output",
         )
         .after_help(
             "Example:\n  persist_report resume three.img examples/three_samples.csv six.img --workers 2",
         )
-        .arg(file(alloc, "BASE", "The image to go on with; it is of version 2"))?
+        .arg(file(alloc, "BASE", "Image to continue from, of version 2"))?
         .arg(file(
             alloc,
             "SCRIPT",
-            "What is to be recorded, as CSV; its segment record has the size, page and id of BASE",
+            "Script to run, as CSV; its segment record has the size, page and id of BASE",
         ))?
-        .arg(file(alloc, "OUT", "Where the new image is written"))?
+        .arg(file(alloc, "OUT", "File for the new image"))?
         .arg(workers_option(alloc))?
         .arg(explain_flag(alloc))
 }
 
 fn merge_command<'a>(alloc: Global) -> Result<Command<'a>, AllocError> {
     Command::new(alloc, "merge")
-        .about("Merges two images into a new one, which has what no delta took of either")
+        .about("Add two images into a new one; counts that a delta has already taken are left out")
         .after_help(
             "Example:\n  persist_report merge examples/three_samples.img three.img both.img",
         )
         .arg(file(
             alloc,
             "BASE",
-            "The image whose size, page and id the new one has",
+            "Image whose size, page and id the new one gets",
         ))?
-        .arg(file(alloc, "DEAD", "The image that is merged behind it"))?
-        .arg(file(alloc, "OUT", "Where the new image is written"))?
+        .arg(file(alloc, "DEAD", "Image whose counts are added to BASE"))?
+        .arg(file(alloc, "OUT", "File for the new image"))?
         .arg(explain_flag(alloc))
 }
 
@@ -219,28 +217,22 @@ fn extract_command<'a>(alloc: Global) -> Result<Command<'a>, AllocError> {
         .value_name("N")
         .value_parser(value_parser!(u64).range(1..))
         .default_value("1")
-        .help("Which of the segments in the file, from 1");
+        .help("Which of the segments in the file, counted from 1");
     Command::new(alloc, "extract")
         .about(
-            "Finds a segment in any file: writes its image to OUT, and to standard output at which byte it lay",
+            "Find a segment in any file, such as a mapped file or a core dump, and write its image to OUT; prints its offset",
         )
         .after_help("Example:\n  persist_report extract core.1234 found.img --nth 2")
-        .arg(file(
-            alloc,
-            "FILE",
-            "What is searched, as a mapped file or a dump of memory",
-        ))?
-        .arg(file(alloc, "OUT", "Where the image of the segment is written"))?
+        .arg(file(alloc, "FILE", "File to search"))?
+        .arg(file(alloc, "OUT", "File for the image"))?
         .arg(nth)?
         .arg(explain_flag(alloc))
 }
 
 fn explain_command<'a>(alloc: Global) -> Result<Command<'a>, AllocError> {
-    let name = Arg::new(alloc, "NAME").help(
-        "The name of a fault; all of them where it is left out",
-    );
+    let name = Arg::new(alloc, "NAME").help("Name of a fault; all if it is left out");
     Command::new(alloc, "explain")
-        .about("Tells what a fault means and what to do")
+        .about("Say what a fault means and what to do")
         .after_help("Example:\n  persist_report explain BadLine")
         .arg(name)
 }
@@ -248,7 +240,7 @@ fn explain_command<'a>(alloc: Global) -> Result<Command<'a>, AllocError> {
 fn command<'a>(alloc: Global) -> Result<Command<'a>, AllocError> {
     Command::new(alloc, "persist_report")
         .version("0.1.0")
-        .about("Records into segments with shared histograms, reads their images and merges them")
+        .about("Show, convert, merge and continue the histograms of a Povundiri segment")
         .subcommand_required(true)
         .subcommand(report_command(alloc)?)?
         .subcommand(export_command(alloc)?)?

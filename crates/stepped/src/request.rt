@@ -37,7 +37,7 @@ fn stop_argument<'a>(alloc: Global) -> Arg<'a> {
         .long("stop")
         .value_name("EVENTS")
         .value_parser(value_parser!(u64))
-        .help("Ends after so many events")
+        .help("End after EVENTS events")
 }
 
 fn flag<'a>(alloc: Global, name: &'a str, help: &'a str) -> Arg<'a> {
@@ -50,22 +50,22 @@ fn flag<'a>(alloc: Global, name: &'a str, help: &'a str) -> Arg<'a> {
 fn command<'a>(alloc: Global) -> Result<Command<'a>, AllocError> {
     let schedule = Arg::new(alloc, "SCHEDULE")
         .required(true)
-        .help("What the actors are to do, as CSV");
-    let picture = flag(alloc, "show", "Writes a picture that people can read");
+        .help("Schedule of calls and steps, as CSV");
+    let picture = flag(alloc, "show", "Draw the steps as a picture for people");
     let report = flag(
         alloc,
         "report",
-        "Writes the report of the segment as it then is",
+        "Print the report of the segment at the end, or where --stop ended",
     );
     let image = flag(
         alloc,
         "image",
-        "Writes the words of the segment as they then are",
+        "Write the words of the segment at the end, or where --stop ended, as an image",
     );
     Command::new(alloc, "stepped")
         .version("0.1.0")
         .about(
-            "Replays a schedule of calls on a segment, event by event; the segment is new, or goes on with an image",
+            "Replay a schedule of calls on a segment, one atomic step at a time; the segment is new, or continues an image",
         )
         .after_help(
             "Example:\n  stepped examples/race_for_a_name.csv --stop 20 --report\n  stepped examples/race_for_a_name.csv --show",

@@ -9,7 +9,6 @@ ghost use Rattle.live_segment.specs.Answers.{AnswersAdd, AnswersBatch, AnswersDe
 ghost use Rattle.live_segment.specs.List.SharedCursors.{AnswersNext, gift};
 ghost use Rattle.live_segment.specs.List.Values.{AreMostKeys};
 ghost use Rattle.live_segment.specs.RecorderState.{IsNamed, IsRecorderAt, IsSameRecorder, Knows, KnowsOn, Means};
-ghost use Rattle.owned_recorder.specs.Holders.{view_of_owned};
 
 use bucket_ranges::Spec;
 use live_segment::{Hist, RecorderState, Segment};
@@ -28,6 +27,8 @@ pub struct OwnedRecorder {
 }
 
 impl OwnedRecorder {
+    ghost use Rattle.owned_recorder.specs.Holders.{view_of_owned};
+
     /// Returns the units that it may still spend.
     pub fn units(&self) -> u32
         ensures { result ≡ (view_of_owned self.now).units.share }

@@ -44,9 +44,11 @@ returns-then-next-eq-QUEUE-clause-ended c =
 pub shows_value-requires : goal.shows_value-requires
 shows_value-requires c =
     let was = c.loop-from.invariant in record {
-      seated = seat_on c.load_next-next.new.seat was.seated c.load_next-next.ensures.step.same (searched was.seated (was.walks c.args.value (sym (to_z-of_z w32 c.args.value c.ranges.value))) _ _ c.load_next-next.ensures.step);
-      met = meets was.seated (was.walks c.args.value (sym (to_z-of_z w32 c.args.value c.ranges.value))) _ _ c.load_next-next.ensures.step c.if-next-eq-QUEUE.false;
-      room = room_found was.seated (was.walks c.args.value (sym (to_z-of_z w32 c.args.value c.ranges.value))) _ _ c.load_next-next.ensures.step c.if-next-eq-QUEUE.false;
+      meets = record {
+        seated = seat_on c.load_next-next.new.seat was.seated c.load_next-next.ensures.step.same (searched was.seated (was.walks c.args.value (sym (to_z-of_z w32 c.args.value c.ranges.value))) _ _ c.load_next-next.ensures.step);
+        met = meets was.seated (was.walks c.args.value (sym (to_z-of_z w32 c.args.value c.ranges.value))) _ _ c.load_next-next.ensures.step c.if-next-eq-QUEUE.false;
+        room = room_found was.seated (was.walks c.args.value (sym (to_z-of_z w32 c.args.value c.ranges.value))) _ _ c.load_next-next.ensures.step c.if-next-eq-QUEUE.false;
+      };
     }
 
 pub returns-then-shows_value-clause-view : goal.returns-then-shows_value-clause-view

@@ -34,9 +34,11 @@ returns-then-next-eq-QUEUE-clause-few c =
 pub key_at-key-requires : goal.key_at-key-requires
 key_at-key-requires c =
     let was = c.loop-kind.invariant in record {
-      seated = seat_on c.load_next-next.new.seat was.seated c.load_next-next.ensures.step.same (searched was.seated (way _ was.seated was.free was.indexed) _ _ c.load_next-next.ensures.step);
-      met = meets was.seated (way _ was.seated was.free was.indexed) _ _ c.load_next-next.ensures.step c.if-next-eq-QUEUE.false;
-      room = room_found was.seated (way _ was.seated was.free was.indexed) _ _ c.load_next-next.ensures.step c.if-next-eq-QUEUE.false;
+      meets = record {
+        seated = seat_on c.load_next-next.new.seat was.seated c.load_next-next.ensures.step.same (searched was.seated (way _ was.seated was.free was.indexed) _ _ c.load_next-next.ensures.step);
+        met = meets was.seated (way _ was.seated was.free was.indexed) _ _ c.load_next-next.ensures.step c.if-next-eq-QUEUE.false;
+        room = room_found was.seated (way _ was.seated was.free was.indexed) _ _ c.load_next-next.ensures.step c.if-next-eq-QUEUE.false;
+      };
     }
 
 pub returns-then-not-enter-clause-view : goal.returns-then-not-enter-clause-view

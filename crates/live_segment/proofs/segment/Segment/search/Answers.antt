@@ -11,9 +11,11 @@ use Rattle.live_segment.proofs.segment.Segment.search.Goals as goal
 
 pub look_for-requires : goal.look_for-requires
 look_for-requires c = record {
-  seated = c.requires.walks.seated;
-  free = c.requires.walks.free;
-  indexed = of_own _ _ _ _ c.requires.walks.indexed;
+  walks = record {
+    seated = c.requires.walks.seated;
+    free = c.requires.walks.free;
+    indexed = of_own _ _ _ _ c.requires.walks.indexed;
+  };
 }
 
 pub find-requires-clause-seat : goal.find-requires-clause-seat

@@ -14,9 +14,11 @@ use Rattle.live_segment.proofs.segment.Segment.search_sample.Goals as goal
 
 pub look_for-has_passed_all-requires : goal.look_for-has_passed_all-requires
 look_for-has_passed_all-requires c = record {
-  seated = c.requires.ready.seated;
-  free = c.requires.free;
-  indexed = of_own _ _ _ _ c.requires.ready.indexed;
+  walks = record {
+    seated = c.requires.ready.seated;
+    free = c.requires.free;
+    indexed = of_own _ _ _ _ c.requires.ready.indexed;
+  };
 }
 
 pub find_sample-requires-clause-seat : goal.find_sample-requires-clause-seat

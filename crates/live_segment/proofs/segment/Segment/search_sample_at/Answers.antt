@@ -10,9 +10,11 @@ use Rattle.live_segment.proofs.segment.Segment.search_sample_at.Goals as goal
 
 pub shows_value-requires : goal.shows_value-requires
 shows_value-requires c = record {
-  seated = c.requires.ready.seated;
-  met = meets_sample c.args.histogram.now.reference c.args.value c.args.seat.now.me.0 c.requires.free c.requires.ready.indexed c.requires.first;
-  room = room_sample c.args.histogram.now.reference c.args.value c.args.seat.now.me.0 c.requires.free c.requires.ready.indexed c.requires.first;
+  meets = record {
+    seated = c.requires.ready.seated;
+    met = meets_sample c.args.histogram.now.reference c.args.value c.args.seat.now.me.0 c.requires.free c.requires.ready.indexed c.requires.first;
+    room = room_sample c.args.histogram.now.reference c.args.value c.args.seat.now.me.0 c.requires.free c.requires.ready.indexed c.requires.first;
+  };
 }
 
 pub returns-then-shows_value-clause-view : goal.returns-then-shows_value-clause-view

@@ -1,3 +1,3 @@
 mod Closing
 pub mod Seating
-mod lemmas
+pub mod lemmas

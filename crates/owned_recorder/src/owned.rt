@@ -36,6 +36,20 @@ impl OwnedRecorder {
         self.state.units()
     }
 
+    /// Sets how many entries each of its three indexes may have in all: of the histograms that it knows, of the names on the list, and of
+    /// the samples of sparse histograms. For a caller that has little memory: an entry takes at most 80 bytes (that is not proved). An index
+    /// that is full finds what it has, and from there on the recorder searches the list, so calls take longer and return the same. What is
+    /// entered already stays. There is no limit but memory before the first such call.
+    ///
+    /// All else is unchanged: its segment [kept], what it has done and seen [view], and what it knows [same].
+    pub fn limit_indexes(&mut self, entries: usize)
+        ensures kept { self.new.segment ≡ self.old.segment }
+        ensures same { IsSameRecorder self.old.state self.new.state }
+        ensures view { view_of_owned self.new ≡ view_of_owned self.old }
+    {
+        self.state.limit_indexes(entries);
+    }
+
     /// Returns whether it knows a histogram: the calls that take one ask for that.
     pub fn knows(&self, histogram: Hist) -> bool
         ensures { IsTrue result ↔ Knows self.now.state histogram }

@@ -40,6 +40,13 @@ impl KnownNames {
         }
     }
 
+    // Sets how many names it may enter in all. What is entered stays.
+    pub(crate) fn set_limit(&mut self, names: usize)
+        ensures { (known : List KnownHistogram) → HasNames known self.old → HasNames known self.new }
+    {
+        self.places.set_limit(names);
+    }
+
     // Enters the name of one more, which is to stand behind these. Where there is no memory for it, it is found by a search.
     pub(crate) fn enter(&mut self, known: &[KnownHistogram], name: &[u8])
         requires has { HasNames known.now self.old }

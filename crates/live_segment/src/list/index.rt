@@ -43,6 +43,7 @@ fn firsts_for(alloc: Global, kind: KeyKind) -> Firsts
 }
 
 impl RecordIndex {
+    ghost use Rattle.live_segment.specs.declared.list.index.KeyKind.{KeyKind};
     ghost use Rattle.live_segment.specs.List.Prelude.{Enters, IsIndexed, own_samples, Seen};
 
     // It has passed nothing.
@@ -54,6 +55,13 @@ impl RecordIndex {
             place: WalkPlace::start(),
             firsts: firsts_for(alloc, kind),
         }
+    }
+
+    // Sets how many records with keys it may pass in all. What it has passed stays.
+    pub(crate) fn set_limit(&mut self, records: usize)
+        ensures { (kind : KeyKind) (size : ℕ) (seen : Seen) → IsIndexed kind size seen self.old → IsIndexed kind size seen self.new }
+    {
+        self.firsts.set_limit(records);
     }
 
     // Passes the record behind its place. False where it could not grow: then it stands where it stood.

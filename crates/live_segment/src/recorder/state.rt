@@ -88,6 +88,22 @@ impl RecorderState {
         self.units
     }
 
+    /// Sets how many entries each of its three indexes may have in all: of the histograms that it knows, of the names on the list, and of
+    /// the samples of sparse histograms. For a caller that has little memory: an entry takes at most 80 bytes (that is not proved). An index
+    /// that is full finds what it has, and from there on the recorder searches the list, so calls take longer and return the same. What is
+    /// entered already stays. There is no limit but memory before the first such call.
+    ///
+    /// All else is unchanged: what it has done and seen [view], and what it knows [same]. It stays one of each segment that it is of [at].
+    pub fn limit_indexes(&mut self, entries: usize)
+        ensures at { (segment : SomeSegment) → IsRecorderAt segment self.old → IsRecorderAt segment self.new }
+        ensures same { IsSameRecorder self.old self.new }
+        ensures view { view_of_state self.new ≡ view_of_state self.old }
+    {
+        self.names.set_limit(entries);
+        self.index.set_limit(entries);
+        self.samples.set_limit(entries);
+    }
+
     /// Whether it knows a histogram: the calls that take one ask for that.
     pub fn knows(&self, histogram: Hist) -> bool
         requires { (segment : SomeSegment) × IsRecorderAt segment self.now }

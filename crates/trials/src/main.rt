@@ -1,9 +1,9 @@
 //! Runs that tests and measurements look at: of threads that record beside one another, of calls whose memory is refused from
 //! outside, and of calls that are timed.
 //!
-//! `trials record THREADS SEED ROUNDS`: each round is a new segment, in which each of THREADS threads makes some
+//! `trials record THREADS SEED ROUNDS [ENTRIES]`: each round is a new segment, in which each of THREADS threads makes some
 //! hundred calls by its own recorder, which SEED decides: samples and batches of all kinds of histograms, deltas and
-//! snapshots. Then all are joined, one more delta of each histogram is taken, and the segment is closed. A round prints
+//! snapshots. The indexes of a recorder have at most ENTRIES entries, if that is given. Then all are joined, one more delta of each histogram is taken, and the segment is closed. A round prints
 //!
 //!     round,NUMBER,VERSION
 //!     sample,NAME,VALUE,COUNT                 for each sample, those of a thread in their order

@@ -17,7 +17,7 @@ struct Parameters {
 }
 
 fn read_parameters(words: &[String]) -> Result<Parameters> {
-    let [threads, number, rounds] = words else {
+    let [threads, number, rounds, ..] = words else {
         bail!("give THREADS, a seed or how many records, and ROUNDS");
     };
     Ok(Parameters {
@@ -25,6 +25,14 @@ fn read_parameters(words: &[String]) -> Result<Parameters> {
         number: number.parse::<u32>()?,
         rounds: rounds.parse::<u32>()?,
     })
+}
+
+// How many entries an index of a recorder may have: the fourth word, or no limit.
+fn read_limit(words: &[String]) -> Result<Option<usize>> {
+    match words.get(3) {
+        Some(word) => Ok(Some(word.parse::<usize>()?)),
+        None => Ok(None),
+    }
 }
 
 /// Rounds in which threads record into a segment.
@@ -37,8 +45,9 @@ pub(crate) fn record_rounds<R: Threads + Print + AllocGlobal + Sync>(
         number,
         rounds,
     } = read_parameters(words)?;
+    let limit = read_limit(words)?;
     for round in 0..rounds {
-        round::show(rt, round, number, threads)?;
+        round::show(rt, round, number, threads, limit)?;
     }
     Ok(())
 }

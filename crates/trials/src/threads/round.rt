@@ -24,6 +24,23 @@ pub(crate) struct Job<'a> {
     pub(crate) seed: u32,
 }
 
+// A recorder whose indexes have at most so many entries, if there is a limit.
+fn recorder_for<'a>(
+    segment: &'a Segment,
+    opener: &mut Opener,
+    limit: Option<usize>,
+) -> Result<Recorder<'a>>
+    requires made { IsMadeWith segment.now opener.old }
+    ensures made { IsMadeWith segment.entry.now opener.new }
+    ensures into { IfOk result (RecordsInto segment.entry.now) }
+{
+    let mut recorder = opener.recorder(segment, UNITS)?;
+    if let Some(entries) = limit {
+        recorder.limit_indexes(entries);
+    }
+    Ok(recorder)
+}
+
 // A recorder for each of some threads.
 fn prepare<'a>(
     alloc: Global,
@@ -31,6 +48,7 @@ fn prepare<'a>(
     opener: &mut Opener,
     seed: u32,
     threads: u8,
+    limit: Option<usize>,
 ) -> Result<Vec<Job<'a>>>
     requires made { IsMadeWith segment.now opener.old }
     ensures made { IsMadeWith segment.entry.now opener.new }
@@ -38,7 +56,7 @@ fn prepare<'a>(
 {
     let mut jobs = Vec::new(alloc);
     for thread in 0..threads {
-        let recorder = opener.recorder(segment, UNITS)?;
+        let recorder = recorder_for(segment, opener, limit)?;
         let seed = seed.wrapping_mul(256).wrapping_add(u32::from(thread));
         jobs.push(Job { recorder, seed })?;
     }
@@ -148,13 +166,14 @@ pub(crate) fn show<R: Threads + Print + AllocGlobal + Sync>(
     number: u32,
     seed: u32,
     threads: u8,
+    limit: Option<usize>,
 ) -> Result<()> {
     let alloc = rt.alloc();
     let version = 1 + u64::from(number % 2);
     println!(rt; "round,{number},{version}")?;
     let (segment, mut opener) = Segment::create(alloc, SIZE, PAGE, u64::from(number), 0, version)?;
     let seed = seed.wrapping_add(number);
-    let jobs = prepare(alloc, &segment, &mut opener, seed, threads)?;
+    let jobs = prepare(alloc, &segment, &mut opener, seed, threads, limit)?;
     let all = run_all(rt, alloc, jobs)?;
     show_all(rt, &segment, &mut opener, all)?;
     show_last(rt, &segment, &mut opener)?;

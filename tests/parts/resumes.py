@@ -69,14 +69,14 @@ def both_of(before, script):
     return seeded.Script(script.size, script.page, script.id, before.hists + script.hists, before.calls + script.calls)
 
 
-def wrong_step(program, words, wanted, out, **settings):
+def wrong_step(program, words, wanted, out):
     """What is wrong with an answer, or None; a fault makes no OUT."""
-    wrong = difference(wanted, answer(program, [*words[:-2], out, *words[-2:]], **settings))
+    wrong = difference(wanted, answer(program, [*words[:-2], out, *words[-2:]]))
     return wrong or ("OUT was made" if wanted.status and out.exists() else None)
 
 
-def wrong_of(program, seed, folder, **settings):
-    """What is wrong with the answers to the chain of a seed, or None; the settings are those of an answer."""
+def wrong_of(program, seed, folder):
+    """What is wrong with the answers to the chain of a seed, or None."""
     chance = random.Random(seed)
     chain = chain_of(chance)
     before, base, alone = seeded.Script(0, 0, 0, [], []), None, True
@@ -90,7 +90,7 @@ def wrong_of(program, seed, folder, **settings):
         outs = {workers: folder / f"{seed}-{number}-{workers}.img" for workers in WORKERS}
         for workers, out in outs.items():
             words = ["run", text] if base is None else ["resume", base, text]
-            wrong = wrong_step(program, [*words, "--workers", str(workers)], Answer(report) if why is None else fault(why, 3), out, **settings)
+            wrong = wrong_step(program, [*words, "--workers", str(workers)], Answer(report) if why is None else fault(why, 3), out)
             if wrong is not None:
                 return f"script {number} with {workers} workers: {wrong}\n{text.read_bytes().decode()}"
         if why is None:

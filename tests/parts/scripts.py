@@ -23,8 +23,8 @@ def wrong_image(script, image, wanted):
     return None if read == wanted else f"the image reads as {read[:500]!r}, wanted {wanted[:500]!r}"
 
 
-def wrong_of(program, seed, folder, **settings):
-    """What is wrong with the answers to the script of a seed, or None; the settings are those of an answer."""
+def wrong_of(program, seed, folder):
+    """What is wrong with the answers to the script of a seed, or None."""
     chance = random.Random(seed)
     script = seeded.script_of(chance)
     wanted = plain_tally.report(script.histograms())
@@ -32,7 +32,7 @@ def wrong_of(program, seed, folder, **settings):
     text.write_bytes(seeded.text_of(chance, script))
     looked_at = chance.choice(WORKERS)
     for workers in WORKERS:
-        came = answer(program, ["run", text, image, "--workers", str(workers)], **settings)
+        came = answer(program, ["run", text, image, "--workers", str(workers)])
         wrong = difference(Answer(wanted), came)
         if wrong is None and workers == looked_at:
             wrong = wrong_image(script, image.read_bytes(), wanted)

@@ -107,9 +107,9 @@ def wrong_round(lines):
     return None
 
 
-def rounds(program, words, **settings):
+def rounds(program, words):
     """The lines of each round of a run, or what it said in place of them."""
-    came = answer(program, words, **settings)
+    came = answer(program, words)
     if came.status != 0 or came.error:
         return None, f"status {came.status}, {came.error[:200]!r}"
     lines = came.output.decode().splitlines()
@@ -117,9 +117,10 @@ def rounds(program, words, **settings):
     return [lines[start + 1:end] for start, end in zip(starts, [*starts[1:], len(lines)])], None
 
 
-def recorded(program, threads, seed, number=ROUNDS, **settings):
-    """What is wrong with so many rounds, or None; the settings are those of an answer."""
-    every, wrong = rounds(program, ["record", str(threads), str(seed), str(number)], **settings)
+def recorded(program, threads, seed, number=ROUNDS, limit=None):
+    """What is wrong with so many rounds, or None. With a limit, the indexes of each recorder have at most so many entries."""
+    words = [threads, seed, number, *([] if limit is None else [limit])]
+    every, wrong = rounds(program, ["record", *map(str, words)])
     if wrong is not None:
         return wrong
     if len(every) != number:

@@ -71,7 +71,7 @@ abbrev pub IsBatchAnswer : Histogram → Known → Actor → Result ⊤ BatchRef
 IsBatchAnswer h known a result b =
     MatchOption (first_fault (batch_checks a (items_left h) (sum_left h)))
     (MatchResult result (λ _. IsBatched known (items_left h) (sum_left h) a b) (λ refusal. IsCutShort known (items_left h) refusal a b))
-    (λ why. (result ≡ Err (record { added = 0; why = why })) × (b.state ≡ a.state))
+    (λ why. (result ≡ Err (record { added = 0; why = why })) × (b ≡ a))
 
 -- and what comes of it
 abbrev pub IsAddedOrStops : Histogram → Actor → Result ⊤ BatchRefusal → Actor → Type 0

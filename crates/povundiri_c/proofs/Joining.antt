@@ -97,7 +97,7 @@ joined_since found old mid new has is = (
 -- and so is what lends it units
 pub lent_since : (units : ℕ) (found : OwnedRecorder) (old mid new : OwnedSegment) (status : ℕ) (back : Option JoinableRecorder)
     → HasOpener old mid → IsLent units found mid status back new → IsLent units found old status back new
-lent_since units found old mid new status back has (done, (after, is, (keeps, of, shared, kept, mine, theirs))) = (
+lent_since units found old mid new status back has (done, (after, is, (keeps, of, shared, kept, mine, theirs, same))) = (
   done,
   (
     after,
@@ -109,6 +109,7 @@ lent_since units found old mid new status back has (done, (after, is, (keeps, of
       kept,
       subst (λ (opener : Opener). view_of_opener new.opener ≡ giver (view_of_opener opener) units) has.3 mine,
       theirs,
+      same,
     ),
   ),
 )
@@ -120,7 +121,7 @@ module _ (Does : OwnedRecorder → OwnedSegment → ℕ → Option JoinableRecor
       → IsPassed Does Refuses joinable old status back new
   passed found mid is same does = (
     λ own. inl (subst (λ (one : OwnedRecorder). Does one old status back new) (is.2 own) does),
-    λ other. inr (inr (subst (λ (seat : MailboxSeat). HasMet _ joinable.owned seat) (sym same) (is.3 other), inr (found, does))),
+    λ other. inr (inr (subst (λ (seat : MailboxSeat). HasMet (mailbox_of_recorder joinable) joinable.owned seat) (sym same) (is.3 other), inr (found, does))),
   )
 
   -- none was found

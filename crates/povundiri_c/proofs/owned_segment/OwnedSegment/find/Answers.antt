@@ -33,5 +33,7 @@ returns-in-Ok c =
 pub returns : goal.returns
 returns c =
     let it = busy_is c.args.joinable c.args.self.now _ _ _ _ (c.deref-2.ensures, c.deref.ensures) c.pass-passed.ensures.passes c.in-Err.owned c.in-Err.is in
-    let kept = (ap Some (same_recorder c.args.joinable c.in-Err.owned _ _ it.0), (refl, refl, refl, (λ i. (it.1 i).0), (λ i. (it.1 i).1), refl)) in
-    (λ own. (refl, kept), λ other. inr (inl (refl, kept)))
+    let back = ap Some (same_recorder c.args.joinable c.in-Err.owned _ _ it.0) in (
+      λ own. (refl, (back, (refl, refl, refl, (λ i. (it.1 i).0), (λ i. (it.1 i).1), refl))),
+      λ other. inr (inl (refl, (back, (refl, refl, refl, (λ i. (it.1 i).0), (λ i. (it.1 i).1), refl)))),
+    )

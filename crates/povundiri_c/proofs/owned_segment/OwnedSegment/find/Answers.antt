@@ -1,4 +1,4 @@
-use Rattle.std.proofs.Common.{ap, refl, ◌∙◌, inl, inr, Some, None, Ok, Option}
+use Rattle.std.proofs.Common.{ap, refl, ◌∙◌, inl, inr, Some, Ok, Option}
 use Rattle.owned_recorder.specs.declared.owned.OwnedRecorder.{OwnedRecorder}
 use Rattle.povundiri_c.proofs.Holding.{same_recorder}
 use Rattle.povundiri_c.proofs.Joining.{back_is, busy_is, found_is, gone_is, met_is, met_or}

@@ -1,4 +1,4 @@
-use Rattle.std.proofs.Common.{ℕ, inl, inr, arith, ap, sym, subst, ◌⊎◌, ◌∙◌, ◌≡◌, ◌≤◌, refl}
+use Rattle.std.proofs.Common.{ℕ, inr, arith, ap, sym, subst, ◌⊎◌, ◌∙◌, ◌≡◌, ◌≤◌, refl}
 use Rattle.std.specs.Arc.{arc_value}
 use Rattle.std.specs.declared.alloc.Global.{Global}
 use Rattle.std.specs.declared.sync.Arc.{Arc}

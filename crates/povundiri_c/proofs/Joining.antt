@@ -1,8 +1,6 @@
 -- What a segment makes of a recorder that is passed to it.
 use Rattle.std.proofs.Common.{◌≡◌, ◌≢◌, ◌⊎◌, ℕ, inl, inr, Option, Some, None, MatchOption, Result, Ok, Err, refl, sym, subst, ap, ◌∙◌}
 use Rattle.std.specs.Arc.{arc_value}
-use Rattle.std.specs.declared.alloc.Global.{Global}
-use Rattle.std.specs.declared.sync.Arc.{Arc}
 use Rattle.atomic_table.specs.Seated.{TableId}
 use Rattle.segment_machine.specs.Seats.{giver, joined}
 use Rattle.live_segment.specs.Holders.{IsSameOpener, view_of_opener}
@@ -14,7 +12,6 @@ use Rattle.povundiri_c.specs.declared.mailbox.Mailbox.{Mailbox}
 use Rattle.povundiri_c.specs.declared.owned_segment.OwnedSegment.{OwnedSegment}
 use Rattle.povundiri_c.specs.Joins.{HasJoined, HasOpener, IsFound, IsLent, IsNotFound, IsPassed, IsSameSegment, KeepsSegment, mailbox_of_recorder, mailbox_of_segment}
 use Rattle.povundiri_c.specs.Mailbox.{BelongsTo, HasMet, IsOfOpener, MailboxSeat, Passes}
-use Rattle.povundiri_c.proofs.Holding.{of_opener}
 
 -- what a recorder was found to be
 pub matched : {A : Type 0} (P : Type 0) (Q : A → Type 0) (found : Option A) (one : A) → found ≡ Some one → Q one → MatchOption found P Q
@@ -76,12 +73,6 @@ met_or (Some owned) old mid new same is = inr (owned, is)
 
 -- ---- what is done with a recorder that was found
 
--- it is a recorder of the opener
-pub found_of : (joinable : JoinableRecorder) (found : OwnedRecorder) (old mid : OwnedSegment) → IsFound joinable found old mid → IsRecorderOf found mid.opener
-found_of joinable found old mid is =
-    of_opener (arc_value mid.segment) (arc_value mid.mailbox).table.shared.key mid.opener found mid.first mid.made
-    (subst (λ (mailbox : Arc Mailbox Global). BelongsTo found (arc_value mailbox).table.shared.key) (sym is.0.1) is.1)
-
 keeps_since : (old mid new : OwnedSegment) → HasOpener old mid → KeepsSegment mid new → KeepsSegment old new
 keeps_since old mid new has keeps =
     (keeps.0 ∙ has.0, keeps.1 ∙ has.1, keeps.2 ∙ has.2, subst (λ (opener : Opener). IsSameOpener opener new.opener) has.3 keeps.3)
@@ -97,7 +88,7 @@ joined_since found old mid new has is = (
 -- and so is what lends it units
 pub lent_since : (units : ℕ) (found : OwnedRecorder) (old mid new : OwnedSegment) (status : ℕ) (back : Option JoinableRecorder)
     → HasOpener old mid → IsLent units found mid status back new → IsLent units found old status back new
-lent_since units found old mid new status back has (done, (after, is, (keeps, of, shared, kept, mine, theirs))) = (
+lent_since units found old mid new status back has (done, (after, is, (keeps, of, shared, kept, mine, theirs, same))) = (
   done,
   (
     after,
@@ -109,6 +100,7 @@ lent_since units found old mid new status back has (done, (after, is, (keeps, of
       kept,
       subst (λ (opener : Opener). view_of_opener new.opener ≡ giver (view_of_opener opener) units) has.3 mine,
       theirs,
+      same,
     ),
   ),
 )
@@ -120,7 +112,7 @@ module _ (Does : OwnedRecorder → OwnedSegment → ℕ → Option JoinableRecor
       → IsPassed Does Refuses joinable old status back new
   passed found mid is same does = (
     λ own. inl (subst (λ (one : OwnedRecorder). Does one old status back new) (is.2 own) does),
-    λ other. inr (inr (subst (λ (seat : MailboxSeat). HasMet _ joinable.owned seat) (sym same) (is.3 other), inr (found, does))),
+    λ other. inr (inr (subst (λ (seat : MailboxSeat). HasMet (mailbox_of_recorder joinable) joinable.owned seat) (sym same) (is.3 other), inr (found, does))),
   )
 
   -- none was found

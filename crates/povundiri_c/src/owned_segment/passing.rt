@@ -76,7 +76,7 @@ impl OwnedSegment {
     {
         match self.find(joinable) {
             Ok(found) => {
-                join(&mut self.opener, found);
+                self.join_met(Some(found));
                 (DONE, None)
             }
             Err(refused) => refused,

@@ -7,5 +7,5 @@ use Rattle.povundiri_c.proofs.contents.Contents.add.Goals as goal
 pub returns-in-Recorder : goal.returns-in-Recorder
 returns-in-Recorder c = let fits : FitsSigned w32 c.args.value = search rules in
     by_recorder _ _ _ _ _ _ c.in-Recorder.is c.add.ensures.kept
-    (subst (λ (value : ℤ). AtPlace 8 (Adds value c.args.count) c.args.place c.in-Recorder.joinable.recorder c.add.result c.add.new.self.owned)
+    (subst (λ (value : ℤ). AtPlace 8 (Adds value c.args.count) c.args.place c.in-Recorder.joinable.owned c.add.result c.add.new.self.owned)
     (to_z-of_z w32 c.args.value fits) c.add.ensures.answer)

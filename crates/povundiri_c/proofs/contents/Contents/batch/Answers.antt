@@ -7,5 +7,5 @@ use Rattle.povundiri_c.proofs.contents.Contents.batch.Goals as goal
 pub returns-in-Recorder : goal.returns-in-Recorder
 returns-in-Recorder c = let fits : FitsSigned w64 c.args.sum = search rules in
     by_recorder _ _ _ _ _ _ c.in-Recorder.is c.batch.ensures.kept
-    (subst (λ (sum : ℤ). AtPlace (Err (refused_with 8)) (Batches c.args.items.now sum) c.args.place c.in-Recorder.joinable.recorder c.batch.result c.batch.new.self.owned)
+    (subst (λ (sum : ℤ). AtPlace (Err (refused_with 8)) (Batches c.args.items.now sum) c.args.place c.in-Recorder.joinable.owned c.batch.result c.batch.new.self.owned)
     (to_z-of_z w64 c.args.sum fits) c.batch.ensures.answer)

@@ -13,10 +13,10 @@ use prog.Memory.{Memory}
 use prog.Routine.{Routine}
 use prog.Wp.{Env, Calls, Loops, WpFn, Tables}
 use types.Logic.{Logic, sem}
-use contract.Monad.{Fun, fact}
+use contract.Monad.{Fun}
 use contract.Running.{tables, tables_of}
 use sound.WpLaws.{WpFn-mono}
-use types.Kit.{Item, ⋆, ‵, raw, ◌⊛◌, some, later, await, pick, at_ret, ◌$◌, ◌∵◌, !, qed, by, move, keep, drop, use1, split, join, group, rewrite, fsplit, fsplit3, fjoin, fpack, feq_l, suffices, frame, done}
+use types.Kit.{Item, ⋆, ‵, raw, ◌⊛◌, some, later, await, pick, at_ret, ◌$◌, ◌∵◌, !, qed, by, move, keep, use1, split, join, group, rewrite, fsplit, fsplit3, fjoin, fpack, feq_l, suffices, frame, done}
 use types.Part.{whole, sub, look_in}
 use types.Run.{stop, fld, load, of_opd, addr, first, blocks, exec, returns, enter}
 use types.ByLocal.{alloc_all, pass_all, free_all, look_at, get, through, sets, sets_last, env}
@@ -25,11 +25,10 @@ use denote.Exit.{no}
 use denote.Follow.{follows, Part, lends_Part}
 use denote.Memory.{cell_at, part_at, part_of, mem}
 use denote.RattleType.{owns}
-use denote.RawPtr.{Ptr, block_ptr, ptr_val}
-use denote.Ref.{MutBor, MutRef}
+use denote.RawPtr.{Ptr, block_ptr}
+use denote.Ref.{MutRef}
 use denote.Signature.{plain, mut_ref_to}
 use denote.Steps.{nothing, opens}
-use denote.Triple.Clauses.{closing}
 use denote.Triple.Entry.{on_entry}
 use denote.Triple.Spec.{triple_of}
 use denote.Triple.Table.{entered}
@@ -37,7 +36,7 @@ use denote.Triple.Walked.{says, needs, Stays, stay_dropped, walk_of, ends_at, Go
 use Rattle.std.specs.Prelude.{Option, Some}
 use Rattle.std.specs.Global.{Global}
 use Rattle.std_alloc.proofs.VecSteps.Shapes.{after}
-use Rattle.std_alloc.proofs.BoxSteps.Form.{D, B, τ, word, handle}
+use Rattle.std_alloc.proofs.BoxSteps.Form.{B, τ, word, handle}
 use Rattle.std_alloc.proofs.BoxSteps.Steps.{box_out, box_in}
 use Rattle.core.proofs.alloc.Calls.{token}
 use Rattle.povundiri_c.proofs.AsBox.{E}

@@ -1,4 +1,4 @@
-use Rattle.std.proofs.Common.{ap, refl, ◌∙◌, inl, inr, Some, None, Ok, Option}
+use Rattle.std.proofs.Common.{ap, refl, ◌∙◌, inl, inr, Some, Ok, Option}
 use Rattle.owned_recorder.specs.declared.owned.OwnedRecorder.{OwnedRecorder}
 use Rattle.povundiri_c.proofs.Holding.{same_recorder}
 use Rattle.povundiri_c.proofs.Joining.{back_is, busy_is, found_is, gone_is, met_is, met_or}
@@ -25,13 +25,15 @@ returns-in-Some-met c =
     (c.in-Ok.is ∙ (λ i. Ok (c.in-Some-met.is i, c.in-None.is i))) in
     ((refl, refl, refl, refl), it.0, it.1, it.2)
 
-pub returns-in-None-met : goal.returns-in-None-met
-returns-in-None-met c =
+pub returns-in-Ok : goal.returns-in-Ok
+returns-in-Ok c =
     let it = gone_is c.args.joinable c.args.self.now _ _ _ _ (c.deref-2.ensures, c.deref.ensures) c.pass-passed.ensures.passes (c.in-Ok.is ∙ (λ i. Ok (c.in-None-met.is i, c.in-None.is i))) in
     (λ own. absurd (it.0 own), λ other. inr (inr (it.1 other, (refl, refl, (refl, refl, refl, refl)))))
 
-pub returns-in-Err : goal.returns-in-Err
-returns-in-Err c =
+pub returns : goal.returns
+returns c =
     let it = busy_is c.args.joinable c.args.self.now _ _ _ _ (c.deref-2.ensures, c.deref.ensures) c.pass-passed.ensures.passes c.in-Err.owned c.in-Err.is in
-    let kept = (ap Some (same_recorder c.args.joinable c.in-Err.owned _ _ it.0), (refl, refl, refl, (λ i. (it.1 i).0), (λ i. (it.1 i).1), refl)) in
-    (λ own. (refl, kept), λ other. inr (inl (refl, kept)))
+    let back = ap Some (same_recorder c.args.joinable c.in-Err.owned _ _ it.0) in (
+      λ own. (refl, (back, (refl, refl, refl, (λ i. (it.1 i).0), (λ i. (it.1 i).1), refl))),
+      λ other. inr (inl (refl, (back, (refl, refl, refl, (λ i. (it.1 i).0), (λ i. (it.1 i).1), refl)))),
+    )

@@ -1,4 +1,4 @@
-use Rattle.std.proofs.Common.{ℕ, inl, inr, arith, ap, sym, subst, ◌⊎◌, ◌∙◌, ◌≡◌, ◌≤◌, refl}
+use Rattle.std.proofs.Common.{ℕ, inr, arith, ap, sym, subst, ◌⊎◌, ◌∙◌, ◌≡◌, ◌≤◌, refl}
 use Rattle.std.specs.Arc.{arc_value}
 use Rattle.std.specs.declared.alloc.Global.{Global}
 use Rattle.std.specs.declared.sync.Arc.{Arc}
@@ -27,10 +27,10 @@ lend_found-requires-clause-enough c =
 pub returns-in-Ok-find : goal.returns-in-Ok-find
 returns-in-Ok-find c = inr (
   omega arith,
-  passed (IsLent c.args.units) Refuses c.args.joinable c.args.self.now _ _ _ c.in-Ok-find.found c.find.new.self c.in-Ok-find.ensures
+  passed (IsLent c.args.units) Refuses c.args.joinable c.args.self.now _ _ c.lend_found.new.self c.in-Ok-find.found c.find.new.self c.in-Ok-find.ensures
       c.lend_found.ensures.gone
-      (lent_since c.args.units c.in-Ok-find.found c.args.self.now c.find.new.self _ _ _ c.in-Ok-find.ensures.0 c.lend_found.ensures.lends),
+      (lent_since c.args.units c.in-Ok-find.found c.args.self.now c.find.new.self c.lend_found.new.self _ _ c.in-Ok-find.ensures.0 c.lend_found.ensures.lends),
 )
 
 pub returns-in-Err : goal.returns-in-Err
-returns-in-Err c = inr (omega arith, not_passed (IsLent c.args.units) Refuses c.args.joinable c.args.self.now _ _ _ (inr refl) c.in-Err.ensures)
+returns-in-Err c = inr (omega arith, not_passed (IsLent c.args.units) Refuses c.args.joinable c.args.self.now _ _ c.find.new.self (inr refl) c.in-Err.ensures)

@@ -1,4 +1,4 @@
-use Rattle.std.proofs.Common.{refl, sym, subst}
+use Rattle.std.proofs.Common.{◌≡◌, refl, sym, subst}
 use Rattle.std.specs.Arc.{arc_value}
 use Rattle.povundiri_c.specs.declared.mailbox.Mailbox.{Mailbox}
 use Rattle.povundiri_c.specs.Mailbox.{BelongsTo, cursors_of}

@@ -72,4 +72,4 @@ same_recorder joinable owned fits counted is =
 pub has_cursor : (key : Opener) (owned : OwnedRecorder) (cursor cursors : ℕ) → BelongsTo owned key → cursors ≡ cursors_of key → cursor < cursors
     → cursor < (view_of_state owned.state).segment.cursors
 has_cursor key owned cursor cursors of is below =
-    subst (λ (n : ℕ). cursor < n) (is ∙ sym of.1 ∙ sym owned.fits.seated.of.cursors) below
+    subst (λ (n : ℕ). cursor < n) (is ∙ sym of.1 ∙ sym owned.at.seated.of.cursors) below

@@ -1,4 +1,4 @@
-// Samples recorded through povundiri.h, as record.cpp records them by plain steps.
+// Samples recorded through povundiri.hpp, as record.cpp records them by plain steps.
 //
 //     c_record FORM SHARING THREADS BURSTS
 //

@@ -1,9 +1,10 @@
-"""Each growth of memory is refused in turn, and memory is there again behind it.
+"""Each growth of memory is refused in turn, and memory is there again after it.
 
-Of the calls of the libraries, which `trials` makes, each allocation is refused (allocations.py): the call says so, its next answers
-as if nothing had been, and so does all that comes behind. Where an index of names or of samples cannot grow, the call answers as ever. Calls that take no memory ask for none.
+Of the calls of the libraries, which `trials` makes, each allocation is refused (allocations.py): the call says so, and it, when it is made
+again, and all calls after it return what they always do. If an index of names or of samples cannot grow, the call returns what it always
+does. Calls that take no memory ask for none.
 
-The commands and `stepped` answer `NoMemory`, with no output but what `stepped` had told before, and OUT as it was. Of them each
+The commands and `stepped` report `NoMemory`, with no output but what `stepped` had written before, and OUT unchanged. Of them each
 growth is refused for which the C library asks the system (tracer.py).
 """
 

@@ -1,4 +1,4 @@
-"""The rounds of threads of another part (threads.py), while the indexes of each recorder have a limit: each round answers as ever.
+"""The rounds of threads of another part (threads.py), while the indexes of each recorder have a limit: each round returns what it always does.
 
 An index that is full stops at its place, and searches walk on from there. The limits are every small number of entries, none among them,
 so that an index stops at each of the first records that it meets, and some larger ones, at which one index is full and another is not.

@@ -3,7 +3,7 @@ use Rattle.std.proofs.Common.{◌≡◌, ◌≢◌, ℕ, ◌<◌, ◌≤◌, ℤ
 use Rattle.std.proofs.lemmas.List.Elements.{All-weaker}
 use mathlib.Core.Option.{some}
 use lib.ListN.{get_elem?}
-use Rattle.atomic_table.proofs.Lists.{at_set, set_else}
+use Rattle.atomic_table.proofs.Lists.{at_set}
 use Rattle.segment_image.specs.Shape.{Dimensions}
 use Rattle.alloc_core.specs.Layout.{IsShown}
 use Rattle.alloc_core.specs.Laws.{Behind}
@@ -32,12 +32,12 @@ use Rattle.segment_invariant.proofs.Frames.Books.{cursors_set, listed_set, notic
 use Rattle.segment_invariant.proofs.Frames.GoesOn.{not_opener}
 use Rattle.segment_invariant.proofs.Frames.OneActor.{lives_on}
 use Rattle.segment_invariant.proofs.Frames.Onward.{Onward, record_on, stands_as_on, listed_on, sees_on, off_stays}
-use Rattle.segment_invariant.proofs.Frames.Roles.{SameRole, AllStood, stood_set, roles_set}
+use Rattle.segment_invariant.proofs.Frames.Roles.{SameRole, SameRoles, roles_set}
 use Rattle.segment_invariant.proofs.Frames.Standing.{Grounds, follows_itself, own_stays, stands_on}
 use Rattle.segment_invariant.proofs.Counting.Seen.{known_stands}
 use Rattle.segment_invariant.proofs.Publishing.Links.{listed_claimed}
 use Rattle.segment_invariant.proofs.Changes.Ledgers.{rows_beside}
-use Rattle.segment_invariant.proofs.Changes.Others.{Deed, deed_of, changed, alone_was, none_alone, finals_else, looks_on}
+use Rattle.segment_invariant.proofs.Changes.Others.{Deed, deed_of, changed, changed_role, changed_roles, alone_was, none_alone, finals_else, looks_on}
 use Rattle.segment_invariant.proofs.Frames.PassedOver.{passed_on, still_onward}
 
 -- What has to be shown where a recorder changes what is published, and goes on to a deed: of the blocks and the words that are then there; of
@@ -91,26 +91,10 @@ module _ (shape : Dimensions) (opened : Anatomy) (state : State) (kept : Invaria
   living = lives_on a records lived
 
   role : SameRole b a
-  role = record {
-    living = lives_on b records changes.lives ∙ sym living;
-    opener = refl;
-    first = refl;
-    first_noted = refl;
-    first_taken = refl;
-    made = refl;
-    outstanding = refl;
-    inherited = refl;
-    offered = refl;
-  }
+  role = changed_role shape opened state kept id a mine records lived d changes.lives
 
-  stood : AllStood state.actors actors
-  stood = stood_set state.actors id a b mine role
-
-  not_first : id ≢ 0
-  not_first = not_opener shape opened state kept id a mine records
-
-  first : get_elem? actors 0 ≡ get_elem? state.actors 0
-  first = set_else state.actors id 0 b (λ same. not_first (sym same))
+  beside : SameRoles state.actors actors
+  beside = changed_roles shape opened state kept id a mine records lived d changes.lives
 
   more : (name : List ℕ) (key : ℤ) → tally_units (all_counted state.actors) name key ≤ tally_units (all_counted actors) name key
   more name key =
@@ -151,13 +135,13 @@ module _ (shape : Dimensions) (opened : Anatomy) (state : State) (kept : Invaria
         owes = fits.owes;
         calls = calls_same old new c refl fits.calls;
         looks = λ recorder. looks_on shape state.words old new kept.shown added changes.onward refl shape.page kept.records changes.records c fits.sees.counters
-            fits.sees.in_use state.actors actors kept.roles.opener (deed_of c) more (alone_was state.actors actors kept.roles stood first c c refl refl)
+            fits.sees.in_use state.actors actors kept.roles.opener (deed_of c) more (alone_was state.actors actors kept.roles beside c c refl refl)
             (λ known has. let (r, stands, named, bounds, many) = known_stands shape opened state kept other c there lives known has in (r, stands, many))
             (fits.looks recorder)
-            (λ reference sum s loaded alone has. absurd (none_alone state.actors actors kept.roles stood first id a mine living other c ne there
-            (lives_on c recorder lives) (alone_was state.actors actors kept.roles stood first c c refl refl alone)))
+            (λ reference sum s loaded alone has. absurd (none_alone state.actors actors kept.roles beside id a mine living other c ne there
+            (lives_on c recorder lives) (alone_was state.actors actors kept.roles beside c c refl refl alone)))
             changes.bare;
-        finals = finals_else state.actors actors kept.roles stood first id a mine living other c ne there lives fits.finals;
+        finals = finals_else state.actors actors kept.roles beside id a mine living other c ne there lives fits.finals;
         snapshots = within c.deltas.snapshots fits.snapshots;
       }
 
@@ -217,7 +201,7 @@ module _ (shape : Dimensions) (opened : Anatomy) (state : State) (kept : Invaria
     corrupt = subst (IsSetBy old.corrupt opened.corrupt) (sym (column (λ (c : Actor). c.done.spoiled) state.actors id a b mine refl)) kept.corrupt;
     full = subst (IsSetBy old.full opened.full) (sym (column (λ (c : Actor). c.done.filled) state.actors id a b mine refl)) kept.full;
     noticed = noticed_set old.corrupt state.actors id b (λ saw. noticed_there old.corrupt state.actors id a mine kept.noticed (changes.noticed saw)) kept.noticed;
-    roles = roles_set state.actors id a b mine role not_first kept.roles;
+    roles = roles_set state.actors id a b mine role (not_opener shape opened state kept id a mine records) kept.roles;
     first_noted = kept.first_noted;
     answered = answered_set old.records state.actors id a b mine refl refl kept.answered;
     cursors = cursors_set (order_of old) state.cursors state.actors id a b mine records refl kept.cursors;

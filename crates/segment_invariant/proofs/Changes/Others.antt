@@ -1,6 +1,6 @@
 -- What holds of actors where one recorder that lives counts, packs or takes: of the others it stays, for none of them is alone; and of
 -- what was seen before it stays, for words of published blocks only go on.
-use Rattle.std.proofs.Common.{◌≡◌, ◌≢◌, ℕ, ◌+◌, ◌<◌, ◌≤◌, ℤ, true, List, Option, Some, length, All, Contains, inl, inr, ⊎_elim, refl, sym, ap, ◌∙◌, subst, arith}
+use Rattle.std.proofs.Common.{◌≡◌, ◌≢◌, ℕ, ◌+◌, ◌<◌, ◌≤◌, ℤ, true, false, List, Option, Some, length, set, All, Contains, inl, inr, ⊎_elim, refl, sym, ap, ◌∙◌, subst, arith}
 use Rattle.std.specs.Int.{w64, cast_signed}
 use Rattle.std.specs.Prelude.{drop}
 use Rattle.std.proofs.lemmas.List.Elements.{All-contains, All-contains_itself, All-drop}
@@ -25,18 +25,20 @@ use Rattle.segment_machine.specs.declared.seen.Seen.{Seen}
 use Rattle.segment_machine.specs.declared.seen.Sighting.{Sighting}
 use Rattle.segment_calls.specs.Form.{is_off, Leads}
 use Rattle.segment_machine.specs.Entry.{tally_units}
-use Rattle.segment_machine.specs.Actor.{accepted_by, all_counted, bucket_key, SawCount, made_of, outstanding_of}
+use Rattle.segment_machine.specs.Actor.{accepted_by, all_counted, bucket_key, SawCount, is_opener, made_of, outstanding_of}
+use Rattle.segment_machine.specs.State.{State}
 use Rattle.segment_invariant.specs.Body.{Record, Counts, Body, histogram, counts, Listed, Anatomy, layout_of}
 use Rattle.segment_invariant.specs.Ledger.{form_at}
 use Rattle.segment_invariant.specs.Seen.{HasRecord, HasCounts, IsFirstOf, WasCounter, WasInUse}
-use Rattle.segment_invariant.specs.Invariant.{is_living, RolesAreKept, RecordsAreKept, IsMoment, IsAlone, IsSettled, LooksBack, FinalsAreExact}
+use Rattle.segment_invariant.specs.Invariant.{is_living, RolesAreKept, RecordsAreKept, IsMoment, IsAlone, IsSettled, LooksBack, FinalsAreExact, Invariant}
 use Rattle.list_lemmas.proofs.Maps.{one_at, contains_take}
 use Rattle.segment_invariant.proofs.Blocks.Pieces.{one_stands, piece_from}
 use Rattle.segment_invariant.proofs.Blocks.Places.{counter_within}
+use Rattle.segment_invariant.proofs.Frames.GoesOn.{not_opener}
 use Rattle.segment_invariant.proofs.Frames.Leads.{off_leads}
 use Rattle.segment_invariant.proofs.Frames.OneActor.{lives_on}
 use Rattle.segment_invariant.proofs.Frames.Onward.{Onward, RecordGoes, record_from, counts_from}
-use Rattle.segment_invariant.proofs.Frames.Roles.{AllStood}
+use Rattle.segment_invariant.proofs.Frames.Roles.{SameRole, SameRoles, role_kept, same_roles}
 use Rattle.segment_invariant.proofs.Frames.Together.{IsLater, moment, ended_began, each_began}
 
 -- ---- what changes of an actor that counts, packs or takes
@@ -56,24 +58,34 @@ changed a d = record a { hand = record { place = d.place; own = d.own }; entries
 abbrev pub deed_of : Actor → Deed
 deed_of a = record { place = a.hand.place; running = a.entries.running; own = a.hand.own; taken = a.deltas.taken; seen = a.seen }
 
+module _ (shape : Dimensions) (opened : Anatomy) (state : State) (kept : Invariant shape opened state) (id : ℕ) (a : Actor)
+    (mine : get_elem? state.actors id ≡ some a) (records : is_opener a.role ≡ false) (lived : a.hand.place ≢ Spent) (d : Deed) (lives : d.place ≢ Spent) where
+  -- it has the role that it had
+  pub changed_role : SameRole (changed a d) a
+  changed_role = role_kept a (changed a d) (lives_on (changed a d) records lives ∙ sym (lives_on a records lived)) refl refl refl refl refl
+
+  -- and so have all
+  pub changed_roles : SameRoles state.actors (set state.actors id (changed a d))
+  changed_roles = same_roles state.actors id a (changed a d) mine changed_role (not_opener shape opened state kept id a mine records)
+
 -- ---- who is alone
 
 -- Others become others, who live where they lived; the first stays.
-module _ (old new : List Actor) (roles : RolesAreKept old) (stood : AllStood old new) (first : get_elem? new 0 ≡ get_elem? old 0) where
+module _ (old new : List Actor) (roles : RolesAreKept old) (beside : SameRoles old new) where
   abbrev opener : Actor
   opener = roles.opener
 
   -- who is alone was alone
   pub alone_was : (b c : Actor) → outstanding_of b.role ≡ outstanding_of c.role → made_of b.role ≡ made_of c.role → IsAlone new b → IsAlone old c
   alone_was b c outstanding made (one, at, eldest, youngest) =
-      (one, sym first ∙ at, sym outstanding ∙ eldest, ap (λ (n : ℕ). n + 1) (sym made) ∙ youngest)
+      (one, sym beside.opener ∙ at, sym outstanding ∙ eldest, ap (λ (n : ℕ). n + 1) (sym made) ∙ youngest)
 
   pub is_later : IsLater old new opener opener
   is_later = record {
     first = (refl, refl);
     more = omega arith;
     last = λ n below e. e;
-    lives = λ k c at lives. let s = stood k c at lives in inl (s.was, s.at, s.lives, s.made);
+    lives = λ k c at lives. let s = beside.stood k c at lives in inl (s.was, s.at, s.lives, s.made);
   }
 
   -- Beside a recorder that lives

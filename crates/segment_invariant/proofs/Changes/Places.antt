@@ -2,7 +2,6 @@
 use Rattle.std.proofs.Common.{◌≡◌, ◌≢◌, ℕ, ◌+◌, ℤ, List, set, refl, sym, ap, ◌∙◌, arith, false}
 use mathlib.Core.Option.{some, none}
 use lib.ListN.{get_elem?}
-use Rattle.atomic_table.proofs.Lists.{set_else}
 use Rattle.segment_image.specs.Shape.{Dimensions}
 use Rattle.segment_machine.specs.declared.actor.Actor.{Actor}
 use Rattle.segment_machine.specs.declared.place.Place.{Place}
@@ -16,14 +15,12 @@ use Rattle.segment_invariant.specs.Invariant.{RecordsAreKept, StandsRight, Final
 use Rattle.list_lemmas.proofs.Elements.{rows, row_in, sum_same}
 use Rattle.segment_invariant.proofs.Frames.Ahead.{KeepsUp}
 use Rattle.segment_invariant.proofs.Frames.Anatomies.{calls_same}
-use Rattle.segment_invariant.proofs.Frames.GoesOn.{not_opener}
-use Rattle.segment_invariant.proofs.Frames.OneActor.{lives_on}
-use Rattle.segment_invariant.proofs.Frames.Roles.{SameRole, AllStood, stood_set}
+use Rattle.segment_invariant.proofs.Frames.Roles.{SameRoles}
 use Rattle.segment_invariant.proofs.Frames.SeesMore.{calls_more}
 use Rattle.segment_invariant.proofs.Frames.Together.{loaded_set, moment}
 use Rattle.segment_invariant.proofs.Counting.Seen.{known_stands}
 use Rattle.segment_invariant.proofs.Changes.Ledgers.{Balances, taken_on}
-use Rattle.segment_invariant.proofs.Changes.Others.{Deed, deed_of, changed, alone_was, is_later, looks_on}
+use Rattle.segment_invariant.proofs.Changes.Others.{Deed, deed_of, changed, changed_roles, alone_was, is_later, looks_on}
 use Rattle.segment_invariant.proofs.Changes.Sums.{SameSum, sums_on}
 use Rattle.segment_invariant.proofs.Changes.Words.{Turns, behind, turned_onward, sees_turned, turned_on}
 
@@ -53,24 +50,8 @@ module _ (shape : Dimensions) (opened : Anatomy) (state : State) (kept : Invaria
     pub up : KeepsUp a.hand.place place
 
   module _ (shows : Placed) where
-    role : SameRole b a
-    role = record {
-      living = lives_on b recorder shows.lives ∙ sym (lives_on a recorder lived);
-      opener = refl;
-      first = refl;
-      first_noted = refl;
-      first_taken = refl;
-      made = refl;
-      outstanding = refl;
-      inherited = refl;
-      offered = refl;
-    }
-
-    stood : AllStood state.actors actors
-    stood = stood_set state.actors id a b mine role
-
-    first : get_elem? actors 0 ≡ get_elem? state.actors 0
-    first = set_else state.actors id 0 b (λ same. not_opener shape opened state kept id a mine recorder (sym same))
+    beside : SameRoles state.actors actors
+    beside = changed_roles shape opened state kept id a mine recorder lived deed shows.lives
 
     counted : (name : List ℕ) (key : ℤ) → tally_units (all_counted actors) name key ≡ tally_units (all_counted state.actors) name key
     counted name key = ap (λ entries. tally_units entries name key) (rows counted_of state.actors id a b mine refl)
@@ -104,10 +85,10 @@ module _ (shape : Dimensions) (opened : Anatomy) (state : State) (kept : Invaria
             ap (λ list. taken_sum list t.name) took ∙ was.1,
           );
       moments = λ m of.
-          moment state.actors actors kept.roles.opener kept.roles.opener id a m (is_later state.actors actors kept.roles stood first) (exact.moments m of);
+          moment state.actors actors kept.roles.opener kept.roles.opener id a m (is_later state.actors actors kept.roles beside) (exact.moments m of);
       swapped = λ before last taking is swapped alone.
           ap (λ list. taken_sum list last.name) took
-          ∙ (exact.swapped before last taking is swapped (alone_was state.actors actors kept.roles stood first b a refl refl alone) ∙ sym (summed last.name));
+          ∙ (exact.swapped before last taking is swapped (alone_was state.actors actors kept.roles beside b a refl refl alone) ∙ sym (summed last.name));
     }
 
     -- the state that is left is kept
@@ -134,7 +115,7 @@ module _ (shape : Dimensions) (opened : Anatomy) (state : State) (kept : Invaria
           calls = calls_same kept.anatomy new b refl (calls_more kept.anatomy a place a.seen a.done.given a.done.lost (λ place has. has) (λ place word saw. saw) fits.calls);
           looks = looks_on shape state.words kept.anatomy new kept.shown (λ at body. ⊥) (turned_onward shape opened state kept at body then_is j v stands turns) refl
               shape.page kept.records shows.records a fits.sees.counters fits.sees.in_use state.actors actors kept.roles.opener deed
-              (λ name key. let same = counted name key in omega (arith, same)) (alone_was state.actors actors kept.roles stood first a a refl refl)
+              (λ name key. let same = counted name key in omega (arith, same)) (alone_was state.actors actors kept.roles beside a a refl refl)
               (λ known has. let (r, there, named, bounds, many) = known_stands shape opened state kept id a mine lived known has in (r, there, many))
               (fits.looks recorder) (λ reference sum s loaded. absurd (shows.no_sum reference sum loaded)) (λ at s new_one. new_one);
           finals = finals_on fits.finals;

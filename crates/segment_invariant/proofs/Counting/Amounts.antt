@@ -5,7 +5,6 @@ use Rattle.std.proofs.Math.IntN.{+ℤ_idr}
 use Rattle.std.proofs.lemmas.List.Elements.{All-contains}
 use mathlib.Core.Option.{some}
 use lib.ListN.{get_elem?}
-use Rattle.atomic_table.proofs.Lists.{set_else}
 use Rattle.segment_image.specs.Shape.{Dimensions}
 use Rattle.segment_machine.specs.declared.entry.EntryProgress.{EntryProgress}
 use Rattle.segment_machine.specs.declared.entry.Entry.{Entry}
@@ -25,13 +24,12 @@ use Rattle.segment_invariant.proofs.Lists.Countings.{sum_total, noted_total}
 use Rattle.list_lemmas.proofs.Elements.{rows, rows_total, row_in}
 use Rattle.segment_invariant.proofs.Frames.Ahead.{unbound_unbeaten}
 use Rattle.segment_invariant.proofs.Frames.Answers.{first_one}
-use Rattle.segment_invariant.proofs.Frames.GoesOn.{not_opener}
-use Rattle.segment_invariant.proofs.Frames.OneActor.{rests_at, lives_on}
-use Rattle.segment_invariant.proofs.Frames.Roles.{SameRole, AllStood, stood_set}
+use Rattle.segment_invariant.proofs.Frames.OneActor.{rests_at}
+use Rattle.segment_invariant.proofs.Frames.Roles.{SameRoles}
 use Rattle.segment_invariant.proofs.Counting.Seen.{known_stands}
 use Rattle.segment_invariant.proofs.Counting.Running.{Next, passes_same}
 use Rattle.segment_invariant.proofs.Counting.Entries.{going, calls_next, finals_next}
-use Rattle.segment_invariant.proofs.Changes.Others.{Deed, deed_of, changed, sees_no_more, looks_on, alone_was}
+use Rattle.segment_invariant.proofs.Changes.Others.{Deed, deed_of, changed, changed_roles, sees_no_more, looks_on, alone_was}
 use Rattle.segment_invariant.proofs.Changes.Records.{record_kept}
 use Rattle.segment_invariant.proofs.Changes.Words.{Turns, behind, turned_onward, sees_turned, turned_on}
 use Rattle.segment_invariant.proofs.Frames.Anew.{lawful_anew}
@@ -95,24 +93,8 @@ module _ (shape : Dimensions) (opened : Anatomy) (state : State) (kept : Invaria
         passes_same is_counted next.behind c d entry counted a.entries.first a.entries.log next.front
         ∙ ap (λ (l : List EntryProgress). a.entries.first ++ counted_among (a.entries.log ++ l)) (sym next.is)
 
-    role : SameRole b a
-    role = record {
-      living = lives_on b recorder (λ e. cc e) ∙ sym (lives_on a recorder turner_lives);
-      opener = refl;
-      first = refl;
-      first_noted = refl;
-      first_taken = refl;
-      made = refl;
-      outstanding = refl;
-      inherited = refl;
-      offered = refl;
-    }
-
-    stood : AllStood state.actors actors
-    stood = stood_set state.actors id a b mine role
-
-    first : get_elem? actors 0 ≡ get_elem? state.actors 0
-    first = set_else state.actors id 0 b (λ same. not_opener shape opened state kept id a mine recorder (sym same))
+    beside : SameRoles state.actors actors
+    beside = changed_roles shape opened state kept id a mine recorder turner_lives deed (λ e. cc e)
 
     all_counted_same : all_counted actors ≡ all_counted state.actors
     all_counted_same = rows counted_of state.actors id a b mine counted_same
@@ -170,11 +152,11 @@ module _ (shape : Dimensions) (opened : Anatomy) (state : State) (kept : Invaria
                 (turned_onward shape opened state kept known.reference (histogram r) (histogram (with_amount r sum noted)) j v stands turns) refl shape.page kept.records records
                 a fits.sees.counters fits.sees.in_use state.actors actors kept.roles.opener deed
                 (λ name key. let same = ap (λ entries. tally_units entries name key) all_counted_same in omega (arith, same))
-                (alone_was state.actors actors kept.roles stood first a a refl refl)
+                (alone_was state.actors actors kept.roles beside a a refl refl)
                 (λ known has.
                 let (r, stands, named, bounds, many) = known_stands shape opened state kept id a mine turner_lives known has in (r, stands, many))
                 (fits.looks recorder) (λ reference sum s loaded. absurd (cc loaded)) (λ at s new_one. new_one));
-            finals = finals_next a c d next entry state.actors actors kept.roles stood first id deed untouched
+            finals = finals_next a c d next entry state.actors actors kept.roles beside id deed untouched
                 (rows taken_of state.actors id a b mine refl)
                 (λ name key apart. ap (λ entries. tally_units entries name key) all_counted_same)
                 (λ name apart. rows_total ◌+ℤ◌ (λ entries. tally_sum entries name) (sum_total name) summed_of state.actors id a b mine (sum_apart name apart))

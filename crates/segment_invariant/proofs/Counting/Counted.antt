@@ -7,7 +7,6 @@ use Rattle.std.proofs.lemmas.List.{length-map}
 use Rattle.std.proofs.lemmas.List.Elements.{All-contains, Contains-append_left, Contains-append_right, Contains-append_cases}
 use mathlib.Core.Option.{some, none}
 use lib.ListN.{get_elem?}
-use Rattle.atomic_table.proofs.Lists.{set_else}
 use Rattle.bucket_ranges.specs.declared.spec.Spec.TheVariants as spec
 use Rattle.segment_image.specs.Shape.{Dimensions}
 use Rattle.segment_machine.specs.declared.entry.EntryProgress.{EntryProgress}
@@ -25,15 +24,14 @@ use Rattle.segment_invariant.specs.Invariant.{RecordsAreKept, HasKey, summed_cos
 use Rattle.segment_invariant.proofs.Lists.Countings.{units_total}
 use Rattle.list_lemmas.proofs.Elements.{rows, row_in, sum_same}
 use Rattle.segment_invariant.proofs.Frames.Ahead.{unbound_unbeaten}
-use Rattle.segment_invariant.proofs.Frames.GoesOn.{not_opener}
-use Rattle.segment_invariant.proofs.Frames.OneActor.{rests_at, lives_on}
-use Rattle.segment_invariant.proofs.Frames.Roles.{SameRole, AllStood, stood_set}
+use Rattle.segment_invariant.proofs.Frames.OneActor.{rests_at}
+use Rattle.segment_invariant.proofs.Frames.Roles.{SameRoles}
 use Rattle.segment_invariant.proofs.Frames.Together.{loaded_set}
 use Rattle.segment_invariant.proofs.Counting.Seen.{known_stands}
 use Rattle.segment_invariant.proofs.Counting.Running.{Next, passes_same, passes_beside, passes_from}
 use Rattle.segment_invariant.proofs.Counting.Entries.{going, calls_next, finals_next}
 use Rattle.segment_invariant.proofs.Changes.Ledgers.{rows_beside, taken_on}
-use Rattle.segment_invariant.proofs.Changes.Others.{Deed, deed_of, changed, looks_on, alone_was}
+use Rattle.segment_invariant.proofs.Changes.Others.{Deed, deed_of, changed, changed_roles, looks_on, alone_was}
 use Rattle.segment_invariant.proofs.Changes.Sums.{SameSum, sums_on}
 use Rattle.segment_invariant.proofs.Changes.Words.{Turns, behind, turned_onward, sees_turned, turned_on}
 
@@ -80,24 +78,8 @@ module _ (shape : Dimensions) (opened : Anatomy) (state : State) (kept : Invaria
   abbrev actors : List Actor
   actors = set state.actors id b
 
-  role : SameRole b a
-  role = record {
-    living = lives_on b recorder (λ e. cc e) ∙ sym (lives_on a recorder lived);
-    opener = refl;
-    first = refl;
-    first_noted = refl;
-    first_taken = refl;
-    made = refl;
-    outstanding = refl;
-    inherited = refl;
-    offered = refl;
-  }
-
-  stood : AllStood state.actors actors
-  stood = stood_set state.actors id a b mine role
-
-  first : get_elem? actors 0 ≡ get_elem? state.actors 0
-  first = set_else state.actors id 0 b (λ same. not_opener shape opened state kept id a mine recorder (sym same))
+  beside : SameRoles state.actors actors
+  beside = changed_roles shape opened state kept id a mine recorder lived deed (λ e. cc e)
 
   -- ---- its entries
 
@@ -218,10 +200,10 @@ module _ (shape : Dimensions) (opened : Anatomy) (state : State) (kept : Invaria
               fits.calls;
           looks = looks_on shape state.words kept.anatomy new kept.shown (λ at body. ⊥) (turned_onward shape opened state kept at body then_is j v stands turns) refl
               shape.page kept.records shows.records a fits.sees.counters fits.sees.in_use state.actors actors kept.roles.opener deed
-              (λ name key. let more = all_more name key in omega (arith, more)) (alone_was state.actors actors kept.roles stood first a a refl refl)
+              (λ name key. let more = all_more name key in omega (arith, more)) (alone_was state.actors actors kept.roles beside a a refl refl)
               (λ known has. let (r, there, named, bounds, many) = known_stands shape opened state kept id a mine lived known has in (r, there, many))
               (fits.looks recorder) (λ reference sum s loaded. absurd (cc loaded)) (λ at s new_one. new_one);
-          finals = finals_next a c d next refl state.actors actors kept.roles stood first id (record (deed_of a) { place = Idle }) (touched c.summed c.noted)
+          finals = finals_next a c d next refl state.actors actors kept.roles beside id (record (deed_of a) { place = Idle }) (touched c.summed c.noted)
               (rows taken_of state.actors id a b mine refl)
               (λ name key other. let more = all_more name key in let none_of = apart name key other in omega (arith, more, none_of))
               (λ name other. ap (λ entries. tally_sum entries name) (rows summed_of state.actors id a b mine summed_same))

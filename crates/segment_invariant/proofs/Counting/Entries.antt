@@ -2,7 +2,6 @@
 use Rattle.std.proofs.Common.{◌≡◌, ◌≢◌, ◌⊎◌, ℕ, ◌<◌, ℤ, pos, true, false, List, [], ◌∷◌, ◌++◌, map, All, Contains, inl, ⊎_elim, refl, sym, ap, ◌∙◌, subst, arith}
 use Rattle.std.proofs.lemmas.List.{map-append}
 use Rattle.std.proofs.lemmas.List.Elements.{All-contains, Contains-append_right}
-use lib.ListN.{get_elem?}
 use Rattle.bucket_ranges.specs.declared.spec.Spec.TheVariants as spec
 use Rattle.segment_machine.specs.declared.entry.Entry.{Entry}
 use Rattle.segment_machine.specs.declared.entry.EntryProgress.{EntryProgress}
@@ -15,7 +14,7 @@ use Rattle.segment_invariant.specs.Body.{Anatomy}
 use Rattle.segment_invariant.specs.Seen.{IsFirst, IsFirstOf}
 use Rattle.segment_invariant.specs.Invariant.{CallsRight, IsQuiet, RolesAreKept, FinalsAreExact}
 use Rattle.list_lemmas.proofs.Elements.{not_empty}
-use Rattle.segment_invariant.proofs.Frames.Roles.{AllStood}
+use Rattle.segment_invariant.proofs.Frames.Roles.{SameRoles}
 use Rattle.segment_invariant.proofs.Frames.Together.{moment}
 use Rattle.segment_invariant.proofs.Changes.Others.{Deed, changed, is_later}
 use Rattle.segment_invariant.proofs.Counting.Running.{Next, ordered_next, all_replaced}
@@ -65,7 +64,7 @@ module _ (a : Actor) (c d : EntryProgress) (next : Next a.entries.running c) (en
       ((quiet.0, subst (All holds) (sym next.is) (all_replaced holds next.front next.behind d c quiet.1 (inl apart))), apart)
 
   -- so what was taken and answered is as exact as it was
-  module _ (old new : List Actor) (roles : RolesAreKept old) (stood : AllStood old new) (first : get_elem? new 0 ≡ get_elem? old 0) (id : ℕ) (deed : Deed)
+  module _ (old new : List Actor) (roles : RolesAreKept old) (beside : SameRoles old new) (id : ℕ) (deed : Deed)
       (touched : is_untouched d ≡ false) (taken : all_taken new ≡ all_taken old)
       (counted : (name : List ℕ) (key : ℤ) → is_of name c.entry ≡ false → tally_units (all_counted new) name key ≡ tally_units (all_counted old) name key)
       (summed : (name : List ℕ) → is_of name c.entry ≡ false → tally_sum (all_summed new) name ≡ tally_sum (all_summed old) name)
@@ -92,6 +91,6 @@ module _ (a : Actor) (c d : EntryProgress) (next : Next a.entries.running c) (en
             ap (λ list. taken_sum list t.name) taken ∙ was.1,
           );
       moments = λ m of.
-          moment old new roles.opener roles.opener id a m (is_later old new roles stood first) (exact.moments m of);
+          moment old new roles.opener roles.opener id a m (is_later old new roles beside) (exact.moments m of);
       swapped = λ before last taking. absurd (runs (calls taking));
     }

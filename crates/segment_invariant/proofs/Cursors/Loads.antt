@@ -28,7 +28,7 @@ use Rattle.segment_invariant.proofs.Frames.Shown.{Goes}
 use Rattle.segment_invariant.proofs.Walking.Walks.{reference_is}
 use Rattle.segment_invariant.proofs.Walking.Nexts.{no_later_itself}
 use Rattle.segment_machine.specs.Actor.{is_opener}
-use Rattle.segment_invariant.proofs.Frames.Anew.{looks_anew_at}
+use Rattle.segment_invariant.proofs.Frames.Anew.{looks_anew_at, sees_anew}
 
 -- what an actor looks back at, where it sees no more than cursors and has loaded no sum
 pub looks_past : (anatomy : Anatomy) (actors : _) (opener a : Actor) (place : Place) (cursors : List Sighting) (given : List Given) (lost : List ℕ)
@@ -41,17 +41,8 @@ looks_past anatomy actors opener a place cursors given lost none looks =
 pub sees_cursor : (anatomy : Anatomy) (cursors : List ℕ) (seen : Seen) (s : Sighting) → Sees anatomy cursors seen
     → (s.at < length cursors) × IsNoLater (order_of anatomy) s.word (slice_index cursors s.at)
     → Sees anatomy cursors (record seen { cursors = seen.cursors ++ sight s.at s.word })
-sees_cursor anatomy cursors seen s sees is = record {
-  free = sees.free;
-  walked = sees.walked;
-  tails = sees.tails;
-  singles = sees.singles;
-  counters = sees.counters;
-  in_use = sees.in_use;
-  met = sees.met;
-  fixed = sees.fixed;
-  shared = All-push (λ s. (s.at < length cursors) × IsNoLater (order_of anatomy) s.word (slice_index cursors s.at)) seen.cursors s sees.shared is;
-}
+sees_cursor anatomy cursors seen s sees is = sees_anew anatomy cursors cursors seen seen.free seen.ends (seen.cursors ++ sight s.at s.word) sees sees.free
+    (All-push (λ s. (s.at < length cursors) × IsNoLater (order_of anatomy) s.word (slice_index cursors s.at)) seen.cursors s sees.shared is)
 
 module _ (shape : Dimensions) (opened : Anatomy) (state : State) (kept : Invariant shape opened state) (id : ℕ) (a : Actor)
     (mine : get_elem? state.actors id ≡ some a) (records : is_opener a.role ≡ false) where

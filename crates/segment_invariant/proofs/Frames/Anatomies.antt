@@ -16,7 +16,7 @@ use Rattle.segment_invariant.specs.Invariant.{StandsAs, ListIsKept, RecordsAreKe
 use Rattle.segment_invariant.proofs.Frames.Standing.{Grounds, own_stays}
 use Rattle.segment_invariant.proofs.Frames.Growth.{reshaped, Stays, Grows, grows_not, stands_as_grows, names_grow, sees_grow, grounds_grow}
 use Rattle.segment_invariant.proofs.Frames.OneActor.{Doing, doing, TurnsTo}
-use Rattle.segment_invariant.proofs.Frames.Anew.{calls_anew, looks_anew_at}
+use Rattle.segment_invariant.proofs.Frames.Anew.{calls_anew, looks_anew_at, sees_anew}
 
 -- what blocks hold together is the same
 pub record SameHoldings (version : ℕ) (old new : List Piece) : Type 0 where
@@ -159,17 +159,7 @@ sees_no_more a d = record d { seen_chain = a.seen.chain; seen_tails = a.seen.tai
 
 module _ (anatomy : Anatomy) (a : Actor) (d : Doing) where
   pub sees_doing : (cursors : List ℕ) → Behind d.seen_free (free_of anatomy) → Sees anatomy cursors a.seen → Sees anatomy cursors (doing a (sees_no_more a d)).seen
-  sees_doing cursors free sees = record {
-    free = free;
-    walked = sees.walked;
-    tails = sees.tails;
-    singles = sees.singles;
-    counters = sees.counters;
-    in_use = sees.in_use;
-    met = sees.met;
-    fixed = sees.fixed;
-    shared = sees.shared;
-  }
+  sees_doing cursors free sees = sees_anew anatomy cursors cursors a.seen d.seen_free d.seen_ends a.seen.cursors sees free sees.shared
 
   pub looks_doing : (actors : List Actor) (opener : Actor) → TurnsTo a d.place → LooksBack anatomy actors opener a
       → LooksBack anatomy actors opener (doing a (sees_no_more a d))

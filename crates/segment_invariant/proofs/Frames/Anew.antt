@@ -1,24 +1,26 @@
 -- What is said of a record, of its counts, and of an actor, where some of it is shown anew and the rest rests on what stays.
-use Rattle.std.proofs.Common.{◌≡◌, ◌≢◌, ℕ, ◌+◌, ◌<◌, ◌≤◌, ℤ, List, ◌++◌, true, false}
+use Rattle.std.proofs.Common.{◌≡◌, ◌≢◌, ℕ, ◌+◌, ◌<◌, ◌≤◌, ℤ, List, ◌++◌, length, true, false}
 use Rattle.std.specs.Prelude.{◌^◌, max, slice_index, Some, None}
 use Rattle.std.specs.Int.{w64, cast_signed}
 use Rattle.std.specs.List.{All, Contains}
 use Rattle.bucket_ranges.specs.declared.spec.Spec.TheVariants as spec
 use Rattle.bucket_ranges.specs.Single.{packed_bucket, units_packed}
 use Rattle.segment_image.specs.Shape.{Dimensions}
+use Rattle.alloc_core.specs.Laws.{Behind}
 use Rattle.segment_machine.specs.declared.entry.Entry.{Entry}
 use Rattle.segment_machine.specs.declared.place.Place.{Place}
 use Rattle.segment_machine.specs.declared.place.Place.TheVariants.{SumLoaded}
 use Rattle.segment_machine.specs.declared.actor.Actor.{Actor}
 use Rattle.segment_machine.specs.declared.actor.Role.{Role}
 use Rattle.segment_machine.specs.declared.seen.Seen.{Seen}
+use Rattle.segment_machine.specs.declared.seen.Sighting.{Sighting}
 use Rattle.segment_machine.specs.Actor.{counted_of, is_opener}
 use Rattle.segment_calls.specs.Form.{is_off}
 use Rattle.segment_machine.specs.Made.{SawSample}
-use Rattle.segment_invariant.specs.Body.{Record, Counts, Anatomy}
+use Rattle.segment_invariant.specs.Body.{Record, Counts, Anatomy, order_of, free_of}
 use Rattle.segment_invariant.specs.Consistent.{IsWithinCounts}
 use Rattle.segment_invariant.specs.Ledger.{form_at}
-use Rattle.segment_invariant.specs.Seen.{HasRecord, IsFirst, IsFirstOf}
+use Rattle.segment_invariant.specs.Seen.{HasRecord, IsFirst, IsFirstOf, IsNoLater, Sees}
 use Rattle.segment_invariant.specs.Invariant.{IsLawfulRecord, IsCountsOf, IsAlone, CallsRight, LooksBack, FinalsAreExact, Fits}
 
 -- ---- a record
@@ -64,6 +66,22 @@ counts_anew version at r single mark c is packed unused low = record {
 }
 
 -- ---- an actor
+
+-- what it saw is right with another free pointer, other ends and other sightings of cursors, where what is said of these is shown
+pub sees_anew : (anatomy : Anatomy) (old new : List ℕ) (seen : Seen) (free : ℕ) (ends : List ℕ) (shared : List Sighting) → Sees anatomy old seen → Behind free (free_of anatomy)
+    → All (λ s. (s.at < length new) × IsNoLater (order_of anatomy) s.word (slice_index new s.at)) shared
+    → Sees anatomy new (record seen { free = free; ends = ends; cursors = shared })
+sees_anew anatomy old new seen free ends shared sees behind later = record {
+  free = behind;
+  walked = sees.walked;
+  tails = sees.tails;
+  singles = sees.singles;
+  counters = sees.counters;
+  in_use = sees.in_use;
+  met = sees.met;
+  fixed = sees.fixed;
+  shared = later;
+}
 
 -- its calls are right on the records of another list, with what it saw of the samples there
 pub calls_anew : (old new : Anatomy) (a : Actor) (seen : Seen) → CallsRight old a

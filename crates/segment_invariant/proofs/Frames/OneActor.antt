@@ -4,7 +4,6 @@ use Rattle.std.specs.Prelude.{if◌then◌else◌, ◌==◌, length}
 use Rattle.std.specs.List.{filter}
 use mathlib.Core.Option.{some}
 use lib.ListN.{get_elem?}
-use Rattle.atomic_table.proofs.Lists.{set_else}
 use Rattle.segment_image.specs.Shape.{Dimensions}
 use Rattle.segment_machine.specs.declared.actor.Known.{Known}
 use Rattle.segment_machine.specs.declared.actor.Actor.{Actor}
@@ -24,7 +23,7 @@ use Rattle.segment_invariant.specs.Body.{Anatomy}
 use Rattle.list_lemmas.proofs.Elements.{rows, sum_same}
 use Rattle.segment_invariant.proofs.Frames.Deeds.{SameSums}
 use Rattle.segment_invariant.proofs.Frames.Together.{LoadedBefore, loaded_set}
-use Rattle.segment_invariant.proofs.Frames.Roles.{AllStood, SameRole, stood_set, fits_beside}
+use Rattle.segment_invariant.proofs.Frames.Roles.{SameRole, SameRoles, role_kept, same_roles, fits_beside}
 
 -- ---- one actor
 
@@ -175,8 +174,7 @@ pub record SameDeeds (old new : List Actor) : Type 0 where
   pub costs : (name : List ℕ) → summed_costs name new ≡ summed_costs name old
   pub moving : (name : List ℕ) (key : ℤ) → all_moving name key new ≡ all_moving name key old
   pub loaded : LoadedBefore old new
-  pub stood : AllStood old new
-  pub opener : get_elem? new 0 ≡ get_elem? old 0
+  pub roles : SameRoles old new
 
 -- of an actor that lives it is no matter where it stands
 pub living_at : (a : Actor) (p : Place) → p ≢ Spent → is_living (record a { hand = record a.hand { place = p } }) ≡ is_living (record a { hand = record a.hand { place = Idle } })
@@ -205,17 +203,7 @@ lives_on a records lives = living_at a a.hand.place lives ∙ ap (λ (b : Bool).
 
 -- the actor that goes on has the role that it had
 pub same_role : (a : Actor) (d : Doing) → TurnsTo a d.place → SameRole (doing a d) a
-same_role a d turns = record {
-  living = living_at a d.place turns.lives ∙ sym (living_at a a.hand.place turns.lived);
-  opener = refl;
-  first = refl;
-  first_noted = refl;
-  first_taken = refl;
-  made = refl;
-  outstanding = refl;
-  inherited = refl;
-  offered = refl;
-}
+same_role a d turns = role_kept a (doing a d) (living_at a d.place turns.lives ∙ sym (living_at a a.hand.place turns.lived)) refl refl refl refl refl
 
 module _ (actors : List Actor) (id : ℕ) (a : Actor) (mine : get_elem? actors id ≡ some a) (d : Doing) (turns : TurnsTo a d.place) where
   -- what all of them did is the same
@@ -229,8 +217,7 @@ module _ (actors : List Actor) (id : ℕ) (a : Actor) (mine : get_elem? actors i
     costs = λ name. sum_same (summed_cost name) actors id a (doing a d) mine refl;
     moving = λ name key. sum_same (λ a. moving_at a name key a.hand.place) actors id a (doing a d) mine (turns.moves name key);
     loaded = loaded_set actors id a (doing a d) mine turns.sums;
-    stood = stood_set actors id a (doing a d) mine (same_role a d turns);
-    opener = set_else actors id 0 (doing a d) (λ same. records (sym same));
+    roles = same_roles actors id a (doing a d) mine (same_role a d turns) records;
   }
 
 -- ---- what holds of what all of them did
@@ -251,4 +238,4 @@ module _ (old new : List Actor) (same : SameDeeds old new) where
   pub fits_same : (shape : Dimensions) (anatomy : Anatomy) (cursors : List ℕ) (opener : Actor) (id : ℕ) (a : Actor) → get_elem? old 0 ≡ some opener
       → Fits shape anatomy cursors old opener id a → Fits shape anatomy cursors new opener id a
   fits_same shape anatomy cursors opener id a first =
-      fits_beside shape anatomy cursors old new opener opener id a first (same.opener ∙ first) refl (refl, refl) same_sums same.stood
+      fits_beside shape anatomy cursors old new opener opener id a first (same.roles.opener ∙ first) refl (refl, refl) same_sums same.roles.stood

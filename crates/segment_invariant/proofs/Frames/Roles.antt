@@ -116,6 +116,26 @@ pub record SameRole (b c : Actor) : Type 0 where
   pub inherited : b.entries.inherited ≡ c.entries.inherited
   pub offered : offered_of b.role ≡ offered_of c.role
 
+-- an actor has the role that it had where it lives as it did, began with the same and inherited the same
+pub role_kept : (a b : Actor) → is_living b ≡ is_living a → b.role ≡ a.role → b.entries.first ≡ a.entries.first → b.entries.first_noted ≡ a.entries.first_noted
+    → b.entries.inherited ≡ a.entries.inherited → b.deltas.first_taken ≡ a.deltas.first_taken → SameRole b a
+role_kept a b living role first first_noted inherited first_taken = record {
+  living = living;
+  opener = ap is_opener role;
+  first = first;
+  first_noted = first_noted;
+  first_taken = first_taken;
+  made = ap made_of role;
+  outstanding = ap outstanding_of role;
+  inherited = inherited;
+  offered = ap offered_of role;
+}
+
+-- the recorders that live lived before, and the opener is what it was
+pub record SameRoles (old new : List Actor) : Type 0 where
+  pub stood : AllStood old new
+  pub opener : get_elem? new 0 ≡ get_elem? old 0
+
 module _ (actors : List Actor) (id : ℕ) (a b : Actor) (mine : get_elem? actors id ≡ some a) (same : SameRole b a) where
   pub stood_set : AllStood actors (set actors id b)
   stood_set k c at lives = elim (at_set actors id k b c at) [
@@ -129,6 +149,9 @@ module _ (actors : List Actor) (id : ℕ) (a b : Actor) (mine : get_elem? actors
     }
     | inr t ↦ record { was = c; at = t.1; lives = lives; made = refl; outstanding = refl; inherited = refl }
   ]
+
+  pub same_roles : id ≢ 0 → SameRoles actors (set actors id b)
+  same_roles records = record { stood = stood_set; opener = set_else actors id 0 b (λ first. records (sym first)) }
 
   abbrev pub roles_set : id ≢ 0 → RolesAreKept actors → RolesAreKept (set actors id b)
   roles_set records roles = record {

@@ -33,9 +33,9 @@ use Rattle.segment_invariant.proofs.Frames.Books.{cursors_set, listed_set, notic
 use Rattle.segment_invariant.proofs.Frames.Deeds.{SameSums}
 use Rattle.segment_invariant.proofs.Frames.GoesOn.{not_opener}
 use Rattle.segment_invariant.proofs.Frames.OneActor.{living_at}
-use Rattle.segment_invariant.proofs.Frames.Roles.{SameRole, stood_set, roles_set, fits_beside}
+use Rattle.segment_invariant.proofs.Frames.Roles.{SameRole, role_kept, stood_set, roles_set, fits_beside}
 use Rattle.segment_invariant.proofs.Frames.Together.{balanced, sums_near, loaded_set}
-use Rattle.segment_invariant.proofs.Frames.Anew.{calls_anew}
+use Rattle.segment_invariant.proofs.Frames.Anew.{calls_anew, sees_anew}
 
 -- ---- the actor
 
@@ -65,21 +65,12 @@ later_itself chain cursors = record { many = refl; later = λ k at below seen. s
 
 -- what was seen of them lies behind them on
 pub sees_later : (anatomy : Anatomy) (old new : List ℕ) (seen : Seen) → AreLater (order_of anatomy) old new → Sees anatomy old seen → Sees anatomy new seen
-sees_later anatomy old new seen are sees = record {
-  free = sees.free;
-  walked = sees.walked;
-  tails = sees.tails;
-  singles = sees.singles;
-  counters = sees.counters;
-  in_use = sees.in_use;
-  met = sees.met;
-  fixed = sees.fixed;
-  shared = All-weaker
-      (λ s. (s.at < length old) × IsNoLater (order_of anatomy) s.word (slice_index old s.at))
-      (λ s. (s.at < length new) × IsNoLater (order_of anatomy) s.word (slice_index new s.at))
-      (λ s t. let many = are.many in let below : s.at < length new = omega (arith, many, t.0) in (below, are.later s.at s.word below t.1))
-      seen.cursors sees.shared;
-}
+sees_later anatomy old new seen are sees = sees_anew anatomy old new seen seen.free seen.ends seen.cursors sees sees.free
+    (All-weaker
+    (λ s. (s.at < length old) × IsNoLater (order_of anatomy) s.word (slice_index old s.at))
+    (λ s. (s.at < length new) × IsNoLater (order_of anatomy) s.word (slice_index new s.at))
+    (λ s t. let many = are.many in let below : s.at < length new = omega (arith, many, t.0) in (below, are.later s.at s.word below t.1))
+    seen.cursors sees.shared)
 
 -- and the list is ahead of what came too late on
 pub ahead_behind : (words chain : List ℕ) (present : ℕ) (old new : List ℕ) (place : Place) (beaten : ℕ) (lost : List ℕ) → IsLinked words chain
@@ -122,17 +113,7 @@ module _ (shape : Dimensions) (opened : Anatomy) (state : State) (kept : Invaria
   actors = set state.actors id b
 
   role : SameRole b a
-  role = record {
-    living = living_at a place lives ∙ sym (living_at a a.hand.place lived);
-    opener = refl;
-    first = refl;
-    first_noted = refl;
-    first_taken = refl;
-    made = refl;
-    outstanding = refl;
-    inherited = refl;
-    offered = refl;
-  }
+  role = role_kept a b (living_at a place lives ∙ sym (living_at a a.hand.place lived)) refl refl refl refl refl
 
   counted : all_counted actors ≡ all_counted state.actors
   counted = rows counted_of state.actors id a b mine refl

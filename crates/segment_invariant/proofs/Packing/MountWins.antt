@@ -160,11 +160,11 @@ module _ (shape : Dimensions) (opened : Anatomy) (state : State) (kept : Invaria
         looks = looks_on shape state.words kept.anatomy new kept.shown (Only own.at (counts c)) onward refl shape.page kept.records records a
             fits.sees.counters fits.sees.in_use state.actors actors kept.roles.opener deed
             (λ name key. let counted = (same_sums state.actors actors same).counted name key in omega (arith, counted))
-            (alone_was state.actors actors kept.roles same.stood same.opener a a refl refl)
+            (alone_was state.actors actors kept.roles same.roles a a refl refl)
             (λ named there. let (q, here, its, bounds, many) = known_stands shape opened state kept id a mine lives named there in (q, here, many))
             (fits.looks recorder) (λ reference sum z loaded. absurd (cc loaded)) (λ at z is. cc is.1);
         finals = finals state.actors actors kept.roles.opener kept.roles.opener id b (same_sums state.actors actors same)
-            (is_later state.actors actors kept.roles same.stood same.opener) (λ taking. alone_was state.actors actors kept.roles same.stood same.opener b b refl refl)
+            (is_later state.actors actors kept.roles same.roles) (λ taking. alone_was state.actors actors kept.roles same.roles b b refl refl)
             fits.finals;
       })
 

@@ -28,7 +28,7 @@ use Rattle.segment_invariant.specs.Invariant.{ended_deltas, accepted_at, IsAlone
 use Rattle.list_lemmas.proofs.Elements.{one_in, below_length}
 use Rattle.segment_invariant.proofs.Lists.FewTerms.{if_nothing}
 use Rattle.segment_invariant.proofs.Notes.Amounts.{last_changed}
-use Rattle.segment_invariant.proofs.Frames.Roles.{AllStood}
+use Rattle.segment_invariant.proofs.Frames.Roles.{SameRoles}
 use Rattle.segment_invariant.proofs.Frames.Together.{moment, ended_began}
 use Rattle.segment_invariant.proofs.Changes.Others.{Deed, deed_of, changed, is_later, alone_was}
 use Rattle.segment_invariant.proofs.Lists.Portions.{taken_sum_total, portions_push}
@@ -179,7 +179,7 @@ module _ (a : Actor) (before : List Taken) (last : Taken) (is : a.deltas.taken �
 
   -- Nothing is counted, added or noted; no less is taken of a key, and no more than was counted. Then final deltas and snapshots are as exact,
   -- where one that is alone leaves what was taken of a sum exact
-  module _ (old new : List Actor) (roles : RolesAreKept old) (stood : AllStood old new) (first : get_elem? new 0 ≡ get_elem? old 0) (id : ℕ) (recorder : is_opener a.role ≡ false)
+  module _ (old new : List Actor) (roles : RolesAreKept old) (beside : SameRoles old new) (id : ℕ) (recorder : is_opener a.role ≡ false)
       (counted : all_counted new ≡ all_counted old) (summed : all_summed new ≡ all_summed old) (noted : all_noted new ≡ all_noted old)
       (more : (name : List ℕ) (key : ℤ) → taken_units (all_taken new) name key + of_name last.name name (units_listed last.counts key)
       ≡ taken_units (all_taken old) name key + of_name last.name name (units_listed (f last).counts key))
@@ -233,11 +233,11 @@ module _ (a : Actor) (before : List Taken) (last : Taken) (is : a.deltas.taken �
                 ∙ +ℤ_idr (taken_sum (map portion_of (drop (n + 1) a.deltas.taken)) t.name))))),
           );
       moments = λ m of.
-          moment old new roles.opener roles.opener id a m (is_later old new roles stood first) (exact.moments m (moment_was m of));
+          moment old new roles.opener roles.opener id a m (is_later old new roles beside) (exact.moments m (moment_was m of));
       swapped = λ front x goes ends was_swapped alone.
           let same = (same_from_push before front (f last) x
           (sym (further_is a.deltas.taken before last is f named began) ∙ ends)).1 in
           subst (λ (t : Taken). taken_sum (all_taken new) t.name ≡ tally_sum (all_summed new) t.name) same
-          (swapped (alone_was old new roles stood first b a refl refl alone) (ap (λ (t : Taken). t.swapped) same ∙ was_swapped)
+          (swapped (alone_was old new roles beside b a refl refl alone) (ap (λ (t : Taken). t.swapped) same ∙ was_swapped)
           ∙ ap (λ entries. tally_sum entries (f last).name) (sym summed));
     }

@@ -13,7 +13,6 @@ use Rattle.std.proofs.lemmas.Simd.{below_from_Fits}
 use Rattle.std.proofs.lemmas.Slice.Eq.{bytes_eq-Decides}
 use mathlib.Core.Option.{some, none}
 use lib.ListN.{get_elem?}
-use Rattle.atomic_table.proofs.Lists.{set_else}
 use Rattle.segment_image.specs.Shape.{Dimensions}
 use Rattle.segment_image.specs.Words.{word_at}
 use Rattle.segment_machine.specs.declared.entry.Entry.{Entry}
@@ -38,12 +37,12 @@ use Rattle.list_lemmas.proofs.Elements.{rows, row_in, one_in, below_length, sum_
 use Rattle.segment_invariant.proofs.Lists.Ends.{snoc_split}
 use Rattle.segment_invariant.proofs.Frames.Anatomies.{calls_same}
 use Rattle.segment_invariant.proofs.Frames.Answers.{first_one}
-use Rattle.segment_invariant.proofs.Frames.GoesOn.{not_opener, happens}
-use Rattle.segment_invariant.proofs.Frames.OneActor.{lives_on, rests_at}
-use Rattle.segment_invariant.proofs.Frames.Roles.{SameRole, AllStood, stood_set}
-use Rattle.segment_invariant.proofs.Frames.Together.{loaded_set, moment, ended_began, IsLater}
+use Rattle.segment_invariant.proofs.Frames.GoesOn.{happens}
+use Rattle.segment_invariant.proofs.Frames.OneActor.{rests_at}
+use Rattle.segment_invariant.proofs.Frames.Roles.{SameRoles}
+use Rattle.segment_invariant.proofs.Frames.Together.{loaded_set, moment, ended_began}
 use Rattle.segment_invariant.proofs.Changes.Ledgers.{rows_beside, amounts_moved}
-use Rattle.segment_invariant.proofs.Changes.Others.{Deed, deed_of, changed, looks_on, alone_was}
+use Rattle.segment_invariant.proofs.Changes.Others.{Deed, deed_of, changed, changed_roles, looks_on, alone_was, is_later}
 use Rattle.segment_invariant.proofs.Changes.Records.{record_kept}
 use Rattle.segment_invariant.proofs.Changes.Words.{Turns, behind, came_from, turned_onward, sees_turned, turned_on}
 use Rattle.segment_invariant.proofs.Consistency.Sums.{sum_is, sum_mark_is}
@@ -154,24 +153,8 @@ module _ (shape : Dimensions) (opened : Anatomy) (state : State) (kept : Invaria
   abbrev actors : List Actor
   actors = set state.actors id b
 
-  role : SameRole b a
-  role = record {
-    living = lives_on b recorder (λ e. cc e) ∙ sym (lives_on a recorder lived);
-    opener = refl;
-    first = refl;
-    first_noted = refl;
-    first_taken = refl;
-    made = refl;
-    outstanding = refl;
-    inherited = refl;
-    offered = refl;
-  }
-
-  stood : AllStood state.actors actors
-  stood = stood_set state.actors id a b mine role
-
-  first_stays : get_elem? actors 0 ≡ get_elem? state.actors 0
-  first_stays = set_else state.actors id 0 b (λ same. not_opener shape opened state kept id a mine recorder (sym same))
+  beside : SameRoles state.actors actors
+  beside = changed_roles shape opened state kept id a mine recorder lived d (λ e. cc e)
 
   counted : all_counted actors ≡ all_counted state.actors
   counted = rows counted_of state.actors id a b mine refl
@@ -306,14 +289,6 @@ module _ (shape : Dimensions) (opened : Anatomy) (state : State) (kept : Invaria
   abbrev opener : Actor
   opener = kept.roles.opener
 
-  is_later : IsLater state.actors actors opener opener
-  is_later = record {
-    first = (refl, refl);
-    more = omega arith;
-    last = λ n below e. e;
-    lives = λ k c at lives. let s = stood k c at lives in inl (s.was, s.at, s.lives, s.made);
-  }
-
   ended_was : (t : Taken) → Contains (ended_deltas b) t → Contains (ended_deltas a) t
   ended_was t there =
       let now : Contains front t = subst (λ (list : List Taken). Contains list t)
@@ -377,12 +352,12 @@ module _ (shape : Dimensions) (opened : Anatomy) (state : State) (kept : Invaria
                   ∙ ap (λ (list : List Taken). taken_sum (map portion_of list) t.name) changed_is)))),
             );
         moments = λ m of.
-            moment state.actors actors opener opener id a m is_later (exact.moments m (moment_was m of));
+            moment state.actors actors opener opener id a m (is_later state.actors actors kept.roles beside) (exact.moments m (moment_was m of));
         swapped = λ before one on is swapped alone.
             let same = last_one front before swapped_one one is in
             let name : known.name ≡ one.name = sym named ∙ ap (λ (t : Taken). t.name) same in
             subst (λ (n : List ℕ). taken_sum (all_taken actors) n ≡ tally_sum (all_summed actors) n) name
-            (taken_now (alone_was state.actors actors kept.roles stood first_stays b a refl refl alone));
+            (taken_now (alone_was state.actors actors kept.roles beside b a refl refl alone));
       }
     where
       by_name : (t : Taken) → IsAlone state.actors a → taken_sum (all_taken state.actors) t.name ≡ tally_sum (all_summed state.actors) t.name
@@ -450,7 +425,7 @@ module _ (shape : Dimensions) (opened : Anatomy) (state : State) (kept : Invaria
             (turned_onward shape opened state kept known.reference (histogram r) (histogram (with_mark r v)) 12 v stands turns) refl shape.page kept.records records
             a fits.sees.counters fits.sees.in_use state.actors actors opener d
             (λ name key. let same = ap (λ entries. tally_units entries name key) counted in omega (arith, same))
-            (alone_was state.actors actors kept.roles stood first_stays a a refl refl)
+            (alone_was state.actors actors kept.roles beside a a refl refl)
             (λ other there. let (q, at_it, its, bounds, many) = known_stands shape opened state kept id a mine lived other there in (q, at_it, many))
             (fits.looks recorder) (λ reference sum s loaded. absurd (cc loaded)) (λ at s new_one. new_one);
         finals = finals;

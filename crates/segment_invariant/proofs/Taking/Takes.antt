@@ -10,7 +10,6 @@ use Rattle.std.proofs.lemmas.List.Sums.{sum_by-append, sum_by-cons}
 use Rattle.std.proofs.lemmas.Slice.Eq.{bytes_eq-Decides}
 use mathlib.Core.Option.{some, none}
 use lib.ListN.{get_elem?}
-use Rattle.atomic_table.proofs.Lists.{set_else}
 use Rattle.segment_image.specs.Shape.{Dimensions}
 use Rattle.segment_machine.specs.declared.actor.Actor.{Actor}
 use Rattle.segment_machine.specs.declared.actor.Portion.{Portion}
@@ -29,13 +28,12 @@ use Rattle.segment_invariant.specs.Seen.{Stands}
 use Rattle.segment_invariant.specs.Invariant.{RecordsAreKept, StandsRight, summed_cost, HasKey, Invariant}
 use Rattle.list_lemmas.proofs.Elements.{rows, row_in, one_in, none_in, sum_same}
 use Rattle.segment_invariant.proofs.Frames.Ahead.{KeepsUp}
-use Rattle.segment_invariant.proofs.Frames.GoesOn.{not_opener}
-use Rattle.segment_invariant.proofs.Frames.OneActor.{lives_on, rests_at}
-use Rattle.segment_invariant.proofs.Frames.Roles.{SameRole, AllStood, stood_set}
+use Rattle.segment_invariant.proofs.Frames.OneActor.{rests_at}
+use Rattle.segment_invariant.proofs.Frames.Roles.{SameRoles}
 use Rattle.segment_invariant.proofs.Frames.Together.{loaded_set}
 use Rattle.segment_invariant.proofs.Counting.Seen.{known_stands}
 use Rattle.segment_invariant.proofs.Changes.Ledgers.{rows_beside, deeds_of}
-use Rattle.segment_invariant.proofs.Changes.Others.{Deed, changed, alone_was, looks_on}
+use Rattle.segment_invariant.proofs.Changes.Others.{Deed, changed, changed_roles, alone_was, looks_on}
 use Rattle.segment_invariant.proofs.Changes.Sums.{SameSum, sums_on}
 use Rattle.segment_invariant.proofs.Changes.Words.{Turns, behind, turned_onward, sees_turned, turned_on}
 use Rattle.segment_invariant.proofs.Taking.Lasts.{further_from, last_in, units_further, sum_further, takes_on, calls_taken, finals_taken}
@@ -133,24 +131,8 @@ module _ (shape : Dimensions) (opened : Anatomy) (state : State) (kept : Invaria
     pub up : KeepsUp a.hand.place place
 
   module _ (shows : Takes) where
-    role : SameRole b a
-    role = record {
-      living = lives_on b recorder shows.lives ∙ sym (lives_on a recorder lived);
-      opener = refl;
-      first = refl;
-      first_noted = refl;
-      first_taken = refl;
-      made = refl;
-      outstanding = refl;
-      inherited = refl;
-      offered = refl;
-    }
-
-    stood : AllStood state.actors actors
-    stood = stood_set state.actors id a b mine role
-
-    first : get_elem? actors 0 ≡ get_elem? state.actors 0
-    first = set_else state.actors id 0 b (λ same. not_opener shape opened state kept id a mine recorder (sym same))
+    beside : SameRoles state.actors actors
+    beside = changed_roles shape opened state kept id a mine recorder lived deed shows.lives
 
     counted : all_counted actors ≡ all_counted state.actors
     counted = rows counted_of state.actors id a b mine refl
@@ -253,10 +235,10 @@ module _ (shape : Dimensions) (opened : Anatomy) (state : State) (kept : Invaria
           looks = looks_on shape state.words kept.anatomy new kept.shown (λ at body. ⊥) (turned_onward shape opened state kept at body then_is j v stands turns) refl
               shape.page kept.records shows.records a fits.sees.counters fits.sees.in_use state.actors actors kept.roles.opener deed
               (λ name other. let same = ap (λ entries. tally_units entries name other) counted in omega (arith, same))
-              (alone_was state.actors actors kept.roles stood first a a refl refl)
+              (alone_was state.actors actors kept.roles beside a a refl refl)
               (λ one has. let (r, there, its, bounds, many) = known_stands shape opened state kept id a mine lived one has in (r, there, many))
               (fits.looks recorder) (λ reference sum s loaded. absurd (shows.no_sum reference sum loaded)) (λ at s new_one. new_one);
-          finals = finals_taken a front last taken_is f refl refl taking place a.seen.counts state.actors actors kept.roles stood first id recorder counted summed noted
+          finals = finals_taken a front last taken_is f refl refl taking place a.seen.counts state.actors actors kept.roles beside id recorder counted summed noted
               (λ name other.
               let all = took_all name other in
               let its = took name other in

@@ -11,18 +11,17 @@ use Rattle.segment_machine.specs.Actor.{counted_of, summed_of, noted_of, all_cou
 use Rattle.segment_machine.specs.State.{State}
 use Rattle.segment_invariant.specs.Body.{Body, Anatomy}
 use Rattle.segment_invariant.specs.Seen.{Stands}
-use Rattle.segment_invariant.specs.Invariant.{RecordsAreKept, StandsRight, FinalsAreExact, summed_cost, Invariant}
-use Rattle.list_lemmas.proofs.Elements.{rows, row_in, sum_same}
+use Rattle.segment_invariant.specs.Invariant.{RecordsAreKept, StandsRight, FinalsAreExact, Invariant}
+use Rattle.list_lemmas.proofs.Elements.{rows, row_in}
 use Rattle.segment_invariant.proofs.Frames.Ahead.{KeepsUp}
 use Rattle.segment_invariant.proofs.Frames.Anatomies.{calls_same}
 use Rattle.segment_invariant.proofs.Frames.Roles.{SameRoles}
 use Rattle.segment_invariant.proofs.Frames.SeesMore.{calls_more}
-use Rattle.segment_invariant.proofs.Frames.Together.{loaded_set, moment}
-use Rattle.segment_invariant.proofs.Counting.Seen.{known_stands}
+use Rattle.segment_invariant.proofs.Frames.Together.{moment}
 use Rattle.segment_invariant.proofs.Changes.Ledgers.{Balances, taken_on}
-use Rattle.segment_invariant.proofs.Changes.Others.{Deed, deed_of, changed, changed_roles, alone_was, is_later, looks_on}
-use Rattle.segment_invariant.proofs.Changes.Sums.{SameSum, sums_on}
-use Rattle.segment_invariant.proofs.Changes.Words.{Turns, behind, turned_onward, sees_turned, turned_on}
+use Rattle.segment_invariant.proofs.Changes.Others.{Deed, deed_of, changed, changed_roles, alone_was, is_later}
+use Rattle.segment_invariant.proofs.Changes.Sums.{SameSum}
+use Rattle.segment_invariant.proofs.Changes.Words.{Turns, behind, sees_turned, turned_on, looks_turned, sums_turned}
 
 module _ (shape : Dimensions) (opened : Anatomy) (state : State) (kept : Invariant shape opened state) (at : ℕ) (body then_is : Body) (j v : ℕ)
     (stands : Stands kept.anatomy.pieces at none body) (turns : Turns kept.anatomy.version body then_is j v) (id : ℕ) (a : Actor)
@@ -103,9 +102,7 @@ module _ (shape : Dimensions) (opened : Anatomy) (state : State) (kept : Invaria
           counted = λ name key. omega arith;
           keys = λ entry has. kept.keys entry (row_in counted_of state.actors id a entry mine has);
           taken_keys = λ t count has. kept.taken_keys t count (row_in taken_of state.actors id a t mine has);
-          sums = sums_on kept.anatomy.pieces new.pieces state.actors actors shows.sums
-              (loaded_set state.actors id a b mine (λ reference sum loaded. absurd (shows.no_sum reference sum loaded)))
-              (λ name. let same = sum_same (summed_cost name) state.actors id a b mine refl in omega (arith, same)) kept.sums;
+          sums = sums_turned shape opened state kept at body then_is j v stands turns id a mine recorder lived deed shows.lives shows.no_sum shows.sums (λ name. refl);
           lives = shows.lives;
           stood = shows.stood;
           sees = sees_turned shape opened state kept at body then_is j v stands turns a.seen fits.sees;
@@ -113,10 +110,7 @@ module _ (shape : Dimensions) (opened : Anatomy) (state : State) (kept : Invaria
           up = shows.up;
           own = refl;
           calls = calls_same kept.anatomy new b refl (calls_more kept.anatomy a place a.seen a.done.given a.done.lost (λ place has. has) (λ place word saw. saw) fits.calls);
-          looks = looks_on shape state.words kept.anatomy new kept.shown (λ at body. ⊥) (turned_onward shape opened state kept at body then_is j v stands turns) refl
-              shape.page kept.records shows.records a fits.sees.counters fits.sees.in_use state.actors actors kept.roles.opener deed
-              (λ name key. let same = counted name key in omega (arith, same)) (alone_was state.actors actors kept.roles beside a a refl refl)
-              (λ known has. let (r, there, named, bounds, many) = known_stands shape opened state kept id a mine lived known has in (r, there, many))
-              (fits.looks recorder) (λ reference sum s loaded. absurd (shows.no_sum reference sum loaded)) (λ at s new_one. new_one);
+          looks = looks_turned shape opened state kept at body then_is j v stands turns id a mine recorder lived deed shows.lives shows.no_sum shows.records
+              (λ name key. let same = counted name key in omega (arith, same));
           finals = finals_on fits.finals;
         })

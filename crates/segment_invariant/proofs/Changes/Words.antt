@@ -15,24 +15,28 @@ use Rattle.segment_machine.specs.declared.entry.Entry.{Entry}
 use Rattle.segment_machine.specs.declared.actor.Actor.{Actor}
 use Rattle.segment_machine.specs.declared.actor.Portion.{Portion}
 use Rattle.segment_machine.specs.declared.actor.Own.{Own}
-use Rattle.segment_machine.specs.declared.place.Place.TheVariants.{Spent}
+use Rattle.segment_machine.specs.declared.place.Place.TheVariants.{Spent, SumLoaded}
 use Rattle.segment_machine.specs.declared.seen.Seen.{Seen}
 use Rattle.alloc_core.specs.Laws.{Behind}
 use Rattle.segment_machine.specs.Entry.{tally_units}
 use Rattle.segment_machine.specs.Actor.{counted_of, all_counted, all_taken, taken_units, taken_of, is_opener}
 use Rattle.segment_machine.specs.State.{State}
-use Rattle.segment_invariant.specs.Body.{Body, held, words_of, is_claimed, Piece, extent_of, Anatomy, layout_of, order_of, claims_of, free_of}
-use Rattle.segment_invariant.specs.Seen.{Stands, Sees}
-use Rattle.segment_invariant.specs.Invariant.{RecordsAreKept, StandsRight, HoldsOwn, CallsRight, HasKey, SumsAreNear, LooksBack, FinalsAreExact, StandStill, Invariant}
+use Rattle.segment_invariant.specs.Body.{Body, held, words_of, is_claimed, Piece, extent_of, Anatomy, layout_of, order_of, claims_of, free_of, Record, Sample, histogram, sample}
+use Rattle.segment_invariant.specs.Seen.{Stands, Sees, HasRecord}
+use Rattle.segment_invariant.specs.Invariant.{RecordsAreKept, StandsRight, HoldsOwn, CallsRight, HasKey, SumsAreNear, LooksBack, FinalsAreExact, StandStill, Invariant, summed_cost}
 use Rattle.segment_invariant.proofs.Frames.Ahead.{KeepsUp}
 use Rattle.segment_invariant.proofs.Allocating.Claimers.{still_put, AllClaimedRight, right_put}
 use Rattle.segment_invariant.proofs.Blocks.Pieces.{one_index, one_piece, first_piece, piece_stored, free_with, claims_same, stands_beside, stands_here}
 use Rattle.segment_invariant.proofs.Blocks.Stops.{stop_open}
-use Rattle.segment_invariant.proofs.Frames.Onward.{GoesAs, goes_itself, Onward, sees_on}
+use Rattle.segment_invariant.proofs.Frames.Onward.{GoesAs, goes_itself, Onward, sees_on, RecordGoes, SampleGoes}
 use Rattle.segment_invariant.proofs.Frames.Standing.{own_stays}
 use Rattle.segment_invariant.proofs.Changes.Changes.{changes_on}
 use Rattle.segment_invariant.proofs.Changes.Ledgers.{Balances, balanced_beside}
-use Rattle.segment_invariant.proofs.Changes.Others.{Deed, changed}
+use Rattle.segment_invariant.proofs.Changes.Others.{Deed, changed, changed_roles, alone_was, sees_no_more, looks_on}
+use Rattle.segment_invariant.proofs.Changes.Sums.{SameSum, sums_on}
+use Rattle.segment_invariant.proofs.Counting.Seen.{known_stands}
+use Rattle.segment_invariant.proofs.Frames.Together.{loaded_set}
+use Rattle.list_lemmas.proofs.Elements.{sum_same}
 
 -- What a block is, where word j of it becomes v: it goes on.
 pub record Turns (version : ℕ) (body then_is : Body) (j v : ℕ) : Type 0 where
@@ -42,6 +46,29 @@ pub record Turns (version : ℕ) (body then_is : Body) (j v : ℕ) : Type 0 wher
   pub within : j < length (words_of body)
   pub inside : (j ≢ 0) × (j ≢ 3)
   pub goes : GoesAs version body then_is
+
+-- so a word of a record does between its header and its name, and one of a sample behind its value
+pub record_turns : (version : ℕ) (r s : Record) (j v : ℕ) → 4 ≤ j → j < 14 → words_of (histogram s) ≡ set (words_of (histogram r)) j v → RecordGoes version r s
+    → Turns version (histogram r) (histogram s) j v
+record_turns version r s j v from below is goes = record {
+  claimed = refl;
+  still = refl;
+  is = is;
+  within = omega (arith, below);
+  inside = (λ e. omega (arith, from, e), λ e. omega (arith, from, e));
+  goes = (s, refl, goes);
+}
+
+pub sample_turns : (version : ℕ) (x y : Sample) (j v : ℕ) → 6 ≤ j → j < 8 → words_of (sample y) ≡ set (words_of (sample x)) j v → SampleGoes x y
+    → Turns version (sample x) (sample y) j v
+sample_turns version x y j v from below is goes = record {
+  claimed = refl;
+  still = refl;
+  is = is;
+  within = omega (arith, below);
+  inside = (λ e. omega (arith, from, e), λ e. omega (arith, from, e));
+  goes = (y, refl, goes);
+}
 
 module _ (shape : Dimensions) (opened : Anatomy) (state : State) (kept : Invariant shape opened state) (at : ℕ) (body then_is : Body) (j v : ℕ)
     (stands : Stands kept.anatomy.pieces at none body) (turns : Turns kept.anatomy.version body then_is j v) where
@@ -76,6 +103,13 @@ module _ (shape : Dimensions) (opened : Anatomy) (state : State) (kept : Invaria
       (λ t. inr (sym (ap (λ (z : Piece). z.at) t.1), sym (ap (λ (z : Piece). z.body) t.1)))
       (λ t. inl ((i, t.1), λ same. t.0 (one_piece shape state.words kept.anatomy kept.shown i k _ p t.1 stands.1 same).0))
       (at_set kept.anatomy.pieces k i q (record { at = place; owner = owner; body = b }) here)
+
+  -- no sum becomes another, where it is no record then
+  pub sums_beside : ((s : Record) → then_is ≢ histogram s) → SameSum kept.anatomy.pieces turned
+  sums_beside apart place s there = ⊎_elim
+      (λ was. (s, was.0, refl, refl, refl))
+      (λ is. absurd (apart s (sym is.1)))
+      (came_from place none (histogram s) there)
 
   long : extent_of q ≡ extent_of p
   long = ap length turns.is ∙ length-set (words_of body) j v
@@ -114,6 +148,29 @@ module _ (shape : Dimensions) (opened : Anatomy) (state : State) (kept : Invaria
   pub sees_turned : (seen : Seen) → Sees kept.anatomy state.cursors seen → Sees behind state.cursors seen
   sees_turned seen sees = sees_on kept.anatomy behind (λ at body. ⊥) turned_onward state.cursors seen (subst (Behind seen.free) (sym turned_free) sees.free)
       sees.walked sees.tails sees.shared sees
+
+  -- Of a recorder that goes on with no sum loaded
+  module _ (id : ℕ) (a : Actor) (mine : get_elem? state.actors id ≡ some a) (recorder : is_opener a.role ≡ false) (lived : a.hand.place ≢ Spent)
+      (d : Deed) (lives : d.place ≢ Spent) (unsummed : (reference : ℕ) (sum : ℤ) → d.place ≢ SumLoaded reference sum) where
+    -- what it looks back at stays, where no less was counted
+    pub looks_turned : RecordsAreKept shape.page behind
+        → ((name : List ℕ) (key : ℤ) → tally_units (all_counted state.actors) name key ≤ tally_units (all_counted (set state.actors id (changed a d))) name key)
+        → LooksBack behind (set state.actors id (changed a d)) kept.roles.opener (changed a (sees_no_more a d))
+    looks_turned records more =
+        let fits = kept.each id a mine lived in
+        let beside = changed_roles shape opened state kept id a mine recorder lived d lives in
+        looks_on shape state.words kept.anatomy behind kept.shown (λ at body. ⊥) turned_onward refl shape.page kept.records records a fits.sees.counters fits.sees.in_use
+        state.actors (set state.actors id (changed a d)) kept.roles.opener d more
+        (alone_was state.actors (set state.actors id (changed a d)) kept.roles beside a a refl refl)
+        (λ known has. let (r, there, named, bounds, many) = known_stands shape opened state kept id a mine lived known has in (r, there, many))
+        (fits.looks recorder) (λ reference sum s loaded. absurd (unsummed reference sum loaded)) (λ at s new_one. new_one)
+
+    -- and sums are near on, where none becomes another
+    pub sums_turned : SameSum kept.anatomy.pieces turned → ((name : List ℕ) → summed_cost name (changed a d) ≡ summed_cost name a)
+        → SumsAreNear turned (set state.actors id (changed a d))
+    sums_turned same costs = sums_on kept.anatomy.pieces turned state.actors (set state.actors id (changed a d)) same
+        (loaded_set state.actors id a (changed a d) mine (λ reference sum loaded. absurd (unsummed reference sum loaded)))
+        (λ name. let cost = sum_same (summed_cost name) state.actors id a (changed a d) mine (costs name) in omega (arith, cost)) kept.sums
 
   -- it is not the queue block
   not_queue : k ≢ 0
@@ -209,3 +266,19 @@ module _ (shape : Dimensions) (opened : Anatomy) (state : State) (kept : Invaria
     where
       stands_owned : (who place : ℕ) (b : Body) → Stands kept.anatomy.pieces place (some who) b → Stands turned place (some who) b
       stands_owned who place b = stands_beside kept.anatomy.pieces k p q stands.1 place (some who) b (λ same. some-ne-none who (ap (λ (z : Piece). z.owner) same))
+
+-- no sum becomes another where a record keeps its name and its sums
+pub record_sums : (shape : Dimensions) (opened : Anatomy) (state : State) (kept : Invariant shape opened state) (at : ℕ) (r s : Record) (j v : ℕ)
+    (stands : HasRecord kept.anatomy.pieces at r) (turns : Turns kept.anatomy.version (histogram r) (histogram s) j v) → r.name ≡ s.name → r.sum ≡ s.sum
+    → r.sum_mark ≡ s.sum_mark → SameSum kept.anatomy.pieces (turned shape opened state kept at (histogram r) (histogram s) j v stands turns)
+record_sums shape opened state kept at r s j v stands turns named sum mark place z there = ⊎_elim
+    (λ was. (z, was.0, refl, refl, refl))
+    (λ is.
+    let one : s ≡ z = cc (sym is.1) in (
+      r,
+      subst (λ (n : ℕ). HasRecord kept.anatomy.pieces n r) (sym is.0) stands,
+      named ∙ ap (λ (w : Record). w.name) one,
+      sum ∙ ap (λ (w : Record). w.sum) one,
+      mark ∙ ap (λ (w : Record). w.sum_mark) one,
+    ))
+    (came_from shape opened state kept at (histogram r) (histogram s) j v stands turns place none (histogram z) there)

@@ -1,12 +1,12 @@
 -- The units of the entry that is next are added to the count of their bucket: the invariant is kept, with what is learned.
-use Rattle.std.proofs.Common.{◌≡◌, ◌≢◌, Bool, true, false, if◌then◌else◌, ◌&&◌, ℕ, ◌+◌, ◌%◌, ◌^◌, ◌<◌, ◌≤◌, ℤ, List, [], ◌∷◌, ◌++◌, length, set, inl, ⊎_elim, refl, sym, ap, ◌∙◌, subst, arith}
+use Rattle.std.proofs.Common.{◌≡◌, ◌≢◌, Bool, true, false, if◌then◌else◌, ◌&&◌, ℕ, ◌+◌, ◌%◌, ◌^◌, ◌<◌, ◌≤◌, ℤ, List, [], ◌∷◌, ◌++◌, length, set, inl, refl, sym, ap, ◌∙◌, subst, arith}
 use Rattle.std.specs.Prelude.{slice_index}
 use Rattle.std.specs.Ordering.{int_eq}
 use Rattle.std.specs.Str.{bytes_eq}
 use Rattle.std.proofs.Math.Nat.{mod-eq_of_lt}
 use Rattle.std.proofs.lemmas.List.{set-set, get_or-set_same}
 use Rattle.std.proofs.lemmas.List.Elements.{All-contains}
-use mathlib.Core.Option.{some, none}
+use mathlib.Core.Option.{some}
 use lib.ListN.{get_elem?}
 use Rattle.alloc_core.proofs.Owners.{set_at}
 use Rattle.bucket_ranges.specs.declared.spec.Spec.{Spec}
@@ -27,19 +27,17 @@ use Rattle.segment_machine.specs.Counting.{add_count}
 use Rattle.segment_machine.specs.Event.{counting_event}
 use Rattle.segment_calls.specs.Form.{is_off}
 use Rattle.segment_machine.specs.State.{State}
-use Rattle.segment_invariant.specs.Body.{Record, Counts, histogram, counts, Anatomy}
+use Rattle.segment_invariant.specs.Body.{Record, Counts, counts, Anatomy}
 use Rattle.segment_invariant.specs.Ledger.{of_name, key_of_bucket, keyed, units_held}
 use Rattle.segment_invariant.specs.Seen.{HasRecord, HasCounts, IsFirst, WasFixed, WasSingle}
 use Rattle.segment_invariant.specs.Invariant.{LooksRight, IsCountsOf, StandsRight, Invariant}
 use Rattle.segment_invariant.proofs.Blocks.Places.{counter_within}
-use Rattle.segment_invariant.proofs.Consistency.Firsts.{record_of_first}
-use Rattle.segment_invariant.proofs.Frames.Answers.{first_one}
 use Rattle.segment_invariant.proofs.Frames.GoesOn.{happens}
 use Rattle.segment_invariant.proofs.Frames.SeesMore.{seer}
 use Rattle.segment_invariant.proofs.Frames.Shown.{Goes}
 use Rattle.segment_invariant.proofs.Changes.Counts.{risen, risen_turns, risen_counts, keyed_risen}
 use Rattle.segment_invariant.proofs.Changes.Records.{counts_kept}
-use Rattle.segment_invariant.proofs.Changes.Words.{Turns, came_from}
+use Rattle.segment_invariant.proofs.Changes.Words.{Turns, sums_beside}
 use Rattle.segment_invariant.proofs.Counting.Counted.{its_units, as_counted, has_units, counter, CountedInto, units_counted}
 use Rattle.segment_invariant.proofs.Counting.CountSeen.{the_counts, count_seen}
 use Rattle.segment_invariant.proofs.Counting.Held.{not_sparse}
@@ -47,6 +45,7 @@ use Rattle.segment_invariant.proofs.Counting.Looks.{knows_of, one_record, counts
 use Rattle.segment_invariant.proofs.Counting.Running.{Next, next_of}
 use Rattle.segment_invariant.proofs.Counting.Seen.{off_was}
 use Rattle.segment_invariant.proofs.Counting.Sights.{word_within}
+use Rattle.segment_invariant.proofs.Consistency.Books.{one_first}
 
 module _ (shape : Dimensions) (opened : Anatomy) (state : State) (kept : Invariant shape opened state) (id : ℕ) (a : Actor)
     (mine : get_elem? state.actors id ≡ some a) (recorder : is_opener a.role ≡ false) (entry : EntryProgress) (next : Next a.entries.running entry) (uncounted : is_counted entry ≡ false)
@@ -158,16 +157,10 @@ module _ (shape : Dimensions) (opened : Anatomy) (state : State) (kept : Invaria
     sum = λ name. refl;
     sum_mark = λ name. refl;
     noted = λ name. refl;
-    sums = λ at s there. ⊎_elim
-        (λ t. (s, t.0, refl, refl, refl))
-        (λ t. absurd (cc t.1))
-        (came_from shape opened state kept look.counts (counts c) (counts more) (4 + bucket) v mounted turns at none (histogram s) there);
+    sums = sums_beside shape opened state kept look.counts (counts c) (counts more) (4 + bucket) v mounted turns (λ s is. cc is);
     key = (r.spec, look.histogram, found.9, inl (bucket, found.6, sym found.8));
     met = λ of first.
-        let place = first_one kept.anatomy.records entry.entry.name spec.Sparse r.spec of look.histogram first found.9 in
-        let (q, (stands, its, sparse)) = record_of_first shape opened state kept entry.entry.name spec.Sparse of first in
-        let same = one_record shape opened state kept look.histogram q r (subst (λ (n : ℕ). HasRecord kept.anatomy.pieces n q) place stands) has in
-        absurd (not_sparse r.spec bucket found.6 (sym (ap (λ (z : Record). z.spec) same) ∙ sparse));
+        absurd (not_sparse r.spec bucket found.6 (one_first shape opened state kept entry.entry.name r.spec spec.Sparse look.histogram of found.9 first).1);
   }
 
   -- ---- and then it sees the count

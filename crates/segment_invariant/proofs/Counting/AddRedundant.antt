@@ -47,7 +47,7 @@ use Rattle.alloc_core.proofs.Owners.{set_at}
 use Rattle.segment_invariant.proofs.Changes.Others.{Deed}
 use Rattle.segment_invariant.proofs.Changes.Looks as changes
 use Rattle.segment_invariant.proofs.Changes.Sums.{SameSum, sums_on}
-use Rattle.segment_invariant.proofs.Changes.Words.{Turns, behind, came_from, stands_then}
+use Rattle.segment_invariant.proofs.Changes.Words.{Turns, behind, came_from, stands_then, record_turns, record_sums}
 
 module _ (shape : Dimensions) (opened : Anatomy) (state : State) (kept : Invariant shape opened state) (id : ℕ) (a : Actor)
     (mine : get_elem? state.actors id ≡ some a) (recorder : is_opener a.role ≡ false) (unbound : is_bound a.hand.place ≡ false)
@@ -75,18 +75,8 @@ module _ (shape : Dimensions) (opened : Anatomy) (state : State) (kept : Invaria
   v = r.noted + units
 
   pub turns : Turns kept.anatomy.version (histogram r) (histogram (with_amount r r.sum v)) 13 v
-  turns = record {
-    claimed = refl;
-    still = refl;
-    is = refl;
-    within = omega arith;
-    inside = (λ e. omega (arith, e), λ e. omega (arith, e));
-    goes = (
-      with_amount r r.sum v,
-      refl,
-      record { is = refl; counts = λ there. refl; single = inl refl; mark = omega arith; noted = omega arith },
-    );
-  }
+  turns = record_turns kept.anatomy.version r (with_amount r r.sum v) 13 v (omega arith) (omega arith) refl
+      (record { is = refl; counts = λ there. refl; single = inl refl; mark = omega arith; noted = omega arith })
 
   pub narrow : r.sum < 2 ^ 64
   narrow = (kept.records.lawful known.reference r stands).narrow.0
@@ -246,17 +236,7 @@ module _ (shape : Dimensions) (opened : Anatomy) (state : State) (kept : Invaria
           (came_from shape opened state kept known.reference (histogram r) (histogram (with_amount r r.sum v)) 13 v stands turns place none (sample x) there)
 
       sum_stays : SameSum kept.anatomy.pieces new.pieces
-      sum_stays place z there = ⊎_elim
-          (λ was. (z, was.0, refl, refl, refl))
-          (λ is.
-          let one : with_amount r r.sum v ≡ z = cc (sym is.1) in (
-            r,
-            subst (λ (n : ℕ). HasRecord kept.anatomy.pieces n r) (sym is.0) stands,
-            ap (λ (w : Record). w.name) one,
-            ap (λ (w : Record). w.sum) one,
-            ap (λ (w : Record). w.sum_mark) one,
-          ))
-          (came_from shape opened state kept known.reference (histogram r) (histogram (with_amount r r.sum v)) 13 v stands turns place none (histogram z) there)
+      sum_stays = record_sums shape opened state kept known.reference r (with_amount r r.sum v) 13 v stands turns refl refl refl
 
       cost_same : (name : List ℕ) → summed_cost name b ≡ summed_cost name a
       cost_same name =

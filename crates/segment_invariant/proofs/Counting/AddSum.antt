@@ -26,7 +26,7 @@ use Rattle.segment_invariant.proofs.Notes.Amounts.{zeros}
 use Rattle.segment_invariant.proofs.Counting.Running.{Next, next_of, passes_same, passes_moved}
 use Rattle.segment_invariant.proofs.Counting.Learned.{summed_least}
 use Rattle.segment_invariant.proofs.Counting.Amounts.{with_amount, turner_lives, the_record, later, amount_added}
-use Rattle.segment_invariant.proofs.Changes.Words.{Turns, behind, came_from}
+use Rattle.segment_invariant.proofs.Changes.Words.{Turns, behind, came_from, record_turns}
 use Rattle.segment_invariant.specs.Body.{Record, histogram, Anatomy, layout_of}
 use Rattle.segment_invariant.specs.Ledger.{amount_of_name}
 use Rattle.segment_invariant.specs.Keeps.{EventKeeps}
@@ -152,18 +152,8 @@ module _ (shape : Dimensions) (opened : Anatomy) (state : State) (kept : Invaria
   some_amount zero_is = cc (flags_off.1, (Decides-int_eq amount (pos 0)).1 zero_is)
 
   pub turns : Turns kept.anatomy.version (histogram r) (histogram (with_amount r sum r.noted)) 11 sum
-  turns = record {
-    claimed = refl;
-    still = refl;
-    is = refl;
-    within = omega arith;
-    inside = (λ e. omega (arith, e), λ e. omega (arith, e));
-    goes = (
-      with_amount r sum r.noted,
-      refl,
-      record { is = refl; counts = λ there. refl; single = inl refl; mark = omega arith; noted = omega arith },
-    );
-  }
+  turns = record_turns kept.anatomy.version r (with_amount r sum r.noted) 11 sum (omega arith) (omega arith) refl
+      (record { is = refl; counts = λ there. refl; single = inl refl; mark = omega arith; noted = omega arith })
 
   pub narrow : sum < 2 ^ 64
   narrow = omega arith

@@ -29,9 +29,9 @@ use Rattle.segment_invariant.proofs.Frames.Roles.{SameRoles}
 use Rattle.segment_invariant.proofs.Counting.Seen.{known_stands}
 use Rattle.segment_invariant.proofs.Counting.Running.{Next, passes_same}
 use Rattle.segment_invariant.proofs.Counting.Entries.{going, calls_next, finals_next}
-use Rattle.segment_invariant.proofs.Changes.Others.{Deed, deed_of, changed, changed_roles, sees_no_more, looks_on, alone_was}
+use Rattle.segment_invariant.proofs.Changes.Others.{Deed, deed_of, changed, changed_roles, sees_no_more}
 use Rattle.segment_invariant.proofs.Changes.Records.{record_kept}
-use Rattle.segment_invariant.proofs.Changes.Words.{Turns, behind, turned_onward, sees_turned, turned_on}
+use Rattle.segment_invariant.proofs.Changes.Words.{Turns, behind, sees_turned, turned_on, looks_turned}
 use Rattle.segment_invariant.proofs.Frames.Anew.{lawful_anew}
 
 -- ---- the record with that
@@ -148,14 +148,9 @@ module _ (shape : Dimensions) (opened : Anatomy) (state : State) (kept : Invaria
             own = refl;
             calls = calls_next a c d next entry kept.anatomy new deed counted_first summed_next amounted
                 (λ entry of there. fits.calls.met entry of (subst (λ (entries : List Entry). Contains (a.entries.inherited ++ entries) entry) counted_same there)) fits.calls;
-            looks = looks (looks_on shape state.words kept.anatomy new kept.shown (λ at body. ⊥)
-                (turned_onward shape opened state kept known.reference (histogram r) (histogram (with_amount r sum noted)) j v stands turns) refl shape.page kept.records records
-                a fits.sees.counters fits.sees.in_use state.actors actors kept.roles.opener deed
-                (λ name key. let same = ap (λ entries. tally_units entries name key) all_counted_same in omega (arith, same))
-                (alone_was state.actors actors kept.roles beside a a refl refl)
-                (λ known has.
-                let (r, stands, named, bounds, many) = known_stands shape opened state kept id a mine turner_lives known has in (r, stands, many))
-                (fits.looks recorder) (λ reference sum s loaded. absurd (cc loaded)) (λ at s new_one. new_one));
+            looks = looks (looks_turned shape opened state kept known.reference (histogram r) (histogram (with_amount r sum noted)) j v stands turns id a mine recorder
+                turner_lives deed (λ e. cc e) (λ reference sum loaded. cc loaded) records
+                (λ name key. let same = ap (λ entries. tally_units entries name key) all_counted_same in omega (arith, same)));
             finals = finals_next a c d next entry state.actors actors kept.roles beside id deed untouched
                 (rows taken_of state.actors id a b mine refl)
                 (λ name key apart. ap (λ entries. tally_units entries name key) all_counted_same)

@@ -22,18 +22,16 @@ use Rattle.segment_invariant.specs.Ledger.{units_held, marks_held, sum_held, sum
 use Rattle.segment_invariant.specs.Seen.{Stands, IsFirst, IsFirstOf}
 use Rattle.segment_invariant.specs.Invariant.{RecordsAreKept, HasKey, summed_cost, Invariant}
 use Rattle.segment_invariant.proofs.Lists.Countings.{units_total}
-use Rattle.list_lemmas.proofs.Elements.{rows, row_in, sum_same}
+use Rattle.list_lemmas.proofs.Elements.{rows, row_in}
 use Rattle.segment_invariant.proofs.Frames.Ahead.{unbound_unbeaten}
 use Rattle.segment_invariant.proofs.Frames.OneActor.{rests_at}
 use Rattle.segment_invariant.proofs.Frames.Roles.{SameRoles}
-use Rattle.segment_invariant.proofs.Frames.Together.{loaded_set}
-use Rattle.segment_invariant.proofs.Counting.Seen.{known_stands}
 use Rattle.segment_invariant.proofs.Counting.Running.{Next, passes_same, passes_beside, passes_from}
 use Rattle.segment_invariant.proofs.Counting.Entries.{going, calls_next, finals_next}
 use Rattle.segment_invariant.proofs.Changes.Ledgers.{rows_beside, taken_on}
-use Rattle.segment_invariant.proofs.Changes.Others.{Deed, deed_of, changed, changed_roles, looks_on, alone_was}
-use Rattle.segment_invariant.proofs.Changes.Sums.{SameSum, sums_on}
-use Rattle.segment_invariant.proofs.Changes.Words.{Turns, behind, turned_onward, sees_turned, turned_on}
+use Rattle.segment_invariant.proofs.Changes.Others.{Deed, deed_of, changed, changed_roles}
+use Rattle.segment_invariant.proofs.Changes.Sums.{SameSum}
+use Rattle.segment_invariant.proofs.Changes.Words.{Turns, behind, sees_turned, turned_on, looks_turned, sums_turned}
 
 -- ---- the entry
 
@@ -177,9 +175,8 @@ module _ (shape : Dimensions) (opened : Anatomy) (state : State) (kept : Invaria
               (λ same. subst (λ (e : Entry). HasKey kept.anatomy.records e.name e.key) same shows.key)
               (counted_from entry there);
           taken_keys = λ t count there. kept.taken_keys t count (row_in taken_of state.actors id a t mine there);
-          sums = sums_on kept.anatomy.pieces new.pieces state.actors actors shows.sums
-              (loaded_set state.actors id a b mine (λ reference sum loaded. absurd (cc loaded)))
-              (λ name. let same = sum_same (summed_cost name) state.actors id a b mine (cost_same name) in omega (arith, same)) kept.sums;
+          sums = sums_turned shape opened state kept at body then_is j v stands turns id a mine recorder lived deed (λ e. cc e) (λ reference sum loaded. cc loaded) shows.sums
+              cost_same;
           lives = λ e. cc e;
           stood = tt;
           sees = sees_turned shape opened state kept at body then_is j v stands turns a.seen fits.sees;
@@ -198,11 +195,8 @@ module _ (shape : Dimensions) (opened : Anatomy) (state : State) (kept : Invaria
               (counted_from entry own))
               (Contains-append_cases a.entries.inherited (counted_of b) entry there))
               fits.calls;
-          looks = looks_on shape state.words kept.anatomy new kept.shown (λ at body. ⊥) (turned_onward shape opened state kept at body then_is j v stands turns) refl
-              shape.page kept.records shows.records a fits.sees.counters fits.sees.in_use state.actors actors kept.roles.opener deed
-              (λ name key. let more = all_more name key in omega (arith, more)) (alone_was state.actors actors kept.roles beside a a refl refl)
-              (λ known has. let (r, there, named, bounds, many) = known_stands shape opened state kept id a mine lived known has in (r, there, many))
-              (fits.looks recorder) (λ reference sum s loaded. absurd (cc loaded)) (λ at s new_one. new_one);
+          looks = looks_turned shape opened state kept at body then_is j v stands turns id a mine recorder lived deed (λ e. cc e) (λ reference sum loaded. cc loaded)
+              shows.records (λ name key. let more = all_more name key in omega (arith, more));
           finals = finals_next a c d next refl state.actors actors kept.roles beside id (record (deed_of a) { place = Idle }) (touched c.summed c.noted)
               (rows taken_of state.actors id a b mine refl)
               (λ name key other. let more = all_more name key in let none_of = apart name key other in omega (arith, more, none_of))

@@ -7,7 +7,7 @@ use Rattle.std.proofs.Math.IntN.{+ℤ_idr}
 use Rattle.std.proofs.lemmas.Bool.{and_cases, and_parts, eqb-false, ltb-true, ltb-false}
 use Rattle.std.proofs.lemmas.List.{set-set, get_or-set_same}
 use Rattle.std.proofs.lemmas.List.Elements.{All-contains, All-weaker, Contains-push}
-use mathlib.Core.Option.{some, none}
+use mathlib.Core.Option.{some}
 use lib.ListN.{get_elem?}
 use Rattle.alloc_core.proofs.Owners.{set_at}
 use Rattle.segment_image.specs.Shape.{Dimensions}
@@ -44,7 +44,7 @@ use Rattle.segment_invariant.proofs.Frames.Shown.{Goes}
 use Rattle.segment_invariant.proofs.Changes.Others.{deed_of, changed}
 use Rattle.segment_invariant.proofs.Changes.Places.{Placed, places_on}
 use Rattle.segment_invariant.proofs.Changes.Records.{record_kept}
-use Rattle.segment_invariant.proofs.Changes.Words.{Turns, behind, stands_then, came_from}
+use Rattle.segment_invariant.proofs.Changes.Words.{Turns, behind, stands_then, record_turns, record_sums}
 use Rattle.segment_invariant.proofs.Counting.Looks.{knows_of, body_word, counts_was, in_use_now}
 use Rattle.segment_invariant.proofs.Counting.Sights.{word_within}
 use Rattle.segment_invariant.proofs.Packing.Beaten.{now_seen, disable_beaten}
@@ -150,14 +150,8 @@ module _ (shape : Dimensions) (opened : Anatomy) (state : State) (kept : Invaria
   s = with_single r v
 
   abbrev turns : Turns version (histogram r) (histogram s) 9 v
-  turns = record {
-    claimed = refl;
-    still = refl;
-    is = refl;
-    within = omega arith;
-    inside = (λ e. omega (arith, e), λ e. omega (arith, e));
-    goes = (s, refl, record { is = refl; counts = λ there. refl; single = d.leads; mark = omega arith; noted = omega arith });
-  }
+  turns = record_turns version r s 9 v (omega arith) (omega arith) refl
+      (record { is = refl; counts = λ there. refl; single = d.leads; mark = omega arith; noted = omega arith })
 
   abbrev new : Anatomy
   new = behind shape opened state kept h (histogram r) (histogram s) 9 v stands turns
@@ -201,17 +195,7 @@ module _ (shape : Dimensions) (opened : Anatomy) (state : State) (kept : Invaria
         sum_marks = λ name. (pos 0, sym (+ℤ_idr _), sym (+ℤ_idr _));
         noted = λ name. refl;
       };
-      sums = λ at q is_there. ⊎_elim
-          (λ t. (q, t.0, refl, refl, refl))
-          (λ t.
-          let same : q ≡ s = cc t.1 in (
-            r,
-            subst (λ (n : ℕ). HasRecord kept.anatomy.pieces n r) (sym t.0) stands,
-            ap (λ (z : Record). z.name) (sym same),
-            ap (λ (z : Record). z.sum) (sym same),
-            ap (λ (z : Record). z.sum_mark) (sym same),
-          ))
-          (came_from shape opened state kept h (histogram r) (histogram s) 9 v stands turns at none (histogram q) is_there);
+      sums = record_sums shape opened state kept h r s 9 v stands turns refl refl refl;
       lives = alive unseen;
       no_sum = no_sum unseen;
       stood = stood (record { known = right.known; knows = right.knows; single = λ w is. absurd (cc is); counts = right.counts });

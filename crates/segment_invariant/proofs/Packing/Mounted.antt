@@ -24,7 +24,7 @@ use Rattle.segment_invariant.proofs.Blocks.Pieces.{one_index, stands_beside}
 use Rattle.segment_invariant.proofs.Blocks.Published.{counts_held, holdings_set, holdings_both, Publishes, Only, one_published}
 use Rattle.segment_invariant.proofs.Frames.Anatomies.{SameHoldings}
 use Rattle.segment_invariant.proofs.Frames.Onward.{Onward}
-use Rattle.segment_invariant.proofs.Changes.Words.{Turns, behind, stands_still, turned_onward, turned_free}
+use Rattle.segment_invariant.proofs.Changes.Words.{Turns, behind, stands_still, turned_onward, turned_free, record_turns}
 
 -- the units of a word are those of its packed bucket
 packed_here : (form : Option SingleWord) (i : ℕ) → packed_bucket form ≡ Some i → units_in form ≤ units_packed form i
@@ -54,14 +54,8 @@ module _ (shape : Dimensions) (opened : Anatomy) (state : State) (kept : Invaria
 
   -- its counts reference is 0 before
   pub turns : Turns kept.anatomy.version (histogram r) (histogram s) 8 own.at
-  turns = record {
-    claimed = refl;
-    still = refl;
-    is = refl;
-    within = omega arith;
-    inside = (λ e. omega (arith, e), λ e. omega (arith, e));
-    goes = (s, refl, record { is = refl; counts = λ there. absurd (there unmounted); single = inl refl; mark = omega arith; noted = omega arith });
-  }
+  turns = record_turns kept.anatomy.version r s 8 own.at (omega arith) (omega arith) refl
+      (record { is = refl; counts = λ there. absurd (there unmounted); single = inl refl; mark = omega arith; noted = omega arith })
 
   -- with the record alone
   abbrev pub half : Anatomy

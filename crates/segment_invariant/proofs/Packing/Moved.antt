@@ -1,5 +1,5 @@
 -- The units that a recorder took out of a single word are added to the count of their bucket: the invariant is kept, with what is learned.
-use Rattle.std.proofs.Common.{◌≡◌, ◌≢◌, Bool, true, false, if◌then◌else◌, ℕ, ◌+◌, ◌%◌, ◌^◌, ◌<◌, ◌≤◌, ℤ, pos, List, [], ◌∷◌, ◌++◌, length, set, Option, Some, ⊎_elim, refl, sym, ap, ◌∙◌, subst, arith}
+use Rattle.std.proofs.Common.{◌≡◌, ◌≢◌, Bool, true, false, if◌then◌else◌, ℕ, ◌+◌, ◌%◌, ◌^◌, ◌<◌, ◌≤◌, ℤ, pos, List, [], ◌∷◌, ◌++◌, length, set, Option, Some, refl, sym, ap, ◌∙◌, subst, arith}
 use Rattle.std.specs.Prelude.{slice_index}
 use Rattle.std.specs.Ordering.{int_eq}
 use Rattle.std.specs.Str.{bytes_eq}
@@ -7,7 +7,7 @@ use Rattle.std.proofs.Math.IntN.{+ℤ_idr}
 use Rattle.std.proofs.Math.Nat.{mod-eq_of_lt}
 use Rattle.std.proofs.lemmas.List.{set-set, get_or-set_same}
 use Rattle.std.proofs.lemmas.List.Elements.{All-contains}
-use mathlib.Core.Option.{some, none}
+use mathlib.Core.Option.{some}
 use lib.ListN.{get_elem?}
 use Rattle.alloc_core.proofs.Owners.{set_at}
 use Rattle.segment_image.specs.Shape.{Dimensions}
@@ -27,7 +27,7 @@ use Rattle.segment_machine.specs.Event.{packing_event, Ready}
 use Rattle.segment_calls.specs.Form.{is_off}
 use Rattle.segment_machine.specs.Packing.{add_moved}
 use Rattle.segment_machine.specs.State.{State}
-use Rattle.segment_invariant.specs.Body.{Record, Counts, histogram, counts, Anatomy}
+use Rattle.segment_invariant.specs.Body.{Record, Counts, counts, Anatomy}
 use Rattle.segment_invariant.specs.Ledger.{of_name, key_of_bucket, keyed, units_held, moving_at, moving_of}
 use Rattle.segment_invariant.specs.Seen.{HasRecord, HasCounts, WasFixed}
 use Rattle.segment_invariant.specs.Invariant.{is_beaten, LooksRight, IsCountsOf, StandsRight, Invariant}
@@ -43,7 +43,7 @@ use Rattle.segment_invariant.proofs.Counting.Sights.{word_within}
 use Rattle.segment_invariant.proofs.Changes.Counts.{risen, risen_turns, risen_counts, keyed_risen}
 use Rattle.segment_invariant.proofs.Changes.Places.{Placed, places_on}
 use Rattle.segment_invariant.proofs.Changes.Records.{counts_kept}
-use Rattle.segment_invariant.proofs.Changes.Words.{Turns, came_from}
+use Rattle.segment_invariant.proofs.Changes.Words.{Turns, sums_beside}
 use Rattle.segment_invariant.proofs.Counting.CountSeen.{the_counts, count_seen}
 use Rattle.segment_invariant.proofs.Counting.Looks.{knows_of, one_record, counts_was, count_now}
 
@@ -161,10 +161,7 @@ module _ (shape : Dimensions) (opened : Anatomy) (state : State) (kept : Invaria
       sum_marks = λ name. (pos 0, sym (+ℤ_idr _), sym (+ℤ_idr _));
       noted = λ name. refl;
     };
-    sums = λ at s there. ⊎_elim
-        (λ t. (s, t.0, refl, refl, refl))
-        (λ t. absurd (cc t.1))
-        (came_from shape opened state kept look.counts (counts c) (counts more) (4 + bucket) v mounted turns at none (histogram s) there);
+    sums = sums_beside shape opened state kept look.counts (counts c) (counts more) (4 + bucket) v mounted turns (λ s is. cc is);
     lives = λ spent. cc spent;
     no_sum = λ reference sum is. cc is;
     stood = right;

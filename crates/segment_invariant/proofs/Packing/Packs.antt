@@ -4,7 +4,7 @@ use Rattle.std.specs.Prelude.{slice_index, max}
 use Rattle.std.specs.Ordering.{int_eq}
 use Rattle.std.specs.Str.{bytes_eq}
 use Rattle.std.proofs.lemmas.List.{set-set, get_or-set_same}
-use mathlib.Core.Option.{some, none}
+use mathlib.Core.Option.{some}
 use lib.ListN.{get_elem?}
 use Rattle.alloc_core.proofs.Owners.{set_at}
 use Rattle.segment_image.specs.Shape.{Dimensions}
@@ -34,18 +34,18 @@ use Rattle.segment_invariant.proofs.Frames.GoesOn.{happens}
 use Rattle.segment_invariant.proofs.Frames.SeesMore.{seer}
 use Rattle.segment_invariant.proofs.Frames.Shown.{Goes}
 use Rattle.segment_invariant.proofs.Changes.Records.{record_kept}
-use Rattle.segment_invariant.proofs.Changes.Words.{Turns, came_from}
-use Rattle.segment_invariant.proofs.Consistency.Firsts.{record_of_first}
+use Rattle.segment_invariant.proofs.Changes.Words.{Turns, record_turns, record_sums}
 use Rattle.segment_invariant.proofs.Consistency.Keys.{at_no_bucket, no_packed}
 use Rattle.segment_invariant.proofs.Counting.Counted.{as_counted, has_units, counter, CountedInto, units_counted}
 use Rattle.segment_invariant.proofs.Counting.Held.{not_sparse}
-use Rattle.segment_invariant.proofs.Counting.Looks.{knows_of, one_record, body_word}
+use Rattle.segment_invariant.proofs.Counting.Looks.{knows_of, body_word}
 use Rattle.segment_invariant.proofs.Counting.Running.{Next, next_of}
 use Rattle.segment_invariant.proofs.Counting.Sights.{word_within}
 use Rattle.segment_invariant.proofs.Packing.Beaten.{single_seen, pack_beaten}
 use Rattle.segment_invariant.proofs.Packing.Forms.{units_most, Packing, packing}
 use Rattle.segment_invariant.proofs.Packing.Loads.{learns_single}
 use Rattle.segment_invariant.proofs.Frames.Anew.{lawful_anew, counts_anew}
+use Rattle.segment_invariant.proofs.Consistency.Books.{one_first}
 
 -- ---- the record with another single word
 
@@ -192,14 +192,8 @@ module _ (shape : Dimensions) (opened : Anatomy) (state : State) (kept : Invaria
   s = with_single r new
 
   turns : Turns version (histogram r) (histogram s) 9 new
-  turns = record {
-    claimed = refl;
-    still = refl;
-    is = refl;
-    within = omega arith;
-    inside = (λ e. omega (arith, e), λ e. omega (arith, e));
-    goes = (s, refl, record { is = refl; counts = λ there. refl; single = packs.leads; mark = omega arith; noted = omega arith });
-  }
+  turns = record_turns version r s 9 new (omega arith) (omega arith) refl
+      (record { is = refl; counts = λ there. refl; single = packs.leads; mark = omega arith; noted = omega arith })
 
   shows : CountedInto shape opened state kept id a mine recorder unbound entry next uncounted h (histogram r) (histogram s) 9 new stands turns
   shows = record {
@@ -218,23 +212,9 @@ module _ (shape : Dimensions) (opened : Anatomy) (state : State) (kept : Invaria
     sum = λ name. refl;
     sum_mark = λ name. refl;
     noted = λ name. refl;
-    sums = λ at z there. ⊎_elim
-        (λ t. (z, t.0, refl, refl, refl))
-        (λ t.
-        let one : s ≡ z = cc (sym t.1) in (
-          r,
-          subst (λ (n : ℕ). HasRecord kept.anatomy.pieces n r) (sym t.0) stands,
-          ap (λ (w : Record). w.name) one,
-          ap (λ (w : Record). w.sum) one,
-          ap (λ (w : Record). w.sum_mark) one,
-        ))
-        (came_from shape opened state kept h (histogram r) (histogram s) 9 new stands turns at none (histogram z) there);
+    sums = record_sums shape opened state kept h r s 9 new stands turns refl refl refl;
     key = (r.spec, h, found.6, inl (bucket, below, sym found.5));
-    met = λ of first.
-        let place = first_one kept.anatomy.records entry.entry.name spec.Sparse r.spec of h first found.6 in
-        let (q, (there, its, sparse)) = record_of_first shape opened state kept entry.entry.name spec.Sparse of first in
-        let same = one_record shape opened state kept h q r (subst (λ (n : ℕ). HasRecord kept.anatomy.pieces n q) place there) stands in
-        absurd (not_sparse r.spec bucket below (sym (ap (λ (z : Record). z.spec) same) ∙ sparse));
+    met = λ of first. absurd (not_sparse r.spec bucket below (one_first shape opened state kept entry.entry.name r.spec spec.Sparse h of found.6 first).1);
   }
     where
       by_tests : (b c : Bool) → (if b then (if c then units else 0) else 0) ≡ (if b && c then units else 0)

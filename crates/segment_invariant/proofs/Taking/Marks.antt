@@ -1,11 +1,11 @@
 -- The mark of a bucket is raised to the count that was loaded: the invariant is kept, with what is learned.
-use Rattle.std.proofs.Common.{◌≡◌, ◌≢◌, Bool, true, false, if◌then◌else◌, ℕ, ◌+◌, ◌-◌, max, ◌<◌, ◌≤◌, ℤ, List, [], ◌∷◌, ◌++◌, length, set, Option, Some, inl, ⊎_elim, refl, sym, ap, ◌∙◌, subst, arith}
+use Rattle.std.proofs.Common.{◌≡◌, ◌≢◌, Bool, true, false, if◌then◌else◌, ℕ, ◌+◌, ◌-◌, max, ◌<◌, ◌≤◌, ℤ, List, [], ◌∷◌, ◌++◌, length, set, Option, Some, inl, refl, sym, ap, ◌∙◌, subst, arith}
 use Rattle.std.specs.Prelude.{slice_index}
 use Rattle.std.specs.Ordering.{int_eq}
 use Rattle.std.specs.Str.{bytes_eq}
 use Rattle.std.proofs.lemmas.List.{set-set, get_or-set_same}
 use Rattle.std.proofs.lemmas.List.Elements.{All-contains}
-use mathlib.Core.Option.{some, none}
+use mathlib.Core.Option.{some}
 use lib.ListN.{get_elem?}
 use Rattle.alloc_core.proofs.Owners.{set_at}
 use Rattle.segment_image.specs.Shape.{Dimensions}
@@ -27,7 +27,7 @@ use Rattle.segment_machine.specs.Event.{taking_event}
 use Rattle.segment_calls.specs.Form.{is_off}
 use Rattle.segment_machine.specs.State.{State}
 use Rattle.segment_machine.specs.Taking.{raise_mark, take_units, taken_key, Takes}
-use Rattle.segment_invariant.specs.Body.{Record, Counts, histogram, counts, Anatomy}
+use Rattle.segment_invariant.specs.Body.{Record, Counts, counts, Anatomy}
 use Rattle.segment_invariant.specs.Ledger.{of_name, form_at, key_of_bucket, keyed, marks_held}
 use Rattle.segment_invariant.specs.Seen.{HasRecord, HasCounts, IsFirst, WasFixed, WasCounter}
 use Rattle.segment_invariant.specs.Invariant.{IsCountsOf, LoadedOff, StandsRight, Invariant, is_beaten}
@@ -40,7 +40,7 @@ use Rattle.segment_invariant.proofs.Frames.SeesMore.{seer}
 use Rattle.segment_invariant.proofs.Frames.Shown.{Goes}
 use Rattle.segment_invariant.proofs.Changes.Counts.{keyed_risen}
 use Rattle.segment_invariant.proofs.Changes.Records.{counts_kept}
-use Rattle.segment_invariant.proofs.Changes.Words.{Turns, came_from}
+use Rattle.segment_invariant.proofs.Changes.Words.{Turns, sums_beside}
 use Rattle.segment_invariant.proofs.Counting.Bounds.{counted_fits}
 use Rattle.segment_invariant.proofs.Counting.Held.{not_sparse}
 use Rattle.segment_invariant.proofs.Counting.Looks.{knows_of, one_record, counter_now, counts_was}
@@ -201,10 +201,7 @@ module _ (shape : Dimensions) (opened : Anatomy) (state : State) (kept : Invaria
         units = λ name other. refl;
         marks = marks_more;
         amounts = λ name. (refl, refl, refl);
-        sums = λ at s there. ⊎_elim
-            (λ t. (s, t.0, refl, refl, refl))
-            (λ t. absurd (cc t.1))
-            (came_from shape opened state kept look.counts (counts c) (counts more) i v mounted turns at none (histogram s) there);
+        sums = sums_beside shape opened state kept look.counts (counts c) (counts more) i v mounted turns (λ s is. cc is);
         few = few;
         keyed = (r.spec, look.histogram, named_it.0, inl (bucket, within, refl));
         lives = λ spent. cc spent;

@@ -39,7 +39,7 @@ use Rattle.segment_invariant.proofs.Frames.GoesOn.{happens}
 use Rattle.segment_invariant.proofs.Frames.SeesMore.{seer}
 use Rattle.segment_invariant.proofs.Frames.Shown.{Goes}
 use Rattle.segment_invariant.proofs.Changes.Samples.{sample_kept, no_sample_was}
-use Rattle.segment_invariant.proofs.Changes.Words.{Turns}
+use Rattle.segment_invariant.proofs.Changes.Words.{Turns, sample_turns}
 use Rattle.segment_invariant.proofs.Counting.AddSample.{one_sample}
 use Rattle.segment_invariant.proofs.Counting.Bounds.{counted_fits}
 use Rattle.segment_invariant.proofs.Counting.Held.{not_sparse, sample_most}
@@ -153,14 +153,8 @@ module _ (shape : Dimensions) (opened : Anatomy) (state : State) (kept : Invaria
   more = record s { mark = v }
 
   turns : Turns kept.anatomy.version (sample s) (sample more) 7 v
-  turns = record {
-    claimed = refl;
-    still = refl;
-    is = refl;
-    within = omega arith;
-    inside = (λ e. omega (arith, e), λ e. omega (arith, e));
-    goes = (more, refl, record { is = refl; units = omega arith; mark = omega arith });
-  }
+  turns = sample_turns kept.anatomy.version s more 7 v (omega arith) (omega arith) refl
+      (record { is = refl; units = omega arith; mark = omega arith })
 
   abbrev front : List Taken
   front = takes.3.0

@@ -1,13 +1,13 @@
 -- A single mark rises to what was seen of the packed bucket: the invariant is kept, with what is learned. First the mark rises, and then its recorder
 -- sees it.
-use Rattle.std.proofs.Common.{◌≡◌, ◌≢◌, Bool, true, false, if◌then◌else◌, ℕ, ◌+◌, ◌-◌, max, ◌<◌, ◌≤◌, ℤ, List, [], ◌∷◌, ◌++◌, length, set, Option, Some, inl, ⊎_elim, refl, sym, ap, ◌∙◌, subst, arith}
+use Rattle.std.proofs.Common.{◌≡◌, ◌≢◌, Bool, true, false, if◌then◌else◌, ℕ, ◌+◌, ◌-◌, max, ◌<◌, ◌≤◌, ℤ, List, [], ◌∷◌, ◌++◌, length, set, Option, Some, inl, refl, sym, ap, ◌∙◌, subst, arith}
 use Rattle.std.specs.Prelude.{slice_index}
 use Rattle.std.specs.Ordering.{int_eq}
 use Rattle.std.specs.Str.{bytes_eq}
 use Rattle.std.proofs.lemmas.Bool.Decides.{Decides-int_eq}
 use Rattle.std.proofs.lemmas.List.{set-set, get_or-set_same}
 use mathlib.Core.Logic.{dite}
-use mathlib.Core.Option.{some, none}
+use mathlib.Core.Option.{some}
 use native.Mathlib.Decide.{ℕ_discrete}
 use lib.ListN.{get_elem?}
 use Rattle.alloc_core.proofs.Owners.{set_at}
@@ -40,7 +40,7 @@ use Rattle.segment_invariant.proofs.Frames.GoesOn.{happens}
 use Rattle.segment_invariant.proofs.Frames.SeesMore.{seer}
 use Rattle.segment_invariant.proofs.Frames.Shown.{Goes}
 use Rattle.segment_invariant.proofs.Changes.Records.{record_kept}
-use Rattle.segment_invariant.proofs.Changes.Words.{Turns, came_from}
+use Rattle.segment_invariant.proofs.Changes.Words.{Turns, record_turns, record_sums}
 use Rattle.segment_invariant.proofs.Counting.Bounds.{counted_fits}
 use Rattle.segment_invariant.proofs.Counting.Held.{not_sparse}
 use Rattle.segment_invariant.proofs.Counting.Looks.{knows_of, body_word}
@@ -146,14 +146,8 @@ module _ (shape : Dimensions) (opened : Anatomy) (state : State) (kept : Invaria
   s = with_mark r v
 
   turns : Turns version (histogram r) (histogram s) 10 v
-  turns = record {
-    claimed = refl;
-    still = refl;
-    is = refl;
-    within = omega arith;
-    inside = (λ e. omega (arith, e), λ e. omega (arith, e));
-    goes = (s, refl, record { is = refl; counts = λ there. refl; single = inl refl; mark = omega arith; noted = omega arith });
-  }
+  turns = record_turns version r s 10 v (omega arith) (omega arith) refl
+      (record { is = refl; counts = λ there. refl; single = inl refl; mark = omega arith; noted = omega arith })
 
   marks_more : (name : List ℕ) (other : ℤ)
       → marks_held version name other (histogram s) ≡ marks_held version name other (histogram r) + of_name known.name name (if int_eq key other then least - m else 0)
@@ -196,17 +190,7 @@ module _ (shape : Dimensions) (opened : Anatomy) (state : State) (kept : Invaria
         units = λ name other. refl;
         marks = marks_more;
         amounts = λ name. (refl, refl, refl);
-        sums = λ at q there. ⊎_elim
-            (λ t. (q, t.0, refl, refl, refl))
-            (λ t.
-            let one : s ≡ q = cc (sym t.1) in (
-              r,
-              subst (λ (n : ℕ). HasRecord kept.anatomy.pieces n r) (sym t.0) has,
-              ap (λ (z : Record). z.name) one,
-              ap (λ (z : Record). z.sum) one,
-              ap (λ (z : Record). z.sum_mark) one,
-            ))
-            (came_from shape opened state kept h (histogram r) (histogram s) 10 v has turns at none (histogram q) there);
+        sums = record_sums shape opened state kept h r s 10 v has turns refl refl refl;
         few = few;
         keyed = (r.spec, h, named_it.0, inl (bucket, within, refl));
         lives = λ spent. cc spent;

@@ -42,15 +42,14 @@ use Rattle.segment_invariant.proofs.Frames.OneActor.{rests_at}
 use Rattle.segment_invariant.proofs.Frames.Roles.{SameRoles}
 use Rattle.segment_invariant.proofs.Frames.Together.{loaded_set, moment, ended_began}
 use Rattle.segment_invariant.proofs.Changes.Ledgers.{rows_beside, amounts_moved}
-use Rattle.segment_invariant.proofs.Changes.Others.{Deed, deed_of, changed, changed_roles, looks_on, alone_was, is_later}
+use Rattle.segment_invariant.proofs.Changes.Others.{Deed, deed_of, changed, changed_roles, alone_was, is_later}
 use Rattle.segment_invariant.proofs.Changes.Records.{record_kept}
-use Rattle.segment_invariant.proofs.Changes.Words.{Turns, behind, came_from, turned_onward, sees_turned, turned_on}
+use Rattle.segment_invariant.proofs.Changes.Words.{Turns, behind, came_from, sees_turned, turned_on, looks_turned, record_turns}
 use Rattle.segment_invariant.proofs.Consistency.Sums.{sum_is, sum_mark_is}
 use Rattle.segment_invariant.proofs.Notes.Amounts.{last_changed}
 use Rattle.segment_invariant.proofs.Taking.Lasts.{further_is, units_later, sum_later, ended_before}
 use Rattle.segment_invariant.proofs.Counting.Bounds.{sum_fits, sums_fit}
 use Rattle.segment_invariant.proofs.Counting.Looks.{knows_of, body_word}
-use Rattle.segment_invariant.proofs.Counting.Seen.{known_stands}
 use Rattle.segment_invariant.proofs.Counting.Sights.{word_within}
 use Rattle.std.proofs.lemmas.Grind.{flat_map-append}
 use Rattle.segment_invariant.proofs.Lists.Portions.{taken_total, taken_sum_total, portions_push, portion_in, portion_from, portion_first}
@@ -125,18 +124,8 @@ module _ (shape : Dimensions) (opened : Anatomy) (state : State) (kept : Invaria
   narrow = (below_from_Fits w64 (v ∷ []) (Fits-of_z {w = w64} {z = sum} (fits_signed_from_abs w64 sum small), tt)).0
 
   turns : Turns kept.anatomy.version (histogram r) (histogram (with_mark r v)) 12 v
-  turns = record {
-    claimed = refl;
-    still = refl;
-    is = refl;
-    within = omega arith;
-    inside = (λ e. omega (arith, e), λ e. omega (arith, e));
-    goes = (
-      with_mark r v,
-      refl,
-      record { is = refl; counts = λ there. refl; single = inl refl; mark = omega arith; noted = omega arith },
-    );
-  }
+  turns = record_turns kept.anatomy.version r (with_mark r v) 12 v (omega arith) (omega arith) refl
+      (record { is = refl; counts = λ there. refl; single = inl refl; mark = omega arith; noted = omega arith })
 
   abbrev new : Anatomy
   new = behind shape opened state kept known.reference (histogram r) (histogram (with_mark r v)) 12 v stands turns
@@ -421,13 +410,9 @@ module _ (shape : Dimensions) (opened : Anatomy) (state : State) (kept : Invaria
               let (runs, (before, one, ends, at)) = calls.taking on in
               (runs, (front, swapped_one, refl, ap (λ (t : Taken). t.moment.log) (same_from_push front before last one (sym taken_is ∙ ends)).1 ∙ at));
         };
-        looks = looks_on shape state.words kept.anatomy new kept.shown (λ at body. ⊥)
-            (turned_onward shape opened state kept known.reference (histogram r) (histogram (with_mark r v)) 12 v stands turns) refl shape.page kept.records records
-            a fits.sees.counters fits.sees.in_use state.actors actors opener d
-            (λ name key. let same = ap (λ entries. tally_units entries name key) counted in omega (arith, same))
-            (alone_was state.actors actors kept.roles beside a a refl refl)
-            (λ other there. let (q, at_it, its, bounds, many) = known_stands shape opened state kept id a mine lived other there in (q, at_it, many))
-            (fits.looks recorder) (λ reference sum s loaded. absurd (cc loaded)) (λ at s new_one. new_one);
+        looks = looks_turned shape opened state kept known.reference (histogram r) (histogram (with_mark r v)) 12 v stands turns id a mine recorder lived d
+            (λ e. cc e) (λ reference sum loaded. cc loaded) records
+            (λ name key. let same = ap (λ entries. tally_units entries name key) counted in omega (arith, same));
         finals = finals;
       })
 

@@ -25,17 +25,15 @@ use Rattle.segment_machine.specs.Taking.{take_units}
 use Rattle.segment_invariant.specs.Body.{Body, Anatomy}
 use Rattle.segment_invariant.specs.Ledger.{of_name, amount_of_name, units_held, marks_held, sum_held, sum_mark_held, noted_held}
 use Rattle.segment_invariant.specs.Seen.{Stands}
-use Rattle.segment_invariant.specs.Invariant.{RecordsAreKept, StandsRight, summed_cost, HasKey, Invariant}
-use Rattle.list_lemmas.proofs.Elements.{rows, row_in, one_in, none_in, sum_same}
+use Rattle.segment_invariant.specs.Invariant.{RecordsAreKept, StandsRight, HasKey, Invariant}
+use Rattle.list_lemmas.proofs.Elements.{rows, row_in, one_in, none_in}
 use Rattle.segment_invariant.proofs.Frames.Ahead.{KeepsUp}
 use Rattle.segment_invariant.proofs.Frames.OneActor.{rests_at}
 use Rattle.segment_invariant.proofs.Frames.Roles.{SameRoles}
-use Rattle.segment_invariant.proofs.Frames.Together.{loaded_set}
-use Rattle.segment_invariant.proofs.Counting.Seen.{known_stands}
 use Rattle.segment_invariant.proofs.Changes.Ledgers.{rows_beside, deeds_of}
-use Rattle.segment_invariant.proofs.Changes.Others.{Deed, changed, changed_roles, alone_was, looks_on}
-use Rattle.segment_invariant.proofs.Changes.Sums.{SameSum, sums_on}
-use Rattle.segment_invariant.proofs.Changes.Words.{Turns, behind, turned_onward, sees_turned, turned_on}
+use Rattle.segment_invariant.proofs.Changes.Others.{Deed, changed, changed_roles}
+use Rattle.segment_invariant.proofs.Changes.Sums.{SameSum}
+use Rattle.segment_invariant.proofs.Changes.Words.{Turns, behind, sees_turned, turned_on, looks_turned, sums_turned}
 use Rattle.segment_invariant.proofs.Taking.Lasts.{further_from, last_in, units_further, sum_further, takes_on, calls_taken, finals_taken}
 use Rattle.segment_invariant.proofs.Lists.Portions.{taken_total, taken_sum_total, portion_in, portion_from, portion_first}
 
@@ -222,9 +220,7 @@ module _ (shape : Dimensions) (opened : Anatomy) (state : State) (kept : Invaria
           counted = λ name other. omega arith;
           keys = λ entry has. kept.keys entry (row_in counted_of state.actors id a entry mine has);
           taken_keys = has_keys;
-          sums = sums_on kept.anatomy.pieces new.pieces state.actors actors shows.sums
-              (loaded_set state.actors id a b mine (λ reference sum loaded. absurd (shows.no_sum reference sum loaded)))
-              (λ name. let same = sum_same (summed_cost name) state.actors id a b mine refl in omega (arith, same)) kept.sums;
+          sums = sums_turned shape opened state kept at body then_is j v stands turns id a mine recorder lived deed shows.lives shows.no_sum shows.sums (λ name. refl);
           lives = shows.lives;
           stood = shows.stood;
           sees = sees_turned shape opened state kept at body then_is j v stands turns a.seen fits.sees;
@@ -232,12 +228,8 @@ module _ (shape : Dimensions) (opened : Anatomy) (state : State) (kept : Invaria
           up = shows.up;
           own = refl;
           calls = calls_taken a front last taken_is f refl refl taking place a.seen.counts kept.anatomy new refl fits.calls;
-          looks = looks_on shape state.words kept.anatomy new kept.shown (λ at body. ⊥) (turned_onward shape opened state kept at body then_is j v stands turns) refl
-              shape.page kept.records shows.records a fits.sees.counters fits.sees.in_use state.actors actors kept.roles.opener deed
-              (λ name other. let same = ap (λ entries. tally_units entries name other) counted in omega (arith, same))
-              (alone_was state.actors actors kept.roles beside a a refl refl)
-              (λ one has. let (r, there, its, bounds, many) = known_stands shape opened state kept id a mine lived one has in (r, there, many))
-              (fits.looks recorder) (λ reference sum s loaded. absurd (shows.no_sum reference sum loaded)) (λ at s new_one. new_one);
+          looks = looks_turned shape opened state kept at body then_is j v stands turns id a mine recorder lived deed shows.lives shows.no_sum shows.records
+              (λ name other. let same = ap (λ entries. tally_units entries name other) counted in omega (arith, same));
           finals = finals_taken a front last taken_is f refl refl taking place a.seen.counts state.actors actors kept.roles beside id recorder counted summed noted
               (λ name other.
               let all = took_all name other in

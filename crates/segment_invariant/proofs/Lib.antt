@@ -1,3 +1,4 @@
+pub mod Prelude
 pub mod Allocating
 pub mod Blocks
 pub mod Changes

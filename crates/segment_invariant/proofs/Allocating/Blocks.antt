@@ -1,32 +1,17 @@
 -- A state is kept where an actor that allocates changes nothing, stores into a block in its making, takes words for one, or sets a flag.
-use Rattle.std.proofs.Common.{◌≡◌, ℕ, ◌+◌, ◌-◌, ◌≤◌, Bool, false, true≢false, List, [], ◌∷◌, ◌++◌, map, set, All, inl, inr, refl, sym, ap, ◌∙◌, subst, append_assoc, arith, true}
-use Rattle.std.specs.Prelude.{IsPermutation, fold, ◌||◌}
-use Rattle.std.specs.List.{flat_map}
-use Rattle.std.proofs.lemmas.List.Elements.{All-weaker}
-use Rattle.std.proofs.lemmas.List.Sorted.{IsPermutation-refl, IsPermutation-sym, IsPermutation-trans, IsPermutation-append}
-use mathlib.Core.Option.{some}
-use lib.ListN.{get_elem?}
-use Rattle.segment_image.specs.Shape.{Dimensions}
-use Rattle.alloc_core.specs.Layout.{IsShown}
-use Rattle.alloc_core.specs.Laws.{Behind}
+use Rattle.segment_invariant.proofs.Prelude.Std.{◌≡◌, ℕ, ◌+◌, ◌-◌, ◌≤◌, Bool, false, true≢false, List, [], ◌∷◌, ◌++◌, map, set, All, inl, inr, refl, sym, ap, ◌∙◌, subst, append_assoc, arith, true, IsPermutation, fold, ◌||◌, flat_map, All-weaker, IsPermutation-refl, some, get_elem?, rows, column}
+use Rattle.segment_invariant.proofs.Prelude.Machine.{Dimensions, IsShown, Behind, IsLinked, Actor, Claim, Own, Place, State, is_opener}
+use Rattle.segment_invariant.proofs.Prelude.Invariant.{held, is_claimed, Piece, extent_of, Anatomy, layout_of, order_of, free_of, claims_of, StandsRight, HoldsOwn, IsSetBy, ClaimedRight, Invariant}
+use Rattle.std.proofs.lemmas.List.Sorted.{IsPermutation-sym, IsPermutation-trans, IsPermutation-append}
 use Rattle.alloc_core.specs.Alloc.{IsRise}
 use Rattle.alloc_core.proofs.Layouts.{shown_grown}
-use Rattle.list_core.specs.Chain.{IsLinked}
-use Rattle.segment_machine.specs.declared.actor.Actor.{Actor}
-use Rattle.segment_machine.specs.declared.actor.Claim.{Claim}
 use Rattle.segment_machine.specs.declared.actor.Rise.{Rise}
-use Rattle.segment_machine.specs.declared.actor.Own.{Own}
-use Rattle.segment_machine.specs.declared.place.Place.{Place}
-use Rattle.segment_machine.specs.State.{State}
 use Rattle.segment_invariant.proofs.Frames.Ahead.{KeepsUp}
-use Rattle.segment_invariant.specs.Body.{held, is_claimed, Piece, extent_of, Anatomy, layout_of, order_of, free_of, claims_of}
-use Rattle.segment_invariant.specs.Invariant.{StandsRight, HoldsOwn, IsSetBy, ClaimedRight, Invariant}
-use Rattle.list_lemmas.proofs.Elements.{rows, rows_more, column}
+use Rattle.list_lemmas.proofs.Elements.{rows_more}
 use Rattle.segment_invariant.proofs.Blocks.Pieces.{stands_beside, stands_longer, claims_same, claims_grown, with_piece, free_with, raw_piece, grown_by, layout_grown, free_more}
 use Rattle.segment_invariant.proofs.Blocks.Stops.{linked_beside_head}
 use Rattle.segment_invariant.proofs.Frames.OneActor.{Doing, doing, doing_of, TurnsTo}
 use Rattle.segment_invariant.proofs.Allocating.Claimers.{IsMaking, stays_same, stays_put, others_put, stays_longer, still_same, still_put, still_longer, right_put, right_longer, unlisted, acts_on}
-use Rattle.segment_machine.specs.Actor.{is_opener}
 
 -- A block in the making, or one's own, becomes another of the same place, extent and owner, and the words are those with it.
 pub record IsStore (shape : Dimensions) (anatomy : Anatomy) (id k : ℕ) (p q : Piece) (words : List ℕ) : Type 0 where

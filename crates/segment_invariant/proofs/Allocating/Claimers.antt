@@ -1,30 +1,15 @@
 -- A state is kept where one actor goes on that allocates: it sees nothing but the free pointer, and publishes nothing.
-use Rattle.std.proofs.Common.{◌≡◌, ◌≢◌, ℕ, pos, Bool, List, [], ◌∷◌, ◌++◌, map, set, All, inl, inr, refl, sym, ap, ◌∙◌, subst, false, true}
-use Rattle.std.specs.Prelude.{IsPermutation, ⊤}
-use Rattle.std.specs.List.{flat_map}
-use mathlib.Core.Logic.{dite}
-use mathlib.Core.Option.{some, none, some-injective, some-ne-none}
-use native.Mathlib.Decide.{ℕ_discrete}
-use lib.ListN.{get_elem?}
-use Rattle.atomic_table.proofs.Lists.{at_set, set_else, at_longer, at_snoc}
+use Rattle.segment_invariant.proofs.Prelude.Std.{◌≡◌, ◌≢◌, ℕ, pos, Bool, List, [], ◌∷◌, ◌++◌, map, set, All, inl, inr, refl, sym, ap, ◌∙◌, subst, false, true, IsPermutation, ⊤, flat_map, dite, some, none, some-injective, some-ne-none, ℕ_discrete, get_elem?, at_set, set_else, at_longer}
+use Rattle.segment_invariant.proofs.Prelude.Machine.{Dimensions, IsShown, Behind, IsLinked, Actor, Own, State, is_opener}
+use Rattle.segment_invariant.proofs.Prelude.Invariant.{Body, queue, plain, held, Piece, Anatomy, layout_of, order_of, free_of, claims_of, Stands, StandsRight, HoldsOwn, IsSetBy, ClaimedRight, StandStill, Invariant}
+use Rattle.atomic_table.proofs.Lists.{at_snoc}
 use Rattle.alloc_core.proofs.Owners.{set_at}
-use Rattle.segment_image.specs.Shape.{Dimensions}
-use Rattle.alloc_core.specs.Layout.{IsShown}
-use Rattle.alloc_core.specs.Laws.{Behind}
-use Rattle.list_core.specs.Chain.{IsLinked}
-use Rattle.segment_machine.specs.declared.actor.Actor.{Actor}
-use Rattle.segment_machine.specs.declared.actor.Own.{Own}
-use Rattle.segment_machine.specs.State.{State}
 use Rattle.segment_invariant.proofs.Frames.Ahead.{KeepsUp, ahead_at}
-use Rattle.segment_invariant.specs.Body.{Body, queue, plain, held, Piece, Anatomy, layout_of, order_of, free_of, claims_of}
-use Rattle.segment_invariant.specs.Seen.{Stands}
-use Rattle.segment_invariant.specs.Invariant.{StandsRight, HoldsOwn, IsSetBy, ClaimedRight, StandStill, Invariant}
 use Rattle.segment_invariant.proofs.Blocks.Pieces.{stands_beside, stood_beside, stands_longer, stood_longer, held_same, amounts_same, held_grown, amounts_grown}
 use Rattle.segment_invariant.proofs.Frames.OneActor.{Doing, doing, TurnsTo}
 use Rattle.segment_invariant.proofs.Frames.Anatomies.{sees_along, calls_along, looks_along, sees_no_more, sees_doing, looks_doing}
 use Rattle.segment_invariant.proofs.Frames.GoesOn.{goes_on}
 use Rattle.segment_invariant.proofs.Frames.Growth.{reshaped, IsSilent, Stays}
-use Rattle.segment_machine.specs.Actor.{is_opener}
 
 -- ---- blocks in the making
 

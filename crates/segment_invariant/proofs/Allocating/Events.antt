@@ -1,35 +1,20 @@
 -- Each event that allocates a block or sets a flag keeps what holds, and its actor learns of the free pointer.
-use Rattle.std.proofs.Common.{◌≡◌, ◌≢◌, ℕ, ◌+◌, ◌-◌, ◌==◌, Bool, true, false, List, [], ◌∷◌, ◌++◌, map, length, set, inl, refl, sym, ap, ◌∙◌, subst, eq-eqb, ne_eqb, le-leb, arith}
+use Rattle.segment_invariant.proofs.Prelude.Std.{◌≡◌, ◌≢◌, ℕ, ◌+◌, ◌-◌, ◌==◌, Bool, true, false, List, [], ◌∷◌, ◌++◌, map, length, set, inl, refl, sym, ap, ◌∙◌, subst, eq-eqb, ne_eqb, le-leb, arith, bit_and, not, nat_le, ◌&&◌, ◌||◌, fold, if◌then◌else◌, and_from, dite, some, ℕ_discrete, get_elem?, set-get_or, at_map, column}
+use Rattle.segment_invariant.proofs.Prelude.Machine.{Dimensions, word_at, Behind, Actor, Seen, Spent, Idle, is_bound, is_opener, State, Event, allocating_event, spot, Ready, Learned, load_flags, load_free, exchange_free, set_corrupt, set_full}
+use Rattle.segment_invariant.proofs.Prelude.Invariant.{Anatomy, layout_of, order_of, free_of, StandsRight, IsSetBy, Invariant, is_beaten}
 use Rattle.std.proofs.Math.Bool.{or-true}
-use Rattle.std.specs.Prelude.{bit_and, bit_or, not, nat_le, ◌&&◌, ◌||◌, fold, if◌then◌else◌}
-use Rattle.std.proofs.lemmas.Bool.{and_from}
-use mathlib.Core.Logic.{dite}
-use mathlib.Core.Option.{some}
-use native.Mathlib.Decide.{ℕ_discrete}
-use lib.ListN.{get_elem?}
-use lib.Seq.{set-get_or}
-use Rattle.atomic_table.proofs.Lists.{at_map}
-use Rattle.segment_image.specs.Shape.{Dimensions}
-use Rattle.segment_image.specs.Words.{word_at}
-use Rattle.alloc_core.specs.Laws.{Behind}
+use Rattle.std.specs.Prelude.{bit_or}
 use Rattle.alloc_core.specs.Alloc.{IsRise}
 use Rattle.alloc_core.specs.Planned.{room_at, is_pointer}
 use Rattle.alloc_core.proofs.Layouts.{free_word, shown_corrupt, shown_full, length_shown, flags_word}
 use Rattle.alloc_core.proofs.Owners.{set_at}
-use Rattle.segment_machine.specs.declared.actor.Actor.{Actor}
-use Rattle.segment_machine.specs.declared.seen.Seen.{Seen}
-use Rattle.segment_machine.specs.declared.place.Place.TheVariants.{Spent, Idle, FlagsLoaded, FreeLoaded, Raised}
-use Rattle.segment_machine.specs.Actor.{is_bound, is_opener}
-use Rattle.segment_machine.specs.State.{State}
-use Rattle.segment_machine.specs.Event.{Event, allocating_event, spot, Ready, Learned}
-use Rattle.segment_machine.specs.Allocating.{load_flags, load_free, exchange_free, set_corrupt, set_full, MayRise, after_free, free_at}
+use Rattle.segment_machine.specs.declared.place.Place.TheVariants.{FlagsLoaded, FreeLoaded, Raised}
+use Rattle.segment_machine.specs.Allocating.{MayRise, after_free, free_at}
 use Rattle.alloc_core.proofs.Flags.{corrupt_bit, corrupt_read}
 use Rattle.segment_invariant.proofs.Frames.Ahead.{ahead_at, unbound_unbeaten}
 use Rattle.segment_invariant.proofs.Frames.Anew.{looks_anew_at}
 use Rattle.segment_invariant.proofs.Frames.SeesMore.{later_itself, near_on, given_on, calls_more, sees_more}
-use Rattle.segment_invariant.specs.Body.{Anatomy, layout_of, order_of, free_of}
-use Rattle.segment_invariant.specs.Invariant.{StandsRight, IsSetBy, Invariant, is_beaten}
-use Rattle.list_lemmas.proofs.Elements.{any_there, column}
+use Rattle.list_lemmas.proofs.Elements.{any_there}
 use Rattle.segment_invariant.proofs.Blocks.Pieces.{raw_piece, stands_last, free_least, free_within}
 use Rattle.segment_invariant.proofs.Frames.OneActor.{is_plain, turns_plain, turns_unbound}
 use Rattle.segment_invariant.proofs.Frames.GoesOn.{after_word}

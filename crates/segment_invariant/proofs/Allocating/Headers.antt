@@ -1,34 +1,21 @@
 -- Each store into the header of a block in its making keeps what holds: its size, its cookie, and its type, which claims it.
-use Rattle.std.proofs.Common.{◌≡◌, ◌≢◌, ℕ, suc, ◌+◌, ◌-◌, ◌<◌, ◌≤◌, ◌==◌, Bool, true, true≢false, List, [], ◌∷◌, ◌++◌, length, replicate, set, All, inl, inr, refl, sym, ap, ◌∙◌, subst, arith, false}
-use Rattle.std.specs.Prelude.{nat_lt, if◌then◌else◌, IsPermutation}
-use Rattle.std.proofs.lemmas.List.{length-replicate}
-use Rattle.std.proofs.lemmas.List.Elements.{All-push}
-use mathlib.Core.Option.{some}
-use lib.ListN.{get_elem?}
-use Rattle.atomic_table.proofs.Lists.{at_map}
-use Rattle.segment_image.specs.Shape.{Dimensions}
-use Rattle.alloc_core.specs.Layout.{IsShown, put}
+use Rattle.segment_invariant.proofs.Prelude.Std.{◌≡◌, ◌≢◌, ℕ, suc, ◌+◌, ◌-◌, ◌<◌, ◌≤◌, ◌==◌, Bool, true, true≢false, List, [], ◌∷◌, ◌++◌, length, replicate, set, All, inl, inr, refl, sym, ap, ◌∙◌, subst, arith, false, nat_lt, if◌then◌else◌, IsPermutation, length-replicate, All-push, some, get_elem?, at_map, all_at}
+use Rattle.segment_invariant.proofs.Prelude.Machine.{Dimensions, IsShown, Actor, Claim, Own, Place, Idle, State, store_size, store_cookie, store_type, allocating_event, Ready, is_opener}
+use Rattle.segment_invariant.proofs.Prelude.Invariant.{plain, held, is_claimed, Piece, Anatomy, layout_of, claims_of, Stands, StandsRight, HoldsOwn, Invariant, is_beaten}
+use Rattle.alloc_core.specs.Layout.{put}
 use Rattle.alloc_core.specs.Laws.{own, claimed_words}
 use Rattle.alloc_core.specs.Alloc.{IsPlace}
 use Rattle.alloc_core.proofs.EventKinds.{sized, marked, length-sized, length-marked, length-claimed, size_stored, cookie_stored, type_stored}
-use Rattle.segment_machine.specs.declared.actor.Actor.{Actor}
-use Rattle.segment_machine.specs.declared.actor.Claim.{Claim}
-use Rattle.segment_machine.specs.declared.actor.Own.{Own}
-use Rattle.segment_machine.specs.declared.place.Place.{Place}
-use Rattle.segment_machine.specs.declared.place.Place.TheVariants.{Idle, Sized, Marked}
-use Rattle.segment_machine.specs.State.{State}
-use Rattle.segment_machine.specs.Allocating.{store_size, store_cookie, store_type, size_at, wanted_at, new_own}
-use Rattle.segment_machine.specs.Event.{allocating_event, Ready}
-use Rattle.segment_invariant.specs.Body.{plain, held, own_words, is_claimed, Piece, block_of, Anatomy, layout_of, claims_of}
-use Rattle.segment_invariant.specs.Seen.{Stands, HasPlain}
-use Rattle.segment_invariant.specs.Invariant.{StandsRight, HoldsOwn, Invariant, is_beaten}
-use Rattle.list_lemmas.proofs.Elements.{all_at, at_snoc_index}
+use Rattle.segment_machine.specs.declared.place.Place.TheVariants.{Sized, Marked}
+use Rattle.segment_machine.specs.Allocating.{size_at, wanted_at, new_own}
+use Rattle.segment_invariant.specs.Body.{own_words, block_of}
+use Rattle.segment_invariant.specs.Seen.{HasPlain}
+use Rattle.list_lemmas.proofs.Elements.{at_snoc_index}
 use Rattle.segment_invariant.proofs.Blocks.Pieces.{shown_with, stands_here, one_stands, claims_more}
 use Rattle.segment_invariant.proofs.Blocks.Stops.{linked_beside_own}
 use Rattle.segment_invariant.proofs.Frames.OneActor.{Doing, doing_of, is_plain, turns_plain}
 use Rattle.segment_invariant.proofs.Allocating.Blocks.{IsStore, makes, stores, own_beside, claims_longer}
 use Rattle.segment_invariant.proofs.Allocating.Events.{Keeps}
-use Rattle.segment_machine.specs.Actor.{is_opener}
 
 -- blocks at places of their own, and one more at another place
 apart_longer : (own : List Own) (block : Own)

@@ -1,23 +1,13 @@
 -- Each event that allocates keeps what holds: it acts on a word of the segment, and what it leaves is kept.
-use Rattle.std.proofs.Common.{◌≡◌, ℕ, ◌+◌, ◌<◌, ◌≤◌, length, arith, false}
-use mathlib.Core.Option.{some}
-use lib.ListN.{get_elem?}
-use Rattle.std.proofs.Common.{subst}
-use Rattle.segment_image.specs.Shape.{Dimensions}
-use Rattle.segment_machine.specs.declared.actor.Actor.{Actor}
-use Rattle.segment_machine.specs.State.{State}
-use Rattle.segment_machine.specs.Event.{Event, allocating_event, spot, Learned, Ready}
-use Rattle.segment_machine.specs.Allocating.{load_flags, load_free, exchange_free, store_size, store_cookie, store_type, store_payload, set_corrupt, set_full}
-use Rattle.segment_invariant.specs.Body.{Anatomy}
-use Rattle.segment_invariant.specs.Invariant.{StandsRight, HoldsOwn, Invariant}
-use Rattle.segment_invariant.specs.Keeps.{found_at, happened, AllocatingKeeps}
-use Rattle.list_lemmas.proofs.Elements.{at_from, all_at}
+use Rattle.segment_invariant.proofs.Prelude.Std.{◌≡◌, ℕ, ◌+◌, ◌<◌, ◌≤◌, length, arith, false, some, get_elem?, subst, at_from, all_at}
+use Rattle.segment_invariant.proofs.Prelude.Machine.{Dimensions, Actor, State, Event, allocating_event, spot, Learned, Ready, load_flags, load_free, exchange_free, store_size, store_cookie, store_type, store_payload, set_corrupt, set_full, is_opener}
+use Rattle.segment_invariant.proofs.Prelude.Invariant.{Anatomy, StandsRight, HoldsOwn, Invariant, found_at}
+use Rattle.segment_invariant.specs.Keeps.{happened, AllocatingKeeps}
 use Rattle.segment_invariant.proofs.Blocks.Pieces.{free_least, free_within}
 use Rattle.segment_invariant.proofs.Frames.GoesOn.{happens}
 use Rattle.segment_invariant.proofs.Allocating.Events.{Keeps, words_long, flags_loaded, free_loaded, free_exchanged, corrupt_set, full_set}
 use Rattle.segment_invariant.proofs.Allocating.Headers.{size_kept, cookie_kept, type_kept}
 use Rattle.segment_invariant.proofs.Allocating.Payloads.{has_lived, payload_kept}
-use Rattle.segment_machine.specs.Actor.{is_opener}
 
 module _ (shape : Dimensions) (opened : Anatomy) (state : State) (id : ℕ) (a : Actor) (kept : Invariant shape opened state)
     (mine : get_elem? state.actors id ≡ some a) (records : is_opener a.role ≡ false) where

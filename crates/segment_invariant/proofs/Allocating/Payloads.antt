@@ -1,27 +1,14 @@
 -- An actor stores a word into a block of its own: what holds is kept. So each word of a payload.
-use Rattle.std.proofs.Common.{◌≡◌, ◌≢◌, ◌⊎◌, ℕ, zero, suc, ◌+◌, ◌-◌, ◌<◌, ◌≤◌, ◌==◌, Bool, true, false, true≢false, List, [], ◌∷◌, ◌++◌, length, replicate, set, All, Contains, inl, inr, refl, sym, ap, ◌∙◌, subst, append_assoc, eq-eqb, eqb-true, length-set, length-append, arith}
-use Rattle.std.specs.Prelude.{if◌then◌else◌}
-use Rattle.std.proofs.lemmas.List.{length-replicate, set-append_right}
-use mathlib.Core.Logic.{dite}
-use mathlib.Core.Option.{some, some-injective, some-ne-none}
-use native.Mathlib.Decide.{ℕ_discrete}
-use lib.ListN.{get_elem?}
-use Rattle.atomic_table.proofs.Lists.{at_set, set_else}
+use Rattle.segment_invariant.proofs.Prelude.Std.{◌≡◌, ◌≢◌, ◌⊎◌, ℕ, zero, suc, ◌+◌, ◌-◌, ◌<◌, ◌≤◌, ◌==◌, Bool, true, false, true≢false, List, [], ◌∷◌, ◌++◌, length, replicate, set, All, Contains, inl, inr, refl, sym, ap, ◌∙◌, subst, append_assoc, eq-eqb, eqb-true, length-set, length-append, arith, if◌then◌else◌, length-replicate, dite, some, some-injective, some-ne-none, ℕ_discrete, get_elem?, at_set, set_else, at_from, contains_at, all_at}
+use Rattle.segment_invariant.proofs.Prelude.Machine.{Dimensions, Actor, Own, Place, Spent, State, purse, store_payload, allocating_event, Ready, is_opener}
+use Rattle.segment_invariant.proofs.Prelude.Invariant.{plain, held, is_claimed, Piece, Anatomy, StandsRight, HoldsOwn, Invariant}
+use Rattle.std.proofs.lemmas.List.{set-append_right}
 use Rattle.alloc_core.proofs.Owners.{set_at}
-use Rattle.segment_image.specs.Shape.{Dimensions}
 use Rattle.alloc_core.specs.Alloc.{IsPlace}
-use Rattle.segment_machine.specs.declared.actor.Actor.{Actor}
-use Rattle.segment_machine.specs.declared.actor.Own.{Own}
-use Rattle.segment_machine.specs.declared.place.Place.{Place}
-use Rattle.segment_machine.specs.declared.place.Place.TheVariants.{Spent}
-use Rattle.segment_machine.specs.State.{State}
-use Rattle.segment_machine.specs.Seats.{purse}
-use Rattle.segment_machine.specs.Allocating.{store_payload, stored}
-use Rattle.segment_machine.specs.Event.{allocating_event, Ready}
+use Rattle.segment_machine.specs.Allocating.{stored}
 use Rattle.segment_machine.specs.Calls.{change_first, change_own}
-use Rattle.segment_invariant.specs.Body.{plain, held, own_words, is_claimed, Piece, Anatomy}
-use Rattle.segment_invariant.specs.Invariant.{StandsRight, HoldsOwn, Invariant}
-use Rattle.list_lemmas.proofs.Elements.{at_from, contains_at, all_at, all_from}
+use Rattle.segment_invariant.specs.Body.{own_words}
+use Rattle.list_lemmas.proofs.Elements.{all_from}
 use Rattle.segment_invariant.proofs.Blocks.Pieces.{stands_here, stands_beside, not_first, piece_stored, claims_same, with_piece}
 use Rattle.segment_invariant.proofs.Blocks.Stops.{linked_beside_own}
 use Rattle.segment_invariant.proofs.Frames.OneActor.{Doing, doing_of, TurnsTo, turns_not, doing}
@@ -32,7 +19,6 @@ use Rattle.segment_invariant.proofs.Allocating.Claimers.{stays_put}
 use Rattle.segment_invariant.proofs.Allocating.Blocks.{IsStore, stores, claims_kept}
 use Rattle.segment_invariant.proofs.Allocating.Events.{Keeps}
 use Rattle.segment_invariant.proofs.Frames.Growth.{Stays}
-use Rattle.segment_machine.specs.Actor.{is_opener}
 
 -- ---- lists
 

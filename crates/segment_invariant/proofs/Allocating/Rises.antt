@@ -1,11 +1,10 @@
 -- A rise that a plan leads to, from a lawful free pointer, is one of a block in one page.
-use Rattle.std.proofs.Common.{◌≡◌, ℕ, ◌≤◌, Bool, true, if◌then◌else◌, inl, inr, sym, ap, subst, ◌∙◌}
-use Rattle.segment_image.specs.Shape.{Dimensions}
+use Rattle.segment_invariant.proofs.Prelude.Std.{◌≡◌, ℕ, ◌≤◌, Bool, true, if◌then◌else◌, inl, inr, sym, ap, subst, ◌∙◌}
+use Rattle.segment_invariant.proofs.Prelude.Machine.{Dimensions, IsShape}
 use Rattle.alloc_core.specs.declared.planned.Planned.{Planned}
 use Rattle.alloc_core.specs.declared.planned.Planned.TheVariants.{Claim, Waste}
 use Rattle.alloc_core.specs.declared.alloc.Stage.{Stage}
 use Rattle.alloc_core.specs.declared.alloc.Stage.TheVariants.{LoadFree, Corrupt}
-use Rattle.alloc_core.specs.Layout.{IsShape}
 use Rattle.alloc_core.specs.Planned.{planned, is_pointer}
 use Rattle.alloc_core.specs.Alloc.{IsAimed, IsRise, stage_of_plan}
 use Rattle.alloc_core.proofs.Lawful.{moved_lawful}

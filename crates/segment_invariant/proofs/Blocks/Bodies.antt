@@ -1,27 +1,15 @@
 -- A block of one's own that may be published holds just the words of what it is published as: a lawful record or sample that counts
 -- nothing, and a counts block of zeros.
-use Rattle.std.proofs.Common.{◌≡◌, ◌≢◌, ◌⊎◌, ℕ, suc, ◌+◌, ◌-◌, ◌*◌, ◌≤◌, ℤ, true, List, [], ◌∷◌, ◌++◌, length, replicate, All, inl, inr, refl, sym, ap, ◌∙◌, subst, arith, length-append, append_assoc}
-use Rattle.std.specs.Prelude.{slice_index, if◌then◌else◌, Some, None, nat_le}
+use Rattle.segment_invariant.proofs.Prelude.Std.{◌≡◌, ◌≢◌, ◌⊎◌, ℕ, suc, ◌+◌, ◌-◌, ◌*◌, ◌≤◌, ℤ, true, List, [], ◌∷◌, ◌++◌, length, replicate, All, inl, inr, refl, sym, ap, ◌∙◌, subst, arith, length-append, append_assoc, slice_index, if◌then◌else◌, Some, None, nat_le, w64, cast_unsigned, and_parts, leb-true, length-replicate}
+use Rattle.segment_invariant.proofs.Prelude.Machine.{Spec, Linear, Boolean, Custom, Sparse, SingleWord, Empty, buckets_of, spec_fault, spec_fields, spec_ranges, single_of, packed_bucket, Own, units_in, AreNameWords}
+use Rattle.segment_invariant.proofs.Prelude.Invariant.{Record, Counts, Sample, record_words, form_at, IsLawfulRecord, IsCountsOf, CountsNothing}
 use Rattle.std.specs.Prelude as std
-use Rattle.std.specs.Int.{w64, cast_unsigned}
-use Rattle.std.proofs.lemmas.Bool.{and_parts}
-use Rattle.std.proofs.lemmas.Bool.{leb-true}
-use Rattle.std.proofs.lemmas.List.{length-replicate, replicate-append-replicate}
+use Rattle.std.proofs.lemmas.List.{replicate-append-replicate}
 use Rattle.std.proofs.lemmas.List.Elements.{All-replicate}
 use Rattle.segment_image.proofs.ReadWords.{length-bytes_of_words}
-use Rattle.bucket_ranges.specs.declared.spec.Spec.{Spec}
-use Rattle.bucket_ranges.specs.declared.spec.Spec.TheVariants.{Linear, Boolean, Custom, Sparse}
-use Rattle.bucket_ranges.specs.declared.single.SingleWord.{SingleWord}
-use Rattle.bucket_ranges.specs.declared.single.SingleWord.TheVariants.{Empty}
-use Rattle.bucket_ranges.specs.Spec.{buckets_of, spec_fault, spec_fields, spec_ranges}
 use Rattle.bucket_ranges.specs.Reading.{is_name, is_i32}
-use Rattle.bucket_ranges.specs.Single.{single_of, packed_bucket}
-use Rattle.segment_machine.specs.declared.actor.Own.{Own}
-use Rattle.segment_calls.specs.Form.{units_in}
-use Rattle.segment_machine.specs.Made.{AreNameWords}
-use Rattle.segment_invariant.specs.Body.{Record, Counts, Sample, own_words, record_words, counts_words, sample_words, spec_field}
-use Rattle.segment_invariant.specs.Ledger.{form_at}
-use Rattle.segment_invariant.specs.Invariant.{IsLawfulRecord, IsCountsOf, IsLawfulSample, CountsNothing}
+use Rattle.segment_invariant.specs.Body.{own_words, counts_words, sample_words, spec_field}
+use Rattle.segment_invariant.specs.Invariant.{IsLawfulSample}
 
 -- ---- the single word of a new record
 

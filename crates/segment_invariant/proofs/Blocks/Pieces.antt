@@ -1,26 +1,20 @@
 -- The blocks of a segment among its words: a word of a block, a store into one, a block more, and what of the blocks stays.
-use Rattle.std.proofs.Common.{◌≡◌, ◌≢◌, ◌⊎◌, ℕ, zero, suc, ◌+◌, ◌-◌, ◌<◌, ◌≤◌, ℤ, pos, ◌+ℤ◌, Bool, true, false, cond, List, [], ◌∷◌, ◌++◌, map, length, replicate, set, get_or, fold, filter, IsPermutation, inl, inr, ⊎_elim, refl, sym, ap, ◌∙◌, subst, arith, get_or-take, get_or-drop}
-use Rattle.std.specs.Prelude.{slice_index}
-use Rattle.std.proofs.lemmas.Bool.{cases_order}
-use Rattle.std.proofs.Math.IntN.{+ℤ_idr}
+use Rattle.segment_invariant.proofs.Prelude.Std.{◌≡◌, ◌≢◌, ◌⊎◌, ℕ, zero, suc, ◌+◌, ◌-◌, ◌<◌, ◌≤◌, ℤ, pos, ◌+ℤ◌, Bool, true, false, cond, List, [], ◌∷◌, ◌++◌, map, length, replicate, set, get_or, fold, filter, IsPermutation, inl, inr, ⊎_elim, refl, sym, ap, ◌∙◌, subst, arith, get_or-drop, slice_index, cases_order, +ℤ_idr, some, none, some-injective, some-ne-none, get_elem?, at_map, at_set, set_else, at_longer, column, sum_beside, sum_same, from_map}
+use Rattle.segment_invariant.proofs.Prelude.Machine.{Dimensions, word_at, IsShown, Claim}
+use Rattle.segment_invariant.proofs.Prelude.Invariant.{Body, queue, plain, words_of, is_claimed, Piece, extent_of, Anatomy, layout_of, free_of, claims_of, all_held, Stands}
+use Rattle.std.proofs.Common.{get_or-take}
 use Rattle.std.proofs.lemmas.List.{map_push}
 use Rattle.std.proofs.lemmas.List.Sums.{sum_by_push, fold-append}
 use Rattle.std.proofs.lemmas.List.Sorted.{IsPermutation-append_comm, IsPermutation-cons}
-use mathlib.Core.Option.{Option, some, none, some-injective, some-ne-none}
-use lib.ListN.{get_elem?}
+use mathlib.Core.Option.{Option}
 use lib.Seq.{map-set}
-use Rattle.atomic_table.proofs.Lists.{at_map, at_set, set_else, at_longer, at_last, at_snoc}
-use Rattle.segment_image.specs.Shape.{Dimensions}
-use Rattle.segment_image.specs.Words.{word_at}
-use Rattle.alloc_core.specs.Layout.{Block, extent, IsLaid, queue_block, IsShown, put, raw_block, grown}
+use Rattle.atomic_table.proofs.Lists.{at_last, at_snoc}
+use Rattle.alloc_core.specs.Layout.{Block, extent, IsLaid, queue_block, put, raw_block, grown}
 use Rattle.alloc_core.specs.Layout as layout
 use Rattle.alloc_core.proofs.Layouts.{apart, ends_within, shown_put, shown_queue, slice_shown, free_put, free_grown, free_from}
 use Rattle.alloc_core.proofs.Owners.{set_at}
-use Rattle.segment_machine.specs.declared.actor.Claim.{Claim}
-use Rattle.segment_invariant.specs.Body.{Body, queue, plain, words_of, is_claimed, Piece, extent_of, block_of, Anatomy, layout_of, free_of, claims_of}
-use Rattle.segment_invariant.specs.Ledger.{all_held, all_amounts}
-use Rattle.segment_invariant.specs.Seen.{Stands}
-use Rattle.list_lemmas.proofs.Elements.{column, sum_beside, sum_same, from_map}
+use Rattle.segment_invariant.specs.Body.{block_of}
+use Rattle.segment_invariant.specs.Ledger.{all_amounts}
 
 -- ---- one block among others
 

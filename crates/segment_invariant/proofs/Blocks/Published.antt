@@ -1,24 +1,10 @@
 -- Blocks among others: one gets its next, and blocks of one's own are published.
-use Rattle.std.proofs.Common.{◌≡◌, ◌≢◌, ◌⊎◌, ℕ, ◌+◌, ◌<◌, ◌≤◌, ℤ, true, false, List, length, set, inl, inr, ⊎_elim, refl, sym, ap, ◌∙◌, subst, arith, All}
-use Rattle.std.specs.Prelude.{slice_index}
-use Rattle.std.specs.Str.{bytes_eq}
-use Rattle.std.specs.Ordering.{int_eq}
-use Rattle.std.specs.Int.{w64, cast_signed}
-use mathlib.Core.Option.{some, none, some-injective, some-ne-none}
-use mathlib.Core.Logic.{dite}
-use native.Mathlib.Decide.{ℕ_discrete}
-use lib.ListN.{get_elem?}
-use lib.Seq.{set-get_or}
-use Rattle.atomic_table.proofs.Lists.{at_set, set_else}
+use Rattle.segment_invariant.proofs.Prelude.Std.{◌≡◌, ◌≢◌, ◌⊎◌, ℕ, ◌+◌, ◌<◌, ◌≤◌, ℤ, true, false, List, length, set, inl, inr, ⊎_elim, refl, sym, ap, ◌∙◌, subst, arith, All, slice_index, bytes_eq, int_eq, w64, cast_signed, some, none, some-injective, some-ne-none, dite, ℕ_discrete, get_elem?, set-get_or, at_set, set_else}
+use Rattle.segment_invariant.proofs.Prelude.Machine.{Dimensions, IsShown, Own, units_in}
+use Rattle.segment_invariant.proofs.Prelude.Invariant.{Record, Counts, Sample, Body, queue, plain, held, histogram, counts, sample, other, words_of, is_claimed, Piece, extent_of, Anatomy, layout_of, free_of, claims_of, units_held, marks_held, noted_held, form_at, at_bucket, Stands, StandStill}
 use Rattle.alloc_core.proofs.Owners.{set_at}
-use Rattle.segment_image.specs.Shape.{Dimensions}
-use Rattle.alloc_core.specs.Layout.{IsShown}
-use Rattle.segment_machine.specs.declared.actor.Own.{Own}
-use Rattle.segment_calls.specs.Form.{units_in}
-use Rattle.segment_invariant.specs.Body.{Record, Counts, Sample, Body, queue, plain, held, histogram, counts, sample, other, own_words, words_of, is_claimed, Piece, extent_of, Anatomy, layout_of, free_of, claims_of}
-use Rattle.segment_invariant.specs.Ledger.{units_held, marks_held, sum_held, sum_mark_held, noted_held, form_at, at_bucket}
-use Rattle.segment_invariant.specs.Seen.{Stands}
-use Rattle.segment_invariant.specs.Invariant.{StandStill}
+use Rattle.segment_invariant.specs.Body.{own_words}
+use Rattle.segment_invariant.specs.Ledger.{sum_held, sum_mark_held}
 use Rattle.segment_invariant.proofs.Blocks.Pieces.{piece_word, not_first, with_piece, piece_stored, free_with, stands_beside, stood_beside, claims_same, held_same, amounts_same}
 use Rattle.segment_invariant.proofs.Allocating.Claimers.{still_put, AllClaimedRight, right_put}
 use Rattle.segment_invariant.proofs.Frames.Growth.{with_next, same_next}

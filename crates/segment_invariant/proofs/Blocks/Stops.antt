@@ -1,20 +1,11 @@
 -- The blocks of the list: the queue block and the records stand as blocks without owner, so a store elsewhere leaves the list.
-use Rattle.std.proofs.Common.{◌≡◌, ℕ, zero, suc, ◌+◌, ◌<◌, ◌≤◌, List, set, All, inl, inr, refl, sym, ap, ◌∙◌, subst, arith}
-use Rattle.std.specs.Prelude.{slice_index}
+use Rattle.segment_invariant.proofs.Prelude.Std.{◌≡◌, ℕ, zero, suc, ◌+◌, ◌<◌, ◌≤◌, List, set, All, inl, inr, refl, sym, ap, ◌∙◌, subst, arith, slice_index, length-map, some, none, some-injective, some-ne-none, get_elem?, at_map, index_at, all_at}
+use Rattle.segment_invariant.proofs.Prelude.Machine.{Dimensions, IsShown, stops, IsStop, IsLinked, Made}
+use Rattle.segment_invariant.proofs.Prelude.Invariant.{Piece, extent_of, Listed, Anatomy, layout_of, order_of, StandsAs}
 use Rattle.std.specs.Prelude as std
-use Rattle.std.proofs.lemmas.List.{length-map}
-use mathlib.Core.Option.{some, none, some-injective, some-ne-none}
-use lib.ListN.{get_elem?}
-use Rattle.atomic_table.proofs.Lists.{at_map}
-use Rattle.segment_image.specs.Shape.{Dimensions}
-use Rattle.alloc_core.specs.Layout.{IsShown}
-use Rattle.list_core.specs.Chain.{stops, IsStop, IsLinked}
 use Rattle.list_core.proofs.Chains.{linked_beside}
-use Rattle.segment_machine.specs.declared.actor.Made.{Made}
 use Rattle.segment_machine.specs.declared.actor.Made.TheVariants as made
-use Rattle.segment_invariant.specs.Body.{Piece, extent_of, Listed, Anatomy, layout_of, order_of}
-use Rattle.segment_invariant.specs.Invariant.{StandsAs}
-use Rattle.list_lemmas.proofs.Elements.{there_below, index_at, all_at}
+use Rattle.list_lemmas.proofs.Elements.{there_below}
 use Rattle.segment_invariant.proofs.Blocks.Pieces.{first_piece, some_first, piece_from, one_index}
 
 -- a block without owner, of four words or more, begins at a word

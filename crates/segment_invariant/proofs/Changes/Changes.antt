@@ -1,30 +1,11 @@
 -- A state is kept where a recorder counts, packs or takes: it changes a word of a published block, and itself.
-use Rattle.std.proofs.Common.{◌≡◌, ◌≢◌, ℕ, ◌<◌, ◌≤◌, ℤ, true, List, ◌++◌, set, All, Contains, IsPermutation, inl, inr, ⊎_elim, refl, sym, ap, ◌∙◌, subst, arith, false}
-use Rattle.std.proofs.lemmas.List.Elements.{All-weaker}
-use mathlib.Core.Option.{some}
-use lib.ListN.{get_elem?}
-use Rattle.atomic_table.proofs.Lists.{at_set}
-use Rattle.segment_image.specs.Shape.{Dimensions}
-use Rattle.alloc_core.specs.Layout.{IsShown}
-use Rattle.alloc_core.specs.Laws.{Behind}
-use Rattle.list_core.specs.Chain.{IsLinked}
-use Rattle.segment_machine.specs.declared.entry.Entry.{Entry}
-use Rattle.segment_machine.specs.declared.actor.Actor.{Actor}
-use Rattle.segment_machine.specs.declared.actor.Portion.{Portion}
-use Rattle.segment_machine.specs.declared.actor.Answered.{Answered}
-use Rattle.segment_machine.specs.declared.actor.Claim.{Claim}
-use Rattle.segment_machine.specs.declared.actor.Own.{Own}
-use Rattle.segment_machine.specs.declared.place.Place.TheVariants.{Spent}
-use Rattle.segment_machine.specs.Entry.{tally_units}
-use Rattle.segment_machine.specs.Actor.{counted_of, all_counted, units_of, taken_of, is_opener}
-use Rattle.segment_machine.specs.State.{State}
+use Rattle.segment_invariant.proofs.Prelude.Std.{◌≡◌, ◌≢◌, ℕ, ◌<◌, ◌≤◌, ℤ, true, List, ◌++◌, set, All, Contains, IsPermutation, inl, inr, ⊎_elim, refl, sym, ap, ◌∙◌, subst, arith, false, All-weaker, some, get_elem?, at_set, rows, column, sum_same}
+use Rattle.segment_invariant.proofs.Prelude.Machine.{Dimensions, IsShown, Behind, IsLinked, Entry, Actor, Portion, Answered, Claim, Own, Spent, tally_units, counted_of, all_counted, units_of, taken_of, is_opener, State}
+use Rattle.segment_invariant.proofs.Prelude.Invariant.{IsWithinCounts, Record, Body, plain, held, histogram, Piece, Anatomy, layout_of, order_of, free_of, claims_of, Stands, Sees, StandsAs, RecordsAreKept, StandsRight, HoldsOwn, CallsRight, HasKey, SumsAreNear, LooksBack, FinalsAreExact, Fits, IsSetBy, ClaimedRight, StandStill, is_living, Invariant}
 use Rattle.segment_invariant.proofs.Frames.Ahead.{KeepsUp, ahead_at}
-use Rattle.segment_invariant.specs.Consistent.{IsWithinCounts}
-use Rattle.segment_invariant.specs.Body.{Record, Body, plain, held, histogram, Piece, Anatomy, layout_of, order_of, free_of, claims_of}
 use Rattle.segment_invariant.specs.Ledger.{IsBalanced}
-use Rattle.segment_invariant.specs.Seen.{Stands, Sees}
-use Rattle.segment_invariant.specs.Invariant.{StandsAs, IsListed, RecordsAreKept, StandsRight, HoldsOwn, CallsRight, HasKey, SumsAreNear, LooksBack, FinalsAreExact, Fits, IsSetBy, ClaimedRight, StandStill, is_living, Invariant}
-use Rattle.list_lemmas.proofs.Elements.{rows, column, row_from, sum_same}
+use Rattle.segment_invariant.specs.Invariant.{IsListed}
+use Rattle.list_lemmas.proofs.Elements.{row_from}
 use Rattle.segment_invariant.proofs.Lists.Countings.{units_total}
 use Rattle.segment_invariant.proofs.Frames.Answers.{answered_set}
 use Rattle.segment_invariant.proofs.Frames.Anatomies.{calls_same}

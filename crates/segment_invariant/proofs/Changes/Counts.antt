@@ -1,18 +1,10 @@
 -- A count of a counts block rises: the block goes on, and holds so many units more of the bucket's key.
-use Rattle.std.proofs.Common.{◌≡◌, ◌≢◌, ℕ, zero, suc, ◌+◌, ◌<◌, ◌≤◌, max, ℤ, Bool, true, false, if◌then◌else◌, List, ◌∷◌, ◌++◌, length, set, sum_by, refl, sym, ap, ◌∙◌, subst, arith, length-append, length-set}
-use Rattle.std.specs.Prelude.{slice_index}
-use Rattle.std.specs.List.{range_with_len}
-use Rattle.std.specs.Ordering.{int_eq}
+use Rattle.segment_invariant.proofs.Prelude.Std.{◌≡◌, ◌≢◌, ℕ, zero, suc, ◌+◌, ◌<◌, ◌≤◌, max, ℤ, Bool, true, false, if◌then◌else◌, List, ◌∷◌, ◌++◌, length, set, sum_by, refl, sym, ap, ◌∙◌, subst, arith, length-append, length-set, slice_index, range_with_len, int_eq, get_or-set_same, sum_by-cons, dite, ℕ_discrete}
+use Rattle.segment_invariant.proofs.Prelude.Machine.{Spec, is_off}
+use Rattle.segment_invariant.proofs.Prelude.Invariant.{Record, Counts, counts, key_of_bucket, keyed, IsCountsOf}
 use Rattle.std.proofs.Math.Nat.{le-max_left, le-max_right, max-le}
-use Rattle.std.proofs.lemmas.List.{get_or-set_same, get_or-set_other, set-append_left}
-use Rattle.std.proofs.lemmas.List.Sums.{sum_by-cons}
-use mathlib.Core.Logic.{dite}
-use native.Mathlib.Decide.{ℕ_discrete}
-use Rattle.bucket_ranges.specs.declared.spec.Spec.{Spec}
-use Rattle.segment_calls.specs.Form.{is_off}
-use Rattle.segment_invariant.specs.Body.{Record, Counts, counts, counts_words}
-use Rattle.segment_invariant.specs.Ledger.{key_of_bucket, keyed}
-use Rattle.segment_invariant.specs.Invariant.{IsCountsOf}
+use Rattle.std.proofs.lemmas.List.{get_or-set_other, set-append_left}
+use Rattle.segment_invariant.specs.Body.{counts_words}
 use Rattle.segment_invariant.proofs.Changes.Words.{Turns}
 use Rattle.segment_invariant.proofs.Counting.Seen.{count_in}
 

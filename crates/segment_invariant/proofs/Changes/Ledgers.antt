@@ -1,18 +1,12 @@
 -- The ledger, where one block and one actor change: it is kept where one equation for each column holds between the two.
-use Rattle.std.proofs.Common.{◌≡◌, ℕ, zero, suc, ◌+◌, ◌≤◌, ℤ, ◌+ℤ◌, List, [], ◌∷◌, ◌++◌, set, sym, ap, ◌∙◌, arith, append-nil}
-use Rattle.std.specs.List.{flat_map}
-use Rattle.std.proofs.Math.IntN.{+ℤ_assoc, +ℤ_comm, +ℤ_idl}
+use Rattle.segment_invariant.proofs.Prelude.Std.{◌≡◌, ℕ, zero, suc, ◌+◌, ◌≤◌, ℤ, ◌+ℤ◌, List, [], ◌∷◌, ◌++◌, set, sym, ap, ◌∙◌, arith, append-nil, flat_map, +ℤ_idl, some, some-injective, some-ne-none, get_elem?, split_at, sum_beside, rows, IsTotal}
+use Rattle.segment_invariant.proofs.Prelude.Machine.{Actor, tally_units, tally_sum, tally_noted, counted_of, summed_of, noted_of, taken_units, taken_sum, all_counted, all_taken, taken_of}
+use Rattle.segment_invariant.proofs.Prelude.Invariant.{Body, Piece, units_held, marks_held, noted_held, moving_at}
+use Rattle.std.proofs.Math.IntN.{+ℤ_assoc, +ℤ_comm}
 use Rattle.std.proofs.lemmas.Grind.{flat_map-append}
-use mathlib.Core.Option.{some, some-injective, some-ne-none}
-use lib.ListN.{get_elem?}
-use Rattle.segment_machine.specs.declared.actor.Actor.{Actor}
-use Rattle.segment_machine.specs.Entry.{tally_units, tally_sum, tally_noted}
-use Rattle.segment_machine.specs.Actor.{counted_of, summed_of, noted_of, taken_units, taken_sum, all_counted, all_taken, taken_of}
-use Rattle.segment_invariant.specs.Body.{Body, Piece}
-use Rattle.segment_invariant.specs.Ledger.{units_held, marks_held, sum_held, sum_mark_held, noted_held, all_amounts, moving_at, IsBalanced}
+use Rattle.segment_invariant.specs.Ledger.{sum_held, sum_mark_held, all_amounts, IsBalanced}
 use Rattle.segment_invariant.proofs.Lists.Countings.{units_total, sum_total, noted_total}
-use Rattle.list_lemmas.proofs.Elements.{split_at, sum_beside, rows}
-use Rattle.list_lemmas.proofs.Sums.{IsTotal, amounts_total}
+use Rattle.list_lemmas.proofs.Sums.{amounts_total}
 use Rattle.segment_invariant.proofs.Blocks.Pieces.{held_beside}
 use Rattle.segment_invariant.proofs.Lists.Portions.{taken_total, taken_sum_total}
 

@@ -1,22 +1,10 @@
 -- A recorder sees one counter more: what it saw lies behind the present, and it looks back at no more than there is.
-use Rattle.std.proofs.Common.{◌≡◌, ◌≢◌, ◌⊎◌, ℕ, ◌+◌, ◌<◌, ◌≤◌, ℤ, true, List, [], ◌∷◌, ◌++◌, Contains, inl, inr, ⊎_elim, sym, ap, ◌∙◌, subst, arith, Some, length-append}
-use Rattle.std.specs.Prelude.{take, drop}
-use Rattle.std.proofs.lemmas.List.{drop-append-le, take-append-le}
-use Rattle.std.proofs.lemmas.List.Elements.{All-push, Contains-append_cases}
-use Rattle.bucket_ranges.specs.Spec.{buckets_of}
-use Rattle.bucket_ranges.specs.Single.{single_of, units_packed}
-use Rattle.segment_machine.specs.declared.actor.Actor.{Actor}
-use Rattle.segment_machine.specs.declared.actor.Known.{Known}
-use Rattle.segment_machine.specs.declared.seen.Seen.{Seen}
-use Rattle.segment_machine.specs.declared.seen.Sighting.{Sighting}
-use Rattle.segment_calls.specs.Form.{is_off}
-use Rattle.segment_machine.specs.Entry.{tally_units, tally_noted}
-use Rattle.segment_machine.specs.Actor.{accepted_by, accepted_since, all_counted, bucket_key, cost_of, word_seen, SawSingle}
-use Rattle.segment_invariant.specs.Body.{Record, Anatomy}
-use Rattle.segment_invariant.specs.Ledger.{form_at}
-use Rattle.segment_invariant.specs.Seen.{HasRecord, IsFirstOf, WasCounter, WasInUse, WasMet, Sees}
-use Rattle.segment_invariant.specs.Invariant.{IsSettled, LooksBack}
-use Rattle.list_lemmas.proofs.Elements.{one_in}
+use Rattle.segment_invariant.proofs.Prelude.Std.{◌≡◌, ◌≢◌, ◌⊎◌, ℕ, ◌+◌, ◌<◌, ◌≤◌, ℤ, true, List, [], ◌∷◌, ◌++◌, Contains, inl, inr, ⊎_elim, sym, ap, ◌∙◌, subst, arith, Some, length-append, take, drop, drop-append-le, All-push, Contains-append_cases, one_in}
+use Rattle.segment_invariant.proofs.Prelude.Machine.{buckets_of, single_of, units_packed, Actor, Known, Seen, Sighting, is_off, tally_units, tally_noted, accepted_by, all_counted, bucket_key, cost_of, word_seen}
+use Rattle.segment_invariant.proofs.Prelude.Invariant.{Record, Anatomy, form_at, HasRecord, IsFirstOf, WasCounter, WasInUse, WasMet, Sees, LooksBack}
+use Rattle.std.proofs.lemmas.List.{take-append-le}
+use Rattle.segment_machine.specs.Actor.{accepted_since, SawSingle}
+use Rattle.segment_invariant.specs.Invariant.{IsSettled}
 use Rattle.segment_invariant.proofs.Changes.Others.{Deed, changed, sees_no_more}
 
 -- with that counter

@@ -1,36 +1,10 @@
 -- What holds of actors where one recorder that lives counts, packs or takes: of the others it stays, for none of them is alone; and of
 -- what was seen before it stays, for words of published blocks only go on.
-use Rattle.std.proofs.Common.{◌≡◌, ◌≢◌, ℕ, ◌+◌, ◌<◌, ◌≤◌, ℤ, true, false, List, Option, Some, length, set, All, Contains, inl, inr, ⊎_elim, refl, sym, ap, ◌∙◌, subst, arith}
-use Rattle.std.specs.Int.{w64, cast_signed}
-use Rattle.std.specs.Prelude.{drop}
-use Rattle.std.proofs.lemmas.List.Elements.{All-contains, All-contains_itself, All-drop}
-use mathlib.Core.Logic.{dite}
-use mathlib.Core.Option.{some, none}
-use native.Mathlib.Decide.{ℕ_discrete}
-use lib.ListN.{get_elem?}
-use Rattle.segment_image.specs.Shape.{Dimensions}
-use Rattle.alloc_core.specs.Layout.{IsShown}
-use Rattle.bucket_ranges.specs.declared.single.SingleWord.{SingleWord}
-use Rattle.bucket_ranges.specs.Spec.{buckets_of}
-use Rattle.bucket_ranges.specs.Single.{packed_bucket, units_packed, single_of}
-use Rattle.segment_machine.specs.declared.entry.EntryProgress.{EntryProgress}
-use Rattle.segment_machine.specs.declared.place.Place.{Place}
-use Rattle.segment_machine.specs.declared.place.Place.TheVariants.{Spent, SumLoaded}
-use Rattle.segment_machine.specs.declared.actor.Actor.{Actor}
-use Rattle.segment_machine.specs.declared.actor.Known.{Known}
-use Rattle.segment_machine.specs.declared.actor.Moment.{Moment}
-use Rattle.segment_machine.specs.declared.actor.Own.{Own}
-use Rattle.segment_machine.specs.declared.actor.Taken.{Taken}
-use Rattle.segment_machine.specs.declared.seen.Seen.{Seen}
-use Rattle.segment_machine.specs.declared.seen.Sighting.{Sighting}
-use Rattle.segment_calls.specs.Form.{is_off, Leads}
-use Rattle.segment_machine.specs.Entry.{tally_units}
-use Rattle.segment_machine.specs.Actor.{accepted_by, all_counted, bucket_key, SawCount, is_opener, made_of, outstanding_of}
-use Rattle.segment_machine.specs.State.{State}
-use Rattle.segment_invariant.specs.Body.{Record, Counts, Body, histogram, counts, Listed, Anatomy, layout_of}
-use Rattle.segment_invariant.specs.Ledger.{form_at}
-use Rattle.segment_invariant.specs.Seen.{HasRecord, HasCounts, IsFirstOf, WasCounter, WasInUse}
-use Rattle.segment_invariant.specs.Invariant.{is_living, RolesAreKept, RecordsAreKept, IsMoment, IsAlone, IsSettled, LooksBack, FinalsAreExact, Invariant}
+use Rattle.segment_invariant.proofs.Prelude.Std.{◌≡◌, ◌≢◌, ℕ, ◌+◌, ◌<◌, ◌≤◌, ℤ, true, false, List, Option, Some, length, set, All, Contains, inl, inr, ⊎_elim, refl, sym, ap, ◌∙◌, subst, arith, w64, cast_signed, drop, All-contains, dite, some, none, ℕ_discrete, get_elem?}
+use Rattle.segment_invariant.proofs.Prelude.Machine.{Dimensions, IsShown, SingleWord, buckets_of, packed_bucket, units_packed, single_of, EntryProgress, Place, Spent, SumLoaded, Actor, Known, Moment, Own, Taken, Seen, Sighting, is_off, Leads, tally_units, accepted_by, all_counted, bucket_key, SawCount, is_opener, made_of, outstanding_of, State}
+use Rattle.segment_invariant.proofs.Prelude.Invariant.{Record, Counts, Body, histogram, counts, Listed, Anatomy, layout_of, form_at, HasRecord, HasCounts, IsFirstOf, WasCounter, WasInUse, is_living, RolesAreKept, RecordsAreKept, IsAlone, LooksBack, FinalsAreExact, Invariant}
+use Rattle.std.proofs.lemmas.List.Elements.{All-contains_itself, All-drop}
+use Rattle.segment_invariant.specs.Invariant.{IsMoment, IsSettled}
 use Rattle.list_lemmas.proofs.Maps.{one_at, contains_take}
 use Rattle.segment_invariant.proofs.Blocks.Pieces.{one_stands, piece_from}
 use Rattle.segment_invariant.proofs.Blocks.Places.{counter_within}

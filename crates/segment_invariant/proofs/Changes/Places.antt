@@ -1,18 +1,7 @@
 -- A recorder turns to another place while one word of a published block becomes another, and has counted, taken and seen what it had.
-use Rattle.std.proofs.Common.{◌≡◌, ◌≢◌, ℕ, ◌+◌, ℤ, List, set, refl, sym, ap, ◌∙◌, arith, false}
-use mathlib.Core.Option.{some, none}
-use lib.ListN.{get_elem?}
-use Rattle.segment_image.specs.Shape.{Dimensions}
-use Rattle.segment_machine.specs.declared.actor.Actor.{Actor}
-use Rattle.segment_machine.specs.declared.place.Place.{Place}
-use Rattle.segment_machine.specs.declared.place.Place.TheVariants.{Spent, SumLoaded}
-use Rattle.segment_machine.specs.Entry.{tally_units, tally_sum, tally_noted}
-use Rattle.segment_machine.specs.Actor.{counted_of, summed_of, noted_of, all_counted, all_summed, all_noted, all_taken, taken_units, taken_sum, taken_of, is_opener}
-use Rattle.segment_machine.specs.State.{State}
-use Rattle.segment_invariant.specs.Body.{Body, Anatomy}
-use Rattle.segment_invariant.specs.Seen.{Stands}
-use Rattle.segment_invariant.specs.Invariant.{RecordsAreKept, StandsRight, FinalsAreExact, Invariant}
-use Rattle.list_lemmas.proofs.Elements.{rows, row_in}
+use Rattle.segment_invariant.proofs.Prelude.Std.{◌≡◌, ◌≢◌, ℕ, ◌+◌, ℤ, List, set, refl, sym, ap, ◌∙◌, arith, false, some, none, get_elem?, rows, row_in}
+use Rattle.segment_invariant.proofs.Prelude.Machine.{Dimensions, Actor, Place, Spent, SumLoaded, tally_units, tally_sum, tally_noted, counted_of, summed_of, noted_of, all_counted, all_summed, all_noted, all_taken, taken_units, taken_sum, taken_of, is_opener, State}
+use Rattle.segment_invariant.proofs.Prelude.Invariant.{Body, Anatomy, Stands, RecordsAreKept, StandsRight, FinalsAreExact, Invariant}
 use Rattle.segment_invariant.proofs.Frames.Ahead.{KeepsUp}
 use Rattle.segment_invariant.proofs.Frames.Anatomies.{calls_same}
 use Rattle.segment_invariant.proofs.Frames.Roles.{SameRoles}

@@ -1,16 +1,7 @@
 -- Records are kept where a word of a record, of its counts, or of a sample becomes another.
-use Rattle.std.proofs.Common.{◌≡◌, ◌≢◌, ℕ, ◌≤◌, List, inl, inr, ⊎_elim, refl, sym, ap, ◌∙◌, subst}
-use mathlib.Core.Logic.{dite}
-use mathlib.Core.Option.{none}
-use native.Mathlib.Decide.{ℕ_discrete}
-use Rattle.segment_image.specs.Shape.{Dimensions}
-use Rattle.bucket_ranges.specs.declared.spec.Spec.{Spec}
-use Rattle.segment_machine.specs.State.{State}
-use Rattle.segment_calls.specs.Form.{units_in}
-use Rattle.segment_invariant.specs.Body.{Record, Counts, Sample, Body, histogram, counts, sample, Piece, Anatomy}
-use Rattle.segment_invariant.specs.Ledger.{form_at}
-use Rattle.segment_invariant.specs.Seen.{Stands, HasRecord, HasCounts, IsFirst}
-use Rattle.segment_invariant.specs.Invariant.{IsLawfulRecord, IsCountsOf, CountsNothing, RecordsAreKept, Invariant}
+use Rattle.segment_invariant.proofs.Prelude.Std.{◌≡◌, ◌≢◌, ℕ, ◌≤◌, List, inl, inr, ⊎_elim, refl, sym, ap, ◌∙◌, subst, dite, none, ℕ_discrete}
+use Rattle.segment_invariant.proofs.Prelude.Machine.{Dimensions, Spec, State, units_in}
+use Rattle.segment_invariant.proofs.Prelude.Invariant.{Record, Counts, Sample, Body, histogram, counts, sample, Piece, Anatomy, form_at, Stands, HasRecord, HasCounts, IsFirst, IsLawfulRecord, IsCountsOf, CountsNothing, RecordsAreKept, Invariant}
 use Rattle.segment_invariant.proofs.Blocks.Pieces.{one_stands}
 use Rattle.segment_invariant.proofs.Changes.Words.{Turns, turned, stands_then, stands_still, came_from}
 

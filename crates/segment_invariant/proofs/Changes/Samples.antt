@@ -1,11 +1,8 @@
 -- A word of a sample becomes another: records are kept, where it is the first of its value.
-use Rattle.std.proofs.Common.{◌≡◌, ◌≢◌, ℕ, List, inr, ⊎_elim, refl, sym, ◌∙◌, subst}
-use mathlib.Core.Option.{none}
-use Rattle.segment_image.specs.Shape.{Dimensions}
-use Rattle.segment_machine.specs.State.{State}
-use Rattle.segment_invariant.specs.Body.{Sample, Body, histogram, counts, sample, Piece, Anatomy}
-use Rattle.segment_invariant.specs.Seen.{Stands, HasSample, IsFirstOf}
-use Rattle.segment_invariant.specs.Invariant.{IsLawfulSample, RecordsAreKept, Invariant}
+use Rattle.segment_invariant.proofs.Prelude.Std.{◌≡◌, ◌≢◌, ℕ, List, inr, ⊎_elim, refl, sym, ◌∙◌, subst, none}
+use Rattle.segment_invariant.proofs.Prelude.Machine.{Dimensions, State}
+use Rattle.segment_invariant.proofs.Prelude.Invariant.{Sample, Body, histogram, counts, sample, Piece, Anatomy, Stands, HasSample, IsFirstOf, RecordsAreKept, Invariant}
+use Rattle.segment_invariant.specs.Invariant.{IsLawfulSample}
 use Rattle.segment_invariant.proofs.Changes.Words.{Turns, turned, stands_still, came_from}
 
 module _ (shape : Dimensions) (opened : Anatomy) (state : State) (kept : Invariant shape opened state) (at : ℕ) (x y : Sample) (j v : ℕ)

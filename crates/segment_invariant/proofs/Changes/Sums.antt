@@ -1,10 +1,8 @@
 -- Sums of a record stay near where none of them becomes another.
-use Rattle.std.proofs.Common.{◌≡◌, ℕ, ◌≤◌, ℤ, List, inl, inr, sym, ap, ◌∙◌, arith}
-use Rattle.std.specs.Int.{w64, cast_signed}
-use Rattle.segment_machine.specs.declared.actor.Actor.{Actor}
-use Rattle.segment_invariant.specs.Body.{Record, Piece}
-use Rattle.segment_invariant.specs.Seen.{HasRecord}
-use Rattle.segment_invariant.specs.Invariant.{IsSumOf, SumsAreNear, summed_costs}
+use Rattle.segment_invariant.proofs.Prelude.Std.{◌≡◌, ℕ, ◌≤◌, ℤ, List, inl, inr, sym, ap, ◌∙◌, arith, w64, cast_signed}
+use Rattle.segment_invariant.proofs.Prelude.Machine.{Actor}
+use Rattle.segment_invariant.proofs.Prelude.Invariant.{Record, Piece, HasRecord, IsSumOf, SumsAreNear}
+use Rattle.segment_invariant.specs.Invariant.{summed_costs}
 use Rattle.segment_invariant.proofs.Frames.Together.{LoadedBefore}
 
 -- a record has the sums of one that stood there, of its name

@@ -1,29 +1,9 @@
 -- One word of a published block becomes another, and the block goes on: what has then to be shown of the blocks.
-use Rattle.std.proofs.Common.{◌≡◌, ◌≢◌, ◌⊎◌, ℕ, ◌+◌, ◌<◌, ◌≤◌, ℤ, true, List, length, set, All, Contains, inl, inr, ⊎_elim, refl, sym, ap, ◌∙◌, subst, arith, length-set, false}
+use Rattle.segment_invariant.proofs.Prelude.Std.{◌≡◌, ◌≢◌, ◌⊎◌, ℕ, ◌+◌, ◌<◌, ◌≤◌, ℤ, true, List, length, set, All, Contains, inl, inr, ⊎_elim, refl, sym, ap, ◌∙◌, subst, arith, length-set, false, slice_index, dite, ℕ_discrete, some, none, some-injective, some-ne-none, get_elem?, at_set, set_else, sum_same}
+use Rattle.segment_invariant.proofs.Prelude.Machine.{Dimensions, IsShown, stops, IsLinked, Entry, Actor, Portion, Own, Spent, SumLoaded, Seen, Behind, tally_units, counted_of, all_counted, all_taken, taken_units, taken_of, is_opener, State}
+use Rattle.segment_invariant.proofs.Prelude.Invariant.{Body, held, words_of, is_claimed, Piece, extent_of, Anatomy, layout_of, order_of, claims_of, free_of, Record, Sample, histogram, sample, Stands, Sees, HasRecord, RecordsAreKept, StandsRight, HoldsOwn, CallsRight, HasKey, SumsAreNear, LooksBack, FinalsAreExact, StandStill, Invariant, summed_cost}
 use Rattle.std.proofs.lemmas.List.{get_or-set_other}
-use Rattle.std.specs.Prelude.{slice_index}
-use mathlib.Core.Logic.{dite}
-use native.Mathlib.Decide.{ℕ_discrete}
-use mathlib.Core.Option.{some, none, some-injective, some-ne-none}
-use lib.ListN.{get_elem?}
-use Rattle.atomic_table.proofs.Lists.{at_set, set_else}
-use Rattle.segment_image.specs.Shape.{Dimensions}
-use Rattle.alloc_core.specs.Layout.{IsShown}
-use Rattle.list_core.specs.Chain.{stops, IsLinked}
 use Rattle.list_core.proofs.Chains.{linked_beside}
-use Rattle.segment_machine.specs.declared.entry.Entry.{Entry}
-use Rattle.segment_machine.specs.declared.actor.Actor.{Actor}
-use Rattle.segment_machine.specs.declared.actor.Portion.{Portion}
-use Rattle.segment_machine.specs.declared.actor.Own.{Own}
-use Rattle.segment_machine.specs.declared.place.Place.TheVariants.{Spent, SumLoaded}
-use Rattle.segment_machine.specs.declared.seen.Seen.{Seen}
-use Rattle.alloc_core.specs.Laws.{Behind}
-use Rattle.segment_machine.specs.Entry.{tally_units}
-use Rattle.segment_machine.specs.Actor.{counted_of, all_counted, all_taken, taken_units, taken_of, is_opener}
-use Rattle.segment_machine.specs.State.{State}
-use Rattle.segment_invariant.specs.Body.{Body, held, words_of, is_claimed, Piece, extent_of, Anatomy, layout_of, order_of, claims_of, free_of, Record, Sample, histogram, sample}
-use Rattle.segment_invariant.specs.Seen.{Stands, Sees, HasRecord}
-use Rattle.segment_invariant.specs.Invariant.{RecordsAreKept, StandsRight, HoldsOwn, CallsRight, HasKey, SumsAreNear, LooksBack, FinalsAreExact, StandStill, Invariant, summed_cost}
 use Rattle.segment_invariant.proofs.Frames.Ahead.{KeepsUp}
 use Rattle.segment_invariant.proofs.Allocating.Claimers.{still_put, AllClaimedRight, right_put}
 use Rattle.segment_invariant.proofs.Blocks.Pieces.{one_index, one_piece, first_piece, piece_stored, free_with, claims_same, stands_beside, stands_here}
@@ -36,7 +16,6 @@ use Rattle.segment_invariant.proofs.Changes.Others.{Deed, changed, changed_roles
 use Rattle.segment_invariant.proofs.Changes.Sums.{SameSum, sums_on}
 use Rattle.segment_invariant.proofs.Counting.Seen.{known_stands}
 use Rattle.segment_invariant.proofs.Frames.Together.{loaded_set}
-use Rattle.list_lemmas.proofs.Elements.{sum_same}
 
 -- What a block is, where word j of it becomes v: it goes on.
 pub record Turns (version : ℕ) (body then_is : Body) (j v : ℕ) : Type 0 where

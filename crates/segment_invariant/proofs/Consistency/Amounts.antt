@@ -1,17 +1,7 @@
 -- The sums of a kept state are the amounts, and its redundant counts grew by the units since the opening.
-use Rattle.std.proofs.Common.{◌≡◌, ℕ, ◌+◌, List, sym, ap, subst, ◌∙◌, arith}
-use Rattle.std.specs.Int.{w64, cast_signed}
-use Rattle.std.specs.List.{Contains}
-use Rattle.segment_image.specs.Shape.{Dimensions}
-use Rattle.segment_image.specs.Head.{head_of}
-use Rattle.segment_image.specs.Blocks.{field_at}
-use Rattle.list_core.specs.Chain.{IsChain}
-use Rattle.segment_machine.specs.Actor.{all_noted}
-use Rattle.segment_machine.specs.Entry.{tally_noted}
-use Rattle.segment_machine.specs.State.{State}
-use Rattle.segment_invariant.specs.Consistent.{IsHistogram}
-use Rattle.segment_invariant.specs.Body.{Anatomy, order_of}
-use Rattle.segment_invariant.specs.Invariant.{Invariant}
+use Rattle.segment_invariant.proofs.Prelude.Std.{◌≡◌, ℕ, ◌+◌, List, sym, ap, subst, ◌∙◌, arith, w64, cast_signed, Contains}
+use Rattle.segment_invariant.proofs.Prelude.Machine.{Dimensions, head_of, field_at, IsChain, all_noted, tally_noted, State}
+use Rattle.segment_invariant.proofs.Prelude.Invariant.{IsHistogram, Anatomy, order_of, Invariant}
 use Rattle.segment_invariant.specs.Keeps.{KeptSumsAreAmounts, opening_of}
 use Rattle.segment_invariant.proofs.Consistency.Records.{record_word}
 use Rattle.segment_invariant.proofs.Consistency.Firsts.{first_of_name}

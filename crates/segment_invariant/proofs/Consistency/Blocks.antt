@@ -1,27 +1,16 @@
 -- The claimed blocks of a kept segment among its words: lawful ones, apart from each other, and not too many.
-use Rattle.std.proofs.Common.{◌≡◌, Bool, true, false, cond, ℕ, suc, ◌+◌, ◌*◌, ◌<◌, ◌≤◌, List, [], ◌∷◌, map, length, filter, get_or, inl, inr, ⊎_elim, refl, sym, ap, subst, ◌∙◌, arith}
-use Rattle.std.specs.Prelude.{slice_index}
-use Rattle.std.specs.List.{All, Contains}
-use Rattle.std.proofs.lemmas.Bool.{cases_order}
+use Rattle.segment_invariant.proofs.Prelude.Std.{◌≡◌, Bool, true, false, cond, ℕ, suc, ◌+◌, ◌*◌, ◌<◌, ◌≤◌, List, [], ◌∷◌, map, length, filter, get_or, inl, inr, ⊎_elim, refl, sym, ap, subst, ◌∙◌, arith, slice_index, All, Contains, cases_order, some, some-injective, some-ne-none, get_elem?, at_map, from_map, contains_at, contains_filter, below_length, contains_map}
+use Rattle.segment_invariant.proofs.Prelude.Machine.{Dimensions, word_at, head_of, is_block, IsShown, Claim}
+use Rattle.segment_invariant.proofs.Prelude.Invariant.{Body, queue, plain, held, histogram, counts, sample, other, words_of, is_claimed, Piece, extent_of, Anatomy, layout_of, claims_of, ClaimedRight}
 use Rattle.std.proofs.lemmas.List.Elements.{All-filter, All-map, filter_passes}
 use Rattle.std.proofs.lemmas.List.Kept.{AllPairs-filter}
-use mathlib.Core.Option.{some, some-injective, some-ne-none}
-use lib.ListN.{get_elem?}
-use Rattle.atomic_table.proofs.Lists.{at_map}
-use Rattle.segment_image.specs.Shape.{Dimensions}
-use Rattle.segment_image.specs.Words.{word_at}
-use Rattle.segment_image.specs.Head.{head_of}
-use Rattle.segment_image.specs.Blocks.{is_block}
-use Rattle.alloc_core.specs.Layout.{IsShown, end_of}
+use Rattle.alloc_core.specs.Layout.{end_of}
 use Rattle.alloc_core.specs.Laws.{Apart}
 use Rattle.alloc_core.proofs.Layouts.{free_word, in_one_page}
 use Rattle.alloc_core.proofs.ClaimedBlocks.{IsClaimedAt, lawful_at}
-use Rattle.segment_machine.specs.declared.actor.Claim.{Claim}
 use Rattle.segment_invariant.specs.Consistent.{run_of}
-use Rattle.segment_invariant.specs.Body.{Body, queue, plain, held, histogram, counts, sample, other, words_of, is_claimed, Piece, extent_of, block_of, Anatomy, layout_of, claims_of}
-use Rattle.segment_invariant.specs.Invariant.{ClaimedRight}
-use Rattle.list_lemmas.proofs.Elements.{from_map, all_from, contains_at, contains_filter, below_length}
-use Rattle.list_lemmas.proofs.Maps.{contains_map}
+use Rattle.segment_invariant.specs.Body.{block_of}
+use Rattle.list_lemmas.proofs.Elements.{all_from}
 use Rattle.segment_invariant.proofs.Blocks.Pieces.{claim_of, piece_word, first_piece, some_first, one_piece, pieces_apart, piece_from, piece_ends}
 use Rattle.list_lemmas.proofs.Pairs.{AnyTwo, element_at}
 

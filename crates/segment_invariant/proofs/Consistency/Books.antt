@@ -1,27 +1,11 @@
 -- What the blocks of a kept segment hold of a bucket, and of a sparse value: of the records of a name only the first counts, with its
 -- counts block and its first samples.
-use Rattle.std.proofs.Common.{◌≡◌, ◌≢◌, ◌⊎◌, Bool, true, false, if◌then◌else◌, ℕ, zero, suc, ◌+◌, ◌<◌, ℤ, List, ◌∷◌, length, refl, sym, ap, subst, ◌∙◌, arith, Option, Some, None}
-use Rattle.std.specs.Prelude.{slice_index, ◌==◌}
-use Rattle.std.specs.List.{range_with_len}
-use Rattle.std.specs.Ordering.{int_eq}
-use Rattle.std.proofs.lemmas.Bool.{eqb-true, eqb-false, ne_eqb}
-use Rattle.std.proofs.lemmas.Bool.Decides.{Decides-int_eq}
-use mathlib.Core.Option.{some, none, some-injective, some-ne-none}
-use lib.ListN.{get_elem?}
-use Rattle.segment_image.specs.Shape.{Dimensions}
-use Rattle.bucket_ranges.specs.declared.spec.Spec.{Spec}
+use Rattle.segment_invariant.proofs.Prelude.Std.{◌≡◌, ◌≢◌, ◌⊎◌, Bool, true, false, if◌then◌else◌, ℕ, zero, suc, ◌+◌, ◌<◌, ℤ, List, ◌∷◌, length, refl, sym, ap, subst, ◌∙◌, arith, Option, Some, None, slice_index, ◌==◌, range_with_len, int_eq, eqb-true, eqb-false, ne_eqb, Decides-int_eq, some, none, some-injective, some-ne-none, get_elem?, at_from, split_at, first_longer}
+use Rattle.segment_invariant.proofs.Prelude.Machine.{Dimensions, Spec, buckets_of, spec_fault, packed_bucket, State, units_in}
+use Rattle.segment_invariant.proofs.Prelude.Invariant.{Record, Counts, Sample, Body, queue, plain, held, histogram, counts, sample, other, Piece, Listed, Anatomy, form_at, of_name, at_bucket, keyed, key_of_bucket, units_held, marks_held, all_held, HasRecord, HasCounts, HasSample, IsNamed, IsFirst, IsFirstOf, Invariant, CountsNothing}
 use Rattle.bucket_ranges.specs.declared.spec.Spec.TheVariants as spec
-use Rattle.bucket_ranges.specs.Spec.{buckets_of, spec_fault}
-use Rattle.bucket_ranges.specs.Single.{packed_bucket}
 use Rattle.segment_machine.specs.declared.actor.Made.TheVariants as made
-use Rattle.segment_machine.specs.State.{State}
-use Rattle.segment_calls.specs.Form.{units_in}
-use Rattle.segment_invariant.specs.Body.{Record, Counts, Sample, Body, queue, plain, held, histogram, counts, sample, other, Piece, Listed, Anatomy}
-use Rattle.segment_invariant.specs.Ledger.{form_at, of_name, at_bucket, keyed, key_of_bucket, units_held, marks_held, all_held}
-use Rattle.segment_invariant.specs.Seen.{HasRecord, HasCounts, HasSample, IsNamed, IsFirst, IsFirstOf}
-use Rattle.segment_invariant.specs.Invariant.{Invariant, CountsNothing}
-use Rattle.list_lemmas.proofs.Elements.{at_from, split_at}
-use Rattle.list_lemmas.proofs.Firsts.{first_longer, first_unique}
+use Rattle.list_lemmas.proofs.Firsts.{first_unique}
 use Rattle.segment_invariant.proofs.Blocks.Pieces.{one_piece, one_stands}
 use Rattle.segment_invariant.proofs.Lists.FewTerms.{sum_one, sum_pair}
 use Rattle.segment_invariant.proofs.Consistency.Blocks.{claimed_piece}

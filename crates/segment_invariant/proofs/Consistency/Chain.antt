@@ -1,30 +1,17 @@
 -- The list of a kept state is the chain, which begins with the records of the opening.
-use Rattle.std.proofs.Common.{◌≡◌, ◌⊎◌, true, ℕ, zero, suc, ◌+◌, ◌-◌, ◌%◌, ◌<◌, ◌≤◌, List, [], ◌∷◌, ◌++◌, map, length, IsPermutation, ⊎_elim, sym, ap, subst, ◌∙◌, arith}
-use Rattle.std.specs.Prelude.{slice_index}
-use Rattle.std.proofs.lemmas.List.{get_or_append_left, map-append}
-use Rattle.std.proofs.lemmas.List.Elements.{All-contains}
-use Rattle.std.proofs.lemmas.List.Sorted.{IsPermutation-refl, IsPermutation-append, IsPermutation-map, length_permutation}
+use Rattle.segment_invariant.proofs.Prelude.Std.{◌≡◌, ◌⊎◌, true, ℕ, zero, suc, ◌+◌, ◌-◌, ◌%◌, ◌<◌, ◌≤◌, List, [], ◌∷◌, ◌++◌, map, length, IsPermutation, ⊎_elim, sym, ap, subst, ◌∙◌, arith, slice_index, get_or_append_left, map-append, All-contains, IsPermutation-refl, some-injective, at_map}
+use Rattle.segment_invariant.proofs.Prelude.Machine.{Dimensions, word_at, field_at, IsShown, Behind, stops, IsStop, IsLinked, Actor, Claim, State, all_published}
+use Rattle.segment_invariant.proofs.Prelude.Invariant.{extent_of, Listed, listed, Anatomy, layout_of, order_of, free_of, claims_of, IsNoLater, Sees, Invariant}
+use Rattle.std.proofs.lemmas.List.Sorted.{IsPermutation-append, IsPermutation-map, length_permutation}
 use mathlib.Core.List.{map-map}
-use mathlib.Core.Option.{some-injective}
-use Rattle.atomic_table.proofs.Lists.{at_map}
-use Rattle.segment_image.specs.Shape.{Dimensions}
-use Rattle.segment_image.specs.Words.{word_at}
-use Rattle.segment_image.specs.Blocks.{field_at}
-use Rattle.alloc_core.specs.Layout.{IsShown, render, queue_block}
+use Rattle.alloc_core.specs.Layout.{render, queue_block}
 use Rattle.alloc_core.specs.Planned.{is_pointer}
-use Rattle.alloc_core.specs.Laws.{Apart, Behind}
+use Rattle.alloc_core.specs.Laws.{Apart}
 use Rattle.alloc_core.proofs.Layouts.{length_shown, behind_shown}
 use Rattle.alloc_core.proofs.Runs.{free_is_pointer}
-use Rattle.list_core.specs.Chain.{stops, IsStop, IsLinked}
 use Rattle.list_core.proofs.Chains.{one_place}
-use Rattle.segment_machine.specs.declared.actor.Actor.{Actor}
-use Rattle.segment_machine.specs.declared.actor.Claim.{Claim}
-use Rattle.segment_machine.specs.State.{State}
-use Rattle.segment_machine.specs.Actor.{all_published}
 use Rattle.segment_invariant.specs.Consistent.{SawBefore, ListIsChain, run_of}
-use Rattle.segment_invariant.specs.Body.{extent_of, block_of, Listed, listed, Anatomy, layout_of, order_of, free_of, claims_of}
-use Rattle.segment_invariant.specs.Seen.{IsNoLater, Sees}
-use Rattle.segment_invariant.specs.Invariant.{Invariant}
+use Rattle.segment_invariant.specs.Body.{block_of}
 use Rattle.segment_invariant.specs.Keeps.{KeptIsChain, opening_of}
 use Rattle.segment_invariant.proofs.Consistency.Chained.{shape_is, tail_is, free_is, chained, claims_are, all_of_claims, claimed}
 use Rattle.segment_invariant.proofs.Consistency.Opened.{Opens, opens_as}

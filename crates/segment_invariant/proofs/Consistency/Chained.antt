@@ -1,28 +1,14 @@
 -- The list of a kept state is a chain of claimed blocks.
-use Rattle.std.proofs.Common.{◌≡◌, true, ℕ, ◌<◌, List, length, IsPermutation, refl, ap, subst, Some, None}
+use Rattle.segment_invariant.proofs.Prelude.Std.{◌≡◌, true, ℕ, ◌<◌, List, length, IsPermutation, refl, ap, subst, Some, None, slice_index, nat_le, ◌&&◌, All, Contains, Contains-permutation, some, get_elem?, at_map, at_from, contains_at}
+use Rattle.segment_invariant.proofs.Prelude.Machine.{Dimensions, word_at, head_of, is_block, IsChain, Claim, Made, State}
+use Rattle.segment_invariant.proofs.Prelude.Invariant.{is_claimed, Piece, Listed, Anatomy, layout_of, order_of, free_of, claims_of, StandsAs, Invariant}
 use Rattle.std.specs.Prelude as std
-use Rattle.std.specs.Prelude.{slice_index, nat_le, ◌&&◌}
-use Rattle.std.specs.List.{All, Contains}
 use Rattle.std.proofs.lemmas.List.Elements.{Contains-get_or}
-use Rattle.std.proofs.lemmas.List.Sorted.{All-permutation, Contains-permutation}
-use mathlib.Core.Option.{some}
-use lib.ListN.{get_elem?}
-use Rattle.atomic_table.proofs.Lists.{at_map}
-use Rattle.segment_image.specs.Shape.{Dimensions}
-use Rattle.segment_image.specs.Words.{word_at}
-use Rattle.segment_image.specs.Head.{head_of}
-use Rattle.segment_image.specs.Blocks.{is_block}
+use Rattle.std.proofs.lemmas.List.Sorted.{All-permutation}
 use Rattle.alloc_core.proofs.Layouts.{free_word}
-use Rattle.list_core.specs.Chain.{IsChain}
 use Rattle.list_core.proofs.Chains.{chain_of}
-use Rattle.segment_machine.specs.declared.actor.Claim.{Claim}
-use Rattle.segment_machine.specs.declared.actor.Made.{Made}
 use Rattle.segment_machine.specs.declared.actor.Made.TheVariants as made
-use Rattle.segment_machine.specs.State.{State}
 use Rattle.segment_invariant.specs.Consistent.{all_claims, places_of}
-use Rattle.segment_invariant.specs.Body.{is_claimed, Piece, Listed, Anatomy, layout_of, order_of, free_of, claims_of}
-use Rattle.segment_invariant.specs.Invariant.{StandsAs, Invariant}
-use Rattle.list_lemmas.proofs.Elements.{at_from, contains_at}
 use Rattle.segment_invariant.proofs.Blocks.Pieces.{claim_of}
 use Rattle.segment_invariant.proofs.Consistency.Records.{listed_there}
 use Rattle.segment_invariant.proofs.Consistency.Blocks.{all_claims_of, claim_there, lawful_piece}

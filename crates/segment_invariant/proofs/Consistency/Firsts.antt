@@ -1,28 +1,15 @@
 -- The first record of a name, and of a value, on the list of a kept segment: by the words as by what each record was given.
-use Rattle.std.proofs.Common.{◌≡◌, Bool, true, false, ℕ, ◌<◌, ℤ, List, ◌∷◌, ◌++◌, refl, sym, ap, subst, ◌∙◌, arith, Some, None, ◌⊎◌, inl, inr}
+use Rattle.segment_invariant.proofs.Prelude.Std.{◌≡◌, Bool, true, false, ℕ, ◌<◌, ℤ, List, ◌∷◌, ◌++◌, refl, sym, ap, subst, ◌∙◌, arith, Some, None, ◌⊎◌, inl, inr, w64, cast_signed, bytes_eq, Contains, All-contains, bytes_eq-Decides, split_at, at_from, from_map, split_among}
+use Rattle.segment_invariant.proofs.Prelude.Machine.{Dimensions, field_at, Spec, name_of, Made, State}
+use Rattle.segment_invariant.proofs.Prelude.Invariant.{IsHistogram, Record, Sample, Listed, Anatomy, order_of, HasRecord, HasSample, IsNamed, IsValued, IsFirst, IsFirstOf, StandsAs, Invariant}
 use Rattle.std.specs.Prelude as std
-use Rattle.std.specs.Int.{w64, cast_signed}
-use Rattle.std.specs.Str.{bytes_eq}
-use Rattle.std.specs.List.{Contains}
-use Rattle.std.proofs.lemmas.List.Elements.{All-contains}
-use Rattle.std.proofs.lemmas.Slice.Eq.{bytes_eq-Decides}
-use Rattle.segment_image.specs.Shape.{Dimensions}
-use Rattle.segment_image.specs.Blocks.{field_at}
-use Rattle.bucket_ranges.specs.declared.spec.Spec.{Spec}
-use Rattle.bucket_ranges.specs.Reading.{name_of}
 use Rattle.segment_machine.proofs.Values.{value_word}
-use Rattle.segment_machine.specs.declared.actor.Made.{Made}
 use Rattle.segment_machine.specs.declared.actor.Made.TheVariants as made
 use Rattle.list_lemmas.specs.Firsts.{IsFirstThat}
-use Rattle.segment_machine.specs.State.{State}
-use Rattle.segment_invariant.specs.Consistent.{IsHistogram, IsSample, IsSampleOf}
+use Rattle.segment_invariant.specs.Consistent.{IsSample, IsSampleOf}
 use Rattle.segment_invariant.specs.Consistent as consistent
-use Rattle.segment_invariant.specs.Body.{Record, Sample, Listed, Anatomy, order_of}
-use Rattle.segment_invariant.specs.Seen.{HasRecord, HasSample, IsNamed, IsValued, IsFirst, IsFirstOf}
-use Rattle.segment_invariant.specs.Invariant.{StandsAs, Invariant}
-use Rattle.list_lemmas.proofs.Elements.{split_at, at_from, from_map}
 use Rattle.list_lemmas.proofs.Firsts as lists
-use Rattle.list_lemmas.proofs.Firsts.{OrBefore, split_among, first_image, first_from}
+use Rattle.list_lemmas.proofs.Firsts.{OrBefore, first_image, first_from}
 use Rattle.segment_invariant.proofs.Blocks.Pieces.{piece_word}
 use Rattle.segment_invariant.proofs.Consistency.Records.{record_word, sample_type, record_name}
 use Rattle.segment_invariant.proofs.Frames.PassedOver.{none_given, PassedOver}

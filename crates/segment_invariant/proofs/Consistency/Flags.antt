@@ -1,15 +1,13 @@
 -- The flags of a kept state are set exactly where they were at the opening or an actor has set them.
-use Rattle.std.proofs.Common.{◌≡◌, ◌⊎◌, Bool, true, false, ◌||◌, ℕ, suc, ◌/◌, List, [], ◌∷◌, fold, inl, inr, refl, true≢false, sym, ap, subst, ◌∙◌, arith, ⊎_elim}
-use Rattle.std.specs.Prelude.{◌↔◌, bit_and}
-use Rattle.std.specs.List.{Contains}
-use Rattle.segment_image.specs.Words.{word_at}
+use Rattle.segment_invariant.proofs.Prelude.Std.{◌≡◌, ◌⊎◌, Bool, true, false, ◌||◌, ℕ, suc, ◌/◌, List, [], ◌∷◌, fold, inl, inr, refl, true≢false, sym, ap, subst, ◌∙◌, arith, ⊎_elim, bit_and, Contains, at_from}
+use Rattle.segment_invariant.proofs.Prelude.Machine.{word_at}
+use Rattle.segment_invariant.proofs.Prelude.Invariant.{layout_of, IsSetBy}
+use Rattle.std.specs.Prelude.{◌↔◌}
 use Rattle.alloc_core.specs.Layout.{flags_of}
 use Rattle.alloc_core.proofs.Flags.{other_bits, corrupt_bit, full_bit}
 use Rattle.alloc_core.proofs.Layouts.{flags_word}
-use Rattle.segment_invariant.specs.Body.{layout_of}
-use Rattle.segment_invariant.specs.Invariant.{IsSetBy}
 use Rattle.segment_invariant.specs.Keeps.{KeptFlagsAreSet}
-use Rattle.list_lemmas.proofs.Elements.{at_from, any_there}
+use Rattle.list_lemmas.proofs.Elements.{any_there}
 use Rattle.segment_invariant.proofs.Frames.Books.{noticed_there}
 
 -- one of a list of truth values is true where all of them together are

@@ -1,20 +1,12 @@
 -- The records of a kept state have lawful forms: those in which somebody counts or nobody has, and those that are passed over.
-use Rattle.std.proofs.Common.{◌≡◌, ◌≢◌, Bool, true, false, ◌&&◌, nat_le, ℕ, ◌+◌, ◌-◌, ◌*◌, ◌<◌, ◌≤◌, List, ◌++◌, length, All, Contains, inl, inr, refl, sym, ap, subst, ◌∙◌, arith, length-append}
-use Rattle.std.specs.Prelude.{◌==◌, slice_index}
-use Rattle.std.proofs.lemmas.Bool.{cases_lt, eqb-true, eqb-false, eq-eqb, and_from, or_left, or_right, le-leb}
-use Rattle.segment_image.specs.Shape.{Dimensions}
-use Rattle.segment_image.specs.Head.{head_of}
-use Rattle.segment_image.specs.Blocks.{field_at, is_block}
-use Rattle.bucket_ranges.specs.Spec.{buckets_of}
-use Rattle.bucket_ranges.specs.Reading.{has_counts, record_buckets, record_single}
-use Rattle.bucket_ranges.specs.Single.{packed_bucket}
-use Rattle.segment_machine.specs.State.{State}
-use Rattle.segment_calls.specs.Form.{is_off, units_in}
+use Rattle.segment_invariant.proofs.Prelude.Std.{◌≡◌, ◌≢◌, Bool, true, false, ◌&&◌, nat_le, ℕ, ◌+◌, ◌-◌, ◌*◌, ◌<◌, ◌≤◌, List, ◌++◌, length, All, Contains, inl, inr, refl, sym, ap, subst, ◌∙◌, arith, length-append, ◌==◌, slice_index, eqb-true, eqb-false, eq-eqb, and_from, le-leb}
+use Rattle.segment_invariant.proofs.Prelude.Machine.{Dimensions, head_of, field_at, is_block, buckets_of, record_buckets, record_single, packed_bucket, State, is_off, units_in}
+use Rattle.segment_invariant.proofs.Prelude.Invariant.{Record, Counts, record_words, histogram, counts, Listed, Anatomy, order_of, form_at, HasRecord, IsLawfulRecord, IsCountsOf, IsPassedOver, Invariant}
+use Rattle.std.proofs.lemmas.Bool.{cases_lt, or_left, or_right}
+use Rattle.bucket_ranges.specs.Reading.{has_counts}
 use Rattle.segment_invariant.specs.Consistent.{HasForm}
-use Rattle.segment_invariant.specs.Body.{Record, Counts, record_words, counts_words, histogram, counts, Listed, Anatomy, order_of}
-use Rattle.segment_invariant.specs.Ledger.{form_at}
-use Rattle.segment_invariant.specs.Seen.{HasRecord, HoldsAs}
-use Rattle.segment_invariant.specs.Invariant.{IsLawfulRecord, IsCountsOf, IsPassedOver, Invariant}
+use Rattle.segment_invariant.specs.Body.{counts_words}
+use Rattle.segment_invariant.specs.Seen.{HoldsAs}
 use Rattle.segment_invariant.proofs.Lists.FewTerms.{zero_index}
 use Rattle.segment_invariant.proofs.Blocks.Pieces.{piece_word}
 use Rattle.segment_machine.proofs.SmallNumbers.{below_three}

@@ -1,25 +1,12 @@
 -- What the words of a kept state's records say beside their spec: which counts are theirs, and that nobody counts in later ones.
-use Rattle.std.proofs.Common.{◌≡◌, ◌≢◌, ℕ, ◌+◌, ◌-◌, ◌*◌, ◌<◌, ◌≤◌, ℤ, List, length, inl, inr, sym, ap, subst, ◌∙◌, arith, Option, Some, None, true, refl}
+use Rattle.segment_invariant.proofs.Prelude.Std.{◌≡◌, ◌≢◌, ℕ, ◌+◌, ◌-◌, ◌*◌, ◌<◌, ◌≤◌, ℤ, List, length, inl, inr, sym, ap, subst, ◌∙◌, arith, Option, Some, None, true, refl, slice_index, ◌==◌, All, Contains, none}
+use Rattle.segment_invariant.proofs.Prelude.Machine.{Dimensions, word_at, field_at, IsShown, Spec, name_of, record_buckets, sample_value, Sighting, Made, State, Leads}
+use Rattle.segment_invariant.proofs.Prelude.Invariant.{IsHistogram, Record, record_words, Counts, Body, histogram, counts, sample, other, Listed, Anatomy, layout_of, order_of, is_claimed, Stands, HasRecord, HasCounts, IsFirst, IsFirstOf, WasSingle, StandsAs, CountsNothing, Invariant}
 use Rattle.std.specs.Prelude as std
-use Rattle.std.specs.Prelude.{slice_index, ◌==◌}
-use Rattle.std.specs.List.{All, Contains}
 use Rattle.std.proofs.lemmas.Bool.{cases_lt}
-use mathlib.Core.Option.{none}
-use Rattle.segment_image.specs.Shape.{Dimensions}
-use Rattle.segment_image.specs.Words.{word_at}
-use Rattle.segment_image.specs.Blocks.{field_at}
-use Rattle.alloc_core.specs.Layout.{IsShown}
-use Rattle.bucket_ranges.specs.declared.spec.Spec.{Spec}
-use Rattle.bucket_ranges.specs.Reading.{name_of, record_buckets, sample_value}
-use Rattle.segment_machine.specs.declared.seen.Sighting.{Sighting}
-use Rattle.segment_machine.specs.declared.actor.Made.{Made}
 use Rattle.segment_machine.specs.declared.actor.Made.TheVariants as made
-use Rattle.segment_machine.specs.State.{State}
-use Rattle.segment_calls.specs.Form.{Leads}
-use Rattle.segment_invariant.specs.Consistent.{IsHistogram, IsSample, HoldsNothing}
-use Rattle.segment_invariant.specs.Body.{Record, record_words, Counts, Body, histogram, counts, sample, other, Listed, Anatomy, layout_of, order_of, is_claimed}
-use Rattle.segment_invariant.specs.Seen.{Stands, HasRecord, HasCounts, IsFirst, IsFirstOf, WasSingle, HoldsAs}
-use Rattle.segment_invariant.specs.Invariant.{StandsAs, CountsNothing, Invariant}
+use Rattle.segment_invariant.specs.Consistent.{IsSample, HoldsNothing}
+use Rattle.segment_invariant.specs.Seen.{HoldsAs}
 use Rattle.segment_invariant.proofs.Blocks.Pieces.{piece_word, one_stands}
 use Rattle.segment_invariant.proofs.Consistency.Records.{record_word, listed_there}
 use Rattle.segment_invariant.proofs.Consistency.Specs.{buckets_are}

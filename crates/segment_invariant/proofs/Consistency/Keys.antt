@@ -1,20 +1,11 @@
 -- The keys of buckets: those of one histogram differ, and specs that are the same have the same ones.
-use Rattle.std.proofs.Common.{◌≡◌, ◌≢◌, ◌⊎◌, Bool, true, false, ◌==◌, nat_lt, if◌then◌else◌, ℕ, ◌+◌, ◌-◌, ◌/◌, ◌%◌, ◌^◌, ◌<◌, ℤ, List, length, inl, inr, refl, sym, ap, ◌∙◌, arith, Option, Some, None}
-use Rattle.std.specs.Prelude.{slice_index}
-use Rattle.std.specs.Ordering.{int_eq}
-use Rattle.std.proofs.lemmas.Bool.{cases_order, eqb-true, eqb-false, ltb-true, and_parts}
-use Rattle.std.proofs.lemmas.Bool.Decides.{Decides-int_eq}
-use Rattle.bucket_ranges.specs.declared.spec.Spec.{Spec}
-use Rattle.bucket_ranges.specs.declared.spec.Spec.TheVariants.{Sparse}
-use Rattle.bucket_ranges.specs.declared.single.SingleWord.{SingleWord}
-use Rattle.bucket_ranges.specs.declared.single.SingleWord.TheVariants.{Empty, Packed, Disabled, FrozenEmpty, Frozen}
-use Rattle.bucket_ranges.specs.Spec.{buckets_of, spec_fault, spec_ranges, SameSpec}
-use Rattle.bucket_ranges.specs.Ranges.{boundaries_of, IsAscending}
-use Rattle.bucket_ranges.specs.Single.{single_of, is_packed_word, packed_of, disabled_of, frozen_of, packed_bucket, is_packed_bucket, units_packed}
+use Rattle.segment_invariant.proofs.Prelude.Std.{◌≡◌, ◌≢◌, ◌⊎◌, Bool, true, false, ◌==◌, nat_lt, if◌then◌else◌, ℕ, ◌+◌, ◌-◌, ◌/◌, ◌%◌, ◌^◌, ◌<◌, ℤ, List, length, inl, inr, refl, sym, ap, ◌∙◌, arith, Option, Some, None, slice_index, int_eq, cases_order, eqb-true, eqb-false, ltb-true, and_parts, Decides-int_eq}
+use Rattle.segment_invariant.proofs.Prelude.Machine.{Spec, Sparse, SingleWord, Empty, Packed, Disabled, FrozenEmpty, Frozen, buckets_of, spec_fault, spec_ranges, SameSpec, boundaries_of, single_of, is_packed_word, packed_bucket, is_packed_bucket, units_packed, units_in}
+use Rattle.segment_invariant.proofs.Prelude.Invariant.{key_of_bucket, at_bucket}
+use Rattle.bucket_ranges.specs.Ranges.{IsAscending}
+use Rattle.bucket_ranges.specs.Single.{packed_of, disabled_of, frozen_of}
 use Rattle.bucket_ranges.proofs.Ascent.{boundaries_of-split}
 use Rattle.bucket_ranges.proofs.Buckets.{ascends}
-use Rattle.segment_calls.specs.Form.{units_in}
-use Rattle.segment_invariant.specs.Ledger.{key_of_bucket, at_bucket}
 use Rattle.segment_invariant.proofs.Lists.FewTerms.{if_nothing}
 use Rattle.segment_invariant.proofs.Consistency.Specs.{spelled, field_named, named_by, buckets_spelled, boundaries_spelled}
 

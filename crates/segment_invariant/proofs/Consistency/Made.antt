@@ -1,42 +1,22 @@
 -- The records of a kept state hold what they were given.
-use Rattle.std.proofs.Common.{◌≡◌, ◌≢◌, Bool, true, false, if◌then◌else◌, ℕ, ◌+◌, ◌-◌, ◌<◌, ◌≤◌, ℤ, List, [], ◌∷◌, ◌++◌, map, length, inl, inr, refl, sym, ap, subst, ◌∙◌, arith, Option, Some, None}
-use Rattle.std.specs.Prelude.{slice_index, ◌==◌, is_none}
-use Rattle.std.specs.List.{Contains}
-use Rattle.std.proofs.lemmas.Bool.{and_from, eq-eqb, eqb-true, le-leb, lt-ltb}
-use Rattle.std.proofs.lemmas.List.{map-append}
-use Rattle.std.proofs.lemmas.List.Elements.{All-contains, Contains-append_right}
-use Rattle.std.proofs.lemmas.List.Sorted.{Contains-permutation, IsPermutation-sym}
-use Rattle.atomic_table.proofs.Lists.{at_map}
-use Rattle.segment_image.specs.Shape.{Dimensions}
-use Rattle.segment_image.specs.Head.{head_of}
-use Rattle.segment_image.specs.Blocks.{field_at}
-use Rattle.list_core.specs.Chain.{IsChain}
-use Rattle.alloc_core.specs.Layout.{IsShown}
-use Rattle.bucket_ranges.specs.declared.spec.Spec.{Spec}
+use Rattle.segment_invariant.proofs.Prelude.Std.{◌≡◌, ◌≢◌, Bool, true, false, if◌then◌else◌, ℕ, ◌+◌, ◌-◌, ◌<◌, ◌≤◌, ℤ, List, [], ◌∷◌, ◌++◌, map, length, inl, inr, refl, sym, ap, subst, ◌∙◌, arith, Option, Some, None, slice_index, ◌==◌, Contains, and_from, eq-eqb, eqb-true, le-leb, lt-ltb, map-append, All-contains, Contains-append_right, Contains-permutation, at_map, at_from, contains_at, split_at, contains_map}
+use Rattle.segment_invariant.proofs.Prelude.Machine.{Dimensions, head_of, field_at, IsChain, IsShown, Spec, spec_fault, spec_fields, spec_ranges, SameSpec, name_of, name_words, is_sparse, Published, Made, State, AreNameWords, all_published, Claim}
+use Rattle.segment_invariant.proofs.Prelude.Invariant.{IsHistogram, Record, Listed, listed, Anatomy, order_of, layout_of, HasRecord, IsFirst, WasSingle, StandsAs, Invariant, IsLawfulRecord}
+use Rattle.std.specs.Prelude.{is_none}
+use Rattle.std.proofs.lemmas.List.Sorted.{IsPermutation-sym}
 use Rattle.bucket_ranges.specs.declared.spec.Spec.TheVariants as spec
-use Rattle.bucket_ranges.specs.Spec.{spec_fault, distinct_values, spec_fields, spec_ranges, SameSpec}
-use Rattle.bucket_ranges.specs.Reading.{name_of, name_words, is_name, has_name, has_spec, is_kind, is_spec_named, inner_ranges, is_sparse, ascends_above}
+use Rattle.bucket_ranges.specs.Spec.{distinct_values}
+use Rattle.bucket_ranges.specs.Reading.{is_name, has_name, has_spec, is_kind, is_spec_named, inner_ranges, ascends_above}
 use Rattle.bucket_ranges.specs.Reading as reading
 use Rattle.bucket_ranges.proofs.Distinct.{Member, Ascends, ascends-from}
 use Rattle.bucket_ranges.proofs.Customs.{is_custom-from_checks, length-distinct, some_distinct, custom_boundaries-ascending}
-use Rattle.segment_machine.specs.declared.actor.Published.{Published}
-use Rattle.segment_machine.specs.declared.actor.Made.{Made}
 use Rattle.segment_machine.specs.declared.actor.Made.TheVariants as made
-use Rattle.segment_machine.specs.State.{State}
-use Rattle.segment_machine.specs.Made.{AreNameWords}
-use Rattle.segment_machine.specs.Actor.{all_published}
-use Rattle.segment_machine.specs.declared.actor.Claim.{Claim}
-use Rattle.segment_invariant.specs.Consistent.{HoldsMade, HasForm, IsHistogram, CountsStill, HoldsNothing, RecordsHold, all_claims, places_of}
-use Rattle.segment_invariant.specs.Body.{Record, Listed, listed, Anatomy, order_of, layout_of}
-use Rattle.segment_invariant.specs.Seen.{HasRecord, IsFirst, WasSingle}
-use Rattle.segment_invariant.specs.Invariant.{StandsAs, Invariant, IsLawfulRecord}
+use Rattle.segment_invariant.specs.Consistent.{HoldsMade, HasForm, CountsStill, HoldsNothing, RecordsHold, all_claims, places_of}
 use Rattle.segment_invariant.specs.Keeps.{KeptRecordsHold, opening_of}
-use Rattle.list_lemmas.proofs.Elements.{at_from, contains_at, split_at}
 use Rattle.segment_invariant.proofs.Blocks.Pieces.{piece_word}
 use Rattle.segment_invariant.proofs.Consistency.Chained.{claimed_at}
 use Rattle.segment_invariant.proofs.Consistency.Opened.{Opens, opens_as, front_is}
 use Rattle.segment_invariant.proofs.Consistency.Since.{holds_still, later_still, passed_still}
-use Rattle.list_lemmas.proofs.Maps.{contains_map}
 use Rattle.segment_invariant.proofs.Consistency.Records.{record_word, name_long, letters_part, record_name}
 use Rattle.segment_invariant.proofs.Consistency.Specs.{same_spelled, record_spec, ranges_part, ranges_fewer, buckets_are}
 use Rattle.segment_invariant.proofs.Consistency.Firsts.{standing_of, is_sample_of, record_on_list, first_of_name, name_of_first}

@@ -1,29 +1,10 @@
 -- The marks of a kept state are what was taken.
-use Rattle.std.proofs.Common.{◌≡◌, ◌≢◌, Bool, true, false, if◌then◌else◌, ℕ, ◌+◌, ◌<◌, ◌≤◌, max, List, length, refl, sym, ap, subst, ◌∙◌, arith, Option, Some, None}
-use Rattle.std.specs.Prelude.{slice_index, ◌==◌}
-use Rattle.std.specs.Int.{w64, cast_signed}
-use Rattle.std.proofs.lemmas.Bool.{eqb-true, eqb-false, eq-eqb, ne_eqb}
-use Rattle.std.proofs.lemmas.List.Elements.{All-weaker}
-use Rattle.segment_image.specs.Shape.{Dimensions}
-use Rattle.segment_image.specs.Words.{word_at}
-use Rattle.segment_image.specs.Blocks.{field_at}
-use Rattle.bucket_ranges.specs.declared.spec.Spec.{Spec}
+use Rattle.segment_invariant.proofs.Prelude.Std.{◌≡◌, ◌≢◌, Bool, true, false, if◌then◌else◌, ℕ, ◌+◌, ◌<◌, ◌≤◌, max, List, length, refl, sym, ap, subst, ◌∙◌, arith, Option, Some, None, slice_index, ◌==◌, w64, cast_signed, eqb-true, eqb-false, eq-eqb, ne_eqb, All-weaker}
+use Rattle.segment_invariant.proofs.Prelude.Machine.{Dimensions, word_at, field_at, Spec, SingleWord, Empty, Packed, Disabled, FrozenEmpty, Frozen, buckets_of, record_single, total_of, mark_of, packed_bucket, is_packed_bucket, units_packed, Sighting, State, tally_units, units_in, all_counted}
+use Rattle.segment_invariant.proofs.Prelude.Invariant.{Record, Anatomy, form_at, key_of_bucket, at_bucket, keyed, marks_held, all_held, HasRecord, IsFirst, WasCounter, Invariant}
 use Rattle.bucket_ranges.specs.declared.spec.Spec.TheVariants as spec
-use Rattle.bucket_ranges.specs.declared.single.SingleWord.{SingleWord}
-use Rattle.bucket_ranges.specs.declared.single.SingleWord.TheVariants.{Empty, Packed, Disabled, FrozenEmpty, Frozen}
-use Rattle.bucket_ranges.specs.Spec.{buckets_of}
-use Rattle.bucket_ranges.specs.Reading.{record_single, count_at, mark_at, total_of, mark_of}
-use Rattle.bucket_ranges.specs.Single.{packed_bucket, is_packed_bucket, units_packed}
-use Rattle.segment_machine.specs.declared.seen.Sighting.{Sighting}
-use Rattle.segment_machine.specs.State.{State}
-use Rattle.segment_machine.specs.Entry.{tally_units}
-use Rattle.segment_calls.specs.Form.{units_in}
-use Rattle.segment_machine.specs.Actor.{all_counted}
+use Rattle.bucket_ranges.specs.Reading.{count_at, mark_at}
 use Rattle.segment_invariant.specs.Consistent.{key_at, units_taken}
-use Rattle.segment_invariant.specs.Body.{Record, Anatomy}
-use Rattle.segment_invariant.specs.Ledger.{form_at, key_of_bucket, at_bucket, keyed, marks_held, all_held}
-use Rattle.segment_invariant.specs.Seen.{HasRecord, IsFirst, WasCounter}
-use Rattle.segment_invariant.specs.Invariant.{Invariant}
 use Rattle.segment_invariant.specs.Keeps.{KeptMarksAreTaken}
 use Rattle.segment_invariant.proofs.Blocks.Places.{counter_within}
 use Rattle.segment_invariant.proofs.Blocks.Pieces.{piece_word}

@@ -1,10 +1,7 @@
 -- Words have one chain.
-use Rattle.std.proofs.Common.{◌≡◌, ℕ, zero, suc, ◌+◌, ◌<◌, ◌≤◌, List, length, inl, inr, refl, sym, ap, ◌∙◌, arith}
-use Rattle.std.specs.Prelude.{slice_index}
-use Rattle.std.proofs.lemmas.Bool.{cases_order}
+use Rattle.segment_invariant.proofs.Prelude.Std.{◌≡◌, ℕ, zero, suc, ◌+◌, ◌<◌, ◌≤◌, List, length, inl, inr, refl, sym, ap, ◌∙◌, arith, slice_index, cases_order}
+use Rattle.segment_invariant.proofs.Prelude.Machine.{word_at, stops, IsLinked}
 use Rattle.std.proofs.lemmas.List.{ext_get_or}
-use Rattle.segment_image.specs.Words.{word_at}
-use Rattle.list_core.specs.Chain.{stops, IsLinked}
 use Rattle.list_core.proofs.Chains.{no_queue, next_inside, next_last}
 
 same_stops : (words a b : List ℕ) → IsLinked words a → IsLinked words b → (i : ℕ) → i ≤ length a → i ≤ length b

@@ -1,22 +1,11 @@
 -- The blocks that open segments, by their words: a chain of claimed blocks, each of which stands as what it was given.
-use Rattle.std.proofs.Common.{◌≡◌, ◌≢◌, ℕ, List, Some, refl, subst}
-use Rattle.std.specs.List.{All, Contains}
-use mathlib.Core.Option.{some}
-use lib.ListN.{get_elem?}
-use Rattle.segment_image.specs.Shape.{Dimensions}
-use Rattle.segment_image.specs.Head.{head_of}
-use Rattle.alloc_core.specs.Layout.{IsShown, render}
-use Rattle.bucket_ranges.specs.declared.spec.Spec.{Spec}
-use Rattle.bucket_ranges.specs.Spec.{buckets_of}
-use Rattle.bucket_ranges.specs.Reading.{record_buckets}
-use Rattle.list_core.specs.Chain.{IsChain}
+use Rattle.segment_invariant.proofs.Prelude.Std.{◌≡◌, ◌≢◌, ℕ, List, Some, refl, subst, All, Contains, some, get_elem?}
+use Rattle.segment_invariant.proofs.Prelude.Machine.{Dimensions, head_of, IsShown, Spec, buckets_of, record_buckets, IsChain, State}
+use Rattle.segment_invariant.proofs.Prelude.Invariant.{Record, histogram, Piece, Anatomy, layout_of, order_of, noted_held, all_held, HasRecord, IsFirst, StandsAs, ClaimedRight, CountsNothing, IsLawfulRecord, Invariant}
+use Rattle.alloc_core.specs.Layout.{render}
 use Rattle.list_core.proofs.Chains.{linked_of}
 use Rattle.segment_machine.specs.declared.actor.Made.TheVariants as made
-use Rattle.segment_machine.specs.State.{State}
-use Rattle.segment_invariant.specs.Body.{Record, histogram, Piece, Anatomy, layout_of, order_of}
-use Rattle.segment_invariant.specs.Ledger.{noted_held, all_held}
-use Rattle.segment_invariant.specs.Seen.{HasRecord, HoldsAs, IsFirst}
-use Rattle.segment_invariant.specs.Invariant.{StandsAs, ClaimedRight, CountsNothing, IsLawfulRecord, Invariant}
+use Rattle.segment_invariant.specs.Seen.{HoldsAs}
 use Rattle.segment_invariant.specs.Keeps.{IsOpening}
 use Rattle.segment_invariant.proofs.Consistency.Chained.{chained}
 use Rattle.segment_invariant.proofs.Consistency.PassedOver.{told, told_shown, told_stands}

@@ -1,20 +1,13 @@
 -- Records that are passed over, among the words of a kept segment: a block that holds what a body would is told as that body.
-use Rattle.std.proofs.Common.{◌≡◌, ◌≢◌, ◌<◌, ℕ, List, refl, subst, arith}
-use mathlib.Core.Option.{some, none}
-use lib.ListN.{get_elem?}
-use Rattle.segment_image.specs.Shape.{Dimensions}
-use Rattle.alloc_core.specs.Layout.{IsShown}
-use Rattle.segment_machine.specs.State.{State}
-use Rattle.segment_invariant.specs.Body.{Record, Body, histogram, other, Piece, Listed, Anatomy, layout_of, record_words}
-use Rattle.segment_invariant.specs.Seen.{Stands, HoldsAs}
+use Rattle.segment_invariant.proofs.Prelude.Std.{◌≡◌, ◌≢◌, ◌<◌, ℕ, List, refl, subst, arith, some, none, get_elem?, slice_index}
+use Rattle.segment_invariant.proofs.Prelude.Machine.{Dimensions, IsShown, State, field_at}
+use Rattle.segment_invariant.proofs.Prelude.Invariant.{Record, Body, histogram, other, Piece, Listed, Anatomy, layout_of, record_words, Stands, IsPassedOver, Invariant}
+use Rattle.segment_invariant.specs.Seen.{HoldsAs}
 use Rattle.segment_invariant.specs.Consistent as consistent
-use Rattle.segment_invariant.specs.Invariant.{IsPassedOver, Invariant}
 use Rattle.alloc_core.proofs.Owners.{set_at}
 use Rattle.segment_invariant.proofs.Blocks.Pieces.{first_piece, with_piece}
 use Rattle.segment_invariant.proofs.Blocks.Published.{relabelled}
 use Rattle.segment_invariant.proofs.Consistency.Records.{record_word, record_name}
-use Rattle.std.specs.Prelude.{slice_index}
-use Rattle.segment_image.specs.Blocks.{field_at}
 
 -- ---- told as what it holds
 

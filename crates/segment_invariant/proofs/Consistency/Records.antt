@@ -1,24 +1,13 @@
 -- The records of a kept segment among its words: which ones the list has, and what the words of a histogram's record say.
-use Rattle.std.proofs.Common.{◌≡◌, ℕ, ◌+◌, ◌-◌, ◌<◌, List, ◌++◌, length, replicate, take, drop, get_or, refl, ap, ◌∙◌, arith, length-append, append_assoc}
-use Rattle.std.specs.Prelude.{slice_index}
-use Rattle.std.specs.List.{slice_range, Contains}
-use Rattle.std.proofs.lemmas.List.{ext_get_or, get_or-take, get_or-drop, get_or_append_left, get_or-append_right, length-take, length-drop, length-replicate}
-use Rattle.std.proofs.Math.Seq.{take-append_seam}
-use mathlib.Core.Option.{some, none}
-use lib.ListN.{get_elem?}
-use Rattle.segment_image.specs.Shape.{Dimensions}
-use Rattle.segment_image.specs.Words.{word_at, bytes_of_words}
-use Rattle.segment_image.specs.Blocks.{field_at}
+use Rattle.segment_invariant.proofs.Prelude.Std.{◌≡◌, ℕ, ◌+◌, ◌-◌, ◌<◌, List, ◌++◌, length, replicate, take, drop, get_or, refl, ap, ◌∙◌, arith, length-append, append_assoc, slice_index, Contains, get_or-drop, get_or_append_left, length-replicate, take-append_seam, some, none, get_elem?, from_map, at_from, contains_at, all_at}
+use Rattle.segment_invariant.proofs.Prelude.Machine.{Dimensions, word_at, field_at, spec_ranges, name_words, name_of, IsShown, Actor}
+use Rattle.segment_invariant.proofs.Prelude.Invariant.{Record, Sample, histogram, Piece, words_of, record_words, Listed, Anatomy, layout_of, order_of, HasRecord, HasSample, StandsAs, IsLawfulRecord}
+use Rattle.std.specs.List.{slice_range}
+use Rattle.std.proofs.lemmas.List.{ext_get_or, get_or-take, get_or-append_right, length-take, length-drop}
+use Rattle.segment_image.specs.Words.{bytes_of_words}
 use Rattle.segment_image.proofs.ReadWords.{length-bytes_of_words}
-use Rattle.bucket_ranges.specs.Spec.{spec_ranges}
-use Rattle.bucket_ranges.specs.Reading.{name_words, name_of}
-use Rattle.alloc_core.specs.Layout.{IsShown}
 use Rattle.alloc_core.proofs.Layouts.{length_shown}
-use Rattle.segment_machine.specs.declared.actor.Actor.{Actor}
-use Rattle.segment_invariant.specs.Body.{Record, Sample, histogram, Piece, words_of, record_words, Listed, Anatomy, layout_of, order_of}
-use Rattle.segment_invariant.specs.Seen.{HasRecord, HasSample}
-use Rattle.segment_invariant.specs.Invariant.{StandsAs, ListIsKept, IsLawfulRecord}
-use Rattle.list_lemmas.proofs.Elements.{from_map, at_from, contains_at, all_at}
+use Rattle.segment_invariant.specs.Invariant.{ListIsKept}
 use Rattle.segment_invariant.proofs.Blocks.Pieces.{piece_word, piece_ends, free_within}
 
 -- ---- which ones the list has

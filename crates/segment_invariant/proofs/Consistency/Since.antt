@@ -1,33 +1,15 @@
 -- What became of the blocks with which a kept segment was opened: they hold what they held, and those of which nobody counts are as they were.
-use Rattle.std.proofs.Common.{◌≡◌, ◌≢◌, Bool, true, false, ℕ, ◌+◌, ◌*◌, ◌<◌, ◌≤◌, List, ◌++◌, length, if◌then◌else◌, inl, inr, refl, sym, ap, subst, ◌∙◌, arith, length-append, Option, Some, None}
-use Rattle.std.specs.Prelude.{slice_index, ◌==◌}
-use Rattle.std.specs.List.{Contains, flat_map}
-use Rattle.std.proofs.lemmas.Bool.{eqb-false, eq-eqb}
-use Rattle.std.proofs.lemmas.List.Elements.{All-contains, Contains-append_left}
-use mathlib.Core.Option.{some, none}
-use lib.ListN.{get_elem?}
-use Rattle.segment_image.specs.Shape.{Dimensions}
-use Rattle.segment_image.specs.Words.{word_at}
-use Rattle.segment_image.specs.Blocks.{field_at}
-use Rattle.bucket_ranges.specs.declared.spec.Spec.{Spec}
-use Rattle.bucket_ranges.specs.Reading.{name_of, record_buckets}
-use Rattle.segment_machine.specs.declared.actor.Made.{Made}
+use Rattle.segment_invariant.proofs.Prelude.Std.{◌≡◌, ◌≢◌, Bool, true, false, ℕ, ◌+◌, ◌*◌, ◌<◌, ◌≤◌, List, ◌++◌, length, if◌then◌else◌, inl, inr, refl, sym, ap, subst, ◌∙◌, arith, length-append, Option, Some, None, slice_index, ◌==◌, Contains, flat_map, eqb-false, eq-eqb, All-contains, Contains-append_left, some, none, get_elem?, at_from, split_at, first_longer, split_among, contains_map, contains_mapped}
+use Rattle.segment_invariant.proofs.Prelude.Machine.{Dimensions, word_at, field_at, Spec, name_of, record_buckets, Made, Sighting, State}
+use Rattle.segment_invariant.proofs.Prelude.Invariant.{IsHistogram, Record, Sample, Body, histogram, sample, other, words_of, record_words, is_claimed, Piece, Listed, Anatomy, order_of, claims_of, noted_held, all_held, Stands, HasRecord, IsNamed, IsFirst, StandsAs, IsPassedOver, IsLawfulRecord, Invariant}
 use Rattle.segment_machine.specs.declared.actor.Made.TheVariants as made
-use Rattle.segment_machine.specs.declared.seen.Sighting.{Sighting}
-use Rattle.segment_machine.specs.State.{State}
-use Rattle.segment_invariant.specs.Consistent.{IsHistogram, HoldsStill, IsGiven, CountsStill, all_claims}
+use Rattle.segment_invariant.specs.Consistent.{HoldsStill, IsGiven, CountsStill, all_claims}
 use Rattle.segment_invariant.specs.Consistent as consistent
-use Rattle.segment_invariant.specs.Body.{Record, Sample, Body, histogram, sample, other, words_of, record_words, is_claimed, Piece, Listed, Anatomy, order_of, claims_of}
-use Rattle.segment_invariant.specs.Ledger.{noted_held, all_held}
-use Rattle.segment_invariant.specs.Seen.{Stands, HasRecord, HoldsAs, IsNamed, IsFirst, IsFixedIn}
-use Rattle.segment_invariant.specs.Invariant.{StandsAs, IsPassedOver, IsLawfulRecord, Invariant}
+use Rattle.segment_invariant.specs.Seen.{HoldsAs, IsFixedIn}
 use Rattle.segment_invariant.proofs.Blocks.Pieces.{claim_of, piece_word, one_stands}
 use Rattle.segment_invariant.proofs.Blocks.Places.{fixed_within}
 use Rattle.segment_invariant.proofs.Frames.PassedOver.{PassedOver}
-use Rattle.list_lemmas.proofs.Elements.{at_from, split_at}
 use Rattle.segment_invariant.proofs.Lists.FewTerms.{sum_none}
-use Rattle.list_lemmas.proofs.Firsts.{first_longer, split_among}
-use Rattle.list_lemmas.proofs.Maps.{contains_map, contains_mapped}
 use Rattle.segment_invariant.proofs.Consistency.Blocks.{claim_there, claimed_piece}
 use Rattle.segment_invariant.proofs.Consistency.Books.{one_first}
 use Rattle.segment_invariant.proofs.Consistency.Chained.{all_of_claims}

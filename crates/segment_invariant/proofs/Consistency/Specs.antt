@@ -1,23 +1,12 @@
 -- What the words of a histogram's record say of its spec: its buckets, their keys and the form of its single word.
-use Rattle.std.proofs.Common.{◌≡◌, ℕ, ◌+◌, ◌-◌, ◌<◌, pos, List, [], ◌∷◌, ◌++◌, length, take, refl, sym, ap, ◌∙◌, arith, length-append, append_assoc}
-use Rattle.std.specs.Prelude.{slice_index}
+use Rattle.segment_invariant.proofs.Prelude.Std.{◌≡◌, ℕ, ◌+◌, ◌-◌, ◌<◌, pos, List, [], ◌∷◌, ◌++◌, length, take, refl, sym, ap, ◌∙◌, arith, length-append, append_assoc, slice_index, none}
+use Rattle.segment_invariant.proofs.Prelude.Machine.{Dimensions, field_at, Spec, Linear, Boolean, Custom, Sparse, buckets_of, spec_fields, spec_ranges, SameSpec, boundaries_of, name_words, spec_of, record_buckets, record_single, IsShown, single_of}
+use Rattle.segment_invariant.proofs.Prelude.Invariant.{Record, histogram, Anatomy, layout_of, record_words, form_at, key_of_bucket, HasRecord, IsLawfulRecord}
 use Rattle.std.specs.List.{slice_range}
-use mathlib.Core.Option.{none}
-use Rattle.segment_image.specs.Shape.{Dimensions}
-use Rattle.segment_image.specs.Blocks.{field_at}
-use Rattle.bucket_ranges.specs.declared.spec.Spec.{Spec}
-use Rattle.bucket_ranges.specs.declared.spec.Spec.TheVariants.{Linear, Boolean, Custom, Sparse}
-use Rattle.bucket_ranges.specs.Spec.{distinct_values, buckets_of, spec_fields, spec_ranges, SameSpec}
-use Rattle.bucket_ranges.specs.Ranges.{boundaries_of}
-use Rattle.bucket_ranges.specs.Reading.{name_words, spec_named, spec_of, inner_ranges, record_buckets, record_single}
+use Rattle.bucket_ranges.specs.Spec.{distinct_values}
+use Rattle.bucket_ranges.specs.Reading.{spec_named, inner_ranges}
 use Rattle.bucket_ranges.proofs.Distinct.{distinct-ascends, distinct-member, distinct-of_ascending}
-use Rattle.alloc_core.specs.Layout.{IsShown}
-use Rattle.bucket_ranges.specs.Single.{single_of}
 use Rattle.segment_invariant.specs.Consistent.{key_at}
-use Rattle.segment_invariant.specs.Body.{Record, histogram, Anatomy, layout_of, record_words}
-use Rattle.segment_invariant.specs.Ledger.{form_at, key_of_bucket}
-use Rattle.segment_invariant.specs.Seen.{HasRecord}
-use Rattle.segment_invariant.specs.Invariant.{IsLawfulRecord}
 use Rattle.segment_invariant.proofs.Consistency.Records.{piece_part, record_word, name_long}
 
 -- ---- a spec by its words

@@ -1,19 +1,8 @@
 -- What all blocks of a kept state hold of a name: of its records only the first counts.
-use Rattle.std.proofs.Common.{◌≡◌, ◌≢◌, Bool, true, false, ℕ, ℤ, pos, if◌then◌else◌, List, refl, sym, ap, subst, ◌∙◌, ⊎_elim}
-use Rattle.std.specs.Int.{w64, cast_signed}
-use Rattle.std.specs.Str.{bytes_eq}
-use Rattle.std.proofs.Math.IntN.{+ℤ_idl}
-use Rattle.std.proofs.lemmas.Slice.Eq.{bytes_eq-Decides}
-use mathlib.Core.Option.{some, none}
-use lib.ListN.{get_elem?}
-use Rattle.segment_image.specs.Shape.{Dimensions}
-use Rattle.bucket_ranges.specs.declared.spec.Spec.{Spec}
-use Rattle.segment_machine.specs.declared.actor.Own.{Own}
-use Rattle.segment_machine.specs.State.{State}
-use Rattle.segment_invariant.specs.Body.{Record, Body, queue, plain, held, histogram, counts, sample, other, is_claimed, Piece, Anatomy}
-use Rattle.segment_invariant.specs.Ledger.{of_name, amount_of_name, sum_held, sum_mark_held, noted_held, all_held, all_amounts}
-use Rattle.segment_invariant.specs.Seen.{Stands, HasRecord, IsFirst}
-use Rattle.segment_invariant.specs.Invariant.{Invariant, CountsNothing}
+use Rattle.segment_invariant.proofs.Prelude.Std.{◌≡◌, ◌≢◌, Bool, true, false, ℕ, ℤ, pos, if◌then◌else◌, List, refl, sym, ap, subst, ◌∙◌, ⊎_elim, w64, cast_signed, bytes_eq, +ℤ_idl, bytes_eq-Decides, some, none, get_elem?}
+use Rattle.segment_invariant.proofs.Prelude.Machine.{Dimensions, Spec, Own, State}
+use Rattle.segment_invariant.proofs.Prelude.Invariant.{Record, Body, queue, plain, held, histogram, counts, sample, other, is_claimed, Piece, Anatomy, of_name, noted_held, all_held, Stands, HasRecord, IsFirst, Invariant, CountsNothing}
+use Rattle.segment_invariant.specs.Ledger.{amount_of_name, sum_held, sum_mark_held, all_amounts}
 use Rattle.segment_invariant.proofs.Blocks.Pieces.{one_piece}
 use Rattle.segment_invariant.proofs.Lists.FewTerms.{Elsewhere, sum_one, amounts_one}
 

@@ -1,38 +1,14 @@
 -- The totals of a kept state are what was counted.
-use Rattle.std.proofs.Common.{◌≡◌, ◌≢◌, Bool, true, false, ◌&&◌, if◌then◌else◌, ℕ, zero, suc, ◌+◌, ◌<◌, ℤ, pos, List, [], ◌∷◌, ◌++◌, length, sum_by, length-append, inl, inr, ⊎_elim, refl, sym, ap, subst, ◌∙◌, arith, Option, Some}
-use Rattle.std.specs.Prelude.{slice_index, ◌==◌}
-use Rattle.std.specs.Ordering.{int_eq}
-use Rattle.std.specs.List.{Contains}
-use Rattle.std.proofs.lemmas.Bool.{eqb-true, eqb-false, eq-eqb, ne_eqb}
-use Rattle.std.proofs.lemmas.List.Elements.{All-contains}
-use Rattle.std.proofs.lemmas.List.Sums.{sum_by-cons}
-use mathlib.Core.Option.{some, none, some-injective, some-ne-none}
-use lib.ListN.{get_elem?}
-use Rattle.segment_image.specs.Shape.{Dimensions}
-use Rattle.segment_image.specs.Blocks.{field_at}
-use Rattle.bucket_ranges.specs.declared.spec.Spec.{Spec}
+use Rattle.segment_invariant.proofs.Prelude.Std.{◌≡◌, ◌≢◌, Bool, true, false, ◌&&◌, if◌then◌else◌, ℕ, zero, suc, ◌+◌, ◌<◌, ℤ, pos, List, [], ◌∷◌, ◌++◌, length, sum_by, length-append, inl, inr, ⊎_elim, refl, sym, ap, subst, ◌∙◌, arith, Option, Some, slice_index, ◌==◌, int_eq, Contains, eqb-true, eqb-false, eq-eqb, ne_eqb, All-contains, sum_by-cons, some, none, some-injective, some-ne-none, get_elem?, at_from}
+use Rattle.segment_invariant.proofs.Prelude.Machine.{Dimensions, field_at, Spec, buckets_of, spec_fields, boundaries_of, is_sparse, total_of, packed_bucket, units_packed, Actor, Known, Place, Look, Moving, State, is_off, units_in, known_at, all_counted, tally_units}
+use Rattle.segment_invariant.proofs.Prelude.Invariant.{Record, Counts, histogram, counts, words_of, Anatomy, order_of, form_at, key_of_bucket, at_bucket, keyed, units_held, all_held, moving_at, HasRecord, HasCounts, IsFirst, Knows, StandsRight, Invariant, HasKey}
 use Rattle.bucket_ranges.specs.declared.spec.Spec.TheVariants as spec
-use Rattle.bucket_ranges.specs.Spec.{buckets_of, spec_fields}
-use Rattle.bucket_ranges.specs.Ranges.{boundaries_of}
-use Rattle.bucket_ranges.specs.Reading.{is_sparse, count_at, total_of}
-use Rattle.bucket_ranges.specs.Single.{packed_bucket, units_packed}
-use Rattle.segment_machine.specs.declared.actor.Actor.{Actor}
-use Rattle.segment_machine.specs.declared.actor.Known.{Known}
-use Rattle.segment_machine.specs.declared.place.Place.{Place}
-use Rattle.segment_machine.specs.declared.place.Look.{Look}
-use Rattle.segment_machine.specs.declared.place.Place.TheVariants.{Moving}
-use Rattle.segment_machine.specs.State.{State}
-use Rattle.segment_calls.specs.Form.{is_off, units_in}
-use Rattle.segment_machine.specs.Actor.{transit_at, transit_of, known_at, all_counted}
-use Rattle.segment_machine.specs.Entry.{tally_units}
+use Rattle.bucket_ranges.specs.Reading.{count_at}
+use Rattle.segment_machine.specs.Actor.{transit_at, transit_of}
 use Rattle.segment_invariant.proofs.Frames.OneActor.{moves_or_not}
-use Rattle.list_lemmas.proofs.Elements.{at_from}
 use Rattle.segment_invariant.proofs.Lists.FewTerms.{sum_none}
 use Rattle.segment_invariant.specs.Consistent.{HasPlace}
-use Rattle.segment_invariant.specs.Body.{Record, Counts, histogram, counts, words_of, Anatomy, order_of}
-use Rattle.segment_invariant.specs.Ledger.{form_at, key_of_bucket, at_bucket, keyed, units_held, all_held, moving_of, moving_at, all_moving}
-use Rattle.segment_invariant.specs.Seen.{HasRecord, HasCounts, IsFirst, Knows}
-use Rattle.segment_invariant.specs.Invariant.{StandsRight, Invariant, HasKey}
+use Rattle.segment_invariant.specs.Ledger.{moving_of, all_moving}
 use Rattle.segment_invariant.specs.Keeps.{KeptTotalsAreCounted}
 use Rattle.segment_invariant.proofs.Blocks.Pieces.{piece_word, one_stands}
 use Rattle.segment_invariant.proofs.Counting.Seen.{count_in, mark_in}

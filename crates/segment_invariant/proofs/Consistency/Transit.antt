@@ -1,16 +1,8 @@
 -- Units of a kept state are in transit in version 1 alone, and in the packed bucket alone.
-use Rattle.std.proofs.Common.{⊎_elim, ◌≡◌, Bool, true, false, ◌&&◌, ◌==◌, ℕ, ◌<◌, if◌then◌else◌, sym, ap, subst, ◌∙◌, refl, arith, Some}
-use Rattle.std.proofs.lemmas.Bool.{eqb-true, and_parts}
-use Rattle.segment_image.specs.Shape.{Dimensions}
-use Rattle.bucket_ranges.specs.Single.{packed_bucket}
-use Rattle.segment_machine.specs.declared.actor.Actor.{Actor}
-use Rattle.segment_machine.specs.declared.place.Place.{Place}
+use Rattle.segment_invariant.proofs.Prelude.Std.{⊎_elim, ◌≡◌, Bool, true, false, ◌&&◌, ◌==◌, ℕ, ◌<◌, if◌then◌else◌, sym, ap, subst, ◌∙◌, refl, arith, Some, eqb-true, and_parts}
+use Rattle.segment_invariant.proofs.Prelude.Machine.{Dimensions, packed_bucket, Actor, Place, State}
+use Rattle.segment_invariant.proofs.Prelude.Invariant.{Record, Anatomy, form_at, HasRecord, StandsRight, Invariant}
 use Rattle.segment_machine.specs.Actor.{transit_at, transit_of}
-use Rattle.segment_machine.specs.State.{State}
-use Rattle.segment_invariant.specs.Body.{Record, Anatomy}
-use Rattle.segment_invariant.specs.Ledger.{form_at}
-use Rattle.segment_invariant.specs.Seen.{HasRecord}
-use Rattle.segment_invariant.specs.Invariant.{StandsRight, Invariant}
 use Rattle.segment_invariant.specs.Keeps.{KeptTransitIsLocal}
 use Rattle.segment_invariant.proofs.Frames.OneActor.{moves_or_not}
 use Rattle.segment_invariant.proofs.Lists.FewTerms.{some_counts}

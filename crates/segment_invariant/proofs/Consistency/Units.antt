@@ -1,16 +1,10 @@
 -- The units of a kept state are kept: its sums are near each other, by what was spent on their histogram.
-use Rattle.std.proofs.Common.{◌≡◌, ℕ, ◌*◌, ◌≤◌, ℤ, List, inl, inr, ap, subst, ◌∙◌, arith}
-use Rattle.std.specs.Prelude.{unsigned_abs, ◌-ℤ◌}
-use Rattle.std.specs.Int.{w64, cast_signed}
-use Rattle.segment_image.specs.Shape.{Dimensions}
-use Rattle.segment_machine.specs.State.{State}
+use Rattle.segment_invariant.proofs.Prelude.Std.{◌≡◌, ℕ, ◌*◌, ◌≤◌, ℤ, List, inl, inr, ap, subst, ◌∙◌, arith, unsigned_abs, ◌-ℤ◌, w64, cast_signed, at_from}
+use Rattle.segment_invariant.proofs.Prelude.Machine.{Dimensions, State}
+use Rattle.segment_invariant.proofs.Prelude.Invariant.{IsHistogram, Record, Anatomy, order_of, HasRecord, IsSumOf, Invariant}
 use Rattle.segment_machine.specs.Actor.{all_costs}
-use Rattle.segment_invariant.specs.Consistent.{IsHistogram, IsSum}
-use Rattle.segment_invariant.specs.Body.{Record, Anatomy, order_of}
-use Rattle.segment_invariant.specs.Seen.{HasRecord}
-use Rattle.segment_invariant.specs.Invariant.{IsSumOf, Invariant}
+use Rattle.segment_invariant.specs.Consistent.{IsSum}
 use Rattle.segment_invariant.specs.Keeps.{KeptUnitsAreKept}
-use Rattle.list_lemmas.proofs.Elements.{at_from}
 use Rattle.segment_invariant.proofs.Consistency.Firsts.{first_of_name}
 use Rattle.segment_invariant.proofs.Consistency.Records.{record_word}
 use Rattle.segment_invariant.proofs.Consistency.Sums.{noted_is}

@@ -1,24 +1,11 @@
 -- What an actor has accepted, and what had been accepted before it was made, is no more than what was counted and noted.
-use Rattle.std.proofs.Common.{◌≡◌, ◌≢◌, ℕ, zero, suc, ◌+◌, ◌≤◌, ℤ, true, List, [], ◌∷◌, ◌++◌, map, drop, length, set, All, sym, refl, ap, ◌∙◌, arith, false}
+use Rattle.segment_invariant.proofs.Prelude.Std.{◌≡◌, ◌≢◌, ℕ, zero, suc, ◌+◌, ◌≤◌, ℤ, true, List, [], ◌∷◌, ◌++◌, map, drop, length, set, All, sym, refl, ap, ◌∙◌, arith, false, and_parts, flat_map, some, get_elem?, set_else, IsTotal}
+use Rattle.segment_invariant.proofs.Prelude.Machine.{Dimensions, Entry, EntryProgress, Spent, Actor, is_counted, is_noted, has_ended, counted_among, noted_among, tally_units, tally_noted, log_of, counted_of, noted_of, all_counted, all_noted, accepted_by, is_opener, State}
+use Rattle.segment_invariant.proofs.Prelude.Invariant.{Anatomy, Invariant}
 use Rattle.std.proofs.Math.Seq.{drop-append_seam}
-use Rattle.std.proofs.lemmas.Bool.{and_parts}
-use Rattle.std.specs.List.{flat_map}
-use mathlib.Core.Option.{some}
-use lib.ListN.{get_elem?}
-use Rattle.atomic_table.proofs.Lists.{set_else}
-use Rattle.segment_image.specs.Shape.{Dimensions}
-use Rattle.segment_machine.specs.declared.entry.Entry.{Entry}
-use Rattle.segment_machine.specs.declared.entry.EntryProgress.{EntryProgress}
-use Rattle.segment_machine.specs.declared.place.Place.TheVariants.{Spent}
-use Rattle.segment_machine.specs.declared.actor.Actor.{Actor}
-use Rattle.segment_machine.specs.Entry.{is_counted, is_noted, has_ended, counted_among, noted_among, tally_units, tally_noted}
-use Rattle.segment_machine.specs.Actor.{log_of, counted_of, noted_of, all_counted, all_noted, accepted_by, accepted_since, is_opener}
+use Rattle.segment_machine.specs.Actor.{accepted_since}
 use Rattle.segment_machine.specs.Seats.{spent}
-use Rattle.segment_machine.specs.State.{State}
-use Rattle.segment_invariant.specs.Body.{Anatomy}
-use Rattle.segment_invariant.specs.Invariant.{Invariant}
 use Rattle.segment_invariant.proofs.Lists.Countings.{units_total, noted_total}
-use Rattle.list_lemmas.proofs.Sums.{IsTotal}
 use Rattle.segment_invariant.proofs.Frames.GoesOn.{not_opener}
 use Rattle.segment_invariant.proofs.Frames.GrowthOfStates.{among_all, ended_counted}
 use Rattle.segment_invariant.proofs.Frames.OneActor.{lives_on}

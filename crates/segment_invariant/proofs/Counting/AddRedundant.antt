@@ -1,34 +1,12 @@
 -- The units of the entry that is next are added to the redundant count of its histogram.
-use Rattle.std.proofs.Common.{◌≡◌, ◌≢◌, ℕ, ◌+◌, ◌%◌, ◌^◌, ◌<◌, ◌≤◌, pos, Bool, true, false, cond, not, ◌&&◌, List, [], ◌∷◌, ◌++◌, map, filter, length, set, Contains, inl, inr, ⊎_elim, refl, sym, ap, ◌∙◌, subst, arith, length-append}
-use Rattle.std.specs.Prelude.{if◌then◌else◌, ◌==◌, drop, take}
-use Rattle.std.specs.Str.{bytes_eq}
-use Rattle.std.proofs.Math.IntN.{+ℤ_idr}
-use Rattle.std.proofs.lemmas.List.{drop-append-le, length-map, get_or-set_same}
-use Rattle.std.proofs.lemmas.List.Elements.{All-contains, All-take, Contains-append_right}
-use Rattle.std.proofs.lemmas.Slice.Eq.{bytes_eq-Decides}
-use mathlib.Core.Option.{some, none}
-use lib.ListN.{get_elem?}
+use Rattle.segment_invariant.proofs.Prelude.Std.{◌≡◌, ◌≢◌, ℕ, ◌+◌, ◌%◌, ◌^◌, ◌<◌, ◌≤◌, pos, Bool, true, false, cond, not, ◌&&◌, List, [], ◌∷◌, ◌++◌, map, filter, length, set, Contains, inl, inr, ⊎_elim, refl, sym, ap, ◌∙◌, subst, arith, length-append, if◌then◌else◌, ◌==◌, drop, take, bytes_eq, +ℤ_idr, drop-append-le, length-map, get_or-set_same, All-contains, Contains-append_right, bytes_eq-Decides, some, none, get_elem?, at_from, sum_at_least, sum_same, contains_map}
+use Rattle.segment_invariant.proofs.Prelude.Machine.{Dimensions, word_at, buckets_of, EntryProgress, Entry, Actor, Known, Spent, Idle, Sighting, is_counted, is_summed, is_noted, has_ended, is_of, tally_sum, tally_noted, noted_among, is_bound, cost_of, cost_total, units_of, summed_of, noted_of, is_opener, counting_event, State}
+use Rattle.segment_invariant.proofs.Prelude.Invariant.{Record, Counts, Sample, histogram, counts, sample, Anatomy, layout_of, of_name, HasRecord, HasCounts, HasSample, WasCounter, LooksBack, summed_cost, Invariant, EventKeeps}
+use Rattle.std.proofs.lemmas.List.Elements.{All-take}
 use Rattle.alloc_core.proofs.Layouts.{length_shown}
-use Rattle.segment_image.specs.Shape.{Dimensions}
-use Rattle.segment_image.specs.Words.{word_at}
-use Rattle.bucket_ranges.specs.Spec.{buckets_of}
-use Rattle.segment_machine.specs.declared.entry.EntryProgress.{EntryProgress}
-use Rattle.segment_machine.specs.declared.entry.Entry.{Entry}
-use Rattle.segment_machine.specs.declared.actor.Actor.{Actor}
-use Rattle.segment_machine.specs.declared.actor.Known.{Known}
-use Rattle.segment_machine.specs.declared.place.Place.TheVariants.{Spent, Idle}
-use Rattle.segment_machine.specs.declared.seen.Sighting.{Sighting}
-use Rattle.segment_machine.specs.Entry.{is_counted, is_summed, is_noted, has_ended, is_of, tally_sum, tally_noted, summed_among, noted_among}
-use Rattle.segment_machine.specs.Actor.{is_bound, cost_of, cost_total, units_of, summed_of, noted_of, is_opener}
+use Rattle.segment_machine.specs.Entry.{summed_among}
 use Rattle.segment_machine.specs.Counting.{add_redundant}
-use Rattle.segment_machine.specs.Event.{counting_event}
-use Rattle.segment_machine.specs.State.{State}
-use Rattle.segment_invariant.specs.Body.{Record, Counts, Sample, histogram, counts, sample, Anatomy, layout_of}
-use Rattle.segment_invariant.specs.Ledger.{of_name}
-use Rattle.segment_invariant.specs.Seen.{HasRecord, HasCounts, HasSample, WasCounter}
-use Rattle.segment_invariant.specs.Invariant.{LooksBack, summed_cost, Invariant}
-use Rattle.segment_invariant.specs.Keeps.{EventKeeps}
-use Rattle.list_lemmas.proofs.Elements.{at_from, not_empty, sum_at_least, sum_same}
+use Rattle.list_lemmas.proofs.Elements.{not_empty}
 use Rattle.segment_invariant.proofs.Lists.Countings.{noted_total}
 use Rattle.segment_invariant.proofs.Blocks.Pieces.{piece_word}
 use Rattle.segment_invariant.proofs.Frames.GoesOn.{happens}
@@ -42,7 +20,6 @@ use Rattle.segment_invariant.proofs.Counting.Looks.{same_block, one_record, body
 use Rattle.segment_invariant.proofs.Counting.Sights.{word_within}
 use Rattle.segment_invariant.proofs.Counting.Whole.{whole_noted}
 use Rattle.segment_invariant.proofs.Consistency.Firsts.{sample_of_first}
-use Rattle.list_lemmas.proofs.Maps.{contains_map}
 use Rattle.alloc_core.proofs.Owners.{set_at}
 use Rattle.segment_invariant.proofs.Changes.Others.{Deed}
 use Rattle.segment_invariant.proofs.Changes.Looks as changes

@@ -1,33 +1,13 @@
 -- The units of the entry that is next are added to the count of the first sample of their value.
-use Rattle.std.proofs.Common.{◌≡◌, ◌≢◌, Bool, true, false, if◌then◌else◌, ◌&&◌, ℕ, ◌+◌, ◌%◌, ◌^◌, ◌<◌, ◌≤◌, ℤ, List, [], ◌∷◌, ◌++◌, length, set, Contains, inl, inr, refl, sym, ap, ◌∙◌, subst, arith}
-use Rattle.std.specs.Ordering.{int_eq}
-use Rattle.std.specs.Str.{bytes_eq}
+use Rattle.segment_invariant.proofs.Prelude.Std.{◌≡◌, ◌≢◌, Bool, true, false, if◌then◌else◌, ◌&&◌, ℕ, ◌+◌, ◌%◌, ◌^◌, ◌<◌, ◌≤◌, ℤ, List, [], ◌∷◌, ◌++◌, length, set, Contains, inl, inr, refl, sym, ap, ◌∙◌, subst, arith, int_eq, bytes_eq, set-set, get_or-set_same, Contains-append_right, some, get_elem?, split_among}
+use Rattle.segment_invariant.proofs.Prelude.Machine.{Dimensions, word_at, EntryProgress, Actor, Known, Spent, Idle, Seen, is_counted, is_bound, is_opener, MayTurn, add_count, counting_event, SawSample, IsFirstSample, State}
+use Rattle.segment_invariant.proofs.Prelude.Invariant.{Sample, sample, histogram, Listed, Anatomy, units_held, HasSample, IsValued, IsFirst, IsFirstOf, Invariant}
 use Rattle.std.proofs.Math.Nat.{mod-eq_of_lt}
-use Rattle.std.proofs.lemmas.List.{set-set, get_or-set_same}
-use Rattle.std.proofs.lemmas.List.Elements.{Contains-append_right}
-use mathlib.Core.Option.{some}
-use lib.ListN.{get_elem?}
 use Rattle.alloc_core.proofs.Owners.{set_at}
 use Rattle.bucket_ranges.specs.declared.spec.Spec.TheVariants as spec
-use Rattle.segment_image.specs.Shape.{Dimensions}
-use Rattle.segment_image.specs.Words.{word_at}
-use Rattle.segment_machine.specs.declared.entry.EntryProgress.{EntryProgress}
-use Rattle.segment_machine.specs.declared.actor.Actor.{Actor}
-use Rattle.segment_machine.specs.declared.actor.Known.{Known}
-use Rattle.segment_machine.specs.declared.place.Place.TheVariants.{Spent, Idle}
-use Rattle.segment_machine.specs.declared.seen.Seen.{Seen}
-use Rattle.segment_machine.specs.Entry.{is_counted}
-use Rattle.segment_machine.specs.Actor.{is_bound, Sparse, is_opener}
-use Rattle.segment_machine.specs.Calls.{CountsNext, MayTurn}
-use Rattle.segment_machine.specs.Counting.{add_count}
-use Rattle.segment_machine.specs.Event.{counting_event}
-use Rattle.segment_machine.specs.Made.{SawSample, IsFirstSample}
-use Rattle.segment_machine.specs.State.{State}
-use Rattle.segment_invariant.specs.Body.{Sample, sample, histogram, Listed, Anatomy}
-use Rattle.segment_invariant.specs.Ledger.{units_held}
-use Rattle.segment_invariant.specs.Seen.{HasSample, IsValued, IsFirst, IsFirstOf}
-use Rattle.segment_invariant.specs.Invariant.{Invariant}
-use Rattle.list_lemmas.proofs.Firsts.{first_unique, split_among}
+use Rattle.segment_machine.specs.Actor.{Sparse}
+use Rattle.segment_machine.specs.Calls.{CountsNext}
+use Rattle.list_lemmas.proofs.Firsts.{first_unique}
 use Rattle.segment_invariant.proofs.Consistency.Books.{one_name, sample_first}
 use Rattle.segment_invariant.proofs.Consistency.Firsts.{sample_of_first}
 use Rattle.segment_invariant.proofs.Frames.Answers.{first_one}

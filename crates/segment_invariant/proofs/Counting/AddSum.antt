@@ -1,50 +1,27 @@
 -- The amount of the entry that is next is added to the sum of its histogram.
-use Rattle.std.proofs.Common.{◌≡◌, ◌≢◌, ℕ, zero, suc, ◌+◌, ◌*◌, ◌%◌, ◌^◌, ◌<◌, ◌≤◌, ℤ, pos, negsuc, neg_ℤ, ◌+ℤ◌, ◌-ℤ◌, Bool, true, false, cond, not, ◌||◌, ◌&&◌, ◌⊎◌, ne_eqb, List, [], ◌∷◌, ◌++◌, map, filter, length, set, All, Contains, inl, inr, ⊎_elim, refl, sym, ap, ◌∙◌, subst, arith, length-append}
-use Rattle.std.specs.Prelude.{if◌then◌else◌, unsigned_abs, ◌==◌}
-use Rattle.std.specs.Int.{w64, cast_signed, cast_unsigned}
-use Rattle.std.specs.Ordering.{int_eq}
-use Rattle.std.specs.Str.{bytes_eq}
-use Rattle.std.proofs.Math.IntN.{+ℤ_assoc, +ℤ_comm, +ℤ_idl, +ℤ_idr, +ℤ_invr, neg_ℤ-+ℤ}
-use Rattle.std.proofs.lemmas.Bool.Decides.{Decides-int_eq}
+use Rattle.segment_invariant.proofs.Prelude.Std.{◌≡◌, ◌≢◌, ℕ, zero, suc, ◌+◌, ◌*◌, ◌%◌, ◌^◌, ◌<◌, ◌≤◌, ℤ, pos, ◌+ℤ◌, ◌-ℤ◌, Bool, true, false, cond, not, ◌||◌, ◌&&◌, ◌⊎◌, ne_eqb, List, [], ◌∷◌, ◌++◌, map, filter, length, set, All, Contains, inl, inr, ⊎_elim, refl, sym, ap, ◌∙◌, subst, arith, length-append, if◌then◌else◌, unsigned_abs, ◌==◌, w64, cast_signed, cast_unsigned, int_eq, bytes_eq, +ℤ_idl, +ℤ_idr, Decides-int_eq, map-append, All-cons, All-nil, All-contains, filter-append, Contains-append_cases, Contains-append_right, bytes_eq-Decides, some, none, get_elem?, all_of, one_in, sum_beside, sum_same, contains_map}
+use Rattle.segment_invariant.proofs.Prelude.Machine.{Dimensions, EntryProgress, Entry, Actor, is_counted, is_summed, is_noted, is_of, tally_sum, tally_noted, noted_among, counting_event, add_sum, word_at, State, Cost, Known, Spent, Idle, is_bound, cost_of, units_of, summed_of, noted_of, is_opener}
+use Rattle.segment_invariant.proofs.Prelude.Invariant.{Record, histogram, Anatomy, layout_of, EventKeeps, HasRecord, summed_cost, IsSumOf, SumsAreNear, Invariant}
+use Rattle.std.proofs.Common.{negsuc, neg_ℤ}
+use Rattle.std.proofs.Math.IntN.{+ℤ_assoc, +ℤ_comm, +ℤ_invr, neg_ℤ-+ℤ}
 use Rattle.std.proofs.lemmas.Int.{wrapping_add_onto, int_wrap_fits, fits_signed_from_abs}
-use Rattle.std.proofs.lemmas.List.{map-append}
-use Rattle.std.proofs.lemmas.List.Elements.{All-cons, All-nil, All-contains, filter-append, Contains-append_cases, Contains-append_right}
 use Rattle.std.proofs.lemmas.List.Sums.{sum_by-le-sum_by}
-use Rattle.std.proofs.lemmas.Slice.Eq.{bytes_eq-Decides}
-use mathlib.Core.Option.{some, none}
-use lib.ListN.{get_elem?}
 use Rattle.bucket_ranges.proofs.Sums.{sum-small}
-use Rattle.segment_image.specs.Shape.{Dimensions}
-use Rattle.segment_machine.specs.declared.entry.EntryProgress.{EntryProgress}
-use Rattle.segment_machine.specs.declared.entry.Entry.{Entry}
-use Rattle.segment_machine.specs.declared.actor.Actor.{Actor}
-use Rattle.segment_machine.specs.Entry.{is_counted, is_summed, is_noted, is_of, tally_sum, tally_noted, summed_among, noted_among}
-use Rattle.list_lemmas.proofs.Elements.{all_of, not_empty, one_in, sum_beside, sum_same}
-use Rattle.list_lemmas.proofs.Maps.{contains_map}
+use Rattle.segment_machine.specs.Entry.{summed_among}
+use Rattle.list_lemmas.proofs.Elements.{not_empty}
 use Rattle.segment_invariant.proofs.Lists.Countings.{sum_total}
 use Rattle.segment_invariant.proofs.Notes.Amounts.{zeros}
 use Rattle.segment_invariant.proofs.Counting.Running.{Next, next_of, passes_same, passes_moved}
 use Rattle.segment_invariant.proofs.Counting.Learned.{summed_least}
 use Rattle.segment_invariant.proofs.Counting.Amounts.{with_amount, turner_lives, the_record, later, amount_added}
 use Rattle.segment_invariant.proofs.Changes.Words.{Turns, behind, came_from, record_turns}
-use Rattle.segment_invariant.specs.Body.{Record, histogram, Anatomy, layout_of}
 use Rattle.segment_invariant.specs.Ledger.{amount_of_name}
-use Rattle.segment_invariant.specs.Keeps.{EventKeeps}
-use Rattle.segment_machine.specs.Event.{counting_event}
-use Rattle.segment_machine.specs.Counting.{add_sum}
 use Rattle.segment_invariant.proofs.Frames.GoesOn.{happens}
 use Rattle.segment_invariant.proofs.Frames.Together.{LoadedBefore, loaded_set}
 use Rattle.segment_invariant.proofs.Blocks.Pieces.{piece_word}
 use Rattle.segment_invariant.proofs.Walking.Walks.{block_within}
 use Rattle.alloc_core.proofs.Layouts.{length_shown}
-use Rattle.segment_image.specs.Words.{word_at}
-use Rattle.segment_invariant.specs.Seen.{HasRecord}
-use Rattle.segment_invariant.specs.Invariant.{summed_cost, summed_costs, IsSumOf, SumsAreNear, Invariant}
-use Rattle.segment_machine.specs.State.{State}
-use Rattle.segment_machine.specs.declared.actor.Cost.{Cost}
-use Rattle.segment_machine.specs.declared.actor.Known.{Known}
-use Rattle.segment_machine.specs.declared.place.Place.TheVariants.{Spent, Idle}
-use Rattle.segment_machine.specs.Actor.{is_bound, cost_of, units_of, summed_of, noted_of, is_opener}
+use Rattle.segment_invariant.specs.Invariant.{summed_costs}
 
 -- ---- one entry with an amount
 

@@ -1,27 +1,10 @@
 -- An amount is added to the sum of a record, or units to its redundant count, for the entry that is next: the state that is left is kept.
-use Rattle.std.proofs.Common.{◌≡◌, ◌≢◌, ℕ, ◌+◌, ◌<◌, ◌^◌, ℤ, pos, ◌+ℤ◌, true, false, List, ◌++◌, set, Contains, refl, sym, ap, ◌∙◌, subst, arith}
-use Rattle.std.specs.Int.{w64, cast_signed}
-use Rattle.std.proofs.Math.IntN.{+ℤ_idr}
-use Rattle.std.proofs.lemmas.List.Elements.{All-contains}
-use mathlib.Core.Option.{some}
-use lib.ListN.{get_elem?}
-use Rattle.segment_image.specs.Shape.{Dimensions}
-use Rattle.segment_machine.specs.declared.entry.EntryProgress.{EntryProgress}
-use Rattle.segment_machine.specs.declared.entry.Entry.{Entry}
-use Rattle.segment_machine.specs.declared.place.Place.TheVariants.{Spent, Idle}
-use Rattle.segment_machine.specs.declared.actor.Actor.{Actor}
-use Rattle.segment_machine.specs.declared.actor.Known.{Known}
-use Rattle.segment_machine.specs.declared.seen.Sighting.{Sighting}
-use Rattle.segment_machine.specs.Entry.{counted_among, is_counted, is_summed, is_of, tally_units, tally_sum, tally_noted}
-use Rattle.segment_machine.specs.Note.{is_untouched}
-use Rattle.segment_machine.specs.Actor.{is_bound, counted_of, summed_of, noted_of, all_counted, taken_units, taken_of, is_opener}
-use Rattle.segment_machine.specs.State.{State}
-use Rattle.segment_invariant.specs.Body.{Record, histogram, Anatomy}
-use Rattle.segment_invariant.specs.Ledger.{of_name, amount_of_name, moving_at}
-use Rattle.segment_invariant.specs.Seen.{HasRecord, IsFirst, Knows, Sees}
-use Rattle.segment_invariant.specs.Invariant.{IsLawfulRecord, SumsAreNear, LooksBack, Invariant}
+use Rattle.segment_invariant.proofs.Prelude.Std.{◌≡◌, ◌≢◌, ℕ, ◌+◌, ◌<◌, ◌^◌, ℤ, pos, ◌+ℤ◌, true, false, List, ◌++◌, set, Contains, refl, sym, ap, ◌∙◌, subst, arith, w64, cast_signed, +ℤ_idr, All-contains, some, get_elem?, rows, row_in}
+use Rattle.segment_invariant.proofs.Prelude.Machine.{Dimensions, EntryProgress, Entry, Spent, Idle, Actor, Known, Sighting, counted_among, is_counted, is_summed, is_of, tally_units, tally_sum, tally_noted, is_untouched, is_bound, counted_of, summed_of, noted_of, all_counted, taken_units, taken_of, is_opener, State}
+use Rattle.segment_invariant.proofs.Prelude.Invariant.{Record, histogram, Anatomy, of_name, moving_at, HasRecord, IsFirst, Knows, Sees, IsLawfulRecord, SumsAreNear, LooksBack, Invariant}
+use Rattle.segment_invariant.specs.Ledger.{amount_of_name}
 use Rattle.segment_invariant.proofs.Lists.Countings.{sum_total, noted_total}
-use Rattle.list_lemmas.proofs.Elements.{rows, rows_total, row_in}
+use Rattle.list_lemmas.proofs.Elements.{rows_total}
 use Rattle.segment_invariant.proofs.Frames.Ahead.{unbound_unbeaten}
 use Rattle.segment_invariant.proofs.Frames.Answers.{first_one}
 use Rattle.segment_invariant.proofs.Frames.OneActor.{rests_at}

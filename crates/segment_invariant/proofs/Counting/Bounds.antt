@@ -1,25 +1,10 @@
 -- What is counted, noted and added of a name fits: all units together are 4,294,967,295.
-use Rattle.std.proofs.Common.{ℕ, ◌+◌, ◌*◌, ◌≤◌, ℤ, pos, Bool, true, false, ◌&&◌, if◌then◌else◌, List, [], ◌∷◌, inl, ⊎_elim, refl, sym, subst, arith}
-use Rattle.std.specs.Prelude.{sum_by, unsigned_abs, ◌-ℤ◌}
-use Rattle.std.specs.List.{flat_map, Contains}
-use Rattle.std.specs.Ordering.{int_eq}
-use Rattle.std.specs.Str.{bytes_eq}
-use Rattle.std.proofs.Math.IntN.{+ℤ_idr}
-use Rattle.std.proofs.lemmas.List.Elements.{Contains-append_right}
-use Rattle.std.proofs.lemmas.List.Sums.{sum_by-le-sum_by, sum_by-cons}
-use Rattle.segment_image.specs.Shape.{Dimensions}
-use Rattle.segment_machine.specs.declared.entry.Entry.{Entry}
-use Rattle.segment_machine.specs.declared.actor.Actor.{Actor}
-use Rattle.segment_machine.specs.declared.actor.Cost.{Cost}
-use Rattle.segment_machine.specs.Entry.{is_of, tally_units, tally_noted}
-use Rattle.segment_machine.specs.Actor.{counted_of, noted_of, all_counted, all_noted, all_costs, cost_of, cost_total, units_of}
-use Rattle.segment_machine.specs.Seats.{purse}
-use Rattle.segment_machine.specs.State.{State}
-use Rattle.segment_invariant.specs.Body.{Record, Anatomy}
-use Rattle.segment_invariant.specs.Seen.{HasRecord}
-use Rattle.segment_invariant.specs.Invariant.{summed_cost, IsSumOf, StandsRight, CallsRight, Invariant}
+use Rattle.segment_invariant.proofs.Prelude.Std.{ℕ, ◌+◌, ◌*◌, ◌≤◌, ℤ, pos, Bool, true, false, ◌&&◌, if◌then◌else◌, List, [], ◌∷◌, inl, ⊎_elim, refl, sym, subst, arith, sum_by, unsigned_abs, ◌-ℤ◌, flat_map, Contains, int_eq, bytes_eq, +ℤ_idr, Contains-append_right, sum_by-cons, at_from, sum_at_least}
+use Rattle.segment_invariant.proofs.Prelude.Machine.{Dimensions, Entry, Actor, Cost, is_of, tally_units, tally_noted, counted_of, noted_of, all_counted, all_noted, cost_of, cost_total, units_of, purse, State}
+use Rattle.segment_invariant.proofs.Prelude.Invariant.{Record, Anatomy, HasRecord, summed_cost, IsSumOf, StandsRight, CallsRight, Invariant}
+use Rattle.std.proofs.lemmas.List.Sums.{sum_by-le-sum_by}
+use Rattle.segment_machine.specs.Actor.{all_costs}
 use Rattle.segment_invariant.proofs.Lists.Countings.{noted_total}
-use Rattle.list_lemmas.proofs.Elements.{at_from, sum_at_least}
 use Rattle.segment_invariant.proofs.Frames.OneActor.{summed_most}
 use Rattle.segment_invariant.proofs.Frames.Spending.{counted_spent, spent_or_not, all_spent, noted_within}
 

@@ -1,24 +1,8 @@
 -- A recorder sees a count of a histogram, which is in use: it is 1 at least, so the single word is off.
-use Rattle.std.proofs.Common.{◌≡◌, ◌≢◌, Bool, true, false, ℕ, ◌+◌, ◌<◌, ◌≤◌, ℤ, List, [], ◌∷◌, ◌++◌, length, set, ⊎_elim, refl, sym, ap, ◌∙◌, subst, arith, length-append}
-use Rattle.std.specs.Prelude.{slice_index}
-use Rattle.std.proofs.lemmas.List.Elements.{All-contains, All-push}
-use mathlib.Core.Option.{some}
-use lib.ListN.{get_elem?}
-use Rattle.segment_image.specs.Shape.{Dimensions}
-use Rattle.segment_image.specs.Words.{word_at}
-use Rattle.bucket_ranges.specs.Spec.{buckets_of}
-use Rattle.segment_machine.specs.declared.actor.Actor.{Actor}
-use Rattle.segment_machine.specs.declared.place.Look.{Look}
-use Rattle.segment_machine.specs.declared.place.Place.{Place}
-use Rattle.segment_machine.specs.declared.place.Place.TheVariants.{Spent, SumLoaded, Moving}
-use Rattle.segment_machine.specs.declared.seen.Sighting.{Sighting}
-use Rattle.segment_calls.specs.Form.{is_off}
-use Rattle.segment_machine.specs.Actor.{is_bound, is_opener}
-use Rattle.segment_machine.specs.State.{State}
-use Rattle.segment_invariant.specs.Body.{Record, Counts, Sample, counts, sample, Anatomy}
-use Rattle.segment_invariant.specs.Ledger.{key_of_bucket}
-use Rattle.segment_invariant.specs.Seen.{HasRecord, HasCounts, HasSample, WasFixed, WasCounter, WasInUse, WasMet}
-use Rattle.segment_invariant.specs.Invariant.{LooksRight, IsCountsOf, StandsRight, Invariant}
+use Rattle.segment_invariant.proofs.Prelude.Std.{◌≡◌, ◌≢◌, Bool, true, false, ℕ, ◌+◌, ◌<◌, ◌≤◌, ℤ, List, [], ◌∷◌, ◌++◌, length, set, ⊎_elim, refl, sym, ap, ◌∙◌, subst, arith, length-append, slice_index, All-contains, All-push, some, get_elem?}
+use Rattle.segment_invariant.proofs.Prelude.Machine.{Dimensions, word_at, buckets_of, Actor, Look, Place, Spent, SumLoaded, Moving, Sighting, is_off, is_bound, is_opener, State}
+use Rattle.segment_invariant.proofs.Prelude.Invariant.{Record, Counts, Sample, counts, sample, Anatomy, key_of_bucket, HasRecord, HasCounts, HasSample, WasFixed, WasCounter, WasInUse, WasMet, IsCountsOf, StandsRight, Invariant}
+use Rattle.segment_invariant.specs.Invariant.{LooksRight}
 use Rattle.segment_invariant.proofs.Lists.FewTerms.{zero_index}
 use Rattle.segment_invariant.proofs.Blocks.Places.{counter_within}
 use Rattle.segment_invariant.proofs.Frames.OneActor.{rests_at}

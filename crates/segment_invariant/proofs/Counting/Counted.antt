@@ -1,28 +1,10 @@
 -- The units of the entry that is next are added to a count, in a counts block or a sample: the state that is left is kept.
-use Rattle.std.proofs.Common.{◌≡◌, ◌≢◌, ◌⊎◌, ℕ, zero, suc, ◌+◌, ◌≤◌, ℤ, pos, Bool, true, false, not, cond, ◌&&◌, ◌||◌, List, [], ◌∷◌, ◌++◌, map, filter, length, set, Contains, inl, inr, ⊎_elim, refl, sym, ap, ◌∙◌, subst, arith}
-use Rattle.std.specs.Prelude.{if◌then◌else◌, ◌==◌}
-use Rattle.std.specs.Ordering.{int_eq}
-use Rattle.std.proofs.Math.IntN.{+ℤ_idr}
-use Rattle.std.proofs.lemmas.List.{length-map}
-use Rattle.std.proofs.lemmas.List.Elements.{All-contains, Contains-append_left, Contains-append_right, Contains-append_cases}
-use mathlib.Core.Option.{some, none}
-use lib.ListN.{get_elem?}
+use Rattle.segment_invariant.proofs.Prelude.Std.{◌≡◌, ◌≢◌, ◌⊎◌, ℕ, zero, suc, ◌+◌, ◌≤◌, ℤ, pos, Bool, true, false, not, cond, ◌&&◌, ◌||◌, List, [], ◌∷◌, ◌++◌, map, filter, length, set, Contains, inl, inr, ⊎_elim, refl, sym, ap, ◌∙◌, subst, arith, if◌then◌else◌, ◌==◌, int_eq, +ℤ_idr, length-map, All-contains, Contains-append_left, Contains-append_right, Contains-append_cases, some, none, get_elem?, rows, row_in}
+use Rattle.segment_invariant.proofs.Prelude.Machine.{Dimensions, EntryProgress, Entry, Spent, Idle, Actor, is_counted, is_summed, is_noted, is_of, tally_units, tally_sum, tally_noted, is_bound, cost_of, counted_of, summed_of, noted_of, all_counted, taken_of, is_opener, SawSample, State}
+use Rattle.segment_invariant.proofs.Prelude.Invariant.{Body, Anatomy, units_held, marks_held, noted_held, Stands, IsFirst, IsFirstOf, RecordsAreKept, HasKey, summed_cost, Invariant}
 use Rattle.bucket_ranges.specs.declared.spec.Spec.TheVariants as spec
-use Rattle.segment_image.specs.Shape.{Dimensions}
-use Rattle.segment_machine.specs.declared.entry.EntryProgress.{EntryProgress}
-use Rattle.segment_machine.specs.declared.entry.Entry.{Entry}
-use Rattle.segment_machine.specs.declared.place.Place.TheVariants.{Spent, Idle}
-use Rattle.segment_machine.specs.declared.actor.Actor.{Actor}
-use Rattle.segment_machine.specs.Entry.{is_counted, is_summed, is_noted, is_of, tally_units, tally_sum, tally_noted}
-use Rattle.segment_machine.specs.Actor.{is_bound, cost_of, counted_of, summed_of, noted_of, all_counted, taken_of, is_opener}
-use Rattle.segment_machine.specs.Made.{SawSample}
-use Rattle.segment_machine.specs.State.{State}
-use Rattle.segment_invariant.specs.Body.{Body, Anatomy}
-use Rattle.segment_invariant.specs.Ledger.{units_held, marks_held, sum_held, sum_mark_held, noted_held}
-use Rattle.segment_invariant.specs.Seen.{Stands, IsFirst, IsFirstOf}
-use Rattle.segment_invariant.specs.Invariant.{RecordsAreKept, HasKey, summed_cost, Invariant}
+use Rattle.segment_invariant.specs.Ledger.{sum_held, sum_mark_held}
 use Rattle.segment_invariant.proofs.Lists.Countings.{units_total}
-use Rattle.list_lemmas.proofs.Elements.{rows, row_in}
 use Rattle.segment_invariant.proofs.Frames.Ahead.{unbound_unbeaten}
 use Rattle.segment_invariant.proofs.Frames.OneActor.{rests_at}
 use Rattle.segment_invariant.proofs.Frames.Roles.{SameRoles}

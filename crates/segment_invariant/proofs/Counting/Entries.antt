@@ -1,18 +1,9 @@
 -- A recorder that goes on with an entry of its running call: its call stays right, and of other names nothing changes.
-use Rattle.std.proofs.Common.{◌≡◌, ◌≢◌, ◌⊎◌, ℕ, ◌<◌, ℤ, pos, true, false, List, [], ◌∷◌, ◌++◌, map, All, Contains, inl, ⊎_elim, refl, sym, ap, ◌∙◌, subst, arith}
-use Rattle.std.proofs.lemmas.List.{map-append}
-use Rattle.std.proofs.lemmas.List.Elements.{All-contains, Contains-append_right}
+use Rattle.segment_invariant.proofs.Prelude.Std.{◌≡◌, ◌≢◌, ◌⊎◌, ℕ, ◌<◌, ℤ, pos, true, false, List, [], ◌∷◌, ◌++◌, map, All, Contains, inl, ⊎_elim, refl, sym, ap, ◌∙◌, subst, arith, map-append, All-contains, Contains-append_right}
+use Rattle.segment_invariant.proofs.Prelude.Machine.{Entry, EntryProgress, Actor, is_counted, is_summed, is_of, tally_units, tally_sum, tally_noted, counted_of, all_counted, all_summed, all_noted, all_taken, taken_units, taken_sum, SawSample, is_untouched}
+use Rattle.segment_invariant.proofs.Prelude.Invariant.{Anatomy, IsFirst, IsFirstOf, CallsRight, IsQuiet, RolesAreKept, FinalsAreExact}
 use Rattle.bucket_ranges.specs.declared.spec.Spec.TheVariants as spec
-use Rattle.segment_machine.specs.declared.entry.Entry.{Entry}
-use Rattle.segment_machine.specs.declared.entry.EntryProgress.{EntryProgress}
-use Rattle.segment_machine.specs.declared.actor.Actor.{Actor}
-use Rattle.segment_machine.specs.Entry.{is_counted, is_summed, AreWithin, is_of, tally_units, tally_sum, tally_noted}
-use Rattle.segment_machine.specs.Actor.{counted_of, all_counted, all_summed, all_noted, all_taken, taken_units, taken_sum}
-use Rattle.segment_machine.specs.Made.{SawSample}
-use Rattle.segment_machine.specs.Note.{is_untouched}
-use Rattle.segment_invariant.specs.Body.{Anatomy}
-use Rattle.segment_invariant.specs.Seen.{IsFirst, IsFirstOf}
-use Rattle.segment_invariant.specs.Invariant.{CallsRight, IsQuiet, RolesAreKept, FinalsAreExact}
+use Rattle.segment_machine.specs.Entry.{AreWithin}
 use Rattle.list_lemmas.proofs.Elements.{not_empty}
 use Rattle.segment_invariant.proofs.Frames.Roles.{SameRoles}
 use Rattle.segment_invariant.proofs.Frames.Together.{moment}

@@ -1,24 +1,9 @@
 -- What a record and its counts block hold of a bucket is at most what was counted there, and so is what a sample holds of its value. So it
 -- needs nobody's past: it holds of counts that an actor comes to know only now.
-use Rattle.std.proofs.Common.{◌≡◌, ◌≢◌, ℕ, ◌+◌, ◌<◌, ◌≤◌, List, [], set, refl, sym, ap, ◌∙◌, arith}
-use Rattle.std.specs.Prelude.{Bool, if◌then◌else◌, slice_index}
-use Rattle.std.proofs.lemmas.Bool.Decides.{Decides-int_eq}
-use mathlib.Core.Option.{some, some-injective}
-use lib.ListN.{get_elem?}
-use Rattle.atomic_table.proofs.Lists.{set_else}
-use Rattle.segment_image.specs.Shape.{Dimensions}
-use Rattle.bucket_ranges.specs.declared.spec.Spec.{Spec}
+use Rattle.segment_invariant.proofs.Prelude.Std.{◌≡◌, ◌≢◌, ℕ, ◌+◌, ◌<◌, ◌≤◌, List, [], set, refl, sym, ap, ◌∙◌, arith, Bool, if◌then◌else◌, slice_index, Decides-int_eq, some, some-injective, get_elem?, set_else, sum_at_least, sum_beside}
+use Rattle.segment_invariant.proofs.Prelude.Machine.{Dimensions, Spec, buckets_of, units_packed, all_counted, tally_units, State}
+use Rattle.segment_invariant.proofs.Prelude.Invariant.{Record, Counts, Sample, Body, plain, histogram, counts, sample, Piece, Anatomy, form_at, key_of_bucket, keyed, units_held, all_held, HasRecord, HasCounts, HasSample, IsCountsOf, Invariant}
 use Rattle.bucket_ranges.specs.declared.spec.Spec.TheVariants as spec
-use Rattle.bucket_ranges.specs.Spec.{buckets_of}
-use Rattle.bucket_ranges.specs.Single.{units_packed}
-use Rattle.segment_machine.specs.Actor.{all_counted}
-use Rattle.segment_machine.specs.Entry.{tally_units}
-use Rattle.segment_machine.specs.State.{State}
-use Rattle.segment_invariant.specs.Body.{Record, Counts, Sample, Body, plain, histogram, counts, sample, Piece, Anatomy}
-use Rattle.segment_invariant.specs.Ledger.{form_at, key_of_bucket, keyed, units_held, all_held}
-use Rattle.segment_invariant.specs.Seen.{HasRecord, HasCounts, HasSample}
-use Rattle.segment_invariant.specs.Invariant.{IsCountsOf, Invariant}
-use Rattle.list_lemmas.proofs.Elements.{sum_at_least, sum_beside}
 use Rattle.segment_invariant.proofs.Consistency.Keys.{packed_within, packed_units}
 use Rattle.segment_invariant.proofs.Consistency.Sums.{of_mine}
 use Rattle.segment_invariant.proofs.Consistency.Books.{keyed_one}

@@ -1,27 +1,10 @@
 -- What an actor learns of a histogram that it knows: its counts reference stays, and is there where its single word was seen off; its sums
 -- fit, and so does the difference of two.
-use Rattle.std.proofs.Common.{◌≡◌, ◌≢◌, Bool, true, false, ℕ, ◌+◌, ◌*◌, ◌<◌, ◌≤◌, ◌-ℤ◌, ℤ, pos, List, Contains, inl, inr, refl, sym, ap, ◌∙◌, subst, arith}
-use Rattle.std.specs.Prelude.{unsigned_abs, slice_index, if◌then◌else◌}
-use Rattle.std.specs.Int.{w64, cast_signed}
-use Rattle.std.specs.Str.{bytes_eq}
-use Rattle.std.proofs.Math.IntN.{+ℤ_idr}
-use Rattle.std.proofs.lemmas.List.Elements.{All-contains}
+use Rattle.segment_invariant.proofs.Prelude.Std.{◌≡◌, ◌≢◌, Bool, true, false, ℕ, ◌+◌, ◌*◌, ◌<◌, ◌≤◌, ◌-ℤ◌, ℤ, pos, List, Contains, inl, inr, refl, sym, ap, ◌∙◌, subst, arith, unsigned_abs, slice_index, if◌then◌else◌, w64, cast_signed, bytes_eq, +ℤ_idr, All-contains, some, get_elem?}
+use Rattle.segment_invariant.proofs.Prelude.Machine.{Dimensions, word_at, Actor, Cost, Known, Spent, SumLoaded, Buckets, cost_of, cost_total, units_of, is_off, State}
+use Rattle.segment_invariant.proofs.Prelude.Invariant.{Record, histogram, record_words, Anatomy, HasRecord, WasSingle, summed_cost, IsSumOf, Invariant}
 use Rattle.std.proofs.lemmas.List.Sums.{sum_by-le-sum_by}
-use mathlib.Core.Option.{some}
-use lib.ListN.{get_elem?}
-use Rattle.segment_image.specs.Shape.{Dimensions}
-use Rattle.segment_image.specs.Words.{word_at}
-use Rattle.segment_machine.specs.declared.actor.Actor.{Actor}
-use Rattle.segment_machine.specs.declared.actor.Cost.{Cost}
-use Rattle.segment_machine.specs.declared.actor.Known.{Known}
-use Rattle.segment_machine.specs.declared.place.Place.TheVariants.{Spent, SumLoaded}
-use Rattle.segment_machine.specs.Actor.{Buckets, cost_of, cost_total, units_of}
 use Rattle.segment_machine.specs.Calls.{CountsStay}
-use Rattle.segment_calls.specs.Form.{is_off}
-use Rattle.segment_machine.specs.State.{State}
-use Rattle.segment_invariant.specs.Body.{Record, histogram, record_words, Anatomy}
-use Rattle.segment_invariant.specs.Seen.{HasRecord, WasSingle}
-use Rattle.segment_invariant.specs.Invariant.{summed_cost, IsSumOf, Invariant}
 use Rattle.segment_invariant.proofs.Blocks.Pieces.{piece_word}
 use Rattle.segment_invariant.proofs.Frames.OneActor.{summed_most}
 use Rattle.segment_invariant.proofs.Counting.Loaded.{counts_found}

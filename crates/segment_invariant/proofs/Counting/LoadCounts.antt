@@ -1,22 +1,8 @@
 -- The counts reference of a histogram is loaded, and its actor goes on with what it had loaded of it before.
-use Rattle.std.proofs.Common.{◌≡◌, ◌≢◌, Bool, true, false, ◌==◌, if◌then◌else◌, ℕ, ◌+◌, List, [], ◌∷◌, ◌++◌, Contains, Some, refl, sym, ◌∙◌, subst, arith, ne_eqb}
-use Rattle.std.proofs.lemmas.List.Elements.{Contains-push}
-use mathlib.Core.Option.{some}
-use lib.ListN.{get_elem?}
-use Rattle.segment_image.specs.Shape.{Dimensions}
-use Rattle.segment_image.specs.Words.{word_at}
-use Rattle.segment_machine.specs.declared.actor.Actor.{Actor}
-use Rattle.segment_machine.specs.declared.place.Place.{Place}
-use Rattle.segment_machine.specs.declared.place.Place.TheVariants.{Looking}
-use Rattle.segment_machine.specs.declared.seen.Sighting.{Sighting}
-use Rattle.segment_machine.specs.Calls.{look_of, nothing_of, sight_counts, ended}
-use Rattle.segment_machine.specs.Counting.{load_counts}
-use Rattle.segment_machine.specs.Event.{counting_event, Ready, next}
-use Rattle.segment_machine.specs.State.{State}
-use Rattle.segment_invariant.specs.Body.{histogram, Anatomy}
-use Rattle.segment_invariant.specs.Seen.{HasRecord}
-use Rattle.segment_invariant.specs.Invariant.{StandsRight, Invariant}
-use Rattle.segment_invariant.specs.Keeps.{EventKeeps}
+use Rattle.segment_invariant.proofs.Prelude.Std.{◌≡◌, ◌≢◌, Bool, true, false, ◌==◌, if◌then◌else◌, ℕ, ◌+◌, List, [], ◌∷◌, ◌++◌, Contains, Some, refl, sym, ◌∙◌, subst, arith, ne_eqb, Contains-push, some, get_elem?}
+use Rattle.segment_invariant.proofs.Prelude.Machine.{Dimensions, word_at, Actor, Place, Looking, Sighting, look_of, sight_counts, load_counts, counting_event, Ready, next, State, is_opener}
+use Rattle.segment_invariant.proofs.Prelude.Invariant.{histogram, Anatomy, HasRecord, StandsRight, Invariant, EventKeeps}
+use Rattle.segment_machine.specs.Calls.{nothing_of, ended}
 use Rattle.segment_invariant.proofs.Frames.GoesOn.{happens}
 use Rattle.segment_invariant.proofs.Frames.OneActor.{turns_unbound}
 use Rattle.segment_invariant.proofs.Frames.Shown.{Goes, loaded}
@@ -26,7 +12,6 @@ use Rattle.segment_invariant.proofs.Counting.Loaded.{counts_within, counts_fixed
 use Rattle.segment_invariant.proofs.Counting.Looks.{knows_of}
 use Rattle.segment_invariant.proofs.Counting.References.{words_seen}
 use Rattle.segment_invariant.proofs.Counting.Sights.{word_within}
-use Rattle.segment_machine.specs.Actor.{is_opener}
 
 -- the single word in what an actor goes on with is one that it saw
 single_right : (shape : Dimensions) (anatomy : Anatomy) (id : ℕ) (a : Actor) (place : Place) (h word : ℕ) → StandsRight shape anatomy id a place

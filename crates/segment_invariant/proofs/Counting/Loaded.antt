@@ -1,22 +1,8 @@
 -- The counts of a histogram are loaded: no word changes, and the actor comes to know where its counts stand.
-use Rattle.std.proofs.Common.{◌≡◌, ◌≢◌, ℕ, ◌+◌, Bool, [], ◌∷◌, ◌++◌, All, inl, inr, refl, sym, ap, ◌∙◌, subst, arith, append-nil, length-append, eq-eqb, ne_eqb}
-use Rattle.std.specs.Prelude.{if◌then◌else◌}
-use Rattle.std.proofs.lemmas.List.Elements.{All-push}
-use mathlib.Core.Logic.{dite}
-use mathlib.Core.Option.{some}
-use native.Mathlib.Decide.{ℕ_discrete}
-use lib.ListN.{get_elem?}
-use Rattle.segment_image.specs.Shape.{Dimensions}
-use Rattle.segment_image.specs.Words.{word_at}
-use Rattle.segment_machine.specs.declared.actor.Actor.{Actor}
-use Rattle.segment_machine.specs.State.{State}
-use Rattle.segment_machine.specs.Calls.{sight_counts}
+use Rattle.segment_invariant.proofs.Prelude.Std.{◌≡◌, ◌≢◌, ℕ, ◌+◌, Bool, [], ◌∷◌, ◌++◌, All, inl, inr, refl, sym, ap, ◌∙◌, subst, arith, append-nil, length-append, eq-eqb, ne_eqb, if◌then◌else◌, All-push, dite, some, ℕ_discrete, get_elem?}
+use Rattle.segment_invariant.proofs.Prelude.Machine.{Dimensions, word_at, Actor, State, sight_counts, Buckets, Spent}
+use Rattle.segment_invariant.proofs.Prelude.Invariant.{Record, counts, histogram, Anatomy, HasRecord, WasFixed, Invariant}
 use Rattle.segment_machine.specs.Calls.{AreCountsOf}
-use Rattle.segment_machine.specs.Actor.{Buckets}
-use Rattle.segment_invariant.specs.Body.{Record, counts, histogram, Anatomy}
-use Rattle.segment_invariant.specs.Seen.{HasRecord, WasFixed}
-use Rattle.segment_invariant.specs.Invariant.{Invariant}
-use Rattle.segment_machine.specs.declared.place.Place.TheVariants.{Spent}
 use Rattle.segment_invariant.proofs.Blocks.Pieces.{piece_word}
 use Rattle.segment_invariant.proofs.Walking.Walks.{block_within}
 use Rattle.segment_invariant.proofs.Counting.Seen.{known_stands}

@@ -1,34 +1,13 @@
 -- What an actor looks back at, where it sees one word more: a single word, or a counter, as it is now.
-use Rattle.std.proofs.Common.{◌≡◌, ◌≢◌, ◌⊎◌, ℕ, ◌+◌, ◌<◌, ◌≤◌, ℤ, true, false, List, [], ◌∷◌, ◌++◌, length, take, drop, Contains, inl, inr, ⊎_elim, refl, sym, ap, ◌∙◌, subst, arith, length-append, None, true≢false}
-use Rattle.std.specs.Prelude.{slice_index, Some}
-use Rattle.std.proofs.lemmas.List.{take-append-le, drop-append-le}
-use Rattle.std.proofs.lemmas.List.Elements.{All-contains, All-take, Contains-append_cases}
-use mathlib.Core.Logic.{dite}
-use mathlib.Core.Option.{some, none, some-injective}
-use native.Mathlib.Decide.{ℕ_discrete}
-use lib.ListN.{get_elem?}
-use Rattle.segment_image.specs.Shape.{Dimensions}
-use Rattle.segment_image.specs.Words.{word_at}
+use Rattle.segment_invariant.proofs.Prelude.Std.{◌≡◌, ◌≢◌, ◌⊎◌, ℕ, ◌+◌, ◌<◌, ◌≤◌, ℤ, true, false, List, [], ◌∷◌, ◌++◌, length, take, drop, Contains, inl, inr, ⊎_elim, refl, sym, ap, ◌∙◌, subst, arith, length-append, None, true≢false, slice_index, Some, drop-append-le, All-contains, Contains-append_cases, dite, some, none, some-injective, ℕ_discrete, get_elem?, one_in}
+use Rattle.segment_invariant.proofs.Prelude.Machine.{Dimensions, word_at, buckets_of, single_of, packed_bucket, units_packed, Actor, Given, Known, Place, Spent, SumLoaded, Moving, Seen, Sighting, tally_units, is_off, Leads, word_seen, all_counted, bucket_key, SawCount, is_opener, made_of, SawBucket, State, Look}
+use Rattle.segment_invariant.proofs.Prelude.Invariant.{Record, Counts, Body, histogram, counts, sample, words_of, Piece, Anatomy, form_at, key_of_bucket, Stands, HasRecord, HasCounts, IsFirst, WasFixed, WasCounter, WasInUse, WasSingle, Knows, StandsRight, IsAlone, LooksBack, Invariant}
+use Rattle.std.proofs.lemmas.List.{take-append-le}
+use Rattle.std.proofs.lemmas.List.Elements.{All-take}
 use Rattle.bucket_ranges.specs.declared.spec.Spec.TheVariants as spec
-use Rattle.bucket_ranges.specs.Spec.{buckets_of}
-use Rattle.bucket_ranges.specs.Single.{single_of, packed_bucket, units_packed}
-use Rattle.segment_machine.specs.declared.actor.Actor.{Actor}
-use Rattle.segment_machine.specs.declared.actor.Given.{Given}
-use Rattle.segment_machine.specs.declared.actor.Known.{Known}
-use Rattle.segment_machine.specs.declared.place.Place.{Place}
-use Rattle.segment_machine.specs.declared.place.Place.TheVariants.{Spent, SumLoaded, Moving}
-use Rattle.segment_machine.specs.declared.seen.Seen.{Seen}
-use Rattle.segment_machine.specs.declared.seen.Sighting.{Sighting}
-use Rattle.segment_machine.specs.Entry.{tally_units}
-use Rattle.segment_calls.specs.Form.{is_off, Leads}
-use Rattle.segment_machine.specs.Actor.{word_seen, all_counted, bucket_key, transit_of, SawCount, is_opener, made_of}
-use Rattle.segment_machine.specs.Note.{SawBucket}
-use Rattle.segment_machine.specs.State.{State}
-use Rattle.segment_invariant.specs.Body.{Record, Counts, Body, histogram, counts, sample, words_of, Piece, Anatomy}
-use Rattle.segment_invariant.specs.Ledger.{form_at, key_of_bucket}
-use Rattle.segment_invariant.specs.Seen.{Stands, HasRecord, HasCounts, IsFirst, IsFixedIn, WasFixed, WasCounter, WasInUse, WasSingle, Knows}
-use Rattle.segment_invariant.specs.Invariant.{StandsRight, IsAlone, IsSettled, LooksBack, Invariant}
-use Rattle.list_lemmas.proofs.Elements.{one_in}
+use Rattle.segment_machine.specs.Actor.{transit_of}
+use Rattle.segment_invariant.specs.Seen.{IsFixedIn}
+use Rattle.segment_invariant.specs.Invariant.{IsSettled}
 use Rattle.segment_invariant.proofs.Lists.FewTerms.{zero_index}
 use Rattle.list_lemmas.proofs.Maps.{one_at}
 use Rattle.segment_invariant.proofs.Blocks.Pieces.{one_index, one_stands, piece_word, piece_from}
@@ -41,7 +20,6 @@ use Rattle.segment_invariant.proofs.Consistency.Firsts.{sample_of_first}
 use Rattle.segment_invariant.proofs.Counting.Accepted.{accepted_counted, accepted_noted}
 use Rattle.segment_invariant.proofs.Counting.Seen.{count_in, count_most, off_is}
 use Rattle.segment_invariant.proofs.Counting.Whole.{rests, whole_alone, whole_mounted, whole_sample, whole_noted, known_first}
-use Rattle.segment_machine.specs.declared.place.Look.{Look}
 
 -- ---- lists that are one longer
 

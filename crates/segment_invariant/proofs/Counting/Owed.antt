@@ -1,29 +1,12 @@
 -- What a recorder that is alone has seen of a bucket, or of a value, is no less than what had been accepted; and what it has seen of a
 -- mark was taken.
-use Rattle.std.proofs.Common.{◌≡◌, ◌≢◌, ℕ, ◌+◌, ◌<◌, ◌≤◌, ℤ, pos, Some, None, length, ◌==◌, Contains, inl, inr, ⊎_elim, refl, sym, ap, ◌∙◌, subst, arith, false}
-use Rattle.std.specs.Prelude.{slice_index, if◌then◌else◌}
-use Rattle.std.proofs.lemmas.Bool.Decides.{Decides-int_eq}
-use Rattle.std.proofs.lemmas.List.Elements.{All-contains}
-use mathlib.Core.Option.{some, some-injective}
-use lib.ListN.{get_elem?}
-use Rattle.segment_image.specs.Shape.{Dimensions}
+use Rattle.segment_invariant.proofs.Prelude.Std.{◌≡◌, ◌≢◌, ℕ, ◌+◌, ◌<◌, ◌≤◌, ℤ, pos, Some, None, length, ◌==◌, Contains, inl, inr, ⊎_elim, refl, sym, ap, ◌∙◌, subst, arith, false, slice_index, if◌then◌else◌, Decides-int_eq, All-contains, some, some-injective, get_elem?, sum_at_least}
+use Rattle.segment_invariant.proofs.Prelude.Machine.{Dimensions, buckets_of, spec_fields, single_of, packed_bucket, units_packed, Actor, Known, Spent, Leads, tally_units, word_seen, bucket_key, accepted_by, all_counted, SawCount, is_opener, SawBucket, State}
+use Rattle.segment_invariant.proofs.Prelude.Invariant.{Record, Sample, Body, histogram, counts, sample, words_of, Piece, Anatomy, form_at, key_of_bucket, at_bucket, keyed, marks_held, HasRecord, HasSample, IsFirstOf, WasFixed, Knows, IsAlone, Invariant}
 use Rattle.bucket_ranges.specs.declared.spec.Spec.TheVariants as spec
-use Rattle.bucket_ranges.specs.Spec.{buckets_of, spec_fields}
-use Rattle.bucket_ranges.specs.Single.{single_of, packed_bucket, units_packed}
-use Rattle.segment_machine.specs.declared.actor.Actor.{Actor}
-use Rattle.segment_machine.specs.declared.actor.Known.{Known}
-use Rattle.segment_machine.specs.declared.place.Place.TheVariants.{Spent}
-use Rattle.segment_calls.specs.Form.{Leads}
-use Rattle.segment_machine.specs.Entry.{tally_units}
-use Rattle.segment_machine.specs.Actor.{word_seen, bucket_key, accepted_by, all_counted, SawCount, is_opener}
-use Rattle.segment_machine.specs.Note.{SawBucket, IsMarkOf}
-use Rattle.segment_machine.specs.State.{State}
+use Rattle.segment_machine.specs.Note.{IsMarkOf}
 use Rattle.segment_invariant.specs.Consistent.{units_taken}
-use Rattle.segment_invariant.specs.Body.{Record, Sample, Body, histogram, counts, sample, words_of, Piece, Anatomy}
-use Rattle.segment_invariant.specs.Ledger.{form_at, key_of_bucket, at_bucket, keyed, marks_held}
-use Rattle.segment_invariant.specs.Seen.{HasRecord, HasSample, IsFirstOf, IsFixedIn, WasFixed, Knows}
-use Rattle.segment_invariant.specs.Invariant.{IsAlone, Invariant}
-use Rattle.list_lemmas.proofs.Elements.{sum_at_least}
+use Rattle.segment_invariant.specs.Seen.{IsFixedIn}
 use Rattle.segment_invariant.proofs.Blocks.Places.{fixed_within}
 use Rattle.segment_invariant.proofs.Blocks.Pieces.{one_index}
 use Rattle.segment_invariant.proofs.Walking.Words.{word_contains}

@@ -1,25 +1,7 @@
 -- A recorder sees more words that stay, as a counts reference: it goes on to a place, and no word of the segment changes.
-use Rattle.std.proofs.Common.{◌≡◌, ◌≢◌, ℕ, ◌+◌, ◌<◌, ◌≤◌, ℤ, List, ◌++◌, set, All, Contains, inl, inr, false, refl, ap, arith}
-use Rattle.std.proofs.lemmas.List.Elements.{All-contains, All-weaker}
-use mathlib.Core.Option.{some}
-use lib.ListN.{get_elem?}
-use Rattle.segment_image.specs.Shape.{Dimensions}
-use Rattle.bucket_ranges.specs.Spec.{buckets_of}
-use Rattle.segment_machine.specs.declared.actor.Actor.{Actor}
-use Rattle.segment_machine.specs.declared.actor.Known.{Known}
-use Rattle.segment_machine.specs.declared.place.Place.{Place}
-use Rattle.segment_machine.specs.declared.place.Place.TheVariants.{Spent, SumLoaded}
-use Rattle.segment_machine.specs.declared.seen.Seen.{Seen}
-use Rattle.segment_machine.specs.declared.seen.Sighting.{Sighting}
-use Rattle.segment_machine.specs.Entry.{tally_units}
-use Rattle.segment_machine.specs.Actor.{all_counted, bucket_key, is_bound, is_opener}
-use Rattle.segment_machine.specs.Note.{SawBucket}
-use Rattle.segment_machine.specs.State.{State}
-use Rattle.std.specs.Prelude.{Some}
-use Rattle.segment_invariant.specs.Body.{Anatomy, order_of}
-use Rattle.segment_invariant.specs.Ledger.{moving_at}
-use Rattle.segment_invariant.specs.Seen.{WasFixed, WasMet}
-use Rattle.segment_invariant.specs.Invariant.{StandsRight, LooksBack, Invariant}
+use Rattle.segment_invariant.proofs.Prelude.Std.{◌≡◌, ◌≢◌, ℕ, ◌+◌, ◌<◌, ◌≤◌, ℤ, List, ◌++◌, set, All, Contains, inl, inr, false, refl, ap, arith, All-contains, All-weaker, some, get_elem?, Some}
+use Rattle.segment_invariant.proofs.Prelude.Machine.{Dimensions, buckets_of, Actor, Known, Place, Spent, SumLoaded, Seen, Sighting, tally_units, all_counted, bucket_key, is_bound, is_opener, SawBucket, State}
+use Rattle.segment_invariant.proofs.Prelude.Invariant.{Anatomy, order_of, moving_at, WasFixed, WasMet, StandsRight, LooksBack, Invariant}
 use Rattle.segment_invariant.proofs.Frames.Ahead.{ahead_at, unbound_unbeaten}
 use Rattle.segment_invariant.proofs.Frames.Books.{noticed_there}
 use Rattle.segment_invariant.proofs.Frames.SeesMore.{seer, near_on, given_on, later_itself, calls_more, sees_more}

@@ -1,18 +1,10 @@
 -- One entry of a running call goes on: what the entries come to, and that they are still in order.
-use Rattle.std.proofs.Common.{◌≡◌, ◌≢◌, ◌⊎◌, ℕ, zero, suc, ◌+◌, ◌<◌, ℤ, pos, ◌+ℤ◌, Bool, true, false, cond, not, List, [], ◌∷◌, ◌++◌, map, filter, All, Contains, inl, inr, ⊎_elim, refl, sym, ap, ◌∙◌, subst, arith, append_assoc}
+use Rattle.segment_invariant.proofs.Prelude.Std.{◌≡◌, ◌≢◌, ◌⊎◌, ℕ, zero, suc, ◌+◌, ◌<◌, ℤ, pos, ◌+ℤ◌, Bool, true, false, cond, not, List, [], ◌∷◌, ◌++◌, map, filter, All, Contains, inl, inr, ⊎_elim, refl, sym, ap, ◌∙◌, subst, arith, append_assoc, All-nil, All-cons, All-head, All-tail, Contains-append_left, Contains-append_right, Contains-append_cases, some, some-injective, get_elem?, IsTotal, one_in}
+use Rattle.segment_invariant.proofs.Prelude.Machine.{Entry, EntryProgress, is_counted, is_summed, has_ended, is_untouched}
 use Rattle.std.proofs.Math.IntN.{+ℤ_assoc, +ℤ_comm}
-use Rattle.std.proofs.lemmas.List.Elements.{All-nil, All-cons, All-head, All-tail, Contains-append_left, Contains-append_right, Contains-append_cases}
-use mathlib.Core.Option.{some, some-injective}
-use lib.ListN.{get_elem?}
-use Rattle.segment_machine.specs.declared.entry.Entry.{Entry}
-use Rattle.segment_machine.specs.declared.entry.EntryProgress.{EntryProgress}
-use Rattle.segment_machine.specs.Entry.{is_counted, is_summed, has_ended}
 use Rattle.segment_machine.specs.Calls.{change_next}
-use Rattle.segment_machine.specs.Note.{is_untouched}
 use Rattle.segment_invariant.specs.Invariant.{AreInOrder}
-use Rattle.list_lemmas.proofs.Sums.{IsTotal}
 use Rattle.segment_invariant.proofs.Lists.Countings.{one_of}
-use Rattle.list_lemmas.proofs.Elements.{one_in}
 
 -- ---- the entry that is next
 

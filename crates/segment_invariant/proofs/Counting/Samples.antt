@@ -1,33 +1,18 @@
 -- Samples that an actor met: they stand as what it saw; the first that it saw of a value is the first on the list, and a later one counts
 -- nothing.
-use Rattle.std.proofs.Common.{◌≡◌, ◌≢◌, ℕ, suc, ◌+◌, ◌<◌, ℤ, List, ◌∷◌, ◌++◌, map, length, drop, Contains, inl, inr, refl, sym, ap, ◌∙◌, subst, arith, append_assoc, length-append}
-use Rattle.std.specs.Prelude.{slice_index, Some, None}
+use Rattle.segment_invariant.proofs.Prelude.Std.{◌≡◌, ◌≢◌, ℕ, suc, ◌+◌, ◌<◌, ℤ, List, ◌∷◌, ◌++◌, map, length, drop, Contains, inl, inr, refl, sym, ap, ◌∙◌, subst, arith, append_assoc, length-append, slice_index, Some, None, w64, cast_signed, cast_unsigned, get_or_append_left, map-append, All-contains, Contains-append_left, Contains-append_right, some, get_elem?, at_from, all_of, split_at}
+use Rattle.segment_invariant.proofs.Prelude.Machine.{Dimensions, word_at, IsLinked, Actor, Made, Spent, word_seen, SawSample, SawOther, IsFirstSample, State}
+use Rattle.segment_invariant.proofs.Prelude.Invariant.{Sample, histogram, sample, other, Listed, Anatomy, order_of, HasSample, IsFirstOf, StandsAs, Invariant}
 use Rattle.std.specs.Prelude as std
-use Rattle.std.specs.Int.{w64, cast_signed, cast_unsigned}
 use Rattle.std.proofs.Math.Seq.{drop-append_seam}
-use Rattle.std.proofs.lemmas.List.{get_or_append_left, map-append}
-use Rattle.std.proofs.lemmas.List.Elements.{All-contains, Contains-append_left, Contains-append_right}
 use lib.Seq.{get_or-append_seam}
-use mathlib.Core.Option.{some}
-use lib.ListN.{get_elem?}
-use Rattle.segment_image.specs.Shape.{Dimensions}
-use Rattle.segment_image.specs.Words.{word_at}
 use Rattle.bucket_ranges.specs.declared.spec.Spec.TheVariants as spec
-use Rattle.list_core.specs.Chain.{IsLinked}
 use Rattle.list_core.proofs.Chains.{one_place}
-use Rattle.segment_machine.specs.declared.actor.Actor.{Actor}
-use Rattle.segment_machine.specs.declared.actor.Made.{Made}
 use Rattle.segment_machine.specs.declared.actor.Made.TheVariants as made
-use Rattle.segment_machine.specs.declared.place.Place.TheVariants.{Spent}
-use Rattle.segment_machine.specs.Actor.{word_seen}
-use Rattle.segment_machine.specs.Made.{SawSample, SawOther, IsFirstSample}
-use Rattle.segment_machine.specs.State.{State}
 use Rattle.segment_machine.specs.Taking.{IsLaterSample}
 use Rattle.segment_machine.proofs.Values.{value_word}
-use Rattle.segment_invariant.specs.Body.{Sample, histogram, sample, sample_words, other, Listed, Anatomy, order_of}
-use Rattle.segment_invariant.specs.Seen.{HasSample, IsFirstOf}
-use Rattle.segment_invariant.specs.Invariant.{StandsAs, Invariant}
-use Rattle.list_lemmas.proofs.Elements.{at_from, all_of, split_at, split_map}
+use Rattle.segment_invariant.specs.Body.{sample_words}
+use Rattle.list_lemmas.proofs.Elements.{split_map}
 use Rattle.segment_invariant.proofs.Blocks.Pieces.{piece_word}
 use Rattle.segment_invariant.proofs.Consistency.Records.{listed_there}
 use Rattle.segment_invariant.proofs.Walking.Words.{sighted}

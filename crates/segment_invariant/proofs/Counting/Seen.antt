@@ -1,26 +1,10 @@
 -- What an actor has seen of a bucket is at most what was counted there, also where it comes to know the counts only now.
-use Rattle.std.proofs.Common.{◌≡◌, ◌≢◌, ℕ, ◌+◌, ◌-◌, ◌<◌, ◌≤◌, true, [], ◌∷◌, ◌++◌, length, Contains, refl, sym, ap, ◌∙◌, subst, arith, length-append}
-use Rattle.std.specs.Prelude.{slice_index, pos, Some}
-use Rattle.std.proofs.lemmas.List.{get_or-append_right, get_or_append_left}
-use Rattle.std.proofs.lemmas.List.Elements.{All-contains, All-drop}
-use mathlib.Core.Option.{some, none, some-injective}
-use lib.ListN.{get_elem?}
-use Rattle.segment_image.specs.Shape.{Dimensions}
-use Rattle.bucket_ranges.specs.Spec.{buckets_of}
-use Rattle.bucket_ranges.specs.Ranges.{boundaries_of}
-use Rattle.bucket_ranges.specs.Single.{single_of, units_packed}
-use Rattle.segment_machine.specs.declared.actor.Actor.{Actor}
-use Rattle.segment_machine.specs.declared.actor.Known.{Known}
-use Rattle.segment_machine.specs.declared.place.Place.TheVariants.{Spent}
-use Rattle.segment_calls.specs.Form.{is_off, Leads}
-use Rattle.segment_machine.specs.Actor.{all_counted, bucket_key, SawSingle, SawCount}
-use Rattle.segment_machine.specs.Entry.{tally_units}
-use Rattle.segment_machine.specs.State.{State}
-use Rattle.segment_invariant.specs.Body.{Record, Counts, Body, histogram, counts, words_of, Piece, Anatomy}
-use Rattle.segment_invariant.specs.Ledger.{form_at}
-use Rattle.segment_invariant.specs.Seen.{Stands, HasRecord, HasCounts, WasCounter, WasSingle, Knows}
-use Rattle.segment_invariant.specs.Invariant.{StandsAs, Invariant}
-use Rattle.list_lemmas.proofs.Firsts.{split_among}
+use Rattle.segment_invariant.proofs.Prelude.Std.{◌≡◌, ◌≢◌, ℕ, ◌+◌, ◌-◌, ◌<◌, ◌≤◌, true, [], ◌∷◌, ◌++◌, length, Contains, refl, sym, ap, ◌∙◌, subst, arith, length-append, slice_index, pos, Some, get_or_append_left, All-contains, some, none, some-injective, get_elem?, split_among}
+use Rattle.segment_invariant.proofs.Prelude.Machine.{Dimensions, buckets_of, boundaries_of, single_of, units_packed, Actor, Known, Spent, is_off, Leads, all_counted, bucket_key, SawCount, tally_units, State}
+use Rattle.segment_invariant.proofs.Prelude.Invariant.{Record, Counts, Body, histogram, counts, words_of, Piece, Anatomy, form_at, Stands, HasRecord, HasCounts, WasCounter, WasSingle, Knows, StandsAs, Invariant}
+use Rattle.std.proofs.lemmas.List.{get_or-append_right}
+use Rattle.std.proofs.lemmas.List.Elements.{All-drop}
+use Rattle.segment_machine.specs.Actor.{SawSingle}
 use Rattle.segment_invariant.proofs.Blocks.Places.{counter_within}
 use Rattle.segment_invariant.proofs.Blocks.Pieces.{one_index}
 use Rattle.segment_invariant.proofs.Consistency.Keys.{same_boundaries, same_buckets}

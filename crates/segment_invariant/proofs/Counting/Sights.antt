@@ -1,21 +1,9 @@
 -- A word of the segment is loaded: the actor goes on to a place and sees it. What a counter is that is seen as it is now.
-use Rattle.std.proofs.Common.{◌≡◌, ◌≢◌, ℕ, ◌+◌, ◌<◌, ℤ, true, false, List, ◌++◌, length, set, All, refl, sym, ap, ◌∙◌, arith, length-append}
-use mathlib.Core.Option.{some, none}
-use lib.ListN.{get_elem?}
-use Rattle.segment_image.specs.Shape.{Dimensions}
-use Rattle.segment_image.specs.Words.{word_at}
+use Rattle.segment_invariant.proofs.Prelude.Std.{◌≡◌, ◌≢◌, ℕ, ◌+◌, ◌<◌, ℤ, true, false, List, ◌++◌, length, set, All, refl, sym, ap, ◌∙◌, arith, length-append, some, none, get_elem?}
+use Rattle.segment_invariant.proofs.Prelude.Machine.{Dimensions, word_at, Actor, Place, Spent, Seen, Sighting, is_bound, is_opener, State}
+use Rattle.segment_invariant.proofs.Prelude.Invariant.{Body, Anatomy, counts, is_claimed, layout_of, order_of, words_of, moving_at, Stands, WasCounter, WasInUse, WasSingle, WasMet, SumsAreNear, StandsRight, LooksBack, Invariant}
 use Rattle.alloc_core.proofs.Layouts.{length_shown}
-use Rattle.segment_machine.specs.declared.actor.Actor.{Actor}
-use Rattle.segment_machine.specs.declared.place.Place.{Place}
-use Rattle.segment_machine.specs.declared.place.Place.TheVariants.{Spent}
-use Rattle.segment_machine.specs.declared.seen.Seen.{Seen}
-use Rattle.segment_machine.specs.declared.seen.Sighting.{Sighting}
-use Rattle.segment_machine.specs.Actor.{is_bound, is_opener}
-use Rattle.segment_machine.specs.State.{State}
-use Rattle.segment_invariant.specs.Body.{Body, Anatomy, counts, is_claimed, layout_of, order_of, words_of}
-use Rattle.segment_invariant.specs.Ledger.{moving_at}
-use Rattle.segment_invariant.specs.Seen.{Stands, IsCounterIn, WasCounter, WasInUse, WasSingle, WasMet}
-use Rattle.segment_invariant.specs.Invariant.{SumsAreNear, StandsRight, LooksBack, Invariant}
+use Rattle.segment_invariant.specs.Seen.{IsCounterIn}
 use Rattle.segment_invariant.proofs.Blocks.Places.{counter_within}
 use Rattle.segment_invariant.proofs.Frames.Ahead.{ahead_at, unbound_unbeaten}
 use Rattle.segment_invariant.proofs.Frames.Books.{noticed_there}

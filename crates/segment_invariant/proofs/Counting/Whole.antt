@@ -1,29 +1,11 @@
 -- What a record, its counts and the calls that move its units have of a bucket is just what was counted there; so is what a sample has of
 -- its value, and a redundant count of all units.
-use Rattle.std.proofs.Common.{◌≡◌, ◌≢◌, ℕ, ◌+◌, ◌<◌, ℤ, pos, Bool, true, false, List, Some, ⊎_elim, refl, sym, ap, ◌∙◌, subst, arith}
-use Rattle.std.specs.Prelude.{slice_index, sum_by, max, ◌==◌, ◌&&◌, if◌then◌else◌}
+use Rattle.segment_invariant.proofs.Prelude.Std.{◌≡◌, ◌≢◌, ℕ, ◌+◌, ◌<◌, ℤ, pos, Bool, true, false, List, Some, ⊎_elim, refl, sym, ap, ◌∙◌, subst, arith, slice_index, sum_by, max, ◌==◌, ◌&&◌, if◌then◌else◌, eqb-true, and_parts, some, none, get_elem?}
+use Rattle.segment_invariant.proofs.Prelude.Machine.{Dimensions, Spec, buckets_of, packed_bucket, units_packed, Actor, Known, Look, Place, Moving, bucket_key, all_counted, all_noted, cost_of, tally_units, tally_noted, State, units_in}
+use Rattle.segment_invariant.proofs.Prelude.Invariant.{Record, Counts, Sample, Anatomy, sample, form_at, key_of_bucket, keyed, at_bucket, units_held, all_held, HasRecord, HasCounts, HasSample, IsFirst, IsFirstOf, Knows, IsCountsOf, Invariant}
 use Rattle.std.specs.Prelude as std
-use Rattle.std.proofs.lemmas.Bool.{eqb-true, and_parts}
-use mathlib.Core.Option.{some, none}
-use lib.ListN.{get_elem?}
-use Rattle.segment_image.specs.Shape.{Dimensions}
-use Rattle.bucket_ranges.specs.declared.spec.Spec.{Spec}
 use Rattle.bucket_ranges.specs.declared.spec.Spec.TheVariants as spec
-use Rattle.bucket_ranges.specs.Spec.{buckets_of}
-use Rattle.bucket_ranges.specs.Single.{packed_bucket, units_packed}
-use Rattle.segment_machine.specs.declared.actor.Actor.{Actor}
-use Rattle.segment_machine.specs.declared.actor.Known.{Known}
-use Rattle.segment_machine.specs.declared.place.Look.{Look}
-use Rattle.segment_machine.specs.declared.place.Place.{Place}
-use Rattle.segment_machine.specs.declared.place.Place.TheVariants.{Moving}
-use Rattle.segment_machine.specs.Actor.{transit_at, transit_of, bucket_key, all_counted, all_noted, cost_of}
-use Rattle.segment_machine.specs.Entry.{tally_units, tally_noted}
-use Rattle.segment_machine.specs.State.{State}
-use Rattle.segment_calls.specs.Form.{units_in}
-use Rattle.segment_invariant.specs.Body.{Record, Counts, Sample, Anatomy, sample}
-use Rattle.segment_invariant.specs.Ledger.{form_at, key_of_bucket, keyed, at_bucket, units_held, all_held}
-use Rattle.segment_invariant.specs.Seen.{HasRecord, HasCounts, HasSample, IsFirst, IsFirstOf, Knows}
-use Rattle.segment_invariant.specs.Invariant.{IsCountsOf, Invariant}
+use Rattle.segment_machine.specs.Actor.{transit_at, transit_of}
 use Rattle.segment_invariant.proofs.Blocks.Pieces.{one_stands}
 use Rattle.segment_invariant.proofs.Lists.FewTerms.{sum_none}
 use Rattle.segment_invariant.proofs.Frames.OneActor.{moves_or_not}

@@ -1,33 +1,17 @@
 -- A shared cursor is loaded.
-use Rattle.std.proofs.Common.{◌≡◌, ◌≢◌, ℕ, ◌<◌, ℤ, List, ◌++◌, length, set, refl, sym, subst, arith, false}
-use Rattle.std.specs.Prelude.{slice_index}
-use Rattle.std.proofs.lemmas.List.Elements.{All-push, Contains-push}
-use mathlib.Core.Option.{some}
-use lib.ListN.{get_elem?}
-use lib.Seq.{set-get_or}
-use Rattle.segment_image.specs.Shape.{Dimensions}
-use Rattle.list_core.specs.Chain.{IsStop}
-use Rattle.segment_machine.specs.declared.actor.Actor.{Actor}
-use Rattle.segment_machine.specs.declared.actor.Given.{Given}
-use Rattle.segment_machine.specs.declared.place.Place.{Place}
-use Rattle.segment_machine.specs.declared.place.Place.TheVariants.{SumLoaded, CursorLoaded}
-use Rattle.segment_machine.specs.declared.seen.Seen.{Seen}
-use Rattle.segment_machine.specs.declared.seen.Sighting.{Sighting}
-use Rattle.segment_machine.specs.Calls.{sight}
-use Rattle.segment_machine.specs.State.{State}
+use Rattle.segment_invariant.proofs.Prelude.Std.{◌≡◌, ◌≢◌, ℕ, ◌<◌, ℤ, List, ◌++◌, length, set, refl, sym, subst, arith, false, slice_index, All-push, Contains-push, some, get_elem?, set-get_or}
+use Rattle.segment_invariant.proofs.Prelude.Machine.{Dimensions, IsStop, Actor, Given, Place, SumLoaded, Seen, Sighting, sight, State, Ready, is_opener}
+use Rattle.segment_invariant.proofs.Prelude.Invariant.{Anatomy, order_of, IsNoLater, Sees, LooksBack, Invariant}
+use Rattle.segment_machine.specs.declared.place.Place.TheVariants.{CursorLoaded}
 use Rattle.segment_machine.specs.Cursors.{load_cursor}
-use Rattle.segment_machine.specs.Event.{cursor_event, Ready}
+use Rattle.segment_machine.specs.Event.{cursor_event}
 use Rattle.segment_invariant.proofs.Frames.Ahead.{ahead_at, unbound_unbeaten}
-use Rattle.segment_invariant.specs.Body.{Anatomy, order_of}
-use Rattle.segment_invariant.specs.Seen.{IsNoLater, Sees}
-use Rattle.segment_invariant.specs.Invariant.{LooksBack, Invariant}
 use Rattle.segment_invariant.proofs.Frames.OneActor.{turns_unbound}
 use Rattle.segment_invariant.proofs.Frames.Books.{noticed_there}
 use Rattle.segment_invariant.proofs.Frames.SeesMore.{seer, calls_more, later_itself, near_on, given_on, sees_more, happens_there}
 use Rattle.segment_invariant.proofs.Frames.Shown.{Goes}
 use Rattle.segment_invariant.proofs.Walking.Walks.{reference_is}
 use Rattle.segment_invariant.proofs.Walking.Nexts.{no_later_itself}
-use Rattle.segment_machine.specs.Actor.{is_opener}
 use Rattle.segment_invariant.proofs.Frames.Anew.{looks_anew_at, sees_anew}
 
 -- what an actor looks back at, where it sees no more than cursors and has loaded no sum

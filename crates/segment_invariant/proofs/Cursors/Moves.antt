@@ -1,43 +1,29 @@
 -- A shared cursor is moved on, or another actor was before.
-use Rattle.std.proofs.Common.{◌≡◌, ◌≢◌, ℕ, suc, ◌+◌, ◌<◌, ◌≤◌, ◌==◌, Bool, List, [], ◌∷◌, ◌++◌, map, length, set, take, All, Contains, inl, inr, ⊎_elim, refl, sym, ap, ◌∙◌, subst, arith, eq-eqb, ne_eqb, length-set, append-nil, length-take, get_or-take, false}
-use Rattle.std.specs.Prelude.{slice_index, if◌then◌else◌, IsPermutation}
+use Rattle.segment_invariant.proofs.Prelude.Std.{◌≡◌, ◌≢◌, ℕ, suc, ◌+◌, ◌<◌, ◌≤◌, ◌==◌, Bool, List, [], ◌∷◌, ◌++◌, map, length, set, take, All, Contains, inl, inr, ⊎_elim, refl, sym, ap, ◌∙◌, subst, arith, eq-eqb, ne_eqb, length-set, append-nil, false, slice_index, if◌then◌else◌, IsPermutation, map-append, All-push, All-contains, filter-append, Contains-permutation, IsPermutation-refl, dite, some, ℕ_discrete, get_elem?, set-get_or, at_set, rows, row_in, contains_at, at_from, index_at, below_length, contains_filter, contains_map}
+use Rattle.segment_invariant.proofs.Prelude.Machine.{Dimensions, stops, IsStop, IsLinked, Actor, Given, Spent, Idle, Seen, Sighting, is_opener, sight, State}
+use Rattle.segment_invariant.proofs.Prelude.Invariant.{Anatomy, order_of, IsNoLater, StandsRight, Invariant, is_beaten, IsAhead}
+use Rattle.std.proofs.Common.{length-take, get_or-take}
 use Rattle.std.proofs.Math.Seq.{take-suc}
-use Rattle.std.proofs.lemmas.List.{map-append, get_or-set_other}
-use Rattle.std.proofs.lemmas.List.Elements.{All-push, All-contains, filter-append}
+use Rattle.std.proofs.lemmas.List.{get_or-set_other}
 use Rattle.std.proofs.lemmas.Grind.{get_or-set_at}
-use Rattle.std.proofs.lemmas.List.Sorted.{Contains-permutation, IsPermutation-append, IsPermutation-refl, IsPermutation-trans}
-use mathlib.Core.Logic.{dite}
-use mathlib.Core.Option.{some}
-use native.Mathlib.Decide.{ℕ_discrete}
-use lib.ListN.{get_elem?}
-use lib.Seq.{set-get_or}
-use Rattle.atomic_table.proofs.Lists.{at_set}
-use Rattle.segment_image.specs.Shape.{Dimensions}
-use Rattle.list_core.specs.Chain.{stops, IsStop, AreNeighbours, IsLinked}
+use Rattle.std.proofs.lemmas.List.Sorted.{IsPermutation-append, IsPermutation-trans}
+use Rattle.list_core.specs.Chain.{AreNeighbours}
 use Rattle.list_core.proofs.Chains.{one_place}
-use Rattle.segment_machine.specs.declared.actor.Actor.{Actor}
-use Rattle.segment_machine.specs.declared.actor.Given.{Given}
-use Rattle.segment_machine.specs.declared.place.Place.TheVariants.{Spent, Idle, BehindCursor}
-use Rattle.segment_machine.specs.declared.seen.Seen.{Seen}
-use Rattle.segment_machine.specs.declared.seen.Sighting.{Sighting}
-use Rattle.segment_machine.specs.Actor.{given_by, all_given, is_opener}
-use Rattle.segment_machine.specs.Calls.{sight}
-use Rattle.segment_machine.specs.State.{State}
+use Rattle.segment_machine.specs.declared.place.Place.TheVariants.{BehindCursor}
+use Rattle.segment_machine.specs.Actor.{given_by, all_given}
 use Rattle.segment_machine.specs.Cursors.{move_cursor, after_cursor}
 use Rattle.segment_machine.specs.Event.{cursor_event}
 use Rattle.segment_invariant.proofs.Walking.Room.{list_fits}
 use Rattle.segment_invariant.proofs.Frames.Ahead.{ahead_at}
-use Rattle.segment_invariant.specs.Body.{Anatomy, order_of}
-use Rattle.segment_invariant.specs.Seen.{IsNoLater, IsReachedAt}
-use Rattle.segment_invariant.specs.Invariant.{StandsRight, CursorsAreKept, Invariant, is_beaten, IsAhead}
-use Rattle.list_lemmas.proofs.Elements.{rows, rows_more, row_in, contains_at, at_snoc_index, at_from, index_at, below_length, there_below, contains_filter}
+use Rattle.segment_invariant.specs.Seen.{IsReachedAt}
+use Rattle.segment_invariant.specs.Invariant.{CursorsAreKept}
+use Rattle.list_lemmas.proofs.Elements.{rows_more, at_snoc_index, there_below}
 use Rattle.segment_invariant.proofs.Frames.OneActor.{is_plain, turns_plain}
 use Rattle.segment_invariant.proofs.Frames.SeesMore.{seer, calls_more, AreLater, later_itself, near_on, given_on, sees_more, sees_later, happens_there, ahead_behind}
 use Rattle.segment_invariant.proofs.Frames.Shown.{Goes}
 use Rattle.segment_invariant.proofs.Walking.Walks.{reference_is}
 use Rattle.segment_invariant.proofs.Walking.Nexts.{no_later_itself}
 use Rattle.segment_invariant.proofs.Cursors.Loads.{looks_past, sees_cursor, cursor_stop}
-use Rattle.list_lemmas.proofs.Maps.{contains_map}
 use Rattle.segment_invariant.proofs.Frames.Books.{GivenInOrder, noticed_there}
 
 -- what a cursor gave, with one more behind

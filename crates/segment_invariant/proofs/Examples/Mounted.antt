@@ -1,33 +1,16 @@
 -- The segment that was packed and then mounted is consistent.
-use Rattle.std.proofs.Common.{◌≡◌, ◌⊎◌, Bool, true, false, ℕ, zero, suc, ◌+◌, ◌-◌, ◌*◌, ◌%◌, ◌<◌, ◌≤◌, ℤ, pos, List, [], ◌∷◌, take, replicate, Option, inl, inr, ⊎_elim, refl, sym, ap, subst, ◌∙◌, true≢false, arith}
-use Rattle.std.specs.Prelude.{slice_index, slice_index_or, unwrap_or, unsigned_abs, ◌-ℤ◌, max, bit_and}
-use mathlib.Core.Option.{some, some-injective}
-use lib.ListN.{get_elem?}
-use Rattle.std.specs.List.{Contains, All}
+use Rattle.segment_invariant.proofs.Prelude.Std.{◌≡◌, ◌⊎◌, Bool, true, false, ℕ, zero, suc, ◌+◌, ◌-◌, ◌*◌, ◌%◌, ◌<◌, ◌≤◌, ℤ, pos, List, [], ◌∷◌, take, replicate, Option, inl, inr, ⊎_elim, refl, sym, ap, subst, ◌∙◌, true≢false, arith, slice_index, unwrap_or, unsigned_abs, ◌-ℤ◌, max, bit_and, some, some-injective, get_elem?, Contains, All, All-nil, All-cons, IsPermutation-refl, none_in, none_at, one_in}
+use Rattle.segment_invariant.proofs.Prelude.Machine.{word_at, head_of, field_at, is_block, stops, IsChain, is_sparse, record_buckets, name_of, total_of, mark_of, Entry, EntryProgress, Sighting, Answered, Leads, Idle, SumLoaded, Actor, Claim, Published, tally_units, tally_sum, tally_noted, has_ended, all_counted, all_summed, all_noted}
+use Rattle.segment_invariant.proofs.Prelude.Invariant.{IsHistogram}
+use Rattle.std.specs.Prelude.{slice_index_or}
 use Rattle.std.proofs.lemmas.List.{get_or-append_right, get_or-replicate}
-use Rattle.std.proofs.lemmas.List.Elements.{All-nil, All-cons}
-use Rattle.std.proofs.lemmas.List.Sorted.{IsPermutation-refl}
-use Rattle.segment_image.specs.Words.{word_at}
-use Rattle.segment_image.specs.Head.{head_of}
-use Rattle.segment_image.specs.Blocks.{field_at, is_block}
 use Rattle.alloc_core.specs.Laws.{Apart}
-use Rattle.list_core.specs.Chain.{stops, IsChain}
-use Rattle.bucket_ranges.specs.Reading.{is_sparse, record_buckets, sum_of, sum_mark_of, name_of, total_of, mark_of}
-use Rattle.segment_machine.specs.declared.entry.Entry.{Entry}
-use Rattle.segment_machine.specs.declared.entry.EntryProgress.{EntryProgress}
-use Rattle.segment_machine.specs.declared.seen.Sighting.{Sighting}
-use Rattle.segment_machine.specs.declared.actor.Answered.{Answered}
-use Rattle.segment_calls.specs.Form.{Leads}
-use Rattle.segment_machine.specs.declared.place.Place.TheVariants.{Idle, SumLoaded}
-use Rattle.segment_machine.specs.declared.actor.Actor.{Actor}
-use Rattle.segment_machine.specs.declared.actor.Claim.{Claim}
-use Rattle.segment_machine.specs.declared.actor.Published.{Published}
-use Rattle.segment_machine.specs.Entry.{tally_units, tally_sum, tally_noted, has_ended}
-use Rattle.segment_machine.specs.Actor.{Each, all_counted, all_summed, all_noted, transit_of, all_costs}
-use Rattle.segment_invariant.specs.Consistent.{IsHistogram, HasForm, HasPlace, HoldsMade, key_at, units_taken, run_of, places_of, SawBefore, IsSum, IsLoaded, ListIsChain, RecordsHold, TotalsAreCounted, MarksAreTaken, SumsAreAmounts, TransitIsLocal, FlagsAreSet, UnitsAreKept}
+use Rattle.bucket_ranges.specs.Reading.{sum_of, sum_mark_of}
+use Rattle.segment_machine.specs.Actor.{Each, transit_of, all_costs}
+use Rattle.segment_invariant.specs.Consistent.{HasForm, HasPlace, HoldsMade, key_at, units_taken, run_of, places_of, SawBefore, IsSum, IsLoaded, ListIsChain, RecordsHold, TotalsAreCounted, MarksAreTaken, SumsAreAmounts, TransitIsLocal, FlagsAreSet, UnitsAreKept}
 use Rattle.segment_machine.specs.Examples.{letter_a, mounted, mounter, one, whole}
 use Rattle.segment_invariant.specs.Examples.{opening, MountedIsConsistent}
-use Rattle.list_lemmas.proofs.Elements.{none_in, none_at, one_in, each_of_one}
+use Rattle.list_lemmas.proofs.Elements.{each_of_one}
 use Rattle.segment_machine.proofs.SmallNumbers.{below_three}
 use Rattle.segment_invariant.proofs.Examples.OneRecord.{the_one, of_the_one}
 use Rattle.segment_invariant.proofs.Frames.Spending.{by_name}

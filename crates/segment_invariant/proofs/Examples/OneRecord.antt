@@ -1,9 +1,7 @@
 -- A chain of one record, at 16.
-use Rattle.std.proofs.Common.{◌≡◌, ℕ, List, [], ◌∷◌, ◌++◌, length, refl, sym, ap, subst, ◌∙◌, arith, length-append}
-use Rattle.std.specs.Prelude.{slice_index}
-use Rattle.segment_image.specs.Blocks.{field_at}
-use Rattle.bucket_ranges.specs.Reading.{name_of}
-use Rattle.segment_invariant.specs.Consistent.{IsHistogram}
+use Rattle.segment_invariant.proofs.Prelude.Std.{◌≡◌, ℕ, List, [], ◌∷◌, ◌++◌, length, refl, sym, ap, subst, ◌∙◌, arith, length-append, slice_index}
+use Rattle.segment_invariant.proofs.Prelude.Machine.{field_at, name_of}
+use Rattle.segment_invariant.proofs.Prelude.Invariant.{IsHistogram}
 
 -- the histogram of its name is that record
 pub the_one : (words name : List ℕ) → field_at words 16 2 ≡ 1 → name_of words 16 ≡ name → IsHistogram words (16 ∷ []) name 16

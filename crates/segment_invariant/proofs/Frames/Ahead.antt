@@ -1,15 +1,12 @@
 -- The list stays ahead of what came too late: where an actor turns to another place, where the tail is moved on, and where the list
 -- becomes longer.
-use Rattle.std.proofs.Common.{◌≡◌, ℕ, false, List, ◌++◌, length, replicate, refl, sym, ◌∙◌, subst, arith, ◌<◌}
-use Rattle.std.specs.Prelude.{slice_index}
-use Rattle.std.proofs.lemmas.List.{get_or-replicate, length-replicate}
-use Rattle.list_core.specs.Chain.{IsStop, IsLinked}
+use Rattle.segment_invariant.proofs.Prelude.Std.{◌≡◌, ℕ, false, List, ◌++◌, length, replicate, refl, sym, ◌∙◌, subst, arith, ◌<◌, slice_index, length-replicate}
+use Rattle.segment_invariant.proofs.Prelude.Machine.{IsStop, IsLinked, Place, Idle, is_bound}
+use Rattle.segment_invariant.proofs.Prelude.Invariant.{IsNoLater, is_beaten, IsAhead}
+use Rattle.std.proofs.lemmas.List.{get_or-replicate}
 use Rattle.list_core.proofs.Chains.{one_place}
-use Rattle.segment_machine.specs.declared.place.Place.{Place}
-use Rattle.segment_machine.specs.declared.place.Place.TheVariants.{Idle, Beaten}
-use Rattle.segment_machine.specs.Actor.{is_bound}
-use Rattle.segment_invariant.specs.Seen.{IsReachedAt, IsNoLater}
-use Rattle.segment_invariant.specs.Invariant.{is_beaten, IsAhead}
+use Rattle.segment_machine.specs.declared.place.Place.TheVariants.{Beaten}
+use Rattle.segment_invariant.specs.Seen.{IsReachedAt}
 use Rattle.segment_invariant.proofs.Frames.Growth.{reached_longer}
 
 -- ---- places

@@ -1,18 +1,11 @@
 -- What holds of an anatomy, where blocks in the making change and what was published stays.
-use Rattle.std.proofs.Common.{◌≡◌, ℕ, ◌+◌, ℤ, Bool, List, inl, inr, ⊎_elim, refl, sym, subst, ap, ◌∙◌, All}
-use Rattle.std.proofs.lemmas.List.Elements.{All-weaker}
-use mathlib.Core.Option.{some}
-use Rattle.segment_image.specs.Shape.{Dimensions}
-use Rattle.alloc_core.specs.Laws.{Behind}
-use Rattle.list_core.specs.Chain.{IsStop, IsLinked}
+use Rattle.segment_invariant.proofs.Prelude.Std.{◌≡◌, ℕ, ◌+◌, ℤ, Bool, List, inl, inr, ⊎_elim, refl, sym, subst, ap, ◌∙◌, All, All-weaker, some}
+use Rattle.segment_invariant.proofs.Prelude.Machine.{Dimensions, Behind, IsStop, IsLinked, Actor, Known, Seen}
+use Rattle.segment_invariant.proofs.Prelude.Invariant.{Body, held, Piece, Listed, Anatomy, order_of, free_of, units_held, marks_held, noted_held, all_held, Stands, IsFirst, IsFirstOf, Knows, Sees, StandsAs, RecordsAreKept, SumsAreNear, Fits, CallsRight, LooksBack, IsAhead}
 use Rattle.bucket_ranges.specs.declared.spec.Spec.TheVariants as spec
-use Rattle.segment_machine.specs.declared.actor.Actor.{Actor}
-use Rattle.segment_machine.specs.declared.actor.Known.{Known}
-use Rattle.segment_machine.specs.declared.seen.Seen.{Seen}
-use Rattle.segment_invariant.specs.Body.{Body, held, Piece, Listed, Anatomy, order_of, free_of}
-use Rattle.segment_invariant.specs.Ledger.{units_held, marks_held, sum_held, sum_mark_held, noted_held, all_held, all_amounts, all_moving, IsBalanced}
-use Rattle.segment_invariant.specs.Seen.{Stands, HasPlain, IsFirst, IsFirstOf, AreNoLater, Knows, Sees}
-use Rattle.segment_invariant.specs.Invariant.{StandsAs, ListIsKept, RecordsAreKept, SumsAreNear, Fits, CallsRight, LooksBack, IsAhead}
+use Rattle.segment_invariant.specs.Ledger.{sum_held, sum_mark_held, all_amounts, all_moving, IsBalanced}
+use Rattle.segment_invariant.specs.Seen.{HasPlain, AreNoLater}
+use Rattle.segment_invariant.specs.Invariant.{ListIsKept}
 use Rattle.segment_invariant.proofs.Frames.Standing.{Grounds, own_stays}
 use Rattle.segment_invariant.proofs.Frames.Growth.{reshaped, Stays, Grows, grows_not, stands_as_grows, names_grow, sees_grow, grounds_grow}
 use Rattle.segment_invariant.proofs.Frames.OneActor.{Doing, doing, TurnsTo}

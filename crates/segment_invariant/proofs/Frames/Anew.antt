@@ -1,27 +1,9 @@
 -- What is said of a record, of its counts, and of an actor, where some of it is shown anew and the rest rests on what stays.
-use Rattle.std.proofs.Common.{◌≡◌, ◌≢◌, ℕ, ◌+◌, ◌<◌, ◌≤◌, ℤ, List, ◌++◌, length, true, false}
-use Rattle.std.specs.Prelude.{◌^◌, max, slice_index, Some, None}
-use Rattle.std.specs.Int.{w64, cast_signed}
-use Rattle.std.specs.List.{All, Contains}
+use Rattle.segment_invariant.proofs.Prelude.Std.{◌≡◌, ◌≢◌, ℕ, ◌+◌, ◌<◌, ◌≤◌, ℤ, List, ◌++◌, length, true, false, ◌^◌, max, slice_index, Some, None, w64, cast_signed, All, Contains}
+use Rattle.segment_invariant.proofs.Prelude.Machine.{packed_bucket, units_packed, Dimensions, Behind, Entry, Place, SumLoaded, Actor, Seen, Sighting, counted_of, is_opener, is_off, SawSample}
+use Rattle.segment_invariant.proofs.Prelude.Invariant.{Record, Counts, Anatomy, order_of, free_of, IsWithinCounts, form_at, HasRecord, IsFirst, IsFirstOf, IsNoLater, Sees, IsLawfulRecord, IsCountsOf, IsAlone, CallsRight, LooksBack, FinalsAreExact, Fits}
 use Rattle.bucket_ranges.specs.declared.spec.Spec.TheVariants as spec
-use Rattle.bucket_ranges.specs.Single.{packed_bucket, units_packed}
-use Rattle.segment_image.specs.Shape.{Dimensions}
-use Rattle.alloc_core.specs.Laws.{Behind}
-use Rattle.segment_machine.specs.declared.entry.Entry.{Entry}
-use Rattle.segment_machine.specs.declared.place.Place.{Place}
-use Rattle.segment_machine.specs.declared.place.Place.TheVariants.{SumLoaded}
-use Rattle.segment_machine.specs.declared.actor.Actor.{Actor}
 use Rattle.segment_machine.specs.declared.actor.Role.{Role}
-use Rattle.segment_machine.specs.declared.seen.Seen.{Seen}
-use Rattle.segment_machine.specs.declared.seen.Sighting.{Sighting}
-use Rattle.segment_machine.specs.Actor.{counted_of, is_opener}
-use Rattle.segment_calls.specs.Form.{is_off}
-use Rattle.segment_machine.specs.Made.{SawSample}
-use Rattle.segment_invariant.specs.Body.{Record, Counts, Anatomy, order_of, free_of}
-use Rattle.segment_invariant.specs.Consistent.{IsWithinCounts}
-use Rattle.segment_invariant.specs.Ledger.{form_at}
-use Rattle.segment_invariant.specs.Seen.{HasRecord, IsFirst, IsFirstOf, IsNoLater, Sees}
-use Rattle.segment_invariant.specs.Invariant.{IsLawfulRecord, IsCountsOf, IsAlone, CallsRight, LooksBack, FinalsAreExact, Fits}
 
 -- ---- a record
 

@@ -1,29 +1,15 @@
 -- Of each name the first record is answered or owed, whatever actors do.
-use Rattle.std.proofs.Common.{◌≡◌, ◌≢◌, ◌⊎◌, ℕ, Bool, true, false, not, ◌&&◌, ◌==◌, List, [], ◌∷◌, ◌++◌, Contains, set, inl, inr, ⊎_elim, refl, sym, ap, ◌∙◌, subst, eqb-true, arith}
-use Rattle.std.specs.Prelude.{Some, None}
+use Rattle.segment_invariant.proofs.Prelude.Std.{◌≡◌, ◌≢◌, ◌⊎◌, ℕ, Bool, true, false, not, ◌&&◌, ◌==◌, List, [], ◌∷◌, ◌++◌, Contains, set, inl, inr, ⊎_elim, refl, sym, ap, ◌∙◌, subst, eqb-true, arith, Some, None, bytes_eq, filter, flat_map, bytes_eq-Decides, set-set, All-nil, All-cons, All-weaker, All-append, Contains-append_left, Contains-append_right, some, get_elem?, rows, row_in, contains_filter}
+use Rattle.segment_invariant.proofs.Prelude.Machine.{Spec, Actor, Known, Made, Own, Published}
+use Rattle.segment_invariant.proofs.Prelude.Invariant.{Listed, IsNamed, IsFirst}
 use Rattle.std.specs.Prelude as std
-use Rattle.std.specs.Str.{bytes_eq}
-use Rattle.std.specs.List.{filter, flat_map}
-use Rattle.std.proofs.lemmas.Slice.Eq.{bytes_eq-Decides}
-use Rattle.std.proofs.lemmas.List.{set-set}
-use Rattle.std.proofs.lemmas.List.Elements.{All-nil, All-cons, All-weaker, All-append, Contains-append_left, Contains-append_right}
-use mathlib.Core.Option.{some}
-use lib.ListN.{get_elem?}
 use Rattle.atomic_table.proofs.Lists.{set_again}
 use Rattle.alloc_core.proofs.Owners.{set_at}
-use Rattle.bucket_ranges.specs.declared.spec.Spec.{Spec}
-use Rattle.segment_machine.specs.declared.actor.Actor.{Actor}
-use Rattle.segment_machine.specs.declared.actor.Known.{Known}
-use Rattle.segment_machine.specs.declared.actor.Made.{Made}
 use Rattle.segment_machine.specs.declared.actor.Made.TheVariants.{Histogram, Sample}
-use Rattle.segment_machine.specs.declared.actor.Own.{Own}
-use Rattle.segment_machine.specs.declared.actor.Published.{Published}
 use Rattle.segment_machine.specs.Actor.{all_names, all_owed}
 use Rattle.segment_machine.specs.Publishing.{owed_for, published_as}
-use Rattle.segment_invariant.specs.Body.{Listed}
-use Rattle.segment_invariant.specs.Seen.{IsNamed, IsFirst}
 use Rattle.segment_invariant.specs.Invariant.{IsAnswered, AreAnswered, HasPublished, OwesPublished}
-use Rattle.list_lemmas.proofs.Elements.{rows, row_in, row_from, contains_filter}
+use Rattle.list_lemmas.proofs.Elements.{row_from}
 use Rattle.list_lemmas.proofs.Firsts.{first_unique}
 
 -- ---- lists

@@ -1,26 +1,13 @@
 -- What an invariant says of all actors together, and of the blocks: the books of a segment.
-use Rattle.std.proofs.Common.{◌≡◌, ◌≢◌, ◌⊎◌, ℕ, ◌<◌, ◌≤◌, Bool, true, ◌||◌, ⊎_elim, ℤ, List, ◌++◌, map, take, length, set, inl, inr, sym, ap, ◌∙◌, subst, false}
-use Rattle.std.specs.Prelude.{sum_by, slice_index, IsPermutation}
-use mathlib.Core.Option.{some}
-use lib.ListN.{get_elem?}
-use Rattle.std.specs.List.{flat_map, Contains, All}
-use Rattle.std.proofs.lemmas.List.Sorted.{IsPermutation-refl, IsPermutation-trans, IsPermutation-sym, IsPermutation-append_right, IsPermutation-map, Contains-permutation}
-use Rattle.atomic_table.proofs.Lists.{at_set, at_map}
-use Rattle.segment_image.specs.Shape.{Dimensions}
-use Rattle.alloc_core.specs.Layout.{IsShown}
-use Rattle.list_core.specs.Chain.{stops}
+use Rattle.segment_invariant.proofs.Prelude.Std.{◌≡◌, ◌≢◌, ◌⊎◌, ℕ, ◌<◌, ◌≤◌, Bool, true, ◌||◌, ⊎_elim, ℤ, List, ◌++◌, map, take, length, set, inl, inr, sym, ap, ◌∙◌, subst, false, sum_by, slice_index, IsPermutation, some, get_elem?, flat_map, Contains, All, IsPermutation-refl, Contains-permutation, at_set, at_map, rows}
+use Rattle.segment_invariant.proofs.Prelude.Machine.{Dimensions, IsShown, stops, Entry, Spent, Actor, Portion, Given, cost_of, all_counted, all_taken, all_published, units_of, is_opener, State}
+use Rattle.segment_invariant.proofs.Prelude.Invariant.{Piece, Anatomy, layout_of, order_of, claims_of, listed, noted_held, all_held, ClaimedRight, HasKey, RecordsAreKept, SumsAreNear, IsSetBy, StandStill, RolesAreKept, StandsRight, Fits, Invariant}
+use Rattle.std.proofs.lemmas.List.Sorted.{IsPermutation-trans, IsPermutation-sym, IsPermutation-append_right, IsPermutation-map}
 use Rattle.segment_invariant.proofs.Frames.Answers.{answered_by}
-use Rattle.segment_machine.specs.declared.entry.Entry.{Entry}
-use Rattle.segment_machine.specs.declared.place.Place.TheVariants.{Spent}
-use Rattle.segment_machine.specs.declared.actor.Actor.{Actor}
-use Rattle.segment_machine.specs.declared.actor.Portion.{Portion}
-use Rattle.segment_machine.specs.declared.actor.Given.{Given}
-use Rattle.segment_machine.specs.Actor.{cost_of, given_by, all_counted, all_taken, all_given, all_published, units_of, all_names, all_owed, is_opener}
-use Rattle.segment_machine.specs.State.{State}
-use Rattle.segment_invariant.specs.Body.{Piece, Anatomy, layout_of, order_of, claims_of, listed}
-use Rattle.segment_invariant.specs.Ledger.{noted_held, all_held, IsBalanced}
-use Rattle.segment_invariant.specs.Invariant.{ClaimedRight, HasKey, ListIsKept, RecordsAreKept, ArePassedOver, SumsAreNear, IsSetBy, IsSetWhereSeen, StandStill, RolesAreKept, CursorsAreKept, StandsRight, Fits, Invariant, AreAnswered}
-use Rattle.list_lemmas.proofs.Elements.{rows, any_there, any_from}
+use Rattle.segment_machine.specs.Actor.{given_by, all_given, all_names, all_owed}
+use Rattle.segment_invariant.specs.Ledger.{IsBalanced}
+use Rattle.segment_invariant.specs.Invariant.{ListIsKept, ArePassedOver, IsSetWhereSeen, CursorsAreKept, AreAnswered}
+use Rattle.list_lemmas.proofs.Elements.{any_there, any_from}
 use Rattle.segment_invariant.proofs.Frames.Deeds.{Deeds, sums_of}
 use Rattle.segment_invariant.proofs.Frames.Together.{LoadedBefore, balanced, sums_near, taken_keys}
 

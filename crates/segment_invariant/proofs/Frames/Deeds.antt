@@ -1,21 +1,13 @@
 -- What actors did together, whoever of them did it.
-use Rattle.std.proofs.Common.{◌≡◌, ◌≤◌, ℕ, Bool, false, ◌||◌, ℤ, pos, ◌+ℤ◌, suc, List, [], ◌∷◌, ◌++◌, map, sym, refl, ap, ◌∙◌, subst, subst₂, ◌≢◌, zero, set, arith}
-use mathlib.Core.Option.{some, some-injective, some-ne-none}
-use lib.ListN.{get_elem?}
-use Rattle.std.specs.Prelude.{fold, sum_by, if◌then◌else◌, IsPermutation}
-use Rattle.std.specs.List.{flat_map}
+use Rattle.segment_invariant.proofs.Prelude.Std.{◌≡◌, ◌≤◌, ℕ, Bool, false, ◌||◌, ℤ, pos, ◌+ℤ◌, suc, List, [], ◌∷◌, ◌++◌, map, sym, refl, ap, ◌∙◌, subst, subst₂, ◌≢◌, zero, set, arith, some, some-injective, some-ne-none, get_elem?, fold, sum_by, if◌then◌else◌, IsPermutation, flat_map, sum_by-append, split_at, IsTotal}
+use Rattle.segment_invariant.proofs.Prelude.Machine.{Entry, Actor, Portion, is_of, tally_units, tally_sum, tally_noted, counted_of, summed_of, noted_of, taken_units, taken_sum, units_of, all_counted, all_summed, all_noted, all_taken, all_published, taken_of}
+use Rattle.segment_invariant.proofs.Prelude.Invariant.{moving_at, summed_cost}
 use Rattle.std.proofs.lemmas.Grind.{flat_map-append}
-use Rattle.std.proofs.lemmas.List.Sums.{sum_by-append}
 use Rattle.std.proofs.lemmas.List.Sorted.{sum_by-IsPermutation}
-use Rattle.segment_machine.specs.declared.entry.Entry.{Entry}
-use Rattle.segment_machine.specs.declared.actor.Actor.{Actor}
-use Rattle.segment_machine.specs.declared.actor.Portion.{Portion}
-use Rattle.segment_machine.specs.Entry.{is_of, tally_units, tally_sum, tally_noted}
-use Rattle.segment_machine.specs.Actor.{counted_of, summed_of, noted_of, given_by, taken_units, taken_sum, units_of, all_counted, all_summed, all_noted, all_taken, all_published, all_given, all_names, all_owed, taken_of}
-use Rattle.segment_invariant.specs.Ledger.{all_moving, moving_at}
-use Rattle.segment_invariant.specs.Invariant.{summed_cost, summed_costs}
-use Rattle.list_lemmas.proofs.Elements.{split_at}
-use Rattle.list_lemmas.proofs.Sums.{IsTotal, exchanged, added, numbers, amounts, flags, lists, amounts_total, flags_total}
+use Rattle.segment_machine.specs.Actor.{given_by, all_given, all_names, all_owed}
+use Rattle.segment_invariant.specs.Ledger.{all_moving}
+use Rattle.segment_invariant.specs.Invariant.{summed_costs}
+use Rattle.list_lemmas.proofs.Sums.{exchanged, added, numbers, amounts, flags, lists, amounts_total, flags_total}
 use Rattle.segment_invariant.proofs.Lists.Portions.{taken_sum_total}
 
 -- what some actors did together others did

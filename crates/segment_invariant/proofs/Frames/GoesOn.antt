@@ -1,29 +1,15 @@
 -- A state is kept where one actor goes on, and at most one of the blocks in the making changes.
-use Rattle.std.proofs.Common.{true≢false, ◌≡◌, ◌≢◌, ℕ, ◌<◌, Bool, List, ◌++◌, map, length, set, take, drop, All, Contains, inl, inr, refl, sym, ap, ◌∙◌, subst, subst₂, length-set, false, true}
-use Rattle.std.proofs.Math.Seq.{take-append_seam, drop-append_seam}
-use Rattle.std.proofs.lemmas.List.{set-append_left, get_or_append_left}
-use Rattle.std.specs.Prelude.{IsPermutation}
-use Rattle.std.specs.List.{flat_map}
-use Rattle.std.proofs.lemmas.List.Elements.{All-weaker}
-use mathlib.Core.Option.{some, some-injective}
-use lib.ListN.{get_elem?}
-use Rattle.atomic_table.proofs.Lists.{at_set}
-use Rattle.segment_image.specs.Shape.{Dimensions}
-use Rattle.segment_image.specs.Words.{word_at}
-use Rattle.alloc_core.specs.Layout.{IsShown}
-use Rattle.alloc_core.specs.Laws.{Behind}
-use Rattle.list_core.specs.Chain.{IsStop, IsLinked}
+use Rattle.segment_invariant.proofs.Prelude.Std.{true≢false, ◌≡◌, ◌≢◌, ℕ, ◌<◌, Bool, List, ◌++◌, map, length, set, take, drop, All, Contains, inl, inr, refl, sym, ap, ◌∙◌, subst, subst₂, length-set, false, true, take-append_seam, get_or_append_left, IsPermutation, flat_map, All-weaker, some, some-injective, get_elem?, at_set}
+use Rattle.segment_invariant.proofs.Prelude.Machine.{Dimensions, word_at, IsShown, Behind, IsStop, IsLinked, Actor, Own, Spent, State, Event, spot, next, Learned, is_opener}
+use Rattle.segment_invariant.proofs.Prelude.Invariant.{found_at, Body, plain, Piece, Anatomy, layout_of, order_of, free_of, claims_of, Stands, IsNoLater, Sees, StandsRight, HoldsOwn, CallsRight, LooksBack, Fits, IsSetBy, ClaimedRight, StandStill, Invariant, IsAhead}
+use Rattle.std.proofs.Math.Seq.{drop-append_seam}
+use Rattle.std.proofs.lemmas.List.{set-append_left}
 use Rattle.segment_invariant.proofs.Frames.Ahead.{ahead_later}
 use Rattle.segment_invariant.proofs.Frames.Answers.{answered_set}
-use Rattle.segment_machine.specs.declared.actor.Actor.{Actor}
-use Rattle.segment_machine.specs.declared.actor.Own.{Own}
-use Rattle.segment_machine.specs.declared.place.Place.TheVariants.{Spent}
-use Rattle.segment_machine.specs.State.{State, memory}
-use Rattle.segment_machine.specs.Event.{Event, spot, change, next, Learned}
-use Rattle.segment_invariant.specs.Keeps.{found_at, happened}
-use Rattle.segment_invariant.specs.Body.{Body, plain, Piece, Anatomy, layout_of, order_of, free_of, claims_of}
-use Rattle.segment_invariant.specs.Seen.{Stands, IsNoLater, Sees}
-use Rattle.segment_invariant.specs.Invariant.{StandsRight, HoldsOwn, CallsRight, LooksBack, OwesPublished, Fits, IsSetBy, ClaimedRight, StandStill, Invariant, IsAhead}
+use Rattle.segment_machine.specs.State.{memory}
+use Rattle.segment_machine.specs.Event.{change}
+use Rattle.segment_invariant.specs.Keeps.{happened}
+use Rattle.segment_invariant.specs.Invariant.{OwesPublished}
 use Rattle.segment_invariant.proofs.Frames.Standing.{follows_itself, stands_on}
 use Rattle.segment_invariant.proofs.Frames.Together.{balanced, sums_near}
 use Rattle.segment_invariant.proofs.Frames.Books.{cursors_set, listed_set, noticed_there, noticed_set}
@@ -32,7 +18,6 @@ use Rattle.segment_invariant.proofs.Frames.OneActor.{Doing, doing, TurnsTo, Same
 use Rattle.segment_invariant.proofs.Frames.Anatomies.{balanced_along, list_along, records_along, sums_along, names_along, fits_along, grounds_along}
 use Rattle.segment_invariant.proofs.Frames.Growth.{reshaped, Stays}
 use Rattle.segment_invariant.proofs.Frames.PassedOver.{still_there, passed_on}
-use Rattle.segment_machine.specs.Actor.{is_opener}
 
 -- What has to be shown where an actor goes on to a doing: of the blocks and the words that are then there, and of the actor itself.
 pub record Goes (shape : Dimensions) (opened : Anatomy) (state : State) (old new : Anatomy) (opener : Actor) (id : ℕ) (a : Actor) (d : Doing) (words : List ℕ) : Type 0 where

@@ -1,25 +1,13 @@
 -- How a segment grows while records are put on its list: published blocks stay but for their nexts, the list becomes longer at its
 -- end, and what was seen stays true.
-use Rattle.std.proofs.Common.{◌≡◌, ◌≢◌, ◌⊎◌, ℕ, zero, suc, ◌+◌, ◌<◌, ◌≤◌, ℤ, pos, Bool, true, false, List, [], ◌++◌, map, length, All, inl, inr, ⊎_elim, refl, sym, ap, ◌∙◌, subst, arith, append-nil, length-append}
-use Rattle.std.specs.Prelude.{slice_index, Some, None}
+use Rattle.segment_invariant.proofs.Prelude.Std.{◌≡◌, ◌≢◌, ◌⊎◌, ℕ, zero, suc, ◌+◌, ◌<◌, ◌≤◌, ℤ, pos, Bool, true, false, List, [], ◌++◌, map, length, All, inl, inr, ⊎_elim, refl, sym, ap, ◌∙◌, subst, arith, append-nil, length-append, slice_index, Some, None, get_or_append_left, map-append, All-weaker, none, first_longer}
+use Rattle.segment_invariant.proofs.Prelude.Machine.{Spec, Behind, stops, IsStop, IsPrefix, Seen, Known, Made, Own}
+use Rattle.segment_invariant.proofs.Prelude.Invariant.{Record, Counts, Sample, Body, queue, plain, held, histogram, counts, sample, other, words_of, is_claimed, Piece, Listed, Anatomy, order_of, free_of, all_held, Stands, HasRecord, HasCounts, HasSample, IsNamed, IsValued, IsFirst, IsFirstOf, IsNoLater, Knows, Sees, StandsAs}
 use Rattle.std.specs.Prelude as std
-use Rattle.std.proofs.lemmas.List.{get_or_append_left, map-append}
-use Rattle.std.proofs.lemmas.List.Elements.{All-weaker}
-use mathlib.Core.Option.{none}
-use Rattle.bucket_ranges.specs.declared.spec.Spec.{Spec}
-use Rattle.alloc_core.specs.Laws.{Behind}
-use Rattle.list_core.specs.Chain.{stops, IsStop, AreNeighbours}
-use Rattle.list_core.specs.Walk.{IsPrefix}
+use Rattle.list_core.specs.Chain.{AreNeighbours}
 use Rattle.list_core.proofs.Prefixes.{prefix_of_prefix}
-use Rattle.segment_machine.specs.declared.seen.Seen.{Seen}
-use Rattle.segment_machine.specs.declared.actor.Known.{Known}
-use Rattle.segment_machine.specs.declared.actor.Made.{Made}
-use Rattle.segment_machine.specs.declared.actor.Own.{Own}
-use Rattle.segment_invariant.specs.Body.{Record, Counts, Sample, Body, queue, plain, held, histogram, counts, sample, other, words_of, is_claimed, Piece, Listed, Anatomy, order_of, free_of}
-use Rattle.segment_invariant.specs.Ledger.{all_held, all_amounts}
-use Rattle.segment_invariant.specs.Seen.{Stands, HasPlain, HasRecord, HasCounts, HasSample, IsNamed, IsValued, IsFirst, IsFirstOf, IsReachedAt, IsNoLater, AreNoLater, Knows, Sees}
-use Rattle.segment_invariant.specs.Invariant.{StandsAs}
-use Rattle.list_lemmas.proofs.Firsts.{first_longer}
+use Rattle.segment_invariant.specs.Ledger.{all_amounts}
+use Rattle.segment_invariant.specs.Seen.{HasPlain, IsReachedAt, AreNoLater}
 use Rattle.segment_invariant.proofs.Frames.Standing.{Grounds}
 use Rattle.segment_invariant.proofs.Frames.Onward.{GoesAs, goes_itself, Onward, stands_as_on, sees_on}
 

@@ -1,33 +1,13 @@
 -- What holds of one actor stays true while a segment grows: of one that does nothing, and of one that publishes a record or walks.
-use Rattle.std.proofs.Common.{◌≡◌, ◌≢◌, ℕ, ◌+◌, ◌<◌, ◌≤◌, ℤ, List, ◌++◌, length, drop, All, Contains, inl, inr, ⊎_elim, refl, sym, ap, ◌∙◌, subst, arith}
-use Rattle.std.specs.Prelude.{Some}
-use Rattle.std.specs.Int.{w64, cast_signed}
-use Rattle.std.proofs.lemmas.List.Elements.{All-contains, All-drop}
-use mathlib.Core.Option.{some}
-use lib.ListN.{get_elem?}
-use Rattle.segment_image.specs.Shape.{Dimensions}
+use Rattle.segment_invariant.proofs.Prelude.Std.{◌≡◌, ◌≢◌, ℕ, ◌+◌, ◌<◌, ◌≤◌, ℤ, List, ◌++◌, length, drop, All, Contains, inl, inr, ⊎_elim, refl, sym, ap, ◌∙◌, subst, arith, Some, w64, cast_signed, All-contains, some, get_elem?, first_longer, split_among}
+use Rattle.segment_invariant.proofs.Prelude.Machine.{Dimensions, buckets_of, single_of, packed_bucket, units_packed, Entry, SumLoaded, Actor, Known, Own, Sighting, tally_units, word_seen, counted_of, bucket_key, SawCount, SawBucket, accepted_by, Leads}
+use Rattle.segment_invariant.proofs.Prelude.Invariant.{Record, Body, histogram, sample, words_of, Listed, Anatomy, order_of, form_at, HasRecord, IsNamed, IsValued, IsFirstOf, WasCounter, Sees, WasSingle, HasCounts, HoldsOwn, CallsRight, HasKey, LooksBack, Fits, IsAhead}
+use Rattle.std.proofs.lemmas.List.Elements.{All-drop}
 use Rattle.bucket_ranges.specs.declared.spec.Spec.TheVariants as spec
-use Rattle.bucket_ranges.specs.Spec.{buckets_of}
-use Rattle.bucket_ranges.specs.Single.{single_of, packed_bucket, units_packed}
-use Rattle.segment_machine.specs.declared.entry.Entry.{Entry}
-use Rattle.segment_machine.specs.declared.place.Place.TheVariants.{SumLoaded}
-use Rattle.segment_machine.specs.declared.actor.Actor.{Actor}
-use Rattle.segment_machine.specs.declared.actor.Known.{Known}
-use Rattle.segment_machine.specs.declared.actor.Own.{Own}
-use Rattle.segment_machine.specs.declared.seen.Sighting.{Sighting}
-use Rattle.segment_machine.specs.Entry.{tally_units}
-use Rattle.segment_machine.specs.Actor.{word_seen, counted_of, bucket_key, SawCount}
-use Rattle.segment_machine.specs.Note.{SawBucket}
-use Rattle.segment_machine.specs.Actor.{accepted_by}
-use Rattle.segment_invariant.specs.Body.{Record, Body, histogram, sample, words_of, Listed, Anatomy, order_of}
-use Rattle.segment_invariant.specs.Ledger.{form_at}
-use Rattle.segment_invariant.specs.Seen.{HasRecord, IsNamed, IsValued, IsFirstOf, WasCounter, Sees, WasSingle, HasCounts}
-use Rattle.segment_invariant.specs.Invariant.{HoldsOwn, CallsRight, HasKey, IsSettled, LooksBack, OwesPublished, Fits, IsAhead}
-use Rattle.list_lemmas.proofs.Firsts.{first_longer, split_among}
+use Rattle.segment_invariant.specs.Invariant.{IsSettled, OwesPublished}
 use Rattle.segment_invariant.proofs.Blocks.Places.{counter_within}
 use Rattle.segment_invariant.proofs.Frames.OneActor.{Doing, doing, doing_of}
 use Rattle.segment_invariant.proofs.Frames.Growth.{Grows, names_grow, record_stays, record_came, counts_came}
-use Rattle.segment_calls.specs.Form.{Leads}
 use Rattle.segment_invariant.proofs.Frames.Anew.{calls_anew}
 
 -- ---- what holds of one actor

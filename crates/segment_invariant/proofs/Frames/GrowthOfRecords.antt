@@ -1,21 +1,10 @@
 -- The records of a segment that grows: the old ones stay what they are, and the new ones are lawful and count nothing.
-use Rattle.std.proofs.Common.{◌≡◌, ◌≢◌, ◌⊎◌, ℕ, ◌*◌, ◌-ℤ◌, ◌≤◌, ℤ, pos, List, ◌∷◌, ◌++◌, All, Contains, inl, inr, ⊎_elim, refl, sym, ap, ◌∙◌, subst, arith}
-use Rattle.std.specs.Prelude.{Some, unsigned_abs}
-use Rattle.std.specs.Int.{w64, cast_signed}
-use Rattle.std.proofs.lemmas.List.Elements.{All-contains, Contains-append_right}
-use mathlib.Core.Option.{some, none}
-use lib.ListN.{get_elem?}
-use Rattle.bucket_ranges.specs.declared.spec.Spec.{Spec}
+use Rattle.segment_invariant.proofs.Prelude.Std.{◌≡◌, ◌≢◌, ◌⊎◌, ℕ, ◌*◌, ◌-ℤ◌, ◌≤◌, ℤ, pos, List, ◌∷◌, ◌++◌, All, Contains, inl, inr, ⊎_elim, refl, sym, ap, ◌∙◌, subst, arith, Some, unsigned_abs, w64, cast_signed, All-contains, Contains-append_right, some, none, get_elem?, first_longer}
+use Rattle.segment_invariant.proofs.Prelude.Machine.{Spec, Actor, SumLoaded, units_in}
+use Rattle.segment_invariant.proofs.Prelude.Invariant.{Record, Counts, Sample, Body, histogram, sample, Listed, Anatomy, form_at, Stands, HasRecord, HasCounts, HasSample, IsNamed, IsValued, IsFirst, IsFirstOf, StandsAs, IsLawfulRecord, IsCountsOf, CountsNothing, RecordsAreKept, HasKey, SumsAreNear, IsSumOf}
 use Rattle.bucket_ranges.specs.declared.spec.Spec.TheVariants as spec
-use Rattle.segment_machine.specs.declared.actor.Actor.{Actor}
 use Rattle.segment_machine.specs.declared.actor.Made.TheVariants as made
-use Rattle.segment_machine.specs.declared.place.Place.TheVariants.{SumLoaded}
-use Rattle.segment_calls.specs.Form.{units_in}
-use Rattle.segment_invariant.specs.Body.{Record, Counts, Sample, Body, histogram, sample, Listed, Anatomy}
-use Rattle.segment_invariant.specs.Ledger.{form_at}
-use Rattle.segment_invariant.specs.Seen.{Stands, HasRecord, HasCounts, HasSample, IsNamed, IsValued, IsFirst, IsFirstOf}
-use Rattle.segment_invariant.specs.Invariant.{StandsAs, IsListed, IsLawfulRecord, IsCountsOf, IsLawfulSample, CountsNothing, RecordsAreKept, HasKey, SumsAreNear, IsSumOf, summed_costs}
-use Rattle.list_lemmas.proofs.Firsts.{first_longer}
+use Rattle.segment_invariant.specs.Invariant.{IsListed, IsLawfulSample, summed_costs}
 use Rattle.segment_invariant.proofs.Frames.Growth.{Grows, first_grows, record_stays, record_came, counts_stay, counts_came, sample_came}
 
 -- ---- what was added

@@ -1,28 +1,9 @@
 -- A kept state in which one actor puts a record on the list or walks along it: all that is kept, from what changes.
-use Rattle.std.proofs.Common.{◌≡◌, ◌≢◌, ℕ, suc, ◌<◌, ℤ, Bool, true, List, [], ◌∷◌, ◌++◌, map, filter, All, Contains, ⊎_elim, refl, sym, ap, ◌∙◌, subst, arith}
-use Rattle.std.specs.Prelude.{slice_index, Some}
+use Rattle.segment_invariant.proofs.Prelude.Std.{◌≡◌, ◌≢◌, ℕ, suc, ◌<◌, ℤ, Bool, true, List, [], ◌∷◌, ◌++◌, map, filter, All, Contains, ⊎_elim, refl, sym, ap, ◌∙◌, subst, arith, slice_index, Some, and_parts, All-contains, Contains-append_left, Contains-append_right, Contains-append_cases, some, some-injective, dite, ℕ_discrete, get_elem?, split_among, row_in}
+use Rattle.segment_invariant.proofs.Prelude.Machine.{Dimensions, Entry, EntryProgress, Actor, Known, Own, Spent, SumLoaded, is_counted, has_ended, counted_among, log_of, counted_of, all_counted, State}
+use Rattle.segment_invariant.proofs.Prelude.Invariant.{Record, Body, Anatomy, order_of, HasRecord, Knows, Sees, StandsAs, HasKey, StandsRight, HoldsOwn, Fits, Invariant, IsAhead}
 use Rattle.std.specs.Prelude as std
-use Rattle.std.proofs.lemmas.Bool.{and_parts}
-use Rattle.std.proofs.lemmas.List.Elements.{All-contains, Contains-append_left, Contains-append_right, Contains-append_cases}
-use mathlib.Core.Option.{some, some-injective}
-use mathlib.Core.Logic.{dite}
-use native.Mathlib.Decide.{ℕ_discrete}
-use lib.ListN.{get_elem?}
-use Rattle.segment_image.specs.Shape.{Dimensions}
-use Rattle.segment_machine.specs.declared.entry.Entry.{Entry}
-use Rattle.segment_machine.specs.declared.entry.EntryProgress.{EntryProgress}
-use Rattle.segment_machine.specs.declared.actor.Actor.{Actor}
-use Rattle.segment_machine.specs.declared.actor.Known.{Known}
-use Rattle.segment_machine.specs.declared.actor.Own.{Own}
-use Rattle.segment_machine.specs.declared.place.Place.TheVariants.{Spent, SumLoaded}
-use Rattle.segment_machine.specs.Entry.{is_counted, has_ended, counted_among}
-use Rattle.segment_machine.specs.Actor.{log_of, counted_of, all_counted}
-use Rattle.segment_invariant.specs.Body.{Record, Body, Anatomy, order_of}
-use Rattle.segment_invariant.specs.Seen.{HasRecord, Knows, Sees}
-use Rattle.segment_machine.specs.State.{State}
-use Rattle.segment_invariant.specs.Invariant.{StandsAs, HasKey, StandsRight, HoldsOwn, Fits, Invariant, OwesPublished, IsAhead}
-use Rattle.list_lemmas.proofs.Firsts.{split_among}
-use Rattle.list_lemmas.proofs.Elements.{row_in}
+use Rattle.segment_invariant.specs.Invariant.{OwesPublished}
 use Rattle.segment_invariant.proofs.Frames.OneActor.{Doing, doing, lives_on}
 use Rattle.segment_invariant.proofs.Frames.Growth.{Grows}
 use Rattle.segment_invariant.proofs.Frames.GrowthOfActors.{SawMore, fits_grow}

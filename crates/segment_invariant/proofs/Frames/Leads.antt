@@ -1,10 +1,8 @@
 -- Single words that lead on from one another.
-use Rattle.std.proofs.Common.{◌≡◌, ◌≢◌, ◌⊎◌, Bool, true, false, ◌==◌, nat_lt, if◌then◌else◌, ℕ, ◌^◌, ◌/◌, ◌%◌, ◌≤◌, Option, Some, None, inl, inr, refl, sym, ap, ◌∙◌, subst, arith}
-use Rattle.std.proofs.lemmas.Bool.{eqb-true, leb-false, lt-ltb}
-use Rattle.bucket_ranges.specs.declared.single.SingleWord.{SingleWord}
-use Rattle.bucket_ranges.specs.declared.single.SingleWord.TheVariants.{Empty, Packed}
-use Rattle.bucket_ranges.specs.Single.{single_of, is_packed_word, packed_of, packed_bucket}
-use Rattle.segment_calls.specs.Form.{is_off, units_in, Leads}
+use Rattle.segment_invariant.proofs.Prelude.Std.{◌≡◌, ◌≢◌, ◌⊎◌, Bool, true, false, ◌==◌, nat_lt, if◌then◌else◌, ℕ, ◌^◌, ◌/◌, ◌%◌, ◌≤◌, Option, Some, None, inl, inr, refl, sym, ap, ◌∙◌, subst, arith, eqb-true, lt-ltb}
+use Rattle.segment_invariant.proofs.Prelude.Machine.{SingleWord, Empty, Packed, single_of, is_packed_word, packed_bucket, is_off, units_in, Leads}
+use Rattle.std.proofs.lemmas.Bool.{leb-false}
+use Rattle.bucket_ranges.specs.Single.{packed_of}
 
 -- a word that is off leads to itself alone
 pub off_leads : (version n old new : ℕ) → is_off old ≡ true → Leads version n old new → old ≡ new

@@ -1,26 +1,12 @@
 -- Actors together, where one goes on with a call and neither counts, takes nor gives back anything: what all of them did is the same.
-use Rattle.std.proofs.Common.{◌⊎◌, ◌≡◌, ◌≢◌, ℕ, ◌+◌, ◌≤◌, ℤ, Bool, true, false, ◌&&◌, List, set, sum_by, inl, inr, ⊎_elim, refl, sym, ap, ◌∙◌, arith, not}
-use Rattle.std.specs.Prelude.{if◌then◌else◌, ◌==◌, length}
-use Rattle.std.specs.List.{filter}
-use mathlib.Core.Option.{some}
-use lib.ListN.{get_elem?}
-use Rattle.segment_image.specs.Shape.{Dimensions}
-use Rattle.segment_machine.specs.declared.actor.Known.{Known}
-use Rattle.segment_machine.specs.declared.actor.Actor.{Actor}
-use Rattle.segment_machine.specs.declared.actor.Claim.{Claim}
-use Rattle.segment_machine.specs.declared.actor.Own.{Own}
-use Rattle.segment_machine.specs.declared.actor.Published.{Published}
+use Rattle.segment_invariant.proofs.Prelude.Std.{◌⊎◌, ◌≡◌, ◌≢◌, ℕ, ◌+◌, ◌≤◌, ℤ, Bool, true, false, ◌&&◌, List, set, sum_by, inl, inr, ⊎_elim, refl, sym, ap, ◌∙◌, arith, not, if◌then◌else◌, ◌==◌, length, filter, some, get_elem?, rows, sum_same}
+use Rattle.segment_invariant.proofs.Prelude.Machine.{Dimensions, Known, Actor, Claim, Own, Published, Sighting, Look, Place, Spent, Idle, Looking, Moving, CountLoaded, SumLoaded, tally_units, tally_sum, tally_noted, is_bound, cost_of, counted_of, summed_of, noted_of, units_of, all_counted, all_summed, all_noted, all_taken, taken_units, taken_sum, taken_of, is_opener}
+use Rattle.segment_invariant.proofs.Prelude.Invariant.{moving_at, summed_cost, is_living, Fits, Anatomy}
 use Rattle.segment_machine.specs.declared.actor.Rise.{Rise}
-use Rattle.segment_machine.specs.declared.seen.Sighting.{Sighting}
-use Rattle.segment_machine.specs.declared.place.Look.{Look}
-use Rattle.segment_machine.specs.declared.place.Place.{Place}
-use Rattle.segment_machine.specs.declared.place.Place.TheVariants.{Spent, Idle, FlagsLoaded, FreeLoaded, Raised, Sized, Marked, TailLoaded, Beaten, Linked, Looking, Losing, Moving, CountLoaded, SampleLoaded, SumLoaded, CursorLoaded, BehindCursor}
-use Rattle.segment_machine.specs.Entry.{tally_units, tally_sum, tally_noted}
-use Rattle.segment_machine.specs.Actor.{is_bound, cost_of, counted_of, summed_of, noted_of, units_of, all_counted, all_summed, all_noted, all_taken, taken_units, taken_sum, transit_at, taken_of, is_opener}
-use Rattle.segment_invariant.specs.Ledger.{moving_at, all_moving}
-use Rattle.segment_invariant.specs.Invariant.{summed_cost, summed_costs, is_living, Fits}
-use Rattle.segment_invariant.specs.Body.{Anatomy}
-use Rattle.list_lemmas.proofs.Elements.{rows, sum_same}
+use Rattle.segment_machine.specs.declared.place.Place.TheVariants.{FlagsLoaded, FreeLoaded, Raised, Sized, Marked, TailLoaded, Beaten, Linked, Losing, SampleLoaded, CursorLoaded, BehindCursor}
+use Rattle.segment_machine.specs.Actor.{transit_at}
+use Rattle.segment_invariant.specs.Ledger.{all_moving}
+use Rattle.segment_invariant.specs.Invariant.{summed_costs}
 use Rattle.segment_invariant.proofs.Frames.Deeds.{SameSums}
 use Rattle.segment_invariant.proofs.Frames.Together.{LoadedBefore, loaded_set}
 use Rattle.segment_invariant.proofs.Frames.Roles.{SameRole, SameRoles, role_kept, same_roles, fits_beside}

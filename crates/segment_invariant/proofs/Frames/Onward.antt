@@ -1,26 +1,14 @@
 -- How published blocks go on: what is fixed in them stays, counters rise, single words lead on. So what was seen stays true.
-use Rattle.std.proofs.Common.{◌≡◌, ◌≢◌, ◌⊎◌, ℕ, ◌+◌, ◌-◌, ◌<◌, ◌≤◌, true, List, [], ◌∷◌, ◌++◌, length, All, Contains, inl, inr, ⊎_elim, refl, sym, ap, ◌∙◌, subst, arith}
-use Rattle.std.specs.Prelude.{slice_index, Some, None}
+use Rattle.segment_invariant.proofs.Prelude.Std.{◌≡◌, ◌≢◌, ◌⊎◌, ℕ, ◌+◌, ◌-◌, ◌<◌, ◌≤◌, true, List, [], ◌∷◌, ◌++◌, length, All, Contains, inl, inr, ⊎_elim, refl, sym, ap, ◌∙◌, subst, arith, slice_index, Some, None, get_or_append_left, All-weaker, All-contains, none, all_of}
+use Rattle.segment_invariant.proofs.Prelude.Machine.{Spec, buckets_of, spec_ranges, single_of, Made, Seen, Sighting, Behind, IsPrefix, is_off, Leads, SawSample}
+use Rattle.segment_invariant.proofs.Prelude.Invariant.{Record, Counts, Sample, Body, queue, plain, held, histogram, counts, sample, other, words_of, is_claimed, Listed, Anatomy, order_of, free_of, Stands, HasRecord, HasCounts, HasSample, WasFixed, WasCounter, WasInUse, WasSingle, IsNoLater, Sees, WasMet, StandsAs}
 use Rattle.std.specs.Prelude as std
-use Rattle.std.proofs.lemmas.List.{get_or-append_right, get_or_append_left}
-use Rattle.std.proofs.lemmas.List.Elements.{All-weaker, All-contains}
-use mathlib.Core.Option.{none}
-use Rattle.bucket_ranges.specs.declared.spec.Spec.{Spec}
-use Rattle.bucket_ranges.specs.Spec.{buckets_of, spec_ranges}
-use Rattle.bucket_ranges.specs.Single.{single_of}
-use Rattle.segment_machine.specs.declared.actor.Made.{Made}
+use Rattle.std.proofs.lemmas.List.{get_or-append_right}
 use Rattle.segment_machine.specs.declared.actor.Made.TheVariants as made
-use Rattle.segment_machine.specs.declared.seen.Seen.{Seen}
-use Rattle.segment_machine.specs.declared.seen.Sighting.{Sighting}
-use Rattle.alloc_core.specs.Laws.{Behind}
-use Rattle.list_core.specs.Walk.{IsPrefix}
-use Rattle.segment_calls.specs.Form.{is_off, Leads}
-use Rattle.segment_machine.specs.Made.{SawSample}
-use Rattle.segment_invariant.specs.Body.{Record, Counts, Sample, Body, queue, plain, held, histogram, counts, sample, other, spec_field, words_of, is_claimed, Listed, Anatomy, order_of, free_of}
-use Rattle.segment_invariant.specs.Seen.{Stands, HasRecord, HasCounts, HasSample, IsFixedIn, IsCounterIn, WasFixed, WasCounter, WasInUse, WasSingle, IsNoLater, AreNoLater, Sees, WasMet}
-use Rattle.segment_invariant.specs.Invariant.{StandsAs, IsListed}
+use Rattle.segment_invariant.specs.Body.{spec_field}
+use Rattle.segment_invariant.specs.Seen.{IsFixedIn, IsCounterIn, AreNoLater}
+use Rattle.segment_invariant.specs.Invariant.{IsListed}
 use Rattle.segment_invariant.proofs.Blocks.Places.{counter_within}
-use Rattle.list_lemmas.proofs.Elements.{all_of}
 use Rattle.segment_invariant.proofs.Frames.Leads.{off_leads, leads_on}
 use Rattle.segment_image.specs.declared.layout.TheConstants.{CLAIMED_COOKIE}
 

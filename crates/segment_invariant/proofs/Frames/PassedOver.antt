@@ -1,18 +1,10 @@
 -- Records that are passed over, and the blocks of which nothing changes but their nexts: they stay, and what the opening has of them holds of
 -- the present ones.
-use Rattle.std.proofs.Common.{◌≡◌, ◌≢◌, ◌⊎◌, ℕ, List, [], ◌∷◌, ◌++◌, Contains, map, set, inl, inr, refl, sym, ap, ◌∙◌, subst, arith}
-use Rattle.std.specs.Prelude.{Some, None}
-use mathlib.Core.Option.{none}
-use Rattle.std.proofs.lemmas.List.Elements.{Contains-append_right, Contains-append_cases}
-use Rattle.std.proofs.lemmas.List.Sorted.{Contains-permutation}
-use Rattle.segment_image.specs.Shape.{Dimensions}
-use Rattle.segment_machine.specs.State.{State}
-use Rattle.segment_machine.specs.Actor.{all_published}
-use Rattle.segment_machine.specs.declared.seen.Sighting.{Sighting}
-use Rattle.segment_invariant.specs.Body.{Record, Counts, Body, histogram, counts, other, Piece, Listed, listed, Anatomy}
-use Rattle.segment_invariant.specs.Seen.{Stands, HasStill, HoldsAs, WasFixed}
-use Rattle.segment_invariant.specs.Invariant.{IsPassedOver, IsOfOtherType, ArePassedOver, Invariant, HasPassedOver}
-use Rattle.list_lemmas.proofs.Maps.{contains_mapped}
+use Rattle.segment_invariant.proofs.Prelude.Std.{◌≡◌, ◌≢◌, ◌⊎◌, ℕ, List, [], ◌∷◌, ◌++◌, Contains, map, set, inl, inr, refl, sym, ap, ◌∙◌, subst, arith, Some, None, none, Contains-append_right, Contains-append_cases, Contains-permutation, contains_mapped}
+use Rattle.segment_invariant.proofs.Prelude.Machine.{Dimensions, State, all_published, Sighting}
+use Rattle.segment_invariant.proofs.Prelude.Invariant.{Record, Counts, Body, histogram, counts, other, Piece, Listed, listed, Anatomy, Stands, WasFixed, IsPassedOver, Invariant}
+use Rattle.segment_invariant.specs.Seen.{HasStill, HoldsAs}
+use Rattle.segment_invariant.specs.Invariant.{IsOfOtherType, ArePassedOver, HasPassedOver}
 use Rattle.segment_invariant.proofs.Frames.Growth.{Stays}
 use Rattle.segment_invariant.proofs.Frames.Onward.{Onward, fixed_on}
 

@@ -1,17 +1,7 @@
 -- Openers and recorders, where the recorders that live now lived before.
-use Rattle.std.proofs.Common.{◌≡◌, ◌≢◌, ℕ, ◌+◌, ◌<◌, ◌≤◌, true, false, List, [], ◌++◌, set, inl, inr, refl, sym, ap, ◌∙◌, subst, true≢false, arith}
-use Rattle.std.specs.Prelude.{if◌then◌else◌}
-use native.Mathlib.Decide.{ℕ_discrete}
-use mathlib.Core.Option.{some}
-use lib.ListN.{get_elem?}
-use Rattle.atomic_table.proofs.Lists.{at_set, set_else}
-use Rattle.segment_image.specs.Shape.{Dimensions}
-use Rattle.segment_machine.specs.declared.entry.Entry.{Entry}
-use Rattle.segment_machine.specs.declared.actor.Actor.{Actor}
-use Rattle.segment_machine.specs.Actor.{log_of, is_opener, made_of, offered_of, outstanding_of}
-use Rattle.segment_invariant.specs.Body.{Anatomy}
-use Rattle.segment_invariant.specs.Invariant.{is_living, RolesAreKept, IsAlone, Fits}
-use Rattle.list_lemmas.proofs.Elements.{sum_same}
+use Rattle.segment_invariant.proofs.Prelude.Std.{◌≡◌, ◌≢◌, ℕ, ◌+◌, ◌<◌, ◌≤◌, true, false, List, [], ◌++◌, set, inl, inr, refl, sym, ap, ◌∙◌, subst, true≢false, arith, if◌then◌else◌, ℕ_discrete, some, get_elem?, at_set, set_else, sum_same}
+use Rattle.segment_invariant.proofs.Prelude.Machine.{Dimensions, Entry, Actor, log_of, is_opener, made_of, offered_of, outstanding_of}
+use Rattle.segment_invariant.proofs.Prelude.Invariant.{Anatomy, is_living, RolesAreKept, IsAlone, Fits}
 use Rattle.segment_invariant.proofs.Frames.Deeds.{SameSums}
 use Rattle.segment_invariant.proofs.Frames.Together.{fits}
 use Rattle.list_lemmas.proofs.Maps.{one_at}

@@ -1,32 +1,13 @@
 -- A state is kept where one actor goes on to a place, sees more, and no word of the segment changes.
-use Rattle.std.proofs.Common.{◌≡◌, ◌≢◌, ℕ, ◌+◌, ◌-◌, ◌<◌, ◌≤◌, ℤ, List, ◌++◌, length, set, take, drop, Contains, inl, inr, refl, sym, ap, ◌∙◌, subst, arith, false, true}
-use Rattle.std.proofs.Math.Seq.{take-append_seam, drop-append_seam}
-use Rattle.std.specs.Prelude.{slice_index, IsPermutation, Some}
+use Rattle.segment_invariant.proofs.Prelude.Std.{◌≡◌, ◌≢◌, ℕ, ◌+◌, ◌-◌, ◌<◌, ◌≤◌, ℤ, List, ◌++◌, length, set, take, drop, Contains, inl, inr, refl, sym, ap, ◌∙◌, subst, arith, false, true, take-append_seam, slice_index, IsPermutation, Some, All-weaker, some, get_elem?, at_set, set_else, rows, column, sum_same}
+use Rattle.segment_invariant.proofs.Prelude.Machine.{Dimensions, IsLinked, Actor, Portion, Claim, Given, Entry, Place, Spent, SumLoaded, Seen, tally_units, tally_sum, tally_noted, counted_of, summed_of, noted_of, units_of, all_counted, all_taken, taken_units, taken_sum, word_seen, taken_of, is_opener, State, Event, spot, next, Learned}
+use Rattle.segment_invariant.proofs.Prelude.Invariant.{found_at, Anatomy, order_of, claims_of, moving_at, IsNoLater, Sees, SumsAreNear, CallsRight, LooksBack, IsSetBy, StandsRight, IsAhead, Fits, Invariant, summed_cost}
+use Rattle.std.proofs.Math.Seq.{drop-append_seam}
 use Rattle.std.proofs.lemmas.List.{set-append_right, get_or-append_right}
-use Rattle.std.proofs.lemmas.List.Elements.{All-weaker}
-use mathlib.Core.Option.{some}
-use lib.ListN.{get_elem?}
-use Rattle.atomic_table.proofs.Lists.{at_set, set_else}
-use Rattle.segment_image.specs.Shape.{Dimensions}
-use Rattle.list_core.specs.Chain.{IsLinked}
-use Rattle.segment_machine.specs.declared.actor.Actor.{Actor}
-use Rattle.segment_machine.specs.declared.actor.Portion.{Portion}
-use Rattle.segment_machine.specs.declared.actor.Claim.{Claim}
-use Rattle.segment_machine.specs.declared.actor.Given.{Given}
-use Rattle.segment_machine.specs.declared.entry.Entry.{Entry}
-use Rattle.segment_machine.specs.declared.place.Place.{Place}
-use Rattle.segment_machine.specs.declared.place.Place.TheVariants.{Spent, SumLoaded}
-use Rattle.segment_machine.specs.declared.seen.Seen.{Seen}
-use Rattle.segment_machine.specs.Entry.{tally_units, tally_sum, tally_noted}
-use Rattle.segment_machine.specs.Actor.{counted_of, summed_of, noted_of, units_of, all_counted, all_taken, taken_units, taken_sum, word_seen, taken_of, is_opener}
-use Rattle.segment_machine.specs.State.{State, memory}
-use Rattle.segment_machine.specs.Event.{Event, spot, change, next, Learned}
-use Rattle.segment_invariant.specs.Keeps.{found_at, happened}
-use Rattle.segment_invariant.specs.Body.{Anatomy, order_of, claims_of}
-use Rattle.segment_invariant.specs.Ledger.{moving_at}
-use Rattle.segment_invariant.specs.Seen.{IsNoLater, Sees}
-use Rattle.segment_invariant.specs.Invariant.{CursorsAreKept, SumsAreNear, CallsRight, LooksBack, IsSetBy, StandsRight, IsAhead, Fits, Invariant, summed_cost}
-use Rattle.list_lemmas.proofs.Elements.{rows, column, sum_same}
+use Rattle.segment_machine.specs.State.{memory}
+use Rattle.segment_machine.specs.Event.{change}
+use Rattle.segment_invariant.specs.Keeps.{happened}
+use Rattle.segment_invariant.specs.Invariant.{CursorsAreKept}
 use Rattle.segment_invariant.proofs.Frames.Ahead.{reached_later}
 use Rattle.segment_invariant.proofs.Frames.Answers.{answered_set}
 use Rattle.segment_invariant.proofs.Frames.Books.{cursors_set, listed_set, noticed_set}

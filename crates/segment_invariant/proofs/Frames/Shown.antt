@@ -1,17 +1,8 @@
 -- What is to be shown of an event of a recorder, and of one that loads a word.
-use Rattle.std.proofs.Common.{◌≡◌, ℕ, List, set, sym, subst, false}
-use mathlib.Core.Option.{some}
-use lib.ListN.{get_elem?}
-use lib.Seq.{set-get_or}
-use Rattle.segment_image.specs.Shape.{Dimensions}
-use Rattle.segment_image.specs.Words.{word_at}
-use Rattle.segment_machine.specs.declared.actor.Actor.{Actor}
-use Rattle.segment_machine.specs.State.{State}
-use Rattle.segment_machine.specs.Event.{Event, Learned}
-use Rattle.segment_invariant.specs.Keeps.{happened, found_at}
-use Rattle.segment_invariant.specs.Body.{Anatomy}
-use Rattle.segment_invariant.specs.Invariant.{Invariant}
-use Rattle.segment_machine.specs.Actor.{is_opener}
+use Rattle.segment_invariant.proofs.Prelude.Std.{◌≡◌, ℕ, List, set, sym, subst, false, some, get_elem?, set-get_or}
+use Rattle.segment_invariant.proofs.Prelude.Machine.{Dimensions, word_at, Actor, State, Event, Learned, is_opener}
+use Rattle.segment_invariant.proofs.Prelude.Invariant.{found_at, Anatomy, Invariant}
+use Rattle.segment_invariant.specs.Keeps.{happened}
 
 module _ (shape : Dimensions) (opened : Anatomy) (state : State) (kept : Invariant shape opened state) (id : ℕ) (a : Actor)
     (mine : get_elem? state.actors id ≡ some a) (records : is_opener a.role ≡ false) where

@@ -1,22 +1,8 @@
 -- Units that were counted are spent, or held by the call that counted them.
-use Rattle.std.proofs.Common.{◌≡◌, ◌≢◌, ◌⊎◌, ℕ, suc, ◌+◌, ◌≤◌, Bool, true, false, cond, List, [], ◌∷◌, ◌++◌, map, All, Contains, inl, inr, refl, sym, ap, ◌∙◌, subst, arith}
-use Rattle.std.specs.Prelude.{if◌then◌else◌}
-use Rattle.std.specs.Str.{bytes_eq}
-use Rattle.std.specs.List.{filter, flat_map}
-use Rattle.std.proofs.lemmas.Slice.Eq.{bytes_eq-Decides}
-use Rattle.std.proofs.lemmas.List.{map-append}
-use Rattle.std.proofs.lemmas.List.Elements.{All-contains, Contains-append_right}
-use Rattle.std.proofs.lemmas.List.Sums.{sum_by-cons}
-use Rattle.segment_machine.specs.declared.entry.Entry.{Entry}
-use Rattle.segment_machine.specs.declared.entry.EntryProgress.{EntryProgress}
-use Rattle.segment_machine.specs.declared.place.Place.{Place}
-use Rattle.segment_machine.specs.declared.place.Place.TheVariants.{Spent}
-use Rattle.segment_machine.specs.declared.actor.Actor.{Actor}
-use Rattle.segment_machine.specs.declared.actor.Cost.{Cost}
-use Rattle.segment_machine.specs.Entry.{is_counted, is_noted, is_of, tally_noted}
-use Rattle.segment_machine.specs.Actor.{counted_of, noted_of, cost_of, all_costs}
-use Rattle.segment_invariant.specs.Body.{Anatomy}
-use Rattle.segment_invariant.specs.Invariant.{CallsRight}
+use Rattle.segment_invariant.proofs.Prelude.Std.{◌≡◌, ◌≢◌, ◌⊎◌, ℕ, suc, ◌+◌, ◌≤◌, Bool, true, false, cond, List, [], ◌∷◌, ◌++◌, map, All, Contains, inl, inr, refl, sym, ap, ◌∙◌, subst, arith, if◌then◌else◌, bytes_eq, filter, flat_map, bytes_eq-Decides, map-append, All-contains, Contains-append_right, sum_by-cons}
+use Rattle.segment_invariant.proofs.Prelude.Machine.{Entry, EntryProgress, Place, Spent, Actor, Cost, is_counted, is_noted, is_of, tally_noted, counted_of, noted_of, cost_of}
+use Rattle.segment_invariant.proofs.Prelude.Invariant.{Anatomy, CallsRight}
+use Rattle.segment_machine.specs.Actor.{all_costs}
 use Rattle.segment_invariant.proofs.Lists.Countings.{noted_total}
 
 abbrev entry_of : EntryProgress → Entry

@@ -1,25 +1,11 @@
 -- Where an actor stands, it stands right on while it knows no less, and while the blocks and the list stay that this rests on.
-use Rattle.std.proofs.Common.{◌≡◌, ◌≢◌, ℕ, ◌+◌, List, All, Contains, refl, sym, ap, ◌∙◌, subst, true}
-use Rattle.std.specs.Prelude.{Some, slice_index}
-use Rattle.std.proofs.lemmas.List.Elements.{All-weaker}
-use Rattle.segment_image.specs.Shape.{Dimensions}
-use Rattle.bucket_ranges.specs.Spec.{buckets_of}
-use Rattle.bucket_ranges.specs.Single.{single_of, packed_bucket}
+use Rattle.segment_invariant.proofs.Prelude.Std.{◌≡◌, ◌≢◌, ℕ, ◌+◌, List, All, Contains, refl, sym, ap, ◌∙◌, subst, true, Some, slice_index, All-weaker}
+use Rattle.segment_invariant.proofs.Prelude.Machine.{Dimensions, buckets_of, single_of, packed_bucket, Look, Place, Spent, Idle, Looking, Moving, CountLoaded, SumLoaded, Actor, Known, Own, Sighting, word_seen, is_off, purse, Seen}
+use Rattle.segment_invariant.proofs.Prelude.Invariant.{Record, Anatomy, order_of, Piece, HasRecord, WasMet, StandsRight, HoldsOwn}
 use Rattle.list_core.specs.Chain.{AreNeighbours}
-use Rattle.segment_machine.specs.declared.place.Look.{Look}
-use Rattle.segment_machine.specs.declared.place.Place.{Place}
-use Rattle.segment_machine.specs.declared.place.Place.TheVariants.{Spent, Idle, FlagsLoaded, FreeLoaded, Raised, Sized, Marked, TailLoaded, Beaten, Linked, Looking, Losing, Moving, CountLoaded, SampleLoaded, SumLoaded, CursorLoaded, BehindCursor}
-use Rattle.segment_machine.specs.declared.actor.Actor.{Actor}
-use Rattle.segment_machine.specs.declared.actor.Known.{Known}
-use Rattle.segment_machine.specs.declared.actor.Own.{Own}
-use Rattle.segment_machine.specs.declared.seen.Sighting.{Sighting}
-use Rattle.segment_machine.specs.Actor.{word_seen}
-use Rattle.segment_calls.specs.Form.{is_off}
-use Rattle.segment_invariant.specs.Body.{Record, Anatomy, order_of, Piece}
-use Rattle.segment_machine.specs.Seats.{purse}
-use Rattle.segment_invariant.specs.Seen.{IsReachedAt, HasPlain, HasOwn, HasRecord, WasMet}
-use Rattle.segment_invariant.specs.Invariant.{LooksRight, StandsRight, HoldsOwn}
-use Rattle.segment_machine.specs.declared.seen.Seen.{Seen}
+use Rattle.segment_machine.specs.declared.place.Place.TheVariants.{FlagsLoaded, FreeLoaded, Raised, Sized, Marked, TailLoaded, Beaten, Linked, Losing, SampleLoaded, CursorLoaded, BehindCursor}
+use Rattle.segment_invariant.specs.Seen.{IsReachedAt, HasPlain, HasOwn}
+use Rattle.segment_invariant.specs.Invariant.{LooksRight}
 
 -- what it rests on of the segment: the list, which may become longer, records, whose specs stay and whose single words once they are off, and
 -- its words in the making

@@ -1,29 +1,9 @@
 -- What holds of actors together, and of one beside the others, holds on where others did the same together.
-use Rattle.std.proofs.Common.{set, ◌≡◌, ◌⊎◌, ℕ, ◌+◌, ◌<◌, ◌≤◌, Some, ℤ, Bool, true, false, List, ◌-◌, ◌++◌, map, drop, length, take, inl, inr, ⊎_elim, sym, refl, ap, ◌∙◌, arith}
-use Rattle.std.specs.List.{Contains}
-use Rattle.std.specs.Prelude.{if◌then◌else◌}
-use mathlib.Core.Option.{some}
-use lib.ListN.{get_elem?}
-use Rattle.std.proofs.lemmas.List.Elements.{All-weaker}
-use Rattle.list_lemmas.proofs.Elements.{contains_at}
-use Rattle.std.proofs.lemmas.List.Sorted.{Contains-permutation}
-use Rattle.atomic_table.proofs.Lists.{at_set}
-use Rattle.segment_image.specs.Shape.{Dimensions}
-use Rattle.segment_machine.specs.declared.entry.Entry.{Entry}
-use Rattle.segment_machine.specs.declared.entry.EntryProgress.{EntryProgress}
-use Rattle.segment_machine.specs.declared.place.Place.TheVariants.{SumLoaded}
-use Rattle.segment_machine.specs.declared.actor.Actor.{Actor}
-use Rattle.segment_machine.specs.declared.actor.Portion.{Portion}
-use Rattle.segment_machine.specs.declared.actor.Answered.{Answered}
-use Rattle.segment_machine.specs.declared.actor.Cost.{Cost}
-use Rattle.segment_machine.specs.declared.actor.Moment.{Moment}
-use Rattle.segment_machine.specs.declared.actor.Taken.{Taken}
-use Rattle.segment_machine.specs.Entry.{tally_units, tally_noted}
-use Rattle.segment_machine.specs.Actor.{bucket_key, cost_of, all_counted, all_taken, is_opener, made_of}
-use Rattle.segment_invariant.specs.Consistent.{IsWithinCounts}
-use Rattle.segment_invariant.specs.Body.{Record, Anatomy, Piece, Listed}
+use Rattle.segment_invariant.proofs.Prelude.Std.{set, ◌≡◌, ◌⊎◌, ℕ, ◌+◌, ◌<◌, ◌≤◌, Some, ℤ, Bool, true, false, List, ◌-◌, ◌++◌, map, drop, length, take, inl, inr, ⊎_elim, sym, refl, ap, ◌∙◌, arith, Contains, if◌then◌else◌, some, get_elem?, All-weaker, contains_at, Contains-permutation, at_set}
+use Rattle.segment_invariant.proofs.Prelude.Machine.{Dimensions, Entry, EntryProgress, SumLoaded, Actor, Portion, Answered, Cost, Moment, Taken, tally_units, tally_noted, bucket_key, cost_of, all_counted, all_taken, is_opener, made_of}
+use Rattle.segment_invariant.proofs.Prelude.Invariant.{IsWithinCounts, Record, Anatomy, Piece, Listed, is_living, IsAlone, IsSumOf, LooksBack, FinalsAreExact, Fits, HasKey, SumsAreNear}
 use Rattle.segment_invariant.specs.Ledger.{IsBalanced}
-use Rattle.segment_invariant.specs.Invariant.{ended_deltas, is_living, IsMoment, IsMomentOf, IsAlone, IsSumOf, LooksBack, FinalsAreExact, Fits, HasKey, SumsAreNear}
+use Rattle.segment_invariant.specs.Invariant.{ended_deltas, IsMoment, IsMomentOf}
 use Rattle.list_lemmas.proofs.Maps.{contains_take}
 use Rattle.segment_invariant.proofs.Frames.Deeds.{Deeds, SameSums}
 use Rattle.segment_invariant.proofs.Frames.Anew.{fits_anew}

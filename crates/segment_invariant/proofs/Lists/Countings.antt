@@ -1,18 +1,9 @@
 -- What the entries among countings that pass a test come to, beside others.
-use Rattle.std.proofs.Common.{◌≡◌, ℕ, ◌+◌, Bool, true, false, cond, ◌&&◌, ◌||◌, not, ℤ, pos, List, [], ◌∷◌, ◌++◌, map, Contains, refl, sym, ap, ◌∙◌, arith, eqb-true}
-use Rattle.std.specs.Prelude.{if◌then◌else◌, ◌+ℤ◌, ◌==◌}
-use Rattle.std.specs.List.{filter}
-use Rattle.std.specs.Ordering.{int_eq}
-use Rattle.std.proofs.lemmas.Bool.Decides.{Decides-int_eq}
-use Rattle.std.proofs.lemmas.List.{map-append}
-use Rattle.std.proofs.lemmas.List.Elements.{filter-append, Contains-append_right}
-use Rattle.std.proofs.lemmas.List.Sums.{sum_by-append}
-use Rattle.segment_machine.specs.declared.entry.Entry.{Entry}
-use Rattle.segment_machine.specs.declared.entry.EntryProgress.{EntryProgress}
-use Rattle.segment_machine.specs.Entry.{is_counted, is_summed, is_noted, is_of, tally_units, tally_sum, tally_noted, counted_among, summed_among, noted_among}
-use Rattle.segment_machine.specs.Note.{is_untouched}
+use Rattle.segment_invariant.proofs.Prelude.Std.{◌≡◌, ℕ, ◌+◌, Bool, true, false, cond, ◌&&◌, ◌||◌, not, ℤ, pos, List, [], ◌∷◌, ◌++◌, map, Contains, refl, sym, ap, ◌∙◌, arith, eqb-true, if◌then◌else◌, ◌+ℤ◌, ◌==◌, filter, int_eq, Decides-int_eq, map-append, filter-append, Contains-append_right, sum_by-append, IsTotal}
+use Rattle.segment_invariant.proofs.Prelude.Machine.{Entry, EntryProgress, is_counted, is_summed, is_noted, is_of, tally_units, tally_sum, tally_noted, counted_among, noted_among, is_untouched}
+use Rattle.segment_machine.specs.Entry.{summed_among}
 use Rattle.segment_invariant.proofs.Lists.FewTerms.{if_nothing}
-use Rattle.list_lemmas.proofs.Sums.{IsTotal, amounts_total}
+use Rattle.list_lemmas.proofs.Sums.{amounts_total}
 
 module _ {M : Type 0} (add : M → M → M) (total : List Entry → M) (sums : IsTotal add total) (test : EntryProgress → Bool) where
   abbrev pub among : List EntryProgress → List Entry

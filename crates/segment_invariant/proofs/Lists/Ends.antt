@@ -1,12 +1,8 @@
 -- Lists beside a block that leaves them, and beside one element more at the end.
-use Rattle.std.proofs.Common.{◌≡◌, ◌≢◌, ◌⊎◌, ℕ, zero, suc, ◌==◌, not, cond, Bool, true, false, List, [], ◌∷◌, ◌++◌, length, filter, All, inl, inr, ⊎_elim, refl, sym, ap, ◌∙◌, arith, length-append, eq-eqb, ne_eqb}
-use Rattle.std.specs.Prelude.{if◌then◌else◌, Some}
+use Rattle.segment_invariant.proofs.Prelude.Std.{◌≡◌, ◌≢◌, ◌⊎◌, ℕ, zero, suc, ◌==◌, not, cond, Bool, true, false, List, [], ◌∷◌, ◌++◌, length, filter, All, inl, inr, ⊎_elim, refl, sym, ap, ◌∙◌, arith, length-append, eq-eqb, ne_eqb, if◌then◌else◌, Some, some, some-injective, some-ne-none, get_elem?}
+use Rattle.segment_invariant.proofs.Prelude.Machine.{Made, Own}
 use Rattle.std.specs.Prelude as std
 use Rattle.std.proofs.lemmas.List.Elements.{All-filter, filter_passes}
-use mathlib.Core.Option.{some, some-injective, some-ne-none}
-use lib.ListN.{get_elem?}
-use Rattle.segment_machine.specs.declared.actor.Made.{Made}
-use Rattle.segment_machine.specs.declared.actor.Own.{Own}
 use Rattle.segment_machine.specs.Calls.{without}
 use Rattle.segment_machine.specs.Publishing.{own_at, published_as}
 

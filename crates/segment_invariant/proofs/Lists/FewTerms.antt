@@ -1,16 +1,7 @@
 -- Sums over lists of which none counts, or one, or two.
-use Rattle.std.proofs.Common.{◌≡◌, ◌≢◌, ℕ, zero, suc, ◌+◌, ◌<◌, Bool, true, false, ℤ, pos, ◌+ℤ◌, List, [], ◌∷◌, ◌++◌, map, length, fold, sum_by, All, inl, inr, refl, sym, ap, ◌∙◌, arith, append-nil}
-use Rattle.std.proofs.Math.IntN.{+ℤ_idr}
-use Rattle.std.specs.Prelude.{if◌then◌else◌, slice_index}
-use Rattle.std.specs.List.{range_with_len, flat_map}
-use Rattle.std.specs.Ordering.{int_eq}
-use Rattle.std.proofs.lemmas.Bool.{cases_order}
-use Rattle.std.proofs.lemmas.List.Elements.{All-head, All-tail}
-use Rattle.std.proofs.lemmas.List.Sums.{sum_by-cons}
-use mathlib.Core.Option.{some, some-injective, some-ne-none}
-use lib.ListN.{get_elem?}
-use Rattle.bucket_ranges.specs.declared.spec.Spec.{Spec}
-use Rattle.segment_invariant.specs.Ledger.{key_of_bucket, keyed}
+use Rattle.segment_invariant.proofs.Prelude.Std.{◌≡◌, ◌≢◌, ℕ, zero, suc, ◌+◌, ◌<◌, Bool, true, false, ℤ, pos, ◌+ℤ◌, List, [], ◌∷◌, ◌++◌, map, length, fold, sum_by, All, inl, inr, refl, sym, ap, ◌∙◌, arith, append-nil, +ℤ_idr, if◌then◌else◌, slice_index, range_with_len, flat_map, int_eq, cases_order, All-head, All-tail, sum_by-cons, some, some-injective, some-ne-none, get_elem?}
+use Rattle.segment_invariant.proofs.Prelude.Machine.{Spec}
+use Rattle.segment_invariant.proofs.Prelude.Invariant.{key_of_bucket, keyed}
 
 -- the elements of a list at these places have this
 abbrev pub Elsewhere : {X : Type 0} → List X → (ℕ → Type 0) → (X → Type 0) → Type 0

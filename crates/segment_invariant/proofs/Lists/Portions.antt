@@ -1,16 +1,7 @@
 -- What was taken, as the portions of the deltas that took it: what it comes to, and whose each portion is.
-use Rattle.std.proofs.Common.{◌≡◌, ◌⊎◌, ℕ, ◌+◌, ℤ, pos, ◌+ℤ◌, List, [], ◌∷◌, ◌++◌, map, Contains, inl, inr, ⊎_elim, sym, ap, ◌∙◌, append_assoc}
-use Rattle.std.specs.Prelude.{if◌then◌else◌}
-use Rattle.std.specs.Str.{bytes_eq}
-use Rattle.std.proofs.lemmas.List.{map-append}
-use Rattle.std.proofs.lemmas.List.Elements.{Contains-append_cases, Contains-append_left, Contains-append_right}
-use Rattle.std.proofs.lemmas.List.Sums.{sum_by-append}
-use Rattle.segment_machine.specs.declared.actor.Actor.{Actor}
-use Rattle.segment_machine.specs.declared.actor.Portion.{Portion}
-use Rattle.segment_machine.specs.declared.actor.Taken.{Taken}
-use Rattle.segment_machine.specs.Actor.{units_listed, portion_of, taken_of, taken_units, taken_sum}
-use Rattle.list_lemmas.proofs.Maps.{contains_map, contains_mapped}
-use Rattle.list_lemmas.proofs.Sums.{IsTotal, amounts_total}
+use Rattle.segment_invariant.proofs.Prelude.Std.{◌≡◌, ◌⊎◌, ℕ, ◌+◌, ℤ, pos, ◌+ℤ◌, List, [], ◌∷◌, ◌++◌, map, Contains, inl, inr, ⊎_elim, sym, ap, ◌∙◌, append_assoc, if◌then◌else◌, bytes_eq, map-append, Contains-append_cases, Contains-append_left, Contains-append_right, sum_by-append, contains_map, contains_mapped, IsTotal}
+use Rattle.segment_invariant.proofs.Prelude.Machine.{Actor, Portion, Taken, units_listed, portion_of, taken_of, taken_units, taken_sum}
+use Rattle.list_lemmas.proofs.Sums.{amounts_total}
 
 -- ---- what it comes to
 

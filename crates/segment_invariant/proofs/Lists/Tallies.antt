@@ -1,16 +1,6 @@
 -- What a tally tells of the entries that are in it.
-use Rattle.std.proofs.Common.{◌≡◌, ℕ, zero, suc, ◌<◌, Bool, true, false, ◌&&◌, ℤ, List, [], ◌∷◌, refl, ◌∙◌, arith}
-use Rattle.std.specs.Prelude.{if◌then◌else◌}
-use Rattle.std.specs.List.{Contains}
-use Rattle.std.specs.Str.{bytes_eq}
-use Rattle.std.specs.Ordering.{int_eq}
-use Rattle.std.proofs.lemmas.Bool.Decides.{Decides-int_eq}
-use Rattle.std.proofs.lemmas.Slice.Eq.{bytes_eq-Decides}
-use Rattle.std.proofs.lemmas.List.Elements.{Contains-append_right}
-use Rattle.std.proofs.lemmas.List.Sums.{sum_by-cons}
-use Rattle.segment_machine.specs.declared.entry.Entry.{Entry}
-use Rattle.segment_machine.specs.Entry.{is_of, tally_units}
-use Rattle.list_lemmas.proofs.Elements.{at_from, sum_at_least}
+use Rattle.segment_invariant.proofs.Prelude.Std.{◌≡◌, ℕ, zero, suc, ◌<◌, Bool, true, false, ◌&&◌, ℤ, List, [], ◌∷◌, refl, ◌∙◌, arith, if◌then◌else◌, Contains, bytes_eq, int_eq, Decides-int_eq, bytes_eq-Decides, Contains-append_right, sum_by-cons, at_from, sum_at_least}
+use Rattle.segment_invariant.proofs.Prelude.Machine.{Entry, is_of, tally_units}
 
 -- the units of an entry in a tally of a name and a key
 abbrev part : List ℕ → ℤ → Entry → ℕ

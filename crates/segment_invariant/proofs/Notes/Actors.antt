@@ -1,21 +1,10 @@
 -- What holds of an actor beside the others holds on where it notes something.
-use Rattle.std.proofs.Common.{◌≡◌, ◌≢◌, ℕ, ◌+◌, ◌≤◌, max, true, List, ◌∷◌, [], ◌++◌, map, length, drop, take, All, Contains, inr, ⊎_elim, refl, sym, ap, subst, arith}
-use Rattle.std.proofs.lemmas.List.Elements.{Contains-append_left, Contains-append_right, Contains-append_cases}
+use Rattle.segment_invariant.proofs.Prelude.Std.{◌≡◌, ◌≢◌, ℕ, ◌+◌, ◌≤◌, max, true, List, ◌∷◌, [], ◌++◌, map, length, drop, take, All, Contains, inr, ⊎_elim, refl, sym, ap, subst, arith, Contains-append_left, Contains-append_right, Contains-append_cases, none_in}
+use Rattle.segment_invariant.proofs.Prelude.Machine.{Taken, Entry, has_ended, tally_noted, SawSample, Dimensions, Actor, Moment, Sighting, log_of, counted_of, cost_of}
+use Rattle.segment_invariant.proofs.Prelude.Invariant.{IsWithinCounts, Anatomy, Knows, IsFirst, IsFirstOf, CallsRight, LooksBack, IsQuiet, FinalsAreExact, Fits}
 use Rattle.bucket_ranges.specs.declared.spec.Spec.TheVariants as spec
-use Rattle.segment_machine.specs.declared.actor.Taken.{Taken}
-use Rattle.segment_machine.specs.declared.entry.Entry.{Entry}
-use Rattle.segment_machine.specs.Entry.{has_ended, AreWithin, tally_noted}
-use Rattle.segment_machine.specs.Made.{SawSample}
-use Rattle.segment_image.specs.Shape.{Dimensions}
-use Rattle.segment_machine.specs.declared.actor.Actor.{Actor}
-use Rattle.segment_machine.specs.declared.actor.Moment.{Moment}
-use Rattle.segment_machine.specs.declared.seen.Sighting.{Sighting}
-use Rattle.segment_machine.specs.Actor.{log_of, counted_of, cost_of}
-use Rattle.segment_invariant.specs.Consistent.{IsWithinCounts}
-use Rattle.segment_invariant.specs.Body.{Anatomy}
-use Rattle.segment_invariant.specs.Seen.{Knows, IsFirst, IsFirstOf}
-use Rattle.segment_invariant.specs.Invariant.{AreInOrder, CallsRight, LooksBack, IsQuiet, IsMoment, TookAllOf, FinalsAreExact, OwesPublished, Fits}
-use Rattle.list_lemmas.proofs.Elements.{none_in}
+use Rattle.segment_machine.specs.Entry.{AreWithin}
+use Rattle.segment_invariant.specs.Invariant.{AreInOrder, IsMoment, TookAllOf, OwesPublished}
 use Rattle.std.proofs.lemmas.List.{drop_all}
 use Rattle.segment_invariant.proofs.Frames.Together.{ended_began, each_began}
 use Rattle.segment_invariant.proofs.Notes.Notes.{Noting, noting, SameCounts, counted_before}

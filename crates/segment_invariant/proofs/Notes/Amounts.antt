@@ -1,28 +1,14 @@
 -- The amount of a running entry may become known: what holds is kept.
-use Rattle.std.proofs.Common.{◌≡◌, ◌≢◌, ◌⊎◌, ℕ, ◌+◌, ◌*◌, ◌≤◌, ℤ, pos, Bool, true, false, true≢false, cond, not, List, [], ◌∷◌, ◌++◌, map, length, set, All, Contains, inl, inr, ⊎_elim, refl, sym, ap, ◌∙◌, subst, arith, length-append}
-use Rattle.std.specs.Prelude.{if◌then◌else◌, ◌==◌, ◌+ℤ◌, unsigned_abs}
-use Rattle.std.specs.List.{filter}
-use Rattle.std.specs.Ordering.{int_eq}
-use Rattle.std.proofs.Math.IntN.{+ℤ_idl}
-use Rattle.std.proofs.lemmas.Bool.Decides.{Decides-int_eq}
-use Rattle.std.proofs.lemmas.List.{map-append}
-use Rattle.std.proofs.lemmas.List.Elements.{All-contains, All-push, filter-append, Contains-append_left, Contains-append_right, Contains-push}
-use mathlib.Core.Option.{some}
-use lib.ListN.{get_elem?}
-use Rattle.atomic_table.proofs.Lists.{at_longer, at_last}
+use Rattle.segment_invariant.proofs.Prelude.Std.{◌≡◌, ◌≢◌, ◌⊎◌, ℕ, ◌+◌, ◌*◌, ◌≤◌, ℤ, pos, Bool, true, false, true≢false, cond, not, List, [], ◌∷◌, ◌++◌, map, length, set, All, Contains, inl, inr, ⊎_elim, refl, sym, ap, ◌∙◌, subst, arith, length-append, if◌then◌else◌, ◌==◌, ◌+ℤ◌, unsigned_abs, filter, int_eq, +ℤ_idl, Decides-int_eq, map-append, All-contains, All-push, filter-append, Contains-append_left, Contains-append_right, Contains-push, some, get_elem?, at_longer, one_in, below_length, contains_mapped}
+use Rattle.segment_invariant.proofs.Prelude.Machine.{Entry, EntryProgress, Spent, Actor, is_counted, is_summed, is_noted, has_ended, is_of, tally_units, tally_sum, tally_noted, cost_of, cost_total, change_last, is_untouched}
+use Rattle.segment_invariant.proofs.Prelude.Invariant.{StandsRight, summed_cost, IsQuiet, Invariant, NoteKeeps}
+use Rattle.atomic_table.proofs.Lists.{at_last}
 use Rattle.segment_invariant.proofs.Frames.Answers.{answered_set}
-use Rattle.segment_machine.specs.declared.entry.Entry.{Entry}
-use Rattle.segment_machine.specs.declared.entry.EntryProgress.{EntryProgress}
-use Rattle.segment_machine.specs.declared.place.Place.TheVariants.{Spent}
-use Rattle.segment_machine.specs.declared.actor.Actor.{Actor}
-use Rattle.segment_machine.specs.Entry.{is_counted, is_summed, is_noted, has_ended, AreWithin, is_of, tally_units, tally_sum, tally_noted}
-use Rattle.segment_machine.specs.Actor.{cost_of, cost_total}
-use Rattle.segment_machine.specs.Calls.{change_last}
-use Rattle.segment_machine.specs.Note.{amounts, is_untouched}
-use Rattle.segment_invariant.specs.Invariant.{AreInOrder, StandsRight, summed_cost, IsQuiet, Invariant}
-use Rattle.segment_invariant.specs.Keeps.{NoteKeeps}
-use Rattle.list_lemmas.proofs.Elements.{not_empty, one_in, below_length, at_snoc_index}
-use Rattle.list_lemmas.proofs.Maps.{contains_mapped, all_left}
+use Rattle.segment_machine.specs.Entry.{AreWithin}
+use Rattle.segment_machine.specs.Note.{amounts}
+use Rattle.segment_invariant.specs.Invariant.{AreInOrder}
+use Rattle.list_lemmas.proofs.Elements.{not_empty, at_snoc_index}
+use Rattle.list_lemmas.proofs.Maps.{all_left}
 use Rattle.segment_invariant.proofs.Lists.Countings.{among, beside_same, nothing_among, units_total, sum_total, noted_total, no_amount, or_false}
 use Rattle.segment_invariant.proofs.Notes.Notes.{Noting, noting, noting_of, SameCounts, notes_on}
 use Rattle.segment_invariant.proofs.Notes.Actors.{noting_fits, finals_on, calls_by}

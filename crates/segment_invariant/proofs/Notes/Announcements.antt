@@ -1,19 +1,12 @@
 -- Notes keep what holds one after the other, and so does an announcement of them.
-use Rattle.std.proofs.Common.{◌≡◌, ℕ, List, [], ◌∷◌, set, refl, sym, ap, subst, ◌∙◌, false}
-use Rattle.std.proofs.lemmas.List.{set-set}
-use mathlib.Core.Option.{some}
-use lib.ListN.{get_elem?}
+use Rattle.segment_invariant.proofs.Prelude.Std.{◌≡◌, ℕ, List, [], ◌∷◌, set, refl, sym, ap, subst, ◌∙◌, false, set-set, some, get_elem?}
+use Rattle.segment_invariant.proofs.Prelude.Machine.{Dimensions, Actor, Note, Notes, noted, begins, State, is_opener}
+use Rattle.segment_invariant.proofs.Prelude.Invariant.{Anatomy, Invariant}
 use Rattle.atomic_table.proofs.Lists.{set_again}
 use Rattle.alloc_core.proofs.Owners.{set_at}
-use Rattle.segment_image.specs.Shape.{Dimensions}
-use Rattle.segment_machine.specs.declared.actor.Actor.{Actor}
-use Rattle.segment_machine.specs.Note.{Note, Notes, noted, begins, goes_on, amounts, asks, knows, takes, has_taken, looks, answers, ends, refused, declines}
-use Rattle.segment_machine.specs.State.{State}
-use Rattle.segment_invariant.specs.Body.{Anatomy}
-use Rattle.segment_invariant.specs.Invariant.{Invariant}
+use Rattle.segment_machine.specs.Note.{goes_on, amounts, asks, knows, takes, has_taken, looks, answers, ends, refused, declines}
 use Rattle.segment_invariant.specs.Keeps.{AnnouncementsKeep}
 use Rattle.segment_invariant.proofs.Notes.Keeps.{notes_keep}
-use Rattle.segment_machine.specs.Actor.{is_opener}
 
 -- a note makes no opener of a recorder
 still_records : (a : Actor) (note : Note) → is_opener (noted a note).role ≡ is_opener a.role

@@ -1,17 +1,9 @@
 -- An actor notes what a block of its own is to hold: what holds is kept, since the words of the block are those that they were.
-use Rattle.std.proofs.Common.{◌≡◌, ℕ, ◌+◌, ◌==◌, List, set, refl, sym, ap, ◌∙◌, subst, eq-eqb, eqb-true, arith}
-use Rattle.std.specs.Prelude.{Some}
-use mathlib.Core.Option.{some}
-use lib.Seq.{set-get_or}
-use Rattle.segment_image.specs.Words.{word_at}
-use Rattle.segment_machine.specs.declared.actor.Made.{Made}
-use Rattle.segment_machine.specs.declared.actor.Own.{Own}
+use Rattle.segment_invariant.proofs.Prelude.Std.{◌≡◌, ℕ, ◌+◌, ◌==◌, List, set, refl, sym, ap, ◌∙◌, subst, eq-eqb, eqb-true, arith, Some, some, set-get_or, at_from, all_at}
+use Rattle.segment_invariant.proofs.Prelude.Machine.{word_at, Made, Own}
+use Rattle.segment_invariant.proofs.Prelude.Invariant.{held, HoldsOwn, Invariant, NoteKeeps}
 use Rattle.segment_machine.specs.Calls.{change_own}
 use Rattle.segment_machine.specs.Note.{asks}
-use Rattle.segment_invariant.specs.Body.{held}
-use Rattle.segment_invariant.specs.Invariant.{HoldsOwn, Invariant}
-use Rattle.segment_invariant.specs.Keeps.{NoteKeeps}
-use Rattle.list_lemmas.proofs.Elements.{at_from, all_at}
 use Rattle.segment_invariant.proofs.Blocks.Pieces.{piece_word}
 use Rattle.segment_invariant.proofs.Allocating.Payloads.{change_one, has_lived, fills}
 

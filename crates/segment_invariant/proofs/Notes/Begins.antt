@@ -1,21 +1,11 @@
 -- The notes of an actor that keep what holds: a delta or a snapshot begins to look, a call that counts begins and ends.
-use Rattle.std.proofs.Common.{◌≡◌, ◌⊎◌, ℕ, ◌+◌, ◌-◌, ◌≤◌, true, false, true≢false, List, [], ◌∷◌, ◌++◌, map, length, All, Contains, inl, inr, refl, sym, ap, ◌∙◌, subst, arith, pos, ◌≢◌}
-use Rattle.std.specs.Prelude.{if◌then◌else◌, ◌==◌}
-use Rattle.std.specs.List.{filter}
-use Rattle.std.proofs.lemmas.List.Elements.{All-nil}
-use mathlib.Core.Option.{some}
-use lib.ListN.{get_elem?}
+use Rattle.segment_invariant.proofs.Prelude.Std.{◌≡◌, ◌⊎◌, ℕ, ◌+◌, ◌-◌, ◌≤◌, true, false, true≢false, List, [], ◌∷◌, ◌++◌, map, length, All, Contains, inl, inr, refl, sym, ap, ◌∙◌, subst, arith, pos, ◌≢◌, if◌then◌else◌, ◌==◌, filter, All-nil, some, get_elem?, from_map, all_of, contains_mapped}
+use Rattle.segment_invariant.proofs.Prelude.Machine.{Entry, EntryProgress, Actor, is_counted, is_summed, fresh, is_of, tally_units, tally_sum, tally_noted, counted_among, noted_among, cost_of, cost_total, begins, is_untouched, noted}
+use Rattle.segment_invariant.proofs.Prelude.Invariant.{summed_cost, IsQuiet, NoteKeeps}
 use Rattle.segment_invariant.proofs.Frames.Answers.{answered_set}
-use Rattle.segment_machine.specs.declared.entry.Entry.{Entry}
-use Rattle.segment_machine.specs.declared.entry.EntryProgress.{EntryProgress}
-use Rattle.segment_machine.specs.declared.actor.Actor.{Actor}
-use Rattle.segment_machine.specs.Entry.{is_counted, is_summed, fresh, AreWithin, is_of, tally_units, tally_sum, tally_noted, counted_among, summed_among, noted_among}
-use Rattle.segment_machine.specs.Actor.{cost_of, cost_total}
-use Rattle.segment_machine.specs.Note.{begins, looks, is_untouched, noted}
-use Rattle.segment_invariant.specs.Invariant.{AreInOrder, summed_cost, IsQuiet}
-use Rattle.segment_invariant.specs.Keeps.{NoteKeeps}
-use Rattle.list_lemmas.proofs.Elements.{from_map, all_of}
-use Rattle.list_lemmas.proofs.Maps.{contains_mapped}
+use Rattle.segment_machine.specs.Entry.{AreWithin, summed_among}
+use Rattle.segment_machine.specs.Note.{looks}
+use Rattle.segment_invariant.specs.Invariant.{AreInOrder}
 use Rattle.segment_invariant.proofs.Lists.Countings.{untouched_counts, untouched_sums, untouched_notes}
 use Rattle.segment_invariant.proofs.Notes.Notes.{Noting, noting, noting_of, SameCounts, SameTakes, notes_on}
 use Rattle.segment_invariant.proofs.Notes.Actors.{noting_fits, looks_anew, finals_on, calls_by}

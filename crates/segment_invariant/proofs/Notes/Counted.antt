@@ -1,26 +1,9 @@
 -- Where a recorder is alone, each key of a histogram that is counted is that of one of its buckets, or the value of a sample that the
 -- recorder met.
-use Rattle.std.proofs.Common.{◌≡◌, ◌≢◌, ◌⊎◌, ℕ, ◌<◌, ℤ, pos, true, false, ◌++◌, All, Contains, inl, inr, ⊎_elim, refl, sym, ap, ◌∙◌, subst, subst₂, arith, ◌==◌, Some}
-use Rattle.std.specs.Prelude.{slice_index}
-use Rattle.std.proofs.lemmas.List.Elements.{All-contains, Contains-append_left, Contains-append_cases}
-use mathlib.Core.Option.{some}
-use lib.ListN.{get_elem?}
-use Rattle.segment_image.specs.Shape.{Dimensions}
-use Rattle.bucket_ranges.specs.declared.spec.Spec.{Spec}
+use Rattle.segment_invariant.proofs.Prelude.Std.{◌≡◌, ◌≢◌, ◌⊎◌, ℕ, ◌<◌, ℤ, pos, true, false, ◌++◌, All, Contains, inl, inr, ⊎_elim, refl, sym, ap, ◌∙◌, subst, subst₂, arith, ◌==◌, Some, slice_index, All-contains, Contains-append_left, Contains-append_cases, some, get_elem?}
+use Rattle.segment_invariant.proofs.Prelude.Machine.{Dimensions, Spec, buckets_of, spec_fields, boundaries_of, Actor, Known, Spent, is_of, tally_units, log_of, counted_of, has_buckets, bucket_key, accepted_by, all_counted, is_opener, SawSample, is_untouched, State}
+use Rattle.segment_invariant.proofs.Prelude.Invariant.{Anatomy, IsFirst, IsFirstOf, Knows, IsAlone, HasKey, Invariant}
 use Rattle.bucket_ranges.specs.declared.spec.Spec.TheVariants as spec
-use Rattle.bucket_ranges.specs.Spec.{buckets_of, spec_fields}
-use Rattle.bucket_ranges.specs.Ranges.{boundaries_of}
-use Rattle.segment_machine.specs.declared.actor.Actor.{Actor}
-use Rattle.segment_machine.specs.declared.actor.Known.{Known}
-use Rattle.segment_machine.specs.declared.place.Place.TheVariants.{Spent}
-use Rattle.segment_machine.specs.Entry.{is_of, tally_units}
-use Rattle.segment_machine.specs.Actor.{log_of, counted_of, has_buckets, bucket_key, accepted_by, all_counted, is_opener}
-use Rattle.segment_machine.specs.Made.{SawSample}
-use Rattle.segment_machine.specs.Note.{is_untouched}
-use Rattle.segment_machine.specs.State.{State}
-use Rattle.segment_invariant.specs.Body.{Anatomy}
-use Rattle.segment_invariant.specs.Seen.{IsFirst, IsFirstOf, Knows}
-use Rattle.segment_invariant.specs.Invariant.{IsAlone, HasKey, Invariant}
 use Rattle.segment_invariant.proofs.Lists.Tallies.{tally_at}
 use Rattle.segment_invariant.proofs.Consistency.Keys.{same_boundaries, same_buckets}
 use Rattle.segment_invariant.proofs.Consistency.Books.{one_first}

@@ -1,25 +1,12 @@
 -- A delta may begin: what holds is kept.
-use Rattle.std.proofs.Common.{◌≡◌, ◌≢◌, ℕ, ◌-◌, ◌<◌, ℤ, pos, Bool, true, false, true≢false, List, [], ◌∷◌, ◌++◌, map, length, take, drop, ◌+◌, ◌≤◌, Contains, inl, inr, ⊎_elim, refl, sym, ap, ◌∙◌, subst, arith}
-use Rattle.std.specs.Prelude.{if◌then◌else◌, ◌+ℤ◌}
-use Rattle.std.specs.Str.{bytes_eq}
-use Rattle.std.proofs.Math.IntN.{+ℤ_idr}
-use Rattle.std.proofs.Math.Seq.{take-append_seam}
-use Rattle.std.proofs.lemmas.List.{length_push, same_from_push, drop-append-le}
-use Rattle.std.proofs.lemmas.List.Elements.{Contains-append_cases}
+use Rattle.segment_invariant.proofs.Prelude.Std.{◌≡◌, ◌≢◌, ℕ, ◌-◌, ◌<◌, ℤ, pos, Bool, true, false, true≢false, List, [], ◌∷◌, ◌++◌, map, length, take, drop, ◌+◌, ◌≤◌, Contains, inl, inr, ⊎_elim, refl, sym, ap, ◌∙◌, subst, arith, if◌then◌else◌, ◌+ℤ◌, bytes_eq, +ℤ_idr, take-append_seam, length_push, drop-append-le, Contains-append_cases, some, get_elem?, set_else, one_in, below_length}
+use Rattle.segment_invariant.proofs.Prelude.Machine.{Actor, Portion, Taken, tally_sum, units_listed, taken_sum, taken_of, portion_of, taken_units, taken_sum, made_of, outstanding_of}
+use Rattle.segment_invariant.proofs.Prelude.Invariant.{is_living, FinalsAreExact, NoteKeeps}
+use Rattle.std.proofs.lemmas.List.{same_from_push}
 use Rattle.std.proofs.lemmas.List.Sums.{sum_by_push}
-use mathlib.Core.Option.{some}
-use lib.ListN.{get_elem?}
-use Rattle.atomic_table.proofs.Lists.{set_else}
 use Rattle.segment_invariant.proofs.Frames.Answers.{answered_set}
-use Rattle.segment_machine.specs.declared.actor.Actor.{Actor}
-use Rattle.segment_machine.specs.declared.actor.Portion.{Portion}
-use Rattle.segment_machine.specs.declared.actor.Taken.{Taken}
-use Rattle.segment_machine.specs.Entry.{tally_sum}
-use Rattle.segment_machine.specs.Actor.{units_listed, taken_sum, taken_of, portion_of, taken_units, taken_sum, made_of, outstanding_of}
 use Rattle.segment_machine.specs.Note.{takes, moment_of, nothing_taken}
-use Rattle.segment_invariant.specs.Invariant.{is_living, ended_deltas, accepted_at, IsMoment, FinalsAreExact}
-use Rattle.segment_invariant.specs.Keeps.{NoteKeeps}
-use Rattle.list_lemmas.proofs.Elements.{one_in, below_length}
+use Rattle.segment_invariant.specs.Invariant.{ended_deltas, accepted_at, IsMoment}
 use Rattle.segment_invariant.proofs.Lists.FewTerms.{if_nothing}
 use Rattle.segment_invariant.proofs.Frames.OneActor.{lives_on}
 use Rattle.segment_invariant.proofs.Frames.GoesOn.{not_opener}

@@ -1,31 +1,15 @@
 -- A call that counts may note that it has ended, accepted or refused: what holds is kept.
-use Rattle.std.proofs.Common.{◌≡◌, ◌≢◌, ◌⊎◌, ℕ, ◌+◌, ◌-◌, ◌≤◌, Bool, true, false, cond, List, [], ◌∷◌, ◌++◌, map, length, drop, take, All, Contains, inl, inr, ⊎_elim, refl, sym, ap, ◌∙◌, subst, arith, append-nil, append_assoc, length-append, take-append-drop, set, pos}
-use Rattle.std.specs.Prelude.{if◌then◌else◌, ◌==◌}
-use Rattle.std.specs.List.{filter}
+use Rattle.segment_invariant.proofs.Prelude.Std.{◌≡◌, ◌≢◌, ◌⊎◌, ℕ, ◌+◌, ◌-◌, ◌≤◌, Bool, true, false, cond, List, [], ◌∷◌, ◌++◌, map, length, drop, take, All, Contains, inl, inr, ⊎_elim, refl, sym, ap, ◌∙◌, subst, arith, append-nil, append_assoc, length-append, take-append-drop, set, pos, if◌then◌else◌, ◌==◌, filter, map-append, drop-append-le, All-nil, All-contains, All-append, Contains-append_right, Contains-append_cases, sum_by-append, sum_by-cons, bytes_eq, some, get_elem?, none_at, all_of, contains_map}
+use Rattle.segment_invariant.proofs.Prelude.Machine.{Dimensions, Entry, EntryProgress, Spent, Actor, Cost, is_counted, is_summed, has_ended, is_of, tally_units, tally_sum, tally_noted, counted_among, noted_among, log_of, cost_of, cost_total, is_bound, is_opener, is_untouched, noted, State}
+use Rattle.segment_invariant.proofs.Prelude.Invariant.{Anatomy, CallsRight, summed_cost, IsQuiet, Invariant, NoteKeeps}
 use Rattle.std.proofs.Math.Seq.{take-nil}
-use Rattle.std.proofs.lemmas.List.{map-append, drop-append-le, take-append-le}
-use Rattle.std.proofs.lemmas.List.Elements.{All-nil, All-contains, All-append, Contains-append_right, Contains-append_cases}
-use Rattle.std.proofs.lemmas.List.Sums.{sum_by-append, sum_by-cons}
-use Rattle.std.specs.Str.{bytes_eq}
-use mathlib.Core.Option.{some}
-use lib.ListN.{get_elem?}
-use Rattle.segment_image.specs.Shape.{Dimensions}
+use Rattle.std.proofs.lemmas.List.{take-append-le}
 use Rattle.segment_invariant.proofs.Frames.Answers.{answered_set}
-use Rattle.segment_machine.specs.declared.entry.Entry.{Entry}
-use Rattle.segment_machine.specs.declared.entry.EntryProgress.{EntryProgress}
-use Rattle.segment_machine.specs.declared.place.Place.TheVariants.{Spent}
-use Rattle.segment_machine.specs.declared.actor.Actor.{Actor}
-use Rattle.segment_machine.specs.declared.actor.Cost.{Cost}
-use Rattle.segment_machine.specs.Entry.{is_counted, is_summed, has_ended, is_of, tally_units, tally_sum, tally_noted, counted_among, summed_among, noted_among}
-use Rattle.segment_machine.specs.Actor.{log_of, cost_of, cost_total, is_bound, is_opener}
-use Rattle.segment_machine.specs.Note.{ends, refused, is_untouched, units_running, spent_by, noted}
-use Rattle.segment_machine.specs.State.{State}
-use Rattle.segment_invariant.specs.Body.{Anatomy}
-use Rattle.segment_invariant.specs.Invariant.{AreInOrder, CallsRight, summed_cost, IsQuiet, Invariant}
-use Rattle.segment_invariant.specs.Keeps.{NoteKeeps}
-use Rattle.list_lemmas.proofs.Elements.{none_at, all_of}
+use Rattle.segment_machine.specs.Entry.{summed_among}
+use Rattle.segment_machine.specs.Note.{ends, refused, units_running, spent_by}
+use Rattle.segment_invariant.specs.Invariant.{AreInOrder}
 use Rattle.segment_invariant.proofs.Frames.OneActor.{summed_most}
-use Rattle.list_lemmas.proofs.Maps.{all_left, contains_map}
+use Rattle.list_lemmas.proofs.Maps.{all_left}
 use Rattle.segment_invariant.proofs.Lists.Countings.{noted_total, untouched_counts, untouched_sums, untouched_notes, untouched_summed}
 use Rattle.segment_invariant.proofs.Notes.Notes.{Noting, noting, noting_of, SameCounts, notes_on}
 use Rattle.segment_invariant.proofs.Notes.Actors.{noting_fits, looks_anew, finals_on, calls_by}

@@ -1,22 +1,12 @@
 -- A running call may go on with one more entry: what holds is kept.
-use Rattle.std.proofs.Common.{◌≡◌, ◌≢◌, ◌⊎◌, ℕ, ◌+◌, ◌-◌, ◌≤◌, true, false, true≢false, List, [], ◌∷◌, ◌++◌, map, length, All, Contains, inl, inr, refl, sym, ap, ◌∙◌, subst, arith, append-nil, append_assoc, length-append, pos}
-use Rattle.std.specs.Prelude.{if◌then◌else◌, ◌==◌}
-use Rattle.std.specs.List.{filter}
-use Rattle.std.specs.Str.{bytes_eq}
-use Rattle.std.proofs.lemmas.List.{map-append}
-use Rattle.std.proofs.lemmas.List.Elements.{All-push, filter-append}
+use Rattle.segment_invariant.proofs.Prelude.Std.{◌≡◌, ◌≢◌, ◌⊎◌, ℕ, ◌+◌, ◌-◌, ◌≤◌, true, false, true≢false, List, [], ◌∷◌, ◌++◌, map, length, All, Contains, inl, inr, refl, sym, ap, ◌∙◌, subst, arith, append-nil, append_assoc, length-append, pos, if◌then◌else◌, ◌==◌, filter, bytes_eq, map-append, All-push, filter-append, one_in, below_length, all_at}
+use Rattle.segment_invariant.proofs.Prelude.Machine.{Entry, EntryProgress, Spent, Actor, Cost, is_counted, is_summed, has_ended, fresh, is_of, tally_units, tally_sum, tally_noted, counted_among, noted_among, cost_of, cost_total, is_untouched}
+use Rattle.segment_invariant.proofs.Prelude.Invariant.{StandsRight, summed_cost, IsQuiet, NoteKeeps}
 use Rattle.segment_invariant.proofs.Frames.Answers.{answered_set}
-use Rattle.segment_machine.specs.declared.entry.Entry.{Entry}
-use Rattle.segment_machine.specs.declared.entry.EntryProgress.{EntryProgress}
-use Rattle.segment_machine.specs.declared.place.Place.TheVariants.{Spent}
-use Rattle.segment_machine.specs.declared.actor.Actor.{Actor}
-use Rattle.segment_machine.specs.declared.actor.Cost.{Cost}
-use Rattle.segment_machine.specs.Entry.{is_counted, is_summed, has_ended, fresh, AreWithin, is_of, tally_units, tally_sum, tally_noted, counted_among, summed_among, noted_among}
-use Rattle.segment_machine.specs.Actor.{cost_of, cost_total}
-use Rattle.segment_machine.specs.Note.{goes_on, is_untouched}
-use Rattle.segment_invariant.specs.Invariant.{AreInOrder, StandsRight, summed_cost, IsQuiet}
-use Rattle.segment_invariant.specs.Keeps.{NoteKeeps}
-use Rattle.list_lemmas.proofs.Elements.{one_in, below_length, all_at, at_snoc_index}
+use Rattle.segment_machine.specs.Entry.{AreWithin, summed_among}
+use Rattle.segment_machine.specs.Note.{goes_on}
+use Rattle.segment_invariant.specs.Invariant.{AreInOrder}
+use Rattle.list_lemmas.proofs.Elements.{at_snoc_index}
 use Rattle.list_lemmas.proofs.Maps.{all_left}
 use Rattle.segment_invariant.proofs.Lists.Countings.{untouched_counts, untouched_sums, untouched_notes}
 use Rattle.segment_invariant.proofs.Notes.Notes.{Noting, noting, noting_of, SameCounts, notes_on}

@@ -1,28 +1,13 @@
 -- An actor may note that a `hist` was answered, where that is a histogram of the segment: what holds is kept.
-use Rattle.std.proofs.Common.{⊎_elim, ◌≡◌, ◌≢◌, ℕ, ◌==◌, ℤ, Bool, not, List, [], ◌∷◌, ◌++◌, map, length, set, Contains, refl, sym, ap, ◌∙◌, subst, eq-eqb, arith, false}
-use Rattle.std.specs.Prelude.{if◌then◌else◌, Option, Some}
-use Rattle.std.proofs.lemmas.List.{map-append}
-use Rattle.std.proofs.lemmas.List.Elements.{All-push, All-filter, Contains-append_left}
+use Rattle.segment_invariant.proofs.Prelude.Std.{⊎_elim, ◌≡◌, ◌≢◌, ℕ, ◌==◌, ℤ, Bool, not, List, [], ◌∷◌, ◌++◌, map, length, set, Contains, refl, sym, ap, ◌∙◌, subst, eq-eqb, arith, false, if◌then◌else◌, Option, Some, map-append, All-push, Contains-append_left, dite, some, ℕ_discrete, get_elem?, bytes_eq, filter}
+use Rattle.segment_invariant.proofs.Prelude.Machine.{Dimensions, Place, Spent, Actor, Known, known_at, is_opener, State, noted}
+use Rattle.segment_invariant.proofs.Prelude.Invariant.{Anatomy, moving_at, Knows, StandsRight, Invariant}
+use Rattle.std.proofs.lemmas.List.Elements.{All-filter}
 use Rattle.std.proofs.lemmas.Map.Made.{Contains-tail}
-use mathlib.Core.Logic.{dite}
-use mathlib.Core.Option.{some}
-use native.Mathlib.Decide.{ℕ_discrete}
-use lib.ListN.{get_elem?}
-use Rattle.segment_image.specs.Shape.{Dimensions}
-use Rattle.std.specs.Str.{bytes_eq}
-use Rattle.std.specs.List.{filter}
 use Rattle.segment_invariant.proofs.Frames.Answers.{answered_knows}
-use Rattle.segment_machine.specs.declared.place.Place.{Place}
-use Rattle.segment_machine.specs.declared.place.Place.TheVariants.{Spent}
-use Rattle.segment_machine.specs.declared.actor.Actor.{Actor}
-use Rattle.segment_machine.specs.declared.actor.Known.{Known}
-use Rattle.segment_machine.specs.Actor.{known_at, is_opener}
-use Rattle.segment_machine.specs.State.{State}
-use Rattle.segment_machine.specs.Note.{knows, noted}
-use Rattle.segment_invariant.specs.Body.{Anatomy}
-use Rattle.segment_invariant.specs.Ledger.{moving_of, moving_at}
-use Rattle.segment_invariant.specs.Seen.{Knows}
-use Rattle.segment_invariant.specs.Invariant.{StandsRight, HasPublished, Invariant}
+use Rattle.segment_machine.specs.Note.{knows}
+use Rattle.segment_invariant.specs.Ledger.{moving_of}
+use Rattle.segment_invariant.specs.Invariant.{HasPublished}
 use Rattle.segment_invariant.proofs.Frames.OneActor.{moves_or_not}
 use Rattle.segment_invariant.proofs.Notes.Notes.{Noting, noting, noting_of, SameCounts, notes_on}
 use Rattle.segment_invariant.proofs.Notes.Actors.{noting_fits, looks_anew, finals_on, calls_by}

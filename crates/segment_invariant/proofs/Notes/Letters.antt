@@ -1,11 +1,8 @@
 -- Where an actor saw the name and the spec of the first record of a name, that is the histogram of the segment.
-use Rattle.std.proofs.Common.{◌≡◌, ℕ, zero, suc, ◌<◌, List, [], ◌∷◌, ◌++◌, length, drop, take, replicate, sym, ap, ◌∙◌, arith, length-append}
-use Rattle.std.specs.Prelude.{slice_index}
-use Rattle.std.proofs.Math.Seq.{take-append_seam}
+use Rattle.segment_invariant.proofs.Prelude.Std.{◌≡◌, ℕ, zero, suc, ◌<◌, List, [], ◌∷◌, ◌++◌, length, drop, take, replicate, sym, ap, ◌∙◌, arith, length-append, slice_index, take-append_seam, length-replicate}
+use Rattle.segment_invariant.proofs.Prelude.Machine.{AreNameWords}
 use Rattle.segment_image.specs.Words.{bytes_of_words}
 use Rattle.segment_image.proofs.ReadWords.{length-bytes_of_words}
-use Rattle.std.proofs.lemmas.List.{length-replicate}
-use Rattle.segment_machine.specs.Made.{AreNameWords}
 use Rattle.segment_invariant.proofs.Walking.Words.{letters_long}
 
 -- ---- the words of a name

@@ -1,45 +1,23 @@
 -- An actor may note what a `hist` was answered: the first record that it saw of a name is the histogram of that name, and what holds is
 -- kept.
-use Rattle.std.proofs.Common.{◌≡◌, ◌≢◌, ℕ, zero, suc, ◌+◌, ◌-◌, ◌<◌, List, [], ◌∷◌, ◌++◌, length, map, All, Contains, inl, inr, refl, sym, ap, ◌∙◌, subst, append_assoc, arith, get_or-drop, length-append, not, ◌&&◌, ◌==◌}
-use Rattle.std.specs.Prelude.{slice_index, Option, Some, None}
+use Rattle.segment_invariant.proofs.Prelude.Std.{◌≡◌, ◌≢◌, ℕ, zero, suc, ◌+◌, ◌-◌, ◌<◌, List, [], ◌∷◌, ◌++◌, length, map, All, Contains, inl, inr, refl, sym, ap, ◌∙◌, subst, append_assoc, arith, get_or-drop, length-append, not, ◌&&◌, ◌==◌, slice_index, Option, Some, None, get_or_append_left, All-contains, Contains-append_left, Contains-append_right, Contains-permutation, dite, some, none, ℕ_discrete, get_elem?, bytes_eq, filter, split_among, all_of, row_in, contains_map}
+use Rattle.segment_invariant.proofs.Prelude.Machine.{Dimensions, spec_fields, spec_ranges, SameSpec, name_words, Spec, Linear, Boolean, Custom, Sparse, Spent, Actor, Known, Made, Published, word_seen, all_published, State, purse, AreNameWords}
+use Rattle.segment_invariant.proofs.Prelude.Invariant.{Record, Listed, record_words, histogram, sample, other, Anatomy, order_of, listed, Body, words_of, HasRecord, IsNamed, Knows, IsFirst, Stands, StandsAs, StandsRight, Invariant, IsLawfulRecord, NoteKeeps}
 use Rattle.std.proofs.lemmas.Grind.{same_number_lists}
-use Rattle.std.proofs.lemmas.List.{get_or_append_left, get_or-append-add}
-use Rattle.std.proofs.lemmas.List.Elements.{All-contains, All-filter, Contains-append_left, Contains-append_right}
-use Rattle.std.proofs.lemmas.List.Sorted.{IsPermutation-sym, Contains-permutation}
-use mathlib.Core.Logic.{dite}
-use mathlib.Core.Option.{some, none}
-use native.Mathlib.Decide.{ℕ_discrete}
-use lib.ListN.{get_elem?}
-use Rattle.segment_image.specs.Shape.{Dimensions}
+use Rattle.std.proofs.lemmas.List.{get_or-append-add}
+use Rattle.std.proofs.lemmas.List.Elements.{All-filter}
+use Rattle.std.proofs.lemmas.List.Sorted.{IsPermutation-sym}
 use Rattle.segment_image.specs.Words.{bytes_of_words}
-use Rattle.bucket_ranges.specs.Spec.{spec_fields, spec_ranges, SameSpec}
-use Rattle.bucket_ranges.specs.Reading.{name_words}
-use Rattle.bucket_ranges.specs.declared.spec.Spec.{Spec}
-use Rattle.bucket_ranges.specs.declared.spec.Spec.TheVariants.{Linear, Boolean, Custom, Sparse}
-use Rattle.std.specs.Str.{bytes_eq}
-use Rattle.std.specs.List.{filter}
-use Rattle.list_lemmas.proofs.Firsts.{split_among}
 use Rattle.segment_invariant.proofs.Frames.Answers.{answered_declines}
 use Rattle.segment_invariant.proofs.Notes.Begins.{takes_nothing}
 use Rattle.segment_invariant.proofs.Notes.Actors.{noting_fits, finals_on, calls_by}
 use Rattle.segment_invariant.proofs.Notes.Notes.{Noting, noting, noting_of, SameCounts, notes_on}
-use Rattle.segment_machine.specs.declared.place.Place.TheVariants.{Spent}
-use Rattle.segment_machine.specs.declared.actor.Actor.{Actor}
-use Rattle.segment_machine.specs.declared.actor.Known.{Known}
-use Rattle.segment_machine.specs.declared.actor.Made.{Made}
-use Rattle.segment_machine.specs.declared.actor.Published.{Published}
 use Rattle.segment_machine.specs.declared.actor.Made.TheVariants as made
-use Rattle.segment_machine.specs.Actor.{word_seen, all_published}
-use Rattle.segment_machine.specs.State.{State}
-use Rattle.segment_machine.specs.Seats.{purse}
-use Rattle.list_lemmas.proofs.Elements.{all_of, split_map, row_in}
-use Rattle.list_lemmas.proofs.Maps.{contains_map}
-use Rattle.segment_machine.specs.Made.{AreNameWords, SawName, SawOtherName, SawSpec, SawOtherSpec, IsFirstNamed}
+use Rattle.list_lemmas.proofs.Elements.{split_map}
+use Rattle.segment_machine.specs.Made.{SawName, SawOtherName, SawSpec, SawOtherSpec, IsFirstNamed}
 use Rattle.segment_machine.specs.Note.{knows, MayNote, declines}
-use Rattle.segment_invariant.specs.Body.{Record, Listed, spec_field, record_words, histogram, sample, other, Anatomy, order_of, listed, Body, words_of}
-use Rattle.segment_invariant.specs.Seen.{HasRecord, IsNamed, Knows, IsFirst, Stands}
-use Rattle.segment_invariant.specs.Invariant.{StandsAs, StandsRight, HasPublished, Invariant, IsLawfulRecord}
-use Rattle.segment_invariant.specs.Keeps.{NoteKeeps}
+use Rattle.segment_invariant.specs.Body.{spec_field}
+use Rattle.segment_invariant.specs.Invariant.{HasPublished}
 use Rattle.segment_invariant.proofs.Walking.Words.{letters_long, record_long, ranges_long, sighted}
 use Rattle.segment_invariant.proofs.Notes.Letters.{names_same, bytes_same, word_bytes}
 use Rattle.segment_invariant.proofs.Notes.Knows.{knows_one_more}

@@ -1,28 +1,9 @@
 -- A state is kept where an actor notes something in its own record, and the words stay.
-use Rattle.std.proofs.Common.{◌≡◌, ◌≢◌, ◌⊎◌, ℕ, ◌+◌, ◌<◌, ◌≤◌, ℤ, Bool, false, ◌||◌, fold, List, [], ◌++◌, set, Contains, inl, inr, refl, sym, ap, ◌∙◌, subst, subst₂, arith}
-use Rattle.std.specs.Prelude.{IsPermutation}
-use mathlib.Core.Option.{some}
-use lib.ListN.{get_elem?}
-use Rattle.atomic_table.proofs.Lists.{at_set, set_else}
-use Rattle.segment_image.specs.Shape.{Dimensions}
-use Rattle.segment_machine.specs.declared.entry.Entry.{Entry}
-use Rattle.segment_machine.specs.declared.entry.EntryProgress.{EntryProgress}
-use Rattle.segment_machine.specs.declared.place.Place.TheVariants.{Spent}
-use Rattle.segment_machine.specs.declared.actor.Actor.{Actor}
-use Rattle.segment_machine.specs.declared.actor.Portion.{Portion}
-use Rattle.segment_machine.specs.declared.actor.Answered.{Answered}
-use Rattle.segment_machine.specs.declared.actor.Claim.{Claim}
-use Rattle.segment_machine.specs.declared.actor.Cost.{Cost}
-use Rattle.segment_machine.specs.declared.actor.Known.{Known}
-use Rattle.segment_machine.specs.declared.actor.Taken.{Taken}
-use Rattle.segment_machine.specs.Entry.{tally_units, tally_sum, tally_noted}
-use Rattle.std.specs.Prelude.{◌+ℤ◌}
-use Rattle.segment_machine.specs.Actor.{counted_of, summed_of, noted_of, units_of, taken_units, taken_sum, all_counted, all_taken, taken_of, is_opener}
-use Rattle.segment_machine.specs.State.{State}
-use Rattle.segment_invariant.specs.Body.{Anatomy, order_of, claims_of}
-use Rattle.segment_invariant.specs.Ledger.{moving_at}
-use Rattle.segment_invariant.specs.Invariant.{summed_cost, StandsRight, Fits, HasKey, Invariant, AreAnswered}
-use Rattle.list_lemmas.proofs.Elements.{none_in, rows_total, rows, row_in, row_from, column, sum_same, sum_beside}
+use Rattle.segment_invariant.proofs.Prelude.Std.{◌≡◌, ◌≢◌, ◌⊎◌, ℕ, ◌+◌, ◌<◌, ◌≤◌, ℤ, Bool, false, ◌||◌, fold, List, [], ◌++◌, set, Contains, inl, inr, refl, sym, ap, ◌∙◌, subst, subst₂, arith, IsPermutation, some, get_elem?, at_set, set_else, ◌+ℤ◌, none_in, rows, row_in, column, sum_same, sum_beside}
+use Rattle.segment_invariant.proofs.Prelude.Machine.{Dimensions, Entry, EntryProgress, Spent, Actor, Portion, Answered, Claim, Cost, Known, Taken, tally_units, tally_sum, tally_noted, counted_of, summed_of, noted_of, units_of, taken_units, taken_sum, all_counted, all_taken, taken_of, is_opener, State}
+use Rattle.segment_invariant.proofs.Prelude.Invariant.{Anatomy, order_of, claims_of, moving_at, summed_cost, StandsRight, Fits, HasKey, Invariant}
+use Rattle.segment_invariant.specs.Invariant.{AreAnswered}
+use Rattle.list_lemmas.proofs.Elements.{rows_total, row_from}
 use Rattle.segment_invariant.proofs.Lists.Countings.{units_total, sum_total, noted_total}
 use Rattle.segment_invariant.proofs.Lists.Tallies.{HasUnits, tally_from, tally_at}
 use Rattle.segment_invariant.proofs.Frames.GoesOn.{not_opener}

@@ -1,34 +1,12 @@
 -- A snapshot may be answered with what its recorder saw: what holds is kept.
-use Rattle.std.proofs.Common.{◌≡◌, ◌≢◌, ◌⊎◌, ℕ, zero, suc, ◌+◌, ◌<◌, ◌≤◌, ℤ, pos, Bool, true, false, List, [], ◌∷◌, ◌++◌, set, Some, All, Contains, inl, inr, ⊎_elim, refl, sym, ap, ◌∙◌, subst, arith}
-use Rattle.std.specs.Prelude.{slice_index, if◌then◌else◌}
-use Rattle.std.specs.List.{range_with_len}
-use Rattle.std.specs.Ordering.{int_eq}
-use Rattle.std.proofs.lemmas.Bool.Decides.{Decides-int_eq}
-use Rattle.std.proofs.lemmas.List.Elements.{All-push, All-contains, Contains-append_cases, Contains-append_right}
-use mathlib.Core.Option.{some}
-use lib.ListN.{get_elem?}
-use Rattle.atomic_table.proofs.Lists.{at_map, set_else}
-use Rattle.segment_image.specs.Shape.{Dimensions}
+use Rattle.segment_invariant.proofs.Prelude.Std.{◌≡◌, ◌≢◌, ◌⊎◌, ℕ, zero, suc, ◌+◌, ◌<◌, ◌≤◌, ℤ, pos, Bool, true, false, List, [], ◌∷◌, ◌++◌, set, Some, All, Contains, inl, inr, ⊎_elim, refl, sym, ap, ◌∙◌, subst, arith, slice_index, if◌then◌else◌, range_with_len, int_eq, Decides-int_eq, All-push, All-contains, Contains-append_cases, Contains-append_right, some, get_elem?, at_map, set_else, one_in, all_at, at_from, from_map, contains_mapped}
+use Rattle.segment_invariant.proofs.Prelude.Machine.{Dimensions, buckets_of, Actor, Answered, Known, Spent, is_of, tally_units, tally_sum, tally_noted, has_buckets, bucket_key, units_listed, cost_of, accepted_by, all_counted, all_summed, all_noted, SawCount, is_opener, Sighting, IsFirstSample, is_untouched, SawBucket, State}
+use Rattle.segment_invariant.proofs.Prelude.Invariant.{IsWithinCounts, Record, histogram, Anatomy, Knows, HasRecord, IsFirstOf, IsAlone, FinalsAreExact, Invariant, NoteKeeps}
 use Rattle.bucket_ranges.specs.declared.spec.Spec.TheVariants as spec
-use Rattle.bucket_ranges.specs.Spec.{buckets_of}
-use Rattle.segment_machine.specs.declared.actor.Actor.{Actor}
-use Rattle.segment_machine.specs.declared.actor.Answered.{Answered}
-use Rattle.segment_machine.specs.declared.actor.Known.{Known}
-use Rattle.segment_machine.specs.declared.place.Place.TheVariants.{Spent}
-use Rattle.segment_machine.specs.Entry.{is_of, tally_units, tally_sum, tally_noted}
-use Rattle.segment_machine.specs.Actor.{has_buckets, bucket_key, units_listed, cost_of, accepted_by, all_counted, all_summed, all_noted, SawCount, is_opener}
-use Rattle.segment_machine.specs.declared.seen.Sighting.{Sighting}
-use Rattle.segment_machine.specs.Made.{IsFirstSample}
-use Rattle.segment_machine.specs.Note.{answers, is_untouched, moment_of, SawAll, SawBucket}
-use Rattle.segment_machine.specs.State.{State}
-use Rattle.segment_invariant.specs.Consistent.{IsWithinCounts}
-use Rattle.segment_invariant.specs.Body.{Record, histogram, Anatomy}
-use Rattle.segment_invariant.specs.Seen.{Knows, HasRecord, IsFirstOf}
-use Rattle.segment_invariant.specs.Invariant.{IsAlone, IsMoment, FinalsAreExact, Invariant}
-use Rattle.segment_invariant.specs.Keeps.{NoteKeeps}
-use Rattle.list_lemmas.proofs.Elements.{one_in, all_at, all_from, at_from, from_map}
+use Rattle.segment_machine.specs.Note.{answers, moment_of, SawAll}
+use Rattle.segment_invariant.specs.Invariant.{IsMoment}
+use Rattle.list_lemmas.proofs.Elements.{all_from}
 use Rattle.segment_invariant.proofs.Lists.FewTerms.{sum_none, sum_one}
-use Rattle.list_lemmas.proofs.Maps.{contains_mapped}
 use Rattle.segment_invariant.proofs.Consistency.Keys.{one_key}
 use Rattle.segment_invariant.proofs.Consistency.Firsts.{record_of_first}
 use Rattle.segment_invariant.proofs.Consistency.Books.{range_at, range_there}

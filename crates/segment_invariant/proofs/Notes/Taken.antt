@@ -1,26 +1,12 @@
 -- A delta may end where it has taken all that it saw: what holds is kept.
-use Rattle.std.proofs.Common.{◌≡◌, ◌≢◌, ℕ, zero, suc, ◌+◌, ◌≤◌, ℤ, true, false, true≢false, ◌⊎◌, List, [], ◌∷◌, ◌++◌, length, take, drop, set, All, Contains, inl, ⊎_elim, refl, sym, ap, ◌∙◌, subst, arith}
-use Rattle.std.proofs.Math.IntN.{+ℤ_idr}
-use Rattle.std.proofs.lemmas.List.{length_push, same_from_push, take_all, drop_all}
-use Rattle.std.proofs.lemmas.List.Elements.{All-nil, Contains-append_cases, Contains-append_right}
-use mathlib.Core.Option.{some}
-use lib.ListN.{get_elem?}
-use Rattle.segment_image.specs.Shape.{Dimensions}
+use Rattle.segment_invariant.proofs.Prelude.Std.{◌≡◌, ◌≢◌, ℕ, zero, suc, ◌+◌, ◌≤◌, ℤ, true, false, true≢false, ◌⊎◌, List, [], ◌∷◌, ◌++◌, length, take, drop, set, All, Contains, inl, ⊎_elim, refl, sym, ap, ◌∙◌, subst, arith, +ℤ_idr, length_push, All-nil, Contains-append_cases, Contains-append_right, some, get_elem?, one_in, contains_at}
+use Rattle.segment_invariant.proofs.Prelude.Machine.{Dimensions, Spent, Entry, Actor, Known, Taken, is_of, tally_units, tally_sum, all_counted, all_summed, all_taken, taken_sum, log_of, accepted_by, is_opener, made_of, is_untouched, State}
+use Rattle.segment_invariant.proofs.Prelude.Invariant.{Anatomy, IsAlone, StandsRight, FinalsAreExact, Invariant, NoteKeeps}
+use Rattle.std.proofs.lemmas.List.{same_from_push, take_all, drop_all}
 use Rattle.segment_invariant.proofs.Frames.Answers.{answered_set}
-use Rattle.segment_machine.specs.declared.place.Place.TheVariants.{Spent}
-use Rattle.segment_machine.specs.declared.entry.Entry.{Entry}
-use Rattle.segment_machine.specs.declared.actor.Actor.{Actor}
-use Rattle.segment_machine.specs.declared.actor.Known.{Known}
-use Rattle.segment_machine.specs.declared.actor.Taken.{Taken}
-use Rattle.segment_machine.specs.Entry.{is_of, tally_units, tally_sum}
-use Rattle.segment_machine.specs.Actor.{all_counted, all_summed, all_taken, taken_sum, log_of, accepted_by, is_opener, made_of}
-use Rattle.segment_machine.specs.Note.{has_taken, is_untouched, TookAll}
-use Rattle.segment_machine.specs.State.{State}
+use Rattle.segment_machine.specs.Note.{has_taken, TookAll}
 use Rattle.segment_invariant.specs.Consistent.{units_taken}
-use Rattle.segment_invariant.specs.Body.{Anatomy}
-use Rattle.segment_invariant.specs.Invariant.{IsAlone, StandsRight, ended_deltas, accepted_at, TookAllOf, FinalsAreExact, Invariant}
-use Rattle.segment_invariant.specs.Keeps.{NoteKeeps}
-use Rattle.list_lemmas.proofs.Elements.{one_in, contains_at}
+use Rattle.segment_invariant.specs.Invariant.{ended_deltas, accepted_at, TookAllOf}
 use Rattle.list_lemmas.proofs.Maps.{at_either}
 use Rattle.segment_invariant.proofs.Taking.Lasts.{ended_before}
 use Rattle.segment_invariant.proofs.Counting.Owed.{bucket_owed, mark_taken, sample_taken}

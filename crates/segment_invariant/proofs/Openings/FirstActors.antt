@@ -1,32 +1,14 @@
 -- The first actor of a segment that opens, a new one or an adopted image: it has done nothing yet, and has accepted and seen what was there.
-use Rattle.std.proofs.Common.{◌≡◌, ◌≢◌, ℕ, zero, suc, ◌<◌, ◌≤◌, true, false, List, [], ◌∷◌, replicate, inl, inr, refl, sym, subst, true≢false, arith}
-use Rattle.std.specs.Prelude.{max}
-use Rattle.std.specs.List.{All, Contains}
-use Rattle.std.proofs.lemmas.List.{append-nil, length-replicate, get_or-replicate}
-use Rattle.std.proofs.lemmas.List.Elements.{All-nil}
-use Rattle.std.proofs.lemmas.List.Sorted.{IsPermutation-refl}
-use mathlib.Core.Option.{some}
-use lib.ListN.{get_elem?}
-use Rattle.segment_image.specs.Shape.{Dimensions}
+use Rattle.segment_invariant.proofs.Prelude.Std.{◌≡◌, ◌≢◌, ℕ, zero, suc, ◌<◌, ◌≤◌, true, false, List, [], ◌∷◌, replicate, inl, inr, refl, sym, subst, true≢false, arith, max, All, Contains, append-nil, length-replicate, All-nil, IsPermutation-refl, some, get_elem?, none_in, none_at}
+use Rattle.segment_invariant.proofs.Prelude.Machine.{Dimensions, IsStop, Actor, Cost, Known, Moment, Portion, Entry, Seen, is_opener, made_of, cost_of, tally_noted, SawSample}
+use Rattle.segment_invariant.proofs.Prelude.Invariant.{Anatomy, order_of, IsFirst, IsFirstOf, Sees, Knows, is_living, RolesAreKept, CallsRight, FinalsAreExact, Fits}
+use Rattle.std.proofs.lemmas.List.{get_or-replicate}
 use Rattle.bucket_ranges.specs.declared.spec.Spec.TheVariants as spec
-use Rattle.list_core.specs.Chain.{IsStop}
-use Rattle.segment_machine.specs.declared.actor.Actor.{Actor}
-use Rattle.segment_machine.specs.declared.actor.Cost.{Cost}
-use Rattle.segment_machine.specs.declared.actor.Known.{Known}
-use Rattle.segment_machine.specs.declared.actor.Moment.{Moment}
-use Rattle.segment_machine.specs.declared.actor.Portion.{Portion}
 use Rattle.segment_machine.specs.declared.actor.Role.TheVariants.{Opener}
-use Rattle.segment_machine.specs.declared.entry.Entry.{Entry}
-use Rattle.segment_machine.specs.declared.seen.Seen.{Seen}
-use Rattle.segment_machine.specs.Actor.{is_opener, made_of, cost_of}
-use Rattle.segment_machine.specs.Entry.{tally_noted}
-use Rattle.segment_machine.specs.Made.{SawSample}
 use Rattle.segment_machine.specs.Seats.{idle}
-use Rattle.segment_invariant.specs.Body.{Anatomy, order_of}
-use Rattle.segment_invariant.specs.Seen.{IsFirst, IsFirstOf, Sees, Knows}
-use Rattle.segment_invariant.specs.Invariant.{is_living, RolesAreKept, CursorsAreKept, CallsRight, IsMomentOf, FinalsAreExact, Fits}
+use Rattle.segment_invariant.specs.Invariant.{CursorsAreKept, IsMomentOf}
 use Rattle.segment_invariant.proofs.Frames.Ahead.{ahead_anew}
-use Rattle.list_lemmas.proofs.Elements.{none_in, none_at, each_of_one}
+use Rattle.list_lemmas.proofs.Elements.{each_of_one}
 
 -- there are no two of a list of one
 pub no_two : {X : Type 0} (one : X) (i j : ℕ) (x y : X) → get_elem? (one ∷ []) i ≡ some x → get_elem? (one ∷ []) j ≡ some y → i ≢ j → ⊥

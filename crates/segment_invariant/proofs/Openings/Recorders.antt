@@ -1,9 +1,7 @@
 -- A new segment is kept with any number of recorders.
-use Rattle.std.proofs.Common.{ℕ, zero, suc, subst}
-use Rattle.segment_image.specs.Shape.{Dimensions}
-use Rattle.segment_machine.specs.State.{State}
-use Rattle.segment_invariant.specs.Body.{Anatomy}
-use Rattle.segment_invariant.specs.Invariant.{Invariant}
+use Rattle.segment_invariant.proofs.Prelude.Std.{ℕ, zero, suc, subst}
+use Rattle.segment_invariant.proofs.Prelude.Machine.{Dimensions, State}
+use Rattle.segment_invariant.proofs.Prelude.Invariant.{Anatomy, Invariant}
 use Rattle.segment_invariant.specs.Keeps.{HasMade, OpeningsAreKept}
 use Rattle.segment_invariant.proofs.Openings.Segments.{opening_is_kept}
 use Rattle.segment_invariant.proofs.Recorders.Lends.{offers_keep}

@@ -1,24 +1,16 @@
 -- A new segment with its opener is kept: it has the queue block alone, and its one actor has done nothing.
-use Rattle.std.proofs.Common.{◌≡◌, ◌≢◌, ◌⊎◌, ℕ, ◌+◌, List, [], ◌∷◌, replicate, inl, refl, sym, subst, arith}
-use Rattle.std.specs.Prelude.{slice_index}
-use Rattle.std.proofs.lemmas.List.Elements.{All-nil}
-use Rattle.std.proofs.lemmas.List.Sorted.{IsPermutation-refl}
-use mathlib.Core.Option.{Option, none}
-use Rattle.segment_image.specs.Shape.{Dimensions}
-use Rattle.segment_image.specs.Words.{word_at}
-use Rattle.alloc_core.specs.Layout.{IsShape}
+use Rattle.segment_invariant.proofs.Prelude.Std.{◌≡◌, ◌≢◌, ◌⊎◌, ℕ, ◌+◌, List, [], ◌∷◌, replicate, inl, refl, sym, subst, arith, slice_index, All-nil, IsPermutation-refl, none, none_in}
+use Rattle.segment_invariant.proofs.Prelude.Machine.{Dimensions, word_at, IsShape, stops, Actor, Spent}
+use Rattle.segment_invariant.proofs.Prelude.Invariant.{Body, queue, histogram, counts, sample, Record, Counts, Sample, Piece, Anatomy, Stands, HasRecord, HasCounts, HasSample, Sees, RecordsAreKept, Fits, Invariant, ClaimedRight, StandsRight}
+use mathlib.Core.Option.{Option}
 use Rattle.alloc_core.proofs.Runs.{fresh_sound}
-use Rattle.list_core.specs.Chain.{stops}
-use Rattle.segment_machine.specs.declared.actor.Actor.{Actor}
-use Rattle.segment_machine.specs.declared.place.Place.TheVariants.{Spent}
 use Rattle.segment_machine.specs.Reached.{new_state}
 use Rattle.segment_machine.specs.Seats.{opener_of}
-use Rattle.segment_invariant.specs.Body.{Body, queue, histogram, counts, sample, Record, Counts, Sample, Piece, Anatomy, blank}
-use Rattle.segment_invariant.specs.Seen.{Stands, HasRecord, HasCounts, HasSample, Sees}
-use Rattle.segment_invariant.specs.Invariant.{ListIsKept, IsListed, RecordsAreKept, ArePassedOver, Fits, Invariant, ClaimedRight, StandsRight}
+use Rattle.segment_invariant.specs.Body.{blank}
+use Rattle.segment_invariant.specs.Invariant.{ListIsKept, IsListed, ArePassedOver}
 use Rattle.segment_invariant.specs.Keeps.{OpeningIsKept, NewIsOpening}
 use Rattle.segment_invariant.proofs.Openings.FirstActors.{first_roles, first_cursors, first_fits}
-use Rattle.list_lemmas.proofs.Elements.{none_in, not_empty, each_of_one}
+use Rattle.list_lemmas.proofs.Elements.{not_empty, each_of_one}
 
 -- ---- the queue block alone
 

@@ -1,27 +1,8 @@
 -- An exchange of a single word came too late: no word changes, and its actor sees the word that was there.
-use Rattle.std.proofs.Common.{◌≡◌, ◌≢◌, Bool, false, ◌==◌, if◌then◌else◌, ℕ, ◌+◌, ℤ, List, [], ◌∷◌, ◌++◌, set, None, inl, refl, sym, ap, ◌∙◌, subst, arith}
-use Rattle.std.proofs.lemmas.List.Elements.{All-push}
-use mathlib.Core.Option.{some}
-use lib.ListN.{get_elem?}
-use Rattle.segment_image.specs.Shape.{Dimensions}
-use Rattle.segment_image.specs.Words.{word_at}
-use Rattle.segment_machine.specs.declared.actor.Actor.{Actor}
-use Rattle.segment_machine.specs.declared.actor.Known.{Known}
-use Rattle.segment_machine.specs.declared.place.Look.{Look}
-use Rattle.segment_machine.specs.declared.place.Place.{Place}
-use Rattle.segment_machine.specs.declared.place.Place.TheVariants.{Spent, Idle, Looking, SumLoaded, Moving}
-use Rattle.segment_machine.specs.declared.seen.Seen.{Seen}
-use Rattle.segment_machine.specs.declared.seen.Sighting.{Sighting}
-use Rattle.segment_machine.specs.Actor.{is_bound, Buckets, is_opener}
-use Rattle.segment_machine.specs.Event.{packing_event, Ready}
-use Rattle.segment_machine.specs.Calls.{look_of}
+use Rattle.segment_invariant.proofs.Prelude.Std.{◌≡◌, ◌≢◌, Bool, false, ◌==◌, if◌then◌else◌, ℕ, ◌+◌, ℤ, List, [], ◌∷◌, ◌++◌, set, None, inl, refl, sym, ap, ◌∙◌, subst, arith, All-push, some, get_elem?}
+use Rattle.segment_invariant.proofs.Prelude.Machine.{Dimensions, word_at, Actor, Known, Look, Place, Spent, Idle, Looking, SumLoaded, Moving, Seen, Sighting, is_bound, Buckets, is_opener, packing_event, Ready, look_of, pack, disable, after_pack, after_disable, State}
+use Rattle.segment_invariant.proofs.Prelude.Invariant.{Record, histogram, Anatomy, order_of, moving_at, HasRecord, WasSingle, StandsRight, Invariant}
 use Rattle.segment_calls.specs.Form.{off_word}
-use Rattle.segment_machine.specs.Packing.{pack, disable, after_pack, after_disable}
-use Rattle.segment_machine.specs.State.{State}
-use Rattle.segment_invariant.specs.Body.{Record, histogram, Anatomy, order_of}
-use Rattle.segment_invariant.specs.Ledger.{moving_at}
-use Rattle.segment_invariant.specs.Seen.{HasRecord, WasSingle}
-use Rattle.segment_invariant.specs.Invariant.{StandsRight, Invariant}
 use Rattle.segment_invariant.proofs.Frames.GoesOn.{happens}
 use Rattle.segment_invariant.proofs.Frames.OneActor.{rests_at}
 use Rattle.segment_invariant.proofs.Frames.Ahead.{KeepsUp, ahead_at, unbound_unbeaten}

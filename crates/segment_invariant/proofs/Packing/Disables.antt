@@ -1,38 +1,15 @@
 -- A single word is disabled, or frozen: the invariant is kept, with what is learned. First the word changes, and then its actor sees it.
-use Rattle.std.proofs.Common.{◌≡◌, ◌≢◌, Bool, true, false, ◌&&◌, ◌==◌, nat_lt, if◌then◌else◌, ℕ, ◌+◌, ◌<◌, ◌≤◌, ℤ, pos, max, List, [], ◌∷◌, ◌++◌, length, set, All, Contains, Option, Some, None, ⊎_elim, refl, sym, ap, ◌∙◌, subst, arith, true≢false, eqb-true, eq-eqb}
-use Rattle.std.specs.Prelude.{unwrap_or}
-use Rattle.std.specs.Ordering.{int_eq}
-use Rattle.std.specs.Str.{bytes_eq}
-use Rattle.std.proofs.Math.IntN.{+ℤ_idr}
-use Rattle.std.proofs.lemmas.Bool.{and_cases, and_parts, eqb-false, ltb-true, ltb-false}
-use Rattle.std.proofs.lemmas.List.{set-set, get_or-set_same}
-use Rattle.std.proofs.lemmas.List.Elements.{All-contains, All-weaker, Contains-push}
-use mathlib.Core.Option.{some}
-use lib.ListN.{get_elem?}
+use Rattle.segment_invariant.proofs.Prelude.Std.{◌≡◌, ◌≢◌, Bool, true, false, ◌&&◌, ◌==◌, nat_lt, if◌then◌else◌, ℕ, ◌+◌, ◌<◌, ◌≤◌, ℤ, pos, max, List, [], ◌∷◌, ◌++◌, length, set, All, Contains, Option, Some, None, ⊎_elim, refl, sym, ap, ◌∙◌, subst, arith, true≢false, eqb-true, eq-eqb, unwrap_or, int_eq, bytes_eq, +ℤ_idr, and_parts, eqb-false, ltb-true, ltb-false, set-set, get_or-set_same, All-contains, All-weaker, Contains-push, some, get_elem?, at_from}
+use Rattle.segment_invariant.proofs.Prelude.Machine.{Dimensions, word_at, SingleWord, Spec, buckets_of, single_of, packed_bucket, Actor, Known, Look, Place, Spent, Looking, SumLoaded, Moving, taken_units, known_at, bucket_key, Buckets, taken_of, is_opener, look_of, packing_event, Ready, is_off, units_in, disable, after_disable, State}
+use Rattle.segment_invariant.proofs.Prelude.Invariant.{Record, Counts, histogram, Anatomy, EventKeeps, form_at, of_name, at_bucket, key_of_bucket, units_held, moving_at, HasRecord, IsFirst, WasFixed, WasInUse, is_beaten, IsLawfulRecord, IsCountsOf, StandsRight, Invariant}
+use Rattle.std.proofs.lemmas.Bool.{and_cases}
 use Rattle.alloc_core.proofs.Owners.{set_at}
-use Rattle.segment_image.specs.Shape.{Dimensions}
-use Rattle.segment_image.specs.Words.{word_at}
-use Rattle.bucket_ranges.specs.declared.single.SingleWord.{SingleWord}
-use Rattle.bucket_ranges.specs.declared.spec.Spec.{Spec}
-use Rattle.bucket_ranges.specs.Spec.{buckets_of}
-use Rattle.bucket_ranges.specs.Single.{single_of, packed_bucket}
-use Rattle.segment_machine.specs.declared.actor.Actor.{Actor}
-use Rattle.segment_machine.specs.declared.actor.Known.{Known}
-use Rattle.segment_machine.specs.declared.place.Look.{Look}
-use Rattle.segment_machine.specs.declared.place.Place.{Place}
-use Rattle.segment_machine.specs.declared.place.Place.TheVariants.{Spent, Looking, SumLoaded, Moving}
-use Rattle.segment_machine.specs.Actor.{taken_units, known_at, known_buckets, bucket_key, Buckets, taken_of, is_opener}
-use Rattle.segment_machine.specs.Calls.{look_of, nothing_of, form_seen}
-use Rattle.segment_machine.specs.Event.{packing_event, Ready}
-use Rattle.segment_calls.specs.Form.{is_off, units_in, off_word}
-use Rattle.segment_machine.specs.Packing.{disable, after_disabling, after_disable}
-use Rattle.segment_machine.specs.State.{State}
-use Rattle.segment_invariant.specs.Body.{Record, Counts, histogram, Anatomy}
-use Rattle.segment_invariant.specs.Keeps.{EventKeeps}
-use Rattle.segment_invariant.specs.Ledger.{form_at, of_name, at_bucket, key_of_bucket, units_held, moving_at, moving_of}
-use Rattle.segment_invariant.specs.Seen.{HasRecord, IsFirst, WasFixed, WasInUse}
-use Rattle.segment_invariant.specs.Invariant.{is_beaten, LooksRight, IsLawfulRecord, IsCountsOf, StandsRight, Invariant}
-use Rattle.list_lemmas.proofs.Elements.{at_from}
+use Rattle.segment_machine.specs.Actor.{known_buckets}
+use Rattle.segment_machine.specs.Calls.{nothing_of, form_seen}
+use Rattle.segment_calls.specs.Form.{off_word}
+use Rattle.segment_machine.specs.Packing.{after_disabling}
+use Rattle.segment_invariant.specs.Ledger.{moving_of}
+use Rattle.segment_invariant.specs.Invariant.{LooksRight}
 use Rattle.segment_invariant.proofs.Lists.FewTerms.{if_nothing, zero_index}
 use Rattle.segment_invariant.proofs.Consistency.Keys.{packed_within, no_units, at_no_bucket}
 use Rattle.segment_invariant.proofs.Consistency.Totals.{find_known}

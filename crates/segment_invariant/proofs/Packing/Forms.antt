@@ -1,10 +1,8 @@
 -- The form of a word to which units of a bucket are packed: its packed bucket and its units; and the word before leads to it.
-use Rattle.std.proofs.Common.{◌≡◌, ◌⊎◌, Bool, true, false, ◌&&◌, ◌==◌, nat_lt, nat_le, if◌then◌else◌, ℕ, ◌+◌, ◌/◌, ◌%◌, ◌^◌, ◌<◌, ◌≤◌, Option, Some, None, inl, inr, sym, ap, ◌∙◌, arith}
-use Rattle.std.proofs.lemmas.Bool.{lt-ltb, lt-leb, le-leb, ne_eqb}
-use Rattle.bucket_ranges.specs.declared.single.SingleWord.{SingleWord}
-use Rattle.bucket_ranges.specs.declared.single.SingleWord.TheVariants.{Empty, Packed, Disabled, FrozenEmpty, Frozen}
-use Rattle.bucket_ranges.specs.Single.{single_of, is_packed_word, packed_bucket, units_packed}
-use Rattle.segment_calls.specs.Form.{is_off, units_in, packed_word, IsPacking, Leads}
+use Rattle.segment_invariant.proofs.Prelude.Std.{◌≡◌, ◌⊎◌, Bool, true, false, ◌&&◌, ◌==◌, nat_lt, nat_le, if◌then◌else◌, ℕ, ◌+◌, ◌/◌, ◌%◌, ◌^◌, ◌<◌, ◌≤◌, Option, Some, None, inl, inr, sym, ap, ◌∙◌, arith, lt-ltb, le-leb, ne_eqb}
+use Rattle.segment_invariant.proofs.Prelude.Machine.{SingleWord, Empty, Packed, Disabled, FrozenEmpty, Frozen, single_of, is_packed_word, packed_bucket, units_packed, is_off, units_in, Leads}
+use Rattle.std.proofs.lemmas.Bool.{lt-leb}
+use Rattle.segment_calls.specs.Form.{packed_word, IsPacking}
 
 -- of a bucket a word holds no more than it holds
 pub units_most : (form : Option SingleWord) (i : ℕ) → units_packed form i ≤ units_in form

@@ -1,33 +1,15 @@
 -- A single word is loaded.
-use Rattle.std.proofs.Common.{◌≡◌, ◌≢◌, ℕ, ◌+◌, Bool, true, false, ◌==◌, [], ◌∷◌, ◌++◌, set, Contains, Some, None, inl, refl, sym, ◌∙◌, subst, arith, eqb-true}
-use Rattle.std.specs.Prelude.{if◌then◌else◌}
-use Rattle.std.proofs.lemmas.List.Elements.{All-push, All-contains, Contains-push}
-use mathlib.Core.Option.{some}
-use lib.ListN.{get_elem?}
-use Rattle.segment_image.specs.Shape.{Dimensions}
-use Rattle.segment_image.specs.Words.{word_at}
-use Rattle.bucket_ranges.specs.Single.{single_of}
-use Rattle.segment_machine.specs.declared.actor.Actor.{Actor}
-use Rattle.segment_machine.specs.declared.place.Look.{Look}
-use Rattle.segment_machine.specs.declared.place.Place.{Place}
-use Rattle.segment_machine.specs.declared.place.Place.TheVariants.{Spent, Looking}
-use Rattle.segment_machine.specs.declared.seen.Sighting.{Sighting}
-use Rattle.segment_machine.specs.Calls.{look_of, nothing_of}
-use Rattle.segment_calls.specs.Form.{Leads}
-use Rattle.segment_machine.specs.State.{State}
-use Rattle.segment_machine.specs.Packing.{load_single, IsSingleOf}
-use Rattle.segment_machine.specs.Event.{packing_event, Ready, next}
-use Rattle.segment_invariant.specs.Body.{histogram, Anatomy}
-use Rattle.segment_invariant.specs.Seen.{HasRecord, WasSingle}
-use Rattle.segment_invariant.specs.Invariant.{StandsRight, Invariant}
-use Rattle.segment_invariant.specs.Keeps.{EventKeeps}
+use Rattle.segment_invariant.proofs.Prelude.Std.{◌≡◌, ◌≢◌, ℕ, ◌+◌, Bool, true, false, ◌==◌, [], ◌∷◌, ◌++◌, set, Contains, Some, None, inl, refl, sym, ◌∙◌, subst, arith, eqb-true, if◌then◌else◌, All-push, All-contains, Contains-push, some, get_elem?}
+use Rattle.segment_invariant.proofs.Prelude.Machine.{Dimensions, word_at, single_of, Actor, Look, Place, Spent, Looking, Sighting, look_of, Leads, State, load_single, packing_event, Ready, next, is_opener}
+use Rattle.segment_invariant.proofs.Prelude.Invariant.{histogram, Anatomy, HasRecord, WasSingle, StandsRight, Invariant, EventKeeps}
+use Rattle.segment_machine.specs.Calls.{nothing_of}
+use Rattle.segment_machine.specs.Packing.{IsSingleOf}
 use Rattle.segment_invariant.proofs.Frames.GoesOn.{happens}
 use Rattle.segment_invariant.proofs.Frames.OneActor.{turns_unbound}
 use Rattle.segment_invariant.proofs.Frames.SeesMore.{near_on}
 use Rattle.segment_invariant.proofs.Frames.Shown.{Goes, loaded}
 use Rattle.segment_invariant.proofs.Counting.Looks.{knows_of, body_word, single_now, looks_single}
 use Rattle.segment_invariant.proofs.Counting.Sights.{word_within, sees_on}
-use Rattle.segment_machine.specs.Actor.{is_opener}
 
 -- what an actor goes on with of a histogram is of that histogram, and the counts in it are those that it saw
 pub look_right : (shape : Dimensions) (anatomy : Anatomy) (id : ℕ) (a : Actor) (place : Place) (h : ℕ) → StandsRight shape anatomy id a place

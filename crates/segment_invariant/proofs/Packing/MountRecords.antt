@@ -1,17 +1,8 @@
 -- Where a counts block is mounted records stay lawful: the record names the counts, and these name it.
-use Rattle.std.proofs.Common.{◌≡◌, ◌≢◌, ◌⊎◌, ℕ, ◌+◌, ◌*◌, ◌≤◌, List, [], inl, inr, ⊎_elim, refl, sym, ap, ◌∙◌, subst, arith}
-use mathlib.Core.Option.{some, none}
-use Rattle.segment_image.specs.Shape.{Dimensions}
-use Rattle.bucket_ranges.specs.declared.spec.Spec.{Spec}
-use Rattle.bucket_ranges.specs.declared.spec.Spec.TheVariants.{Sparse}
-use Rattle.bucket_ranges.specs.Spec.{buckets_of}
-use Rattle.segment_machine.specs.declared.actor.Own.{Own}
-use Rattle.segment_calls.specs.Form.{units_in}
-use Rattle.segment_machine.specs.State.{State}
-use Rattle.segment_invariant.specs.Body.{Record, Counts, Sample, Body, histogram, counts, sample, Piece, Anatomy}
-use Rattle.segment_invariant.specs.Ledger.{form_at}
-use Rattle.segment_invariant.specs.Seen.{Stands, HasRecord, HasCounts, HasSample, HasOwn, IsFirst}
-use Rattle.segment_invariant.specs.Invariant.{IsLawfulRecord, IsCountsOf, CountsNothing, RecordsAreKept, Invariant}
+use Rattle.segment_invariant.proofs.Prelude.Std.{◌≡◌, ◌≢◌, ◌⊎◌, ℕ, ◌+◌, ◌*◌, ◌≤◌, List, [], inl, inr, ⊎_elim, refl, sym, ap, ◌∙◌, subst, arith, some, none}
+use Rattle.segment_invariant.proofs.Prelude.Machine.{Dimensions, Spec, Sparse, buckets_of, Own, units_in, State}
+use Rattle.segment_invariant.proofs.Prelude.Invariant.{Record, Counts, Sample, Body, histogram, counts, sample, Piece, Anatomy, form_at, Stands, HasRecord, HasCounts, HasSample, IsFirst, IsLawfulRecord, IsCountsOf, CountsNothing, RecordsAreKept, Invariant}
+use Rattle.segment_invariant.specs.Seen.{HasOwn}
 use Rattle.segment_invariant.proofs.Blocks.Pieces.{one_stands, piece_from}
 use Rattle.segment_invariant.proofs.Blocks.Published.{Publishes, Only}
 use Rattle.segment_invariant.proofs.Changes.Sums.{SameSum}

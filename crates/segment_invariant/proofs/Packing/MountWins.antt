@@ -1,31 +1,11 @@
 -- A counts block is mounted, and no other was first: the invariant is kept, with what is learned.
-use Rattle.std.proofs.Common.{◌≡◌, ◌≢◌, Bool, true, false, ◌==◌, if◌then◌else◌, ℕ, ◌+◌, ◌*◌, ◌<◌, ◌≤◌, List, [], ◌∷◌, ◌++◌, length, set, All, Contains, None, inr, refl, sym, ap, ◌∙◌, subst, arith, eqb-true, ne_eqb}
-use Rattle.std.proofs.lemmas.List.{set-set, get_or-set_same}
-use Rattle.std.proofs.lemmas.List.Elements.{All-contains, All-weaker, Contains-push}
-use mathlib.Core.Option.{some}
-use lib.ListN.{get_elem?}
+use Rattle.segment_invariant.proofs.Prelude.Std.{◌≡◌, ◌≢◌, Bool, true, false, ◌==◌, if◌then◌else◌, ℕ, ◌+◌, ◌*◌, ◌<◌, ◌≤◌, List, [], ◌∷◌, ◌++◌, length, set, All, Contains, None, inr, refl, sym, ap, ◌∙◌, subst, arith, eqb-true, ne_eqb, set-set, get_or-set_same, All-contains, All-weaker, Contains-push, some, get_elem?, row_in}
+use Rattle.segment_invariant.proofs.Prelude.Machine.{Behind, Dimensions, word_at, Spec, Sparse, buckets_of, spec_fields, Actor, Known, Own, Look, Spent, Idle, Looking, Sighting, is_bound, has_buckets, Buckets, counted_of, taken_of, is_opener, sight_counts, packing_event, Ready, mount_counts, after_mount, State}
+use Rattle.segment_invariant.proofs.Prelude.Invariant.{Record, Counts, histogram, counts, held, Piece, Anatomy, HasRecord, IsFirst, Knows, WasFixed, HoldsOwn, Invariant, EventKeeps}
 use Rattle.alloc_core.proofs.Owners.{set_at}
-use Rattle.alloc_core.specs.Laws.{Behind}
-use Rattle.segment_image.specs.Shape.{Dimensions}
-use Rattle.segment_image.specs.Words.{word_at}
-use Rattle.bucket_ranges.specs.declared.spec.Spec.{Spec}
-use Rattle.bucket_ranges.specs.declared.spec.Spec.TheVariants.{Sparse}
-use Rattle.bucket_ranges.specs.Spec.{buckets_of, spec_fields}
-use Rattle.segment_machine.specs.declared.actor.Actor.{Actor}
-use Rattle.segment_machine.specs.declared.actor.Known.{Known}
-use Rattle.segment_machine.specs.declared.actor.Own.{Own}
-use Rattle.segment_machine.specs.declared.place.Look.{Look}
-use Rattle.segment_machine.specs.declared.place.Place.TheVariants.{Spent, Idle, Looking}
-use Rattle.segment_machine.specs.declared.seen.Sighting.{Sighting}
-use Rattle.segment_machine.specs.Actor.{is_bound, has_buckets, Buckets, counted_of, taken_of, is_opener}
-use Rattle.segment_machine.specs.Calls.{without, sight_counts}
-use Rattle.segment_machine.specs.Event.{packing_event, Ready}
-use Rattle.segment_machine.specs.Packing.{mount_counts, after_mount}
-use Rattle.segment_machine.specs.State.{State}
-use Rattle.segment_invariant.specs.Body.{Record, Counts, histogram, counts, held, Piece, Anatomy}
-use Rattle.segment_invariant.specs.Seen.{HasRecord, HasOwn, IsFirst, Knows, WasFixed}
-use Rattle.segment_invariant.specs.Invariant.{IsListed, HoldsOwn, Invariant}
-use Rattle.segment_invariant.specs.Keeps.{EventKeeps}
+use Rattle.segment_machine.specs.Calls.{without}
+use Rattle.segment_invariant.specs.Seen.{HasOwn}
+use Rattle.segment_invariant.specs.Invariant.{IsListed}
 use Rattle.segment_invariant.proofs.Blocks.Published.{Publishes, Only}
 use Rattle.segment_invariant.proofs.Consistency.Books.{one_first}
 use Rattle.segment_invariant.proofs.Frames.Ahead.{unbound_unbeaten}
@@ -35,7 +15,6 @@ use Rattle.segment_invariant.proofs.Frames.OneActor.{Doing, doing_of, SameDeeds,
 use Rattle.segment_invariant.proofs.Frames.Onward.{sees_on}
 use Rattle.segment_invariant.proofs.Frames.Shown.{Goes}
 use Rattle.segment_invariant.proofs.Frames.Together.{balanced, finals}
-use Rattle.list_lemmas.proofs.Elements.{row_in}
 use Rattle.segment_invariant.proofs.Lists.Ends.{all_without, distinct_filter}
 use Rattle.segment_invariant.proofs.Counting.Learned.{counts_stay}
 use Rattle.segment_invariant.proofs.Counting.Loaded.{counts_found, counts_within, counts_fixed}

@@ -1,24 +1,9 @@
 -- A counts block is mounted: the record names it, and it has no owner any more. Nothing is counted in it yet.
-use Rattle.std.proofs.Common.{◌≡◌, ◌≢◌, ℕ, ◌+◌, ◌-◌, ◌*◌, ◌≤◌, List, [], length, set, inl, inr, ⊎_elim, refl, sym, ap, ◌∙◌, arith}
-use mathlib.Core.Option.{some, none, some-injective, some-ne-none}
-use lib.ListN.{get_elem?}
-use Rattle.std.specs.Prelude.{Bool, if◌then◌else◌, Option, Some, None}
-use Rattle.std.proofs.Common.{eq-eqb}
-use Rattle.std.proofs.lemmas.List.{length-replicate}
-use Rattle.bucket_ranges.specs.declared.single.SingleWord.{SingleWord}
-use Rattle.bucket_ranges.specs.declared.single.SingleWord.TheVariants.{Empty, Packed, Disabled, FrozenEmpty, Frozen}
-use Rattle.bucket_ranges.specs.Single.{packed_bucket, units_packed}
-use Rattle.segment_calls.specs.Form.{units_in}
-use Rattle.segment_invariant.specs.Ledger.{form_at}
-use Rattle.segment_invariant.specs.Invariant.{IsCountsOf}
+use Rattle.segment_invariant.proofs.Prelude.Std.{◌≡◌, ◌≢◌, ℕ, ◌+◌, ◌-◌, ◌*◌, ◌≤◌, List, [], length, set, inl, inr, ⊎_elim, refl, sym, ap, ◌∙◌, arith, some, none, some-injective, some-ne-none, get_elem?, Bool, if◌then◌else◌, Option, Some, None, eq-eqb, length-replicate}
+use Rattle.segment_invariant.proofs.Prelude.Machine.{SingleWord, Empty, Packed, Disabled, FrozenEmpty, Frozen, packed_bucket, units_packed, units_in, Dimensions, buckets_of, Own, State}
+use Rattle.segment_invariant.proofs.Prelude.Invariant.{form_at, IsCountsOf, Record, Counts, Body, held, histogram, counts, words_of, Piece, Anatomy, free_of, Stands, HasRecord, Invariant}
 use Rattle.segment_invariant.proofs.Lists.FewTerms.{zero_index}
-use Rattle.segment_image.specs.Shape.{Dimensions}
-use Rattle.bucket_ranges.specs.Spec.{buckets_of}
-use Rattle.segment_machine.specs.declared.actor.Own.{Own}
-use Rattle.segment_machine.specs.State.{State}
-use Rattle.segment_invariant.specs.Body.{Record, Counts, Body, held, histogram, counts, words_of, Piece, Anatomy, free_of}
-use Rattle.segment_invariant.specs.Seen.{Stands, HasRecord, HasOwn}
-use Rattle.segment_invariant.specs.Invariant.{Invariant}
+use Rattle.segment_invariant.specs.Seen.{HasOwn}
 use Rattle.segment_invariant.proofs.Blocks.Bodies.{counts_of, counts_words_are, counts_zeros}
 use Rattle.segment_invariant.proofs.Blocks.Pieces.{one_index, stands_beside}
 use Rattle.segment_invariant.proofs.Blocks.Published.{counts_held, holdings_set, holdings_both, Publishes, Only, one_published}

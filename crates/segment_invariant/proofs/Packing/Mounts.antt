@@ -1,23 +1,8 @@
 -- A counts block is mounted: where another was first, its actor sees the counts that are there.
-use Rattle.std.proofs.Common.{◌≡◌, ◌≢◌, Bool, false, ◌==◌, if◌then◌else◌, ℕ, ◌+◌, List, [], ◌∷◌, ◌++◌, set, Contains, None, refl, sym, ap, ◌∙◌, subst, arith, eq-eqb, true≢false}
-use Rattle.std.proofs.lemmas.List.Elements.{All-contains, Contains-push}
-use mathlib.Core.Option.{some, none}
-use lib.ListN.{get_elem?}
-use Rattle.segment_image.specs.Shape.{Dimensions}
-use Rattle.segment_image.specs.Words.{word_at}
-use Rattle.segment_machine.specs.declared.actor.Actor.{Actor}
-use Rattle.segment_machine.specs.declared.actor.Own.{Own}
-use Rattle.segment_machine.specs.declared.place.Look.{Look}
-use Rattle.segment_machine.specs.declared.place.Place.TheVariants.{Spent, Losing}
-use Rattle.segment_machine.specs.declared.seen.Sighting.{Sighting}
-use Rattle.segment_machine.specs.Actor.{is_bound, is_opener}
-use Rattle.segment_machine.specs.Calls.{sight_counts}
-use Rattle.segment_machine.specs.Event.{packing_event, Ready}
-use Rattle.segment_machine.specs.Packing.{mount_counts, after_mount}
-use Rattle.segment_machine.specs.State.{State}
-use Rattle.segment_invariant.specs.Body.{Record, histogram, counts, held, Anatomy}
-use Rattle.segment_invariant.specs.Seen.{HasRecord, HasCounts}
-use Rattle.segment_invariant.specs.Invariant.{HoldsOwn, Invariant}
+use Rattle.segment_invariant.proofs.Prelude.Std.{◌≡◌, ◌≢◌, Bool, false, ◌==◌, if◌then◌else◌, ℕ, ◌+◌, List, [], ◌∷◌, ◌++◌, set, Contains, None, refl, sym, ap, ◌∙◌, subst, arith, eq-eqb, true≢false, All-contains, Contains-push, some, none, get_elem?}
+use Rattle.segment_invariant.proofs.Prelude.Machine.{Dimensions, word_at, Actor, Own, Look, Spent, Sighting, is_bound, is_opener, sight_counts, packing_event, Ready, mount_counts, after_mount, State}
+use Rattle.segment_invariant.proofs.Prelude.Invariant.{Record, histogram, counts, held, Anatomy, HasRecord, HasCounts, HoldsOwn, Invariant}
+use Rattle.segment_machine.specs.declared.place.Place.TheVariants.{Losing}
 use Rattle.segment_invariant.proofs.Blocks.Pieces.{one_stands}
 use Rattle.segment_invariant.proofs.Frames.GoesOn.{happens}
 use Rattle.segment_invariant.proofs.Frames.OneActor.{rests_at}

@@ -1,37 +1,11 @@
 -- The units that a recorder took out of a single word are added to the count of their bucket: the invariant is kept, with what is learned.
-use Rattle.std.proofs.Common.{◌≡◌, ◌≢◌, Bool, true, false, if◌then◌else◌, ℕ, ◌+◌, ◌%◌, ◌^◌, ◌<◌, ◌≤◌, ℤ, pos, List, [], ◌∷◌, ◌++◌, length, set, Option, Some, refl, sym, ap, ◌∙◌, subst, arith}
-use Rattle.std.specs.Prelude.{slice_index}
-use Rattle.std.specs.Ordering.{int_eq}
-use Rattle.std.specs.Str.{bytes_eq}
-use Rattle.std.proofs.Math.IntN.{+ℤ_idr}
+use Rattle.segment_invariant.proofs.Prelude.Std.{◌≡◌, ◌≢◌, Bool, true, false, if◌then◌else◌, ℕ, ◌+◌, ◌%◌, ◌^◌, ◌<◌, ◌≤◌, ℤ, pos, List, [], ◌∷◌, ◌++◌, length, set, Option, Some, refl, sym, ap, ◌∙◌, subst, arith, slice_index, int_eq, bytes_eq, +ℤ_idr, set-set, get_or-set_same, All-contains, some, get_elem?, at_from}
+use Rattle.segment_invariant.proofs.Prelude.Machine.{Dimensions, word_at, Spec, buckets_of, single_of, packed_bucket, Actor, Known, Look, Place, Spent, Looking, Moving, Seen, bucket_key, is_opener, back, packing_event, Ready, is_off, add_moved, State}
+use Rattle.segment_invariant.proofs.Prelude.Invariant.{Record, Counts, counts, Anatomy, of_name, key_of_bucket, keyed, units_held, moving_at, HasRecord, HasCounts, WasFixed, is_beaten, IsCountsOf, StandsRight, Invariant}
 use Rattle.std.proofs.Math.Nat.{mod-eq_of_lt}
-use Rattle.std.proofs.lemmas.List.{set-set, get_or-set_same}
-use Rattle.std.proofs.lemmas.List.Elements.{All-contains}
-use mathlib.Core.Option.{some}
-use lib.ListN.{get_elem?}
 use Rattle.alloc_core.proofs.Owners.{set_at}
-use Rattle.segment_image.specs.Shape.{Dimensions}
-use Rattle.segment_image.specs.Words.{word_at}
-use Rattle.bucket_ranges.specs.declared.spec.Spec.{Spec}
-use Rattle.bucket_ranges.specs.Spec.{buckets_of}
-use Rattle.bucket_ranges.specs.Single.{single_of, packed_bucket}
-use Rattle.segment_machine.specs.declared.actor.Actor.{Actor}
-use Rattle.segment_machine.specs.declared.actor.Known.{Known}
-use Rattle.segment_machine.specs.declared.place.Look.{Look}
-use Rattle.segment_machine.specs.declared.place.Place.{Place}
-use Rattle.segment_machine.specs.declared.place.Place.TheVariants.{Spent, Looking, Moving}
-use Rattle.segment_machine.specs.declared.seen.Seen.{Seen}
-use Rattle.segment_machine.specs.Actor.{bucket_key, is_opener}
-use Rattle.segment_machine.specs.Calls.{back}
-use Rattle.segment_machine.specs.Event.{packing_event, Ready}
-use Rattle.segment_calls.specs.Form.{is_off}
-use Rattle.segment_machine.specs.Packing.{add_moved}
-use Rattle.segment_machine.specs.State.{State}
-use Rattle.segment_invariant.specs.Body.{Record, Counts, counts, Anatomy}
-use Rattle.segment_invariant.specs.Ledger.{of_name, key_of_bucket, keyed, units_held, moving_at, moving_of}
-use Rattle.segment_invariant.specs.Seen.{HasRecord, HasCounts, WasFixed}
-use Rattle.segment_invariant.specs.Invariant.{is_beaten, LooksRight, IsCountsOf, StandsRight, Invariant}
-use Rattle.list_lemmas.proofs.Elements.{at_from}
+use Rattle.segment_invariant.specs.Ledger.{moving_of}
+use Rattle.segment_invariant.specs.Invariant.{LooksRight}
 use Rattle.segment_invariant.proofs.Consistency.Keys.{packed_within}
 use Rattle.segment_invariant.proofs.Consistency.Totals.{find_known}
 use Rattle.segment_invariant.proofs.Frames.GoesOn.{happens}

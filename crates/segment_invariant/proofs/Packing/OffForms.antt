@@ -1,15 +1,11 @@
 -- The form of the word with which a word is disabled or frozen: its packed bucket and its units; and the word before leads to it.
-use Rattle.std.proofs.Common.{◌≡◌, ◌≢◌, ◌⊎◌, Bool, true, false, ◌==◌, nat_lt, if◌then◌else◌, ℕ, ◌+◌, ◌-◌, ◌/◌, ◌%◌, ◌^◌, ◌<◌, ◌≤◌, Option, Some, None, inl, inr, refl, sym, ap, ◌∙◌, subst, arith}
-use Rattle.std.proofs.lemmas.Bool.{lt-ltb, le-ltb, le-leb, ne_eqb, eqb-true, ltb-true, leb-true, leb-false, and_parts}
-use Rattle.bucket_ranges.specs.declared.single.SingleWord.{SingleWord}
-use Rattle.bucket_ranges.specs.declared.single.SingleWord.TheVariants.{Empty, Packed, Disabled, FrozenEmpty, Frozen}
-use Rattle.bucket_ranges.specs.declared.spec.Spec.{Spec}
-use Rattle.bucket_ranges.specs.declared.spec.Spec.TheVariants.{Linear, Boolean, Custom, Sparse}
-use Rattle.bucket_ranges.specs.Spec.{spec_fault, buckets_of}
-use Rattle.bucket_ranges.specs.Single.{single_of, is_packed_word, packed_of, disabled_of, frozen_of, packed_bucket}
+use Rattle.segment_invariant.proofs.Prelude.Std.{◌≡◌, ◌≢◌, ◌⊎◌, Bool, true, false, ◌==◌, nat_lt, if◌then◌else◌, ℕ, ◌+◌, ◌-◌, ◌/◌, ◌%◌, ◌^◌, ◌<◌, ◌≤◌, Option, Some, None, inl, inr, refl, sym, ap, ◌∙◌, subst, arith, lt-ltb, le-ltb, le-leb, ne_eqb, eqb-true, ltb-true, leb-true, and_parts}
+use Rattle.segment_invariant.proofs.Prelude.Machine.{SingleWord, Empty, Packed, Disabled, FrozenEmpty, Frozen, Spec, Linear, Boolean, Custom, Sparse, spec_fault, buckets_of, single_of, is_packed_word, packed_bucket, is_off, units_in, Leads}
+use Rattle.std.proofs.lemmas.Bool.{leb-false}
+use Rattle.bucket_ranges.specs.Single.{packed_of, disabled_of, frozen_of}
 use Rattle.bucket_ranges.proofs.Ascent.{is_linear-from_checks}
 use Rattle.bucket_ranges.proofs.Customs.{is_custom-from_checks, length-distinct}
-use Rattle.segment_calls.specs.Form.{is_off, units_in, off_word, Leads}
+use Rattle.segment_calls.specs.Form.{off_word}
 
 -- a lawful spec has at most 1,000 buckets
 pub few_buckets : (spec : Spec) → spec_fault spec ≡ None → buckets_of spec ≤ 1000

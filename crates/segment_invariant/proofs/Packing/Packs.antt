@@ -1,33 +1,11 @@
 -- Units of the entry that is next are packed into the single word of its histogram: the invariant is kept, with what is learned.
-use Rattle.std.proofs.Common.{◌≡◌, ◌≢◌, ◌⊎◌, ℕ, ◌+◌, ◌<◌, ◌≤◌, ℤ, Bool, true, false, ◌&&◌, ◌==◌, if◌then◌else◌, Option, Some, List, [], ◌∷◌, ◌++◌, length, set, inl, ⊎_elim, refl, sym, ap, ◌∙◌, subst, arith, eqb-true}
-use Rattle.std.specs.Prelude.{slice_index, max}
-use Rattle.std.specs.Ordering.{int_eq}
-use Rattle.std.specs.Str.{bytes_eq}
-use Rattle.std.proofs.lemmas.List.{set-set, get_or-set_same}
-use mathlib.Core.Option.{some}
-use lib.ListN.{get_elem?}
+use Rattle.segment_invariant.proofs.Prelude.Std.{◌≡◌, ◌≢◌, ◌⊎◌, ℕ, ◌+◌, ◌<◌, ◌≤◌, ℤ, Bool, true, false, ◌&&◌, ◌==◌, if◌then◌else◌, Option, Some, List, [], ◌∷◌, ◌++◌, length, set, inl, ⊎_elim, refl, sym, ap, ◌∙◌, subst, arith, eqb-true, slice_index, max, int_eq, bytes_eq, set-set, get_or-set_same, some, get_elem?}
+use Rattle.segment_invariant.proofs.Prelude.Machine.{Dimensions, word_at, buckets_of, single_of, packed_bucket, units_packed, Actor, Known, EntryProgress, Spent, Idle, is_bound, Buckets, is_opener, is_counted, packing_event, Ready, is_off, units_in, pack, after_pack, State}
+use Rattle.segment_invariant.proofs.Prelude.Invariant.{Record, Counts, histogram, Anatomy, EventKeeps, form_at, of_name, key_of_bucket, at_bucket, units_held, marks_held, HasRecord, IsFirst, IsLawfulRecord, IsCountsOf, Invariant}
 use Rattle.alloc_core.proofs.Owners.{set_at}
-use Rattle.segment_image.specs.Shape.{Dimensions}
-use Rattle.segment_image.specs.Words.{word_at}
 use Rattle.bucket_ranges.specs.declared.spec.Spec.TheVariants as spec
-use Rattle.bucket_ranges.specs.Spec.{buckets_of}
-use Rattle.bucket_ranges.specs.Single.{single_of, packed_bucket, units_packed}
-use Rattle.segment_machine.specs.declared.actor.Actor.{Actor}
-use Rattle.segment_machine.specs.declared.actor.Known.{Known}
-use Rattle.segment_machine.specs.declared.entry.EntryProgress.{EntryProgress}
-use Rattle.segment_machine.specs.declared.place.Place.TheVariants.{Spent, Idle}
-use Rattle.segment_machine.specs.Actor.{is_bound, Buckets, is_opener}
 use Rattle.segment_machine.specs.Calls.{IsKeyOfBucket}
-use Rattle.segment_machine.specs.Entry.{is_counted}
-use Rattle.segment_machine.specs.Event.{packing_event, Ready}
-use Rattle.segment_calls.specs.Form.{is_off, units_in, IsPacking}
-use Rattle.segment_machine.specs.Packing.{pack, after_pack}
-use Rattle.segment_machine.specs.State.{State}
-use Rattle.segment_invariant.specs.Body.{Record, Counts, histogram, Anatomy}
-use Rattle.segment_invariant.specs.Keeps.{EventKeeps}
-use Rattle.segment_invariant.specs.Ledger.{form_at, of_name, key_of_bucket, at_bucket, units_held, marks_held}
-use Rattle.segment_invariant.specs.Seen.{HasRecord, IsFirst}
-use Rattle.segment_invariant.specs.Invariant.{IsLawfulRecord, IsCountsOf, Invariant}
+use Rattle.segment_calls.specs.Form.{IsPacking}
 use Rattle.segment_invariant.proofs.Lists.FewTerms.{zero_index}
 use Rattle.segment_invariant.proofs.Frames.Answers.{first_one}
 use Rattle.segment_invariant.proofs.Frames.GoesOn.{happens}

@@ -1,25 +1,13 @@
 -- A counts block that is not needed is purged: its type becomes 0, and its call looks on.
-use Rattle.std.proofs.Common.{◌≡◌, ℕ, ◌+◌, ◌==◌, List, set, refl, sym, ap, ◌∙◌, subst, arith, eq-eqb, eqb-true, false}
-use mathlib.Core.Option.{some}
-use lib.ListN.{get_elem?}
+use Rattle.segment_invariant.proofs.Prelude.Std.{◌≡◌, ℕ, ◌+◌, ◌==◌, List, set, refl, sym, ap, ◌∙◌, subst, arith, eq-eqb, eqb-true, false, some, get_elem?, at_from, all_at}
+use Rattle.segment_invariant.proofs.Prelude.Machine.{Dimensions, Actor, Own, Place, Looking, State, purge_block, packing_event, Ready, back, is_opener}
+use Rattle.segment_invariant.proofs.Prelude.Invariant.{Anatomy, layout_of, StandsRight, HoldsOwn, is_beaten, Invariant}
 use Rattle.alloc_core.proofs.Layouts.{length_shown}
-use Rattle.segment_image.specs.Shape.{Dimensions}
-use Rattle.segment_machine.specs.declared.actor.Actor.{Actor}
-use Rattle.segment_machine.specs.declared.actor.Own.{Own}
-use Rattle.segment_machine.specs.declared.place.Place.{Place}
-use Rattle.segment_machine.specs.declared.place.Place.TheVariants.{Looking}
-use Rattle.segment_machine.specs.State.{State}
-use Rattle.segment_machine.specs.Packing.{purge_block}
-use Rattle.segment_machine.specs.Event.{packing_event, Ready}
-use Rattle.segment_machine.specs.Calls.{back, change_own}
-use Rattle.segment_invariant.specs.Body.{Anatomy, layout_of}
-use Rattle.segment_invariant.specs.Invariant.{StandsRight, HoldsOwn, is_beaten, Invariant}
-use Rattle.list_lemmas.proofs.Elements.{at_from, all_at}
+use Rattle.segment_machine.specs.Calls.{change_own}
 use Rattle.segment_invariant.proofs.Frames.GoesOn.{happens}
 use Rattle.segment_invariant.proofs.Frames.OneActor.{is_plain, turns_plain}
 use Rattle.segment_invariant.proofs.Frames.Shown.{Goes}
 use Rattle.segment_invariant.proofs.Allocating.Payloads.{change_one, has_lived, fills_at}
-use Rattle.segment_machine.specs.Actor.{is_opener}
 
 module _ (shape : Dimensions) (opened : Anatomy) (state : State) (kept : Invariant shape opened state) (id : ℕ) (a : Actor)
     (mine : get_elem? state.actors id ≡ some a) (records : is_opener a.role ≡ false) where

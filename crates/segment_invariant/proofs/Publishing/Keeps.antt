@@ -1,25 +1,12 @@
 -- Each event of the list keeps what holds, and its actor learns that it found the end or a record.
-use Rattle.std.proofs.Common.{◌≡◌, ℕ, ◌+◌, Bool, set, refl, sym, subst, arith, eq-eqb, false}
-use Rattle.std.specs.Prelude.{Some, if◌then◌else◌}
-use mathlib.Core.Option.{some}
-use mathlib.Core.Logic.{dite}
-use native.Mathlib.Decide.{ℕ_discrete}
-use lib.ListN.{get_elem?}
-use Rattle.segment_image.specs.Shape.{Dimensions}
-use Rattle.segment_image.specs.Words.{word_at}
-use Rattle.segment_machine.specs.declared.actor.Actor.{Actor}
-use Rattle.segment_machine.specs.declared.actor.Made.{Made}
+use Rattle.segment_invariant.proofs.Prelude.Std.{◌≡◌, ℕ, ◌+◌, Bool, set, refl, sym, subst, arith, eq-eqb, false, Some, if◌then◌else◌, some, dite, ℕ_discrete, get_elem?, at_from}
+use Rattle.segment_invariant.proofs.Prelude.Machine.{Dimensions, word_at, Actor, Made, Own, State, store_own_next, load_tail, link, move_tail, after_link, publishing_event, Ready, is_opener}
+use Rattle.segment_invariant.proofs.Prelude.Invariant.{Anatomy, Invariant}
 use Rattle.segment_machine.specs.declared.actor.Made.TheVariants.{Histogram, Sample}
-use Rattle.segment_machine.specs.declared.actor.Own.{Own}
 use Rattle.segment_machine.specs.declared.place.Place.TheVariants.{TailLoaded}
 use Rattle.segment_machine.specs.Made.{IsPayload}
-use Rattle.segment_machine.specs.State.{State}
-use Rattle.segment_machine.specs.Publishing.{store_own_next, load_tail, link, move_tail, after_link, MayPublish}
-use Rattle.segment_machine.specs.Event.{publishing_event, Ready}
+use Rattle.segment_machine.specs.Publishing.{MayPublish}
 use Rattle.segment_invariant.specs.Keeps.{PublishingKeeps}
-use Rattle.segment_invariant.specs.Body.{Anatomy}
-use Rattle.segment_invariant.specs.Invariant.{Invariant}
-use Rattle.list_lemmas.proofs.Elements.{at_from}
 use Rattle.segment_invariant.proofs.Frames.GoesOn.{happens}
 use Rattle.segment_invariant.proofs.Publishing.Linkable.{Onward, histogram_linked, sample_linked}
 use Rattle.segment_invariant.proofs.Frames.Shown.{Goes}
@@ -27,7 +14,6 @@ use Rattle.segment_invariant.proofs.Publishing.Tails.{tail_loaded, tail_moved_on
 use Rattle.segment_invariant.proofs.Publishing.Links.{stop, turns}
 use Rattle.segment_invariant.proofs.Publishing.OwnNext.{own_next_stored}
 use Rattle.segment_invariant.proofs.Walking.Walks.{stop_within, reference_is}
-use Rattle.segment_machine.specs.Actor.{is_opener}
 
 module _ (shape : Dimensions) (opened : Anatomy) (state : State) (kept : Invariant shape opened state) (id : ℕ) (a : Actor)
     (mine : get_elem? state.actors id ≡ some a) (records : is_opener a.role ≡ false) where

@@ -1,36 +1,17 @@
 -- What a link publishes: a record without counts, a record with its counts block, or a sample.
-use Rattle.std.proofs.Common.{◌≡◌, ◌⊎◌, ℕ, ◌+◌, ◌*◌, ◌≤◌, ℤ, true, List, [], ◌∷◌, ◌++◌, length, replicate, set, Contains, inl, inr, ⊎_elim, refl, sym, ap, ◌∙◌, subst, arith, false}
-use Rattle.std.specs.Prelude.{slice_index, Some, None}
-use Rattle.std.specs.Int.{w64, cast_unsigned}
-use Rattle.std.proofs.lemmas.List.Elements.{All-contains, Contains-push}
-use mathlib.Core.Option.{some, none}
-use lib.ListN.{get_elem?}
-use Rattle.segment_image.specs.Shape.{Dimensions}
-use Rattle.segment_image.specs.Words.{word_at}
-use Rattle.alloc_core.specs.Layout.{IsShown}
-use Rattle.bucket_ranges.specs.declared.spec.Spec.{Spec}
-use Rattle.bucket_ranges.specs.declared.spec.Spec.TheVariants.{Linear, Boolean, Custom, Sparse}
-use Rattle.bucket_ranges.specs.Spec.{buckets_of, spec_fault, spec_fields, spec_ranges}
+use Rattle.segment_invariant.proofs.Prelude.Std.{◌≡◌, ◌⊎◌, ℕ, ◌+◌, ◌*◌, ◌≤◌, ℤ, true, List, [], ◌∷◌, ◌++◌, length, replicate, set, Contains, inl, inr, ⊎_elim, refl, sym, ap, ◌∙◌, subst, arith, false, slice_index, Some, None, w64, cast_unsigned, All-contains, Contains-push, some, none, get_elem?}
+use Rattle.segment_invariant.proofs.Prelude.Machine.{Dimensions, word_at, IsShown, Spec, Linear, Boolean, Custom, Sparse, buckets_of, spec_fault, spec_fields, spec_ranges, Actor, Known, Made, Own, AreNameWords, State, after_link, is_opener}
+use Rattle.segment_invariant.proofs.Prelude.Invariant.{Record, Sample, Body, held, histogram, sample, Piece, Listed, Anatomy, layout_of, form_at, HasRecord, HasSample, IsFirst, Knows, StandsAs, IsLawfulRecord, CountsNothing, HoldsOwn, Invariant}
 use Rattle.bucket_ranges.specs.Reading.{is_name, is_i32}
-use Rattle.segment_machine.specs.declared.actor.Actor.{Actor}
-use Rattle.segment_machine.specs.declared.actor.Known.{Known}
-use Rattle.segment_machine.specs.declared.actor.Made.{Made}
 use Rattle.segment_machine.specs.declared.actor.Made.TheVariants as made
-use Rattle.segment_machine.specs.declared.actor.Own.{Own}
 use Rattle.segment_machine.specs.declared.place.Place.TheVariants.{TailLoaded}
-use Rattle.segment_machine.specs.Made.{AreNameWords}
-use Rattle.segment_machine.specs.State.{State}
-use Rattle.segment_machine.specs.Publishing.{after_link}
-use Rattle.segment_invariant.specs.Body.{Record, Sample, Body, held, histogram, sample, Piece, Listed, Anatomy, layout_of}
-use Rattle.segment_invariant.specs.Ledger.{form_at}
-use Rattle.segment_invariant.specs.Seen.{HasOwn, HasRecord, HasSample, IsFirst, Knows}
-use Rattle.segment_invariant.specs.Invariant.{StandsAs, IsListed, IsLawfulRecord, IsLawfulSample, CountsNothing, HoldsOwn, Invariant}
+use Rattle.segment_invariant.specs.Seen.{HasOwn}
+use Rattle.segment_invariant.specs.Invariant.{IsListed, IsLawfulSample}
 use Rattle.segment_invariant.proofs.Blocks.Pieces.{one_stands}
 use Rattle.segment_invariant.proofs.Lists.Ends.{snoc_split}
 use Rattle.segment_invariant.proofs.Blocks.Bodies.{IsBlank, record_of, record_words_are, is_blank, record_nothing, record_lawful, sample_of, sample_words_are, sample_lawful}
 use Rattle.segment_invariant.proofs.Blocks.Published.{next_owned, record_held, sample_held, Publishes, Only, one_published}
 use Rattle.segment_invariant.proofs.Publishing.Links.{mine_fits, holds, stored, halfway, links_on}
-use Rattle.segment_machine.specs.Actor.{is_opener}
 
 -- a record of a name is no other body
 same_record : (r r' : Record) → histogram r' ≡ histogram r → r' ≡ r

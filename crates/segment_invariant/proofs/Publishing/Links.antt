@@ -1,44 +1,23 @@
 -- A record is put on the list: the block at the tail gets its next, the actor's own block and the counts block that it names are
 -- published, and all that holds is kept.
-use Rattle.std.proofs.Common.{◌≡◌, ◌≢◌, ℕ, suc, ◌+◌, ◌≤◌, ℤ, Bool, true, false, List, [], ◌∷◌, ◌++◌, map, length, set, All, Contains, IsPermutation, inl, inr, ⊎_elim, refl, sym, ap, ◌∙◌, subst, arith, append_assoc}
-use Rattle.std.specs.Prelude.{Some}
-use Rattle.std.proofs.lemmas.List.{map-append, take-append-le}
-use Rattle.std.proofs.lemmas.List.Elements.{All-weaker, All-push, Contains-append_left, Contains-append_right}
-use Rattle.std.proofs.lemmas.List.Sorted.{IsPermutation-refl, IsPermutation-sym, IsPermutation-trans, IsPermutation-append, IsPermutation-map}
-use mathlib.Core.Option.{some, none, some-injective, some-ne-none}
-use lib.ListN.{get_elem?}
-use Rattle.atomic_table.proofs.Lists.{at_set, at_longer}
-use Rattle.segment_image.specs.Shape.{Dimensions}
-use Rattle.segment_image.specs.Words.{word_at}
-use Rattle.alloc_core.specs.Layout.{IsShown}
-use Rattle.alloc_core.specs.Laws.{Behind}
-use Rattle.bucket_ranges.specs.declared.spec.Spec.{Spec}
-use Rattle.list_core.specs.Chain.{IsStop, AreNeighbours, IsLinked}
+use Rattle.segment_invariant.proofs.Prelude.Std.{◌≡◌, ◌≢◌, ℕ, suc, ◌+◌, ◌≤◌, ℤ, Bool, true, false, List, [], ◌∷◌, ◌++◌, map, length, set, All, Contains, IsPermutation, inl, inr, ⊎_elim, refl, sym, ap, ◌∙◌, subst, arith, append_assoc, Some, map-append, All-weaker, All-push, Contains-append_left, Contains-append_right, IsPermutation-refl, some, none, some-injective, some-ne-none, get_elem?, at_set, at_longer, rows, column, at_from, below_length, index_at, all_at, row_in}
+use Rattle.segment_invariant.proofs.Prelude.Machine.{Dimensions, word_at, IsShown, Behind, Spec, IsStop, IsLinked, Place, Known, Portion, Entry, Actor, Claim, Given, Made, Own, Published, Spent, all_published, is_opener, State}
+use Rattle.segment_invariant.proofs.Prelude.Invariant.{Record, Counts, Sample, Body, queue, plain, held, histogram, counts, sample, other, words_of, is_claimed, Piece, extent_of, Listed, listed, Anatomy, layout_of, order_of, free_of, claims_of, Stands, Sees, IsNamed, IsValued, IsNoLater, StandsAs, StandsRight, HoldsOwn, Fits, IsSetBy, ClaimedRight, Invariant, IsAhead, is_beaten}
+use Rattle.std.proofs.lemmas.List.{take-append-le}
+use Rattle.std.proofs.lemmas.List.Sorted.{IsPermutation-sym, IsPermutation-trans, IsPermutation-append, IsPermutation-map}
+use Rattle.list_core.specs.Chain.{AreNeighbours}
 use Rattle.list_core.proofs.Chains.{one_place}
 use Rattle.list_core.proofs.EventKinds.{link_through}
 use Rattle.alloc_core.proofs.Owners.{set_at}
-use Rattle.segment_machine.specs.declared.place.Place.{Place}
 use Rattle.segment_invariant.proofs.Frames.Ahead.{ahead_at, ahead_longer, reached_stop}
 use Rattle.segment_invariant.proofs.Frames.Answers.{answered_more, owed_is, owes_both, owes_linked}
-use Rattle.segment_machine.specs.declared.actor.Known.{Known}
-use Rattle.segment_machine.specs.declared.actor.Portion.{Portion}
-use Rattle.segment_machine.specs.declared.entry.Entry.{Entry}
-use Rattle.segment_machine.specs.declared.actor.Actor.{Actor}
-use Rattle.segment_machine.specs.declared.actor.Claim.{Claim}
-use Rattle.segment_machine.specs.declared.actor.Given.{Given}
-use Rattle.segment_machine.specs.declared.actor.Made.{Made}
 use Rattle.segment_machine.specs.declared.actor.Made.TheVariants as made
-use Rattle.segment_machine.specs.declared.actor.Own.{Own}
-use Rattle.segment_machine.specs.declared.actor.Published.{Published}
-use Rattle.segment_machine.specs.declared.place.Place.TheVariants.{Spent, TailLoaded, Linked}
-use Rattle.segment_machine.specs.Actor.{all_published, all_given, all_owed, is_opener}
-use Rattle.segment_machine.specs.State.{State}
+use Rattle.segment_machine.specs.declared.place.Place.TheVariants.{TailLoaded, Linked}
+use Rattle.segment_machine.specs.Actor.{all_given, all_owed}
 use Rattle.segment_machine.specs.Calls.{without}
 use Rattle.segment_machine.specs.Publishing.{own_at, published_as, owed_for}
-use Rattle.segment_invariant.specs.Body.{Record, Counts, Sample, Body, queue, plain, held, histogram, counts, sample, other, words_of, is_claimed, Piece, extent_of, Listed, listed, Anatomy, layout_of, order_of, free_of, claims_of}
-use Rattle.segment_invariant.specs.Seen.{Stands, Sees, IsNamed, IsValued, IsNoLater}
-use Rattle.segment_invariant.specs.Invariant.{StandsAs, IsListed, ListIsKept, StandsRight, HoldsOwn, Fits, CursorsAreKept, IsSetBy, ClaimedRight, Invariant, AreAnswered, IsAhead, is_beaten}
-use Rattle.list_lemmas.proofs.Elements.{rows, rows_more, column, at_from, below_length, index_at, all_at, row_in}
+use Rattle.segment_invariant.specs.Invariant.{IsListed, ListIsKept, CursorsAreKept, AreAnswered}
+use Rattle.list_lemmas.proofs.Elements.{rows_more}
 use Rattle.segment_invariant.proofs.Blocks.Pieces.{piece_word, first_piece, some_first, one_index, one_piece, with_piece, piece_stored, free_with, queue_piece, queue_stored, claims_same}
 use Rattle.segment_invariant.proofs.Blocks.Stops.{stop_open}
 use Rattle.segment_invariant.proofs.Frames.OneActor.{Doing, doing, doing_of, TurnsTo, turns_plain, is_plain, SameDeeds, same_deeds, same_role, same_sums, fits_same}

@@ -1,22 +1,12 @@
 -- The next of a block of one's own is stored: it waits for its link.
-use Rattle.std.proofs.Common.{◌≡◌, ℕ, ◌+◌, ◌==◌, List, set, inr, refl, sym, ◌∙◌, subst, arith, eq-eqb, eqb-true, false}
-use mathlib.Core.Option.{some}
-use lib.ListN.{get_elem?}
+use Rattle.segment_invariant.proofs.Prelude.Std.{◌≡◌, ℕ, ◌+◌, ◌==◌, List, set, inr, refl, sym, ◌∙◌, subst, arith, eq-eqb, eqb-true, false, some, get_elem?, at_from, all_at}
+use Rattle.segment_invariant.proofs.Prelude.Machine.{Dimensions, Actor, Own, State, store_own_next, publishing_event, Ready, is_opener}
+use Rattle.segment_invariant.proofs.Prelude.Invariant.{Anatomy, layout_of, HoldsOwn, Invariant}
 use Rattle.alloc_core.proofs.Layouts.{length_shown}
-use Rattle.segment_image.specs.Shape.{Dimensions}
-use Rattle.segment_machine.specs.declared.actor.Actor.{Actor}
-use Rattle.segment_machine.specs.declared.actor.Own.{Own}
-use Rattle.segment_machine.specs.State.{State}
-use Rattle.segment_machine.specs.Publishing.{store_own_next}
-use Rattle.segment_machine.specs.Event.{publishing_event, Ready}
 use Rattle.segment_machine.specs.Calls.{change_own}
-use Rattle.segment_invariant.specs.Body.{Anatomy, layout_of}
-use Rattle.segment_invariant.specs.Invariant.{HoldsOwn, Invariant}
-use Rattle.list_lemmas.proofs.Elements.{at_from, all_at}
 use Rattle.segment_invariant.proofs.Frames.GoesOn.{happens}
 use Rattle.segment_invariant.proofs.Allocating.Payloads.{change_one, has_lived, fills}
 use Rattle.segment_invariant.proofs.Frames.Shown.{Goes}
-use Rattle.segment_machine.specs.Actor.{is_opener}
 
 module _ (shape : Dimensions) (opened : Anatomy) (state : State) (kept : Invariant shape opened state) (id : ℕ) (a : Actor)
     (mine : get_elem? state.actors id ≡ some a) (records : is_opener a.role ≡ false) where

@@ -1,29 +1,15 @@
 -- The tail is loaded and moved on, and a link finds another record: each keeps the state, and its actor learns that it found the end or a record.
-use Rattle.std.proofs.Common.{◌≡◌, ◌≢◌, ℕ, suc, ◌+◌, ◌<◌, ◌==◌, Bool, true, false, List, [], ◌∷◌, ◌++◌, length, set, inl, inr, refl, sym, ap, ◌∙◌, subst, arith, eq-eqb, ne_eqb, Contains}
-use Rattle.std.specs.Prelude.{if◌then◌else◌, slice_index}
-use Rattle.std.proofs.lemmas.List.Elements.{All-weaker, All-push, Contains-push, All-contains}
-use mathlib.Core.Option.{some}
-use mathlib.Core.Logic.{dite}
-use native.Mathlib.Decide.{ℕ_discrete}
-use lib.ListN.{get_elem?}
-use Rattle.segment_image.specs.Shape.{Dimensions}
-use Rattle.segment_image.specs.Words.{word_at}
+use Rattle.segment_invariant.proofs.Prelude.Std.{◌≡◌, ◌≢◌, ℕ, suc, ◌+◌, ◌<◌, ◌==◌, Bool, true, false, List, [], ◌∷◌, ◌++◌, length, set, inl, inr, refl, sym, ap, ◌∙◌, subst, arith, eq-eqb, ne_eqb, Contains, if◌then◌else◌, slice_index, All-weaker, All-push, Contains-push, All-contains, some, dite, ℕ_discrete, get_elem?}
+use Rattle.segment_invariant.proofs.Prelude.Machine.{Dimensions, word_at, Actor, Own, Place, Idle, Spent, State, publishing_event, next, Ready, load_tail, link, move_tail, after_link, stops, IsStop, is_opener}
+use Rattle.segment_invariant.proofs.Prelude.Invariant.{Anatomy, layout_of, order_of, IsNoLater, StandsRight, Invariant, is_beaten}
 use Rattle.alloc_core.proofs.Layouts.{shown_tail, length_shown}
 use Rattle.list_core.proofs.Chains.{one_place}
 use Rattle.list_core.proofs.EventKinds.{link_missed, behind_stop}
-use Rattle.segment_machine.specs.declared.actor.Actor.{Actor}
-use Rattle.segment_machine.specs.declared.actor.Own.{Own}
-use Rattle.segment_machine.specs.declared.place.Place.{Place}
-use Rattle.segment_machine.specs.declared.place.Place.TheVariants.{Idle, TailLoaded, Beaten, Spent}
-use Rattle.segment_machine.specs.State.{State}
-use Rattle.segment_machine.specs.Event.{publishing_event, next, Ready}
-use Rattle.segment_machine.specs.Publishing.{load_tail, link, move_tail, after_link}
-use Rattle.list_core.specs.Chain.{stops, IsStop, AreNeighbours}
+use Rattle.segment_machine.specs.declared.place.Place.TheVariants.{TailLoaded, Beaten}
+use Rattle.list_core.specs.Chain.{AreNeighbours}
 use Rattle.segment_invariant.proofs.Walking.Room.{list_fits}
 use Rattle.segment_invariant.proofs.Frames.Ahead.{ahead_at, unbound_unbeaten, reached_stop, reached_later}
-use Rattle.segment_invariant.specs.Body.{Anatomy, layout_of, order_of}
-use Rattle.segment_invariant.specs.Seen.{IsNoLater, IsReachedAt}
-use Rattle.segment_invariant.specs.Invariant.{StandsRight, Invariant, is_beaten}
+use Rattle.segment_invariant.specs.Seen.{IsReachedAt}
 use Rattle.segment_invariant.proofs.Blocks.Stops.{linked_beside_head}
 use Rattle.segment_invariant.proofs.Frames.OneActor.{TurnsTo, is_plain, turns_plain, turns_unbound}
 use Rattle.segment_invariant.proofs.Frames.GoesOn.{happens}
@@ -31,7 +17,6 @@ use Rattle.segment_invariant.proofs.Frames.Shown.{Goes, after_is, loaded}
 use Rattle.segment_invariant.proofs.Frames.GrowthOfActors.{SawMore}
 use Rattle.segment_invariant.proofs.Walking.Nexts.{no_later_itself}
 use Rattle.segment_invariant.proofs.Walking.Walks.{stop_within, tail_word, walking, reference_is, looks_on}
-use Rattle.segment_machine.specs.Actor.{is_opener}
 
 module _ (shape : Dimensions) (opened : Anatomy) (state : State) (kept : Invariant shape opened state) (id : ℕ) (a : Actor)
     (mine : get_elem? state.actors id ≡ some a) (records : is_opener a.role ≡ false) where

@@ -1,28 +1,10 @@
 -- Where a recorder is alone, all that is counted is what it has accepted, with what had been accepted before it was made.
-use Rattle.std.proofs.Common.{◌≡◌, ◌≢◌, ◌⊎◌, ℕ, ◌+◌, Bool, true, false, ◌&&◌, ℤ, List, [], ◌∷◌, ◌++◌, map, length, drop, sum_by, All, Contains, inl, inr, ⊎_elim, refl, sym, ap, ap₂, ◌∙◌, subst, arith, append-nil}
-use Rattle.std.specs.Prelude.{if◌then◌else◌}
-use Rattle.std.specs.List.{filter, flat_map}
-use Rattle.std.specs.Ordering.{int_eq}
+use Rattle.segment_invariant.proofs.Prelude.Std.{◌≡◌, ◌≢◌, ◌⊎◌, ℕ, ◌+◌, Bool, true, false, ◌&&◌, ℤ, List, [], ◌∷◌, ◌++◌, map, length, drop, sum_by, All, Contains, inl, inr, ⊎_elim, refl, sym, ap, ◌∙◌, subst, arith, append-nil, if◌then◌else◌, filter, flat_map, int_eq, and_parts, All-contains, sum_by-cons, some, get_elem?, IsTotal}
+use Rattle.segment_invariant.proofs.Prelude.Machine.{Dimensions, Entry, EntryProgress, Place, Spent, Actor, is_counted, is_summed, is_noted, has_ended, is_of, tally_units, tally_noted, log_of, summed_of, all_counted, all_summed, all_noted, accepted_by, is_opener, made_of, is_untouched, purse, State}
+use Rattle.segment_invariant.proofs.Prelude.Invariant.{Anatomy, IsAlone, StandsRight, Invariant}
+use Rattle.std.proofs.Common.{ap₂}
 use Rattle.std.proofs.Math.Seq.{drop-append_seam}
-use Rattle.std.proofs.lemmas.Bool.{and_parts}
-use Rattle.std.proofs.lemmas.List.Elements.{All-contains}
-use Rattle.std.proofs.lemmas.List.Sums.{sum_by-cons}
-use mathlib.Core.Option.{some}
-use lib.ListN.{get_elem?}
-use Rattle.segment_image.specs.Shape.{Dimensions}
-use Rattle.segment_machine.specs.declared.entry.Entry.{Entry}
-use Rattle.segment_machine.specs.declared.entry.EntryProgress.{EntryProgress}
-use Rattle.segment_machine.specs.declared.place.Place.{Place}
-use Rattle.segment_machine.specs.declared.place.Place.TheVariants.{Spent}
-use Rattle.segment_machine.specs.declared.actor.Actor.{Actor}
-use Rattle.segment_machine.specs.Entry.{is_counted, is_summed, is_noted, has_ended, is_of, tally_units, tally_noted}
-use Rattle.segment_machine.specs.Actor.{log_of, summed_of, all_counted, all_summed, all_noted, accepted_by, accepted_since, is_opener, made_of}
-use Rattle.segment_machine.specs.Note.{is_untouched}
-use Rattle.segment_machine.specs.Seats.{purse}
-use Rattle.segment_machine.specs.State.{State}
-use Rattle.segment_invariant.specs.Body.{Anatomy}
-use Rattle.segment_invariant.specs.Invariant.{IsAlone, StandsRight, Invariant}
-use Rattle.list_lemmas.proofs.Sums.{IsTotal}
+use Rattle.segment_machine.specs.Actor.{accepted_since}
 use Rattle.segment_invariant.proofs.Lists.FewTerms.{sum_pair, flat_two}
 use Rattle.list_lemmas.proofs.Maps.{one_at}
 use Rattle.segment_invariant.proofs.Lists.Countings.{nothing_among, units_total, noted_total, no_units, no_noted, counted_none, noted_none}

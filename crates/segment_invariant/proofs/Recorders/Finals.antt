@@ -1,33 +1,14 @@
 -- The final deltas and snapshots of an opener that has joined a recorder, and its blocks: those of both.
-use Rattle.std.proofs.Common.{◌≡◌, ◌≢◌, ◌⊎◌, ℕ, ◌+◌, ◌-◌, ℤ, ◌+ℤ◌, Bool, true, false, true≢false, List, [], ◌++◌, map, length, take, drop, inl, inr, ⊎_elim, refl, sym, ap, ◌∙◌, subst, append_assoc, length-append, arith}
-use Rattle.std.specs.Prelude.{if◌then◌else◌}
-use mathlib.Core.Option.{some, some-injective}
-use lib.ListN.{get_elem?}
-use Rattle.std.specs.List.{Contains, All}
+use Rattle.segment_invariant.proofs.Prelude.Std.{◌≡◌, ◌≢◌, ◌⊎◌, ℕ, ◌+◌, ◌-◌, ℤ, ◌+ℤ◌, Bool, true, false, true≢false, List, [], ◌++◌, map, length, take, drop, inl, inr, ⊎_elim, refl, sym, ap, ◌∙◌, subst, append_assoc, length-append, arith, if◌then◌else◌, some, some-injective, get_elem?, Contains, All, map-append, All-nil, All-append, All-weaker, Contains-append_cases, all_at, contains_at, from_map, contains_mapped}
+use Rattle.segment_invariant.proofs.Prelude.Machine.{Dimensions, IsShown, Entry, EntryProgress, Actor, Answered, Moment, Own, Portion, Taken, is_of, tally_units, tally_sum, tally_noted, log_of, cost_of, units_listed, taken_units, taken_sum, portion_of, all_counted, all_summed, all_noted, all_taken, is_opener, made_of, is_untouched}
+use Rattle.segment_invariant.proofs.Prelude.Invariant.{Anatomy, held, layout_of, Stands, is_living, IsQuiet, FinalsAreExact, HoldsOwn}
 use Rattle.std.proofs.Math.Seq.{drop-append-add, take-append-add}
-use Rattle.std.proofs.lemmas.List.{map-append, drop-map}
-use Rattle.std.proofs.lemmas.List.Elements.{All-nil, All-append, All-weaker, Contains-append_cases}
-use Rattle.segment_image.specs.Shape.{Dimensions}
-use Rattle.alloc_core.specs.Layout.{IsShown}
-use Rattle.segment_machine.specs.declared.entry.Entry.{Entry}
-use Rattle.segment_machine.specs.declared.entry.EntryProgress.{EntryProgress}
-use Rattle.segment_machine.specs.declared.actor.Actor.{Actor}
-use Rattle.segment_machine.specs.declared.actor.Answered.{Answered}
-use Rattle.segment_machine.specs.declared.actor.Moment.{Moment}
-use Rattle.segment_machine.specs.declared.actor.Own.{Own}
-use Rattle.segment_machine.specs.declared.actor.Portion.{Portion}
-use Rattle.segment_machine.specs.declared.actor.Taken.{Taken}
-use Rattle.segment_machine.specs.Entry.{is_of, tally_units, tally_sum, tally_noted}
-use Rattle.segment_machine.specs.Actor.{log_of, cost_of, units_listed, taken_units, taken_sum, portion_of, all_counted, all_summed, all_noted, all_taken, is_opener, made_of}
-use Rattle.segment_machine.specs.Note.{is_untouched}
+use Rattle.std.proofs.lemmas.List.{drop-map}
 use Rattle.segment_invariant.specs.Consistent.{units_taken}
 use Rattle.segment_machine.specs.Seats.{joined, shifted, shifted_taken, shifted_answers}
-use Rattle.segment_invariant.specs.Body.{Anatomy, held, layout_of}
-use Rattle.segment_invariant.specs.Seen.{Stands}
-use Rattle.segment_invariant.specs.Invariant.{is_living, ended_deltas, accepted_at, TookAllOf, IsQuiet, IsMoment, IsMomentOf, FinalsAreExact, HoldsOwn}
-use Rattle.list_lemmas.proofs.Elements.{all_at, contains_at, from_map}
+use Rattle.segment_invariant.specs.Invariant.{ended_deltas, accepted_at, TookAllOf, IsMoment, IsMomentOf}
 use Rattle.segment_invariant.proofs.Blocks.Pieces.{one_stands}
-use Rattle.list_lemmas.proofs.Maps.{map_after, contains_mapped, all_left, drop_left, at_either}
+use Rattle.list_lemmas.proofs.Maps.{map_after, all_left, drop_left, at_either}
 use Rattle.segment_invariant.proofs.Frames.Together.{ended_among}
 use Rattle.segment_invariant.proofs.Recorders.PassedBlocks.{handed, stands_given, stands_left}
 use Rattle.segment_invariant.proofs.Recorders.Joined.{Joins}

@@ -1,38 +1,12 @@
 -- What an opener has that has joined a recorder: what both had.
-use Rattle.std.proofs.Common.{◌≡◌, ℕ, ◌+◌, ◌<◌, ◌≤◌, max, ℤ, Bool, true, false, true≢false, ◌||◌, List, [], ◌∷◌, ◌++◌, map, length, ⊎_elim, refl, sym, ap, ap₂, ◌∙◌, subst, append_assoc, append-nil, eqb-true, ltb-true, ltb-false, arith}
+use Rattle.segment_invariant.proofs.Prelude.Std.{◌≡◌, ℕ, ◌+◌, ◌<◌, ◌≤◌, max, ℤ, Bool, true, false, true≢false, ◌||◌, List, [], ◌∷◌, ◌++◌, map, length, ⊎_elim, refl, sym, ap, ◌∙◌, subst, append_assoc, append-nil, eqb-true, ltb-true, ltb-false, arith, if◌then◌else◌, ◌==◌, nat_lt, slice_index, unwrap_or, Option, Some, IsPermutation, bytes_eq, filter, Contains, map-append, filter-append, All-append, All-contains, Contains-append_left, Contains-append_right, Contains-append_cases, All-weaker, sum_by-append, IsPermutation-refl, none, some-injective, get_elem?}
+use Rattle.segment_invariant.proofs.Prelude.Machine.{Behind, IsPrefix, Known, Portion, Entry, EntryProgress, Idle, Actor, Cost, Given, Taken, is_counted, is_summed, is_noted, has_ended, tally_sum, tally_noted, is_bound, word_seen, log_of, counted_of, summed_of, cost_of, cost_total, taken_of, portion_of, taken_sum, SawSample, Dimensions, IsShown, Sighting}
+use Rattle.segment_invariant.proofs.Prelude.Invariant.{moving_at, summed_cost, CallsRight, Body, words_of, Piece, Anatomy, layout_of, order_of, free_of, WasSingle, WasCounter, WasInUse, WasFixed, IsNoLater, IsFirstOf, Sees, WasMet}
+use Rattle.std.proofs.Common.{ap₂}
 use Rattle.std.proofs.Math.Bool.{or-false}
-use Rattle.std.specs.Prelude.{if◌then◌else◌, ◌==◌, nat_lt, slice_index, unwrap_or, Option, Some, IsPermutation}
-use Rattle.std.specs.Str.{bytes_eq}
-use Rattle.std.specs.List.{filter, Contains}
-use Rattle.std.proofs.lemmas.List.{map-append}
-use Rattle.std.proofs.lemmas.List.Elements.{filter-append, All-append, All-contains, Contains-append_left, Contains-append_right, Contains-append_cases, All-weaker}
-use Rattle.std.proofs.lemmas.List.Sums.{sum_by-append}
-use Rattle.std.proofs.lemmas.List.Sorted.{IsPermutation-refl}
 use native.Mathlib.Decide.{dec_le}
-use Rattle.alloc_core.specs.Laws.{Behind}
-use Rattle.list_core.specs.Walk.{IsPrefix}
-use Rattle.segment_machine.specs.declared.actor.Known.{Known}
-use Rattle.segment_machine.specs.declared.actor.Portion.{Portion}
-use Rattle.segment_machine.specs.declared.entry.Entry.{Entry}
-use Rattle.segment_machine.specs.declared.entry.EntryProgress.{EntryProgress}
-use Rattle.segment_machine.specs.declared.place.Place.TheVariants.{Idle}
-use Rattle.segment_machine.specs.declared.actor.Actor.{Actor}
-use Rattle.segment_machine.specs.declared.actor.Cost.{Cost}
-use Rattle.segment_machine.specs.declared.actor.Given.{Given}
-use Rattle.segment_machine.specs.declared.actor.Taken.{Taken}
-use Rattle.segment_machine.specs.Entry.{is_counted, is_summed, is_noted, has_ended, tally_sum, tally_noted}
-use Rattle.segment_machine.specs.Actor.{is_bound, word_seen, log_of, counted_of, summed_of, given_by, cost_of, cost_total, taken_of, portion_of, taken_sum}
+use Rattle.segment_machine.specs.Actor.{given_by}
 use Rattle.segment_machine.specs.Seats.{both_seen, joined, spent, longer, shifted_taken, shifted}
-use Rattle.segment_machine.specs.Made.{SawSample}
-use Rattle.segment_invariant.specs.Ledger.{moving_at}
-use Rattle.segment_invariant.specs.Invariant.{summed_cost, CallsRight}
-use mathlib.Core.Option.{none, some-injective}
-use lib.ListN.{get_elem?}
-use Rattle.segment_image.specs.Shape.{Dimensions}
-use Rattle.alloc_core.specs.Layout.{IsShown}
-use Rattle.segment_machine.specs.declared.seen.Sighting.{Sighting}
-use Rattle.segment_invariant.specs.Body.{Body, words_of, Piece, Anatomy, layout_of, order_of, free_of}
-use Rattle.segment_invariant.specs.Seen.{WasSingle, WasCounter, WasInUse, WasFixed, IsNoLater, IsFirstOf, Sees, WasMet}
 use Rattle.segment_invariant.proofs.Frames.OneActor.{rests_at}
 use Rattle.segment_invariant.proofs.Blocks.Places.{fixed_within}
 use Rattle.segment_invariant.proofs.Blocks.Pieces.{one_index}

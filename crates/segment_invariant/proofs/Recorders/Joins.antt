@@ -1,37 +1,19 @@
 -- A recorder that is joined keeps what holds.
-use Rattle.std.proofs.Common.{◌≡◌, ◌≢◌, ℕ, ◌+◌, Bool, true, true≢false, List, [], ◌++◌, map, set, length, refl, sym, ap, ◌∙◌, subst, subst₂, append_assoc, append-nil, arith, false}
-use Rattle.std.specs.Prelude.{if◌then◌else◌}
-use mathlib.Core.Option.{some}
-use lib.ListN.{get_elem?}
-use Rattle.std.specs.List.{Contains, All}
-use Rattle.std.proofs.lemmas.List.{map-append}
-use Rattle.std.proofs.lemmas.List.Elements.{All-nil, All-append, All-map}
-use Rattle.atomic_table.proofs.Lists.{set_else, set_here}
-use Rattle.segment_image.specs.Shape.{Dimensions}
-use Rattle.segment_machine.specs.declared.entry.Entry.{Entry}
-use Rattle.segment_machine.specs.declared.entry.EntryProgress.{EntryProgress}
-use Rattle.segment_machine.specs.declared.place.Place.TheVariants.{Spent, SumLoaded}
-use Rattle.segment_machine.specs.declared.actor.Actor.{Actor}
-use Rattle.segment_machine.specs.declared.actor.Moment.{Moment}
-use Rattle.segment_machine.specs.declared.actor.Answered.{Answered}
-use Rattle.segment_machine.specs.declared.actor.Given.{Given}
-use Rattle.segment_machine.specs.Actor.{is_bound, log_of, is_opener, made_of, offered_of, outstanding_of}
-use Rattle.segment_invariant.specs.Consistent.{IsWithinCounts}
-use Rattle.segment_machine.specs.State.{State}
+use Rattle.segment_invariant.proofs.Prelude.Std.{◌≡◌, ◌≢◌, ℕ, ◌+◌, Bool, true, true≢false, List, [], ◌++◌, map, set, length, refl, sym, ap, ◌∙◌, subst, subst₂, append_assoc, append-nil, arith, false, if◌then◌else◌, some, get_elem?, Contains, All, map-append, All-nil, All-append, set_else, set_here, none_at, sum_beside, below_length}
+use Rattle.segment_invariant.proofs.Prelude.Machine.{Dimensions, Entry, EntryProgress, Spent, SumLoaded, Actor, Moment, Answered, Given, is_bound, log_of, is_opener, made_of, offered_of, outstanding_of, State}
+use Rattle.segment_invariant.proofs.Prelude.Invariant.{IsWithinCounts, plain, Anatomy, order_of, is_living, RolesAreKept, StandsRight, Fits, Invariant, Knows}
+use Rattle.std.proofs.lemmas.List.Elements.{All-map}
 use Rattle.segment_invariant.proofs.Frames.Answers.{owes_more}
 use Rattle.segment_machine.specs.Seats.{MayJoin, joined, spent, shifted, shifted_answers}
 use Rattle.segment_invariant.specs.Keeps.{JoinsKeep}
-use Rattle.segment_invariant.specs.Body.{plain, Anatomy, order_of}
-use Rattle.segment_invariant.specs.Invariant.{is_living, IsMomentOf, RolesAreKept, StandsRight, Fits, Invariant}
+use Rattle.segment_invariant.specs.Invariant.{IsMomentOf}
 use Rattle.segment_invariant.proofs.Frames.OneActor.{lives_on}
 use Rattle.segment_invariant.proofs.Frames.Anatomies.{grounds_along}
 use Rattle.segment_invariant.proofs.Frames.Standing.{follows_itself, stands_on}
-use Rattle.list_lemmas.proofs.Elements.{none_at, sum_beside, below_length}
 use Rattle.list_lemmas.proofs.Maps.{each_of_two}
 use Rattle.segment_invariant.proofs.Frames.Deeds.{Deeds, deeds_set, sums_of}
 use Rattle.segment_invariant.proofs.Frames.Together.{LoadedBefore}
 use Rattle.segment_invariant.proofs.Frames.Books.{GivenInOrder, books_of, books_by, kept_by}
-use Rattle.segment_invariant.specs.Seen.{Knows}
 use Rattle.segment_invariant.proofs.Frames.Roles.{no_recorder, opens_nothing, Stood, AllStood, still_younger, still_apart, still_eldest, opens_first, fits_beside}
 use Rattle.segment_invariant.proofs.Recorders.PassedBlocks.{handed, stays_passed, stands_left, books_passed, sees_passed, names_passed, calls_passed, fits_passed}
 use Rattle.segment_invariant.proofs.Recorders.Joined.{Joins, joined_deeds, joined_sees, joined_calls}

@@ -1,25 +1,11 @@
 -- Units that are offered, lent, poured out of a purse or given back keep what holds: of actors only their shares become other ones, and what an opener offers.
-use Rattle.std.proofs.Common.{Bool, true≢false, ◌≡◌, ◌≢◌, ℕ, suc, ◌+◌, ◌-◌, ◌≤◌, true, false, ◌||◌, fold, List, [], ◌∷◌, ◌++◌, map, length, set, inl, inr, refl, sym, ap, ◌∙◌, subst, subst₂, sum_by, arith, length-set}
-use mathlib.Core.Option.{some, some-injective}
-use lib.ListN.{get_elem?}
-use Rattle.std.specs.Prelude.{if◌then◌else◌, IsPermutation}
-use Rattle.std.specs.List.{flat_map, Contains, All}
-use Rattle.std.proofs.lemmas.List.Sorted.{IsPermutation-refl}
-use Rattle.std.proofs.lemmas.List.Sums.{sum_by-cons}
-use Rattle.atomic_table.proofs.Lists.{at_set, set_else, set_here}
-use Rattle.segment_image.specs.Shape.{Dimensions}
-use Rattle.segment_machine.specs.declared.place.Place.TheVariants.{Spent, SumLoaded}
-use Rattle.segment_machine.specs.declared.actor.Actor.{Actor}
+use Rattle.segment_invariant.proofs.Prelude.Std.{Bool, true≢false, ◌≡◌, ◌≢◌, ℕ, suc, ◌+◌, ◌-◌, ◌≤◌, true, false, ◌||◌, fold, List, [], ◌∷◌, ◌++◌, map, length, set, inl, inr, refl, sym, ap, ◌∙◌, subst, subst₂, sum_by, arith, length-set, some, some-injective, get_elem?, if◌then◌else◌, IsPermutation, flat_map, Contains, All, IsPermutation-refl, sum_by-cons, at_set, set_else, set_here, sum_beside, below_length}
+use Rattle.segment_invariant.proofs.Prelude.Machine.{Dimensions, Spent, SumLoaded, Actor, tally_sum, counted_of, summed_of, noted_of, taken_sum, units_of, taken_of, is_opener, made_of, offered_of, State, purse}
+use Rattle.segment_invariant.proofs.Prelude.Invariant.{Anatomy, order_of, moving_at, is_living, summed_cost, RolesAreKept, StandsRight, Fits, Invariant}
 use Rattle.segment_machine.specs.declared.actor.Role.{Role}
-use Rattle.segment_machine.specs.Entry.{tally_sum}
-use Rattle.segment_machine.specs.Actor.{counted_of, summed_of, noted_of, given_by, taken_sum, units_of, taken_of, is_opener, made_of, offered_of}
-use Rattle.segment_machine.specs.State.{State}
-use Rattle.segment_machine.specs.Seats.{offering, giver, getter, purse, spent}
+use Rattle.segment_machine.specs.Actor.{given_by}
+use Rattle.segment_machine.specs.Seats.{offering, giver, getter, spent}
 use Rattle.segment_invariant.specs.Keeps.{OffersKeep, LendsKeep, ReturnsKeep, PoursKeep}
-use Rattle.segment_invariant.specs.Body.{Anatomy, order_of}
-use Rattle.segment_invariant.specs.Ledger.{moving_at}
-use Rattle.segment_invariant.specs.Invariant.{is_living, summed_cost, RolesAreKept, StandsRight, Fits, Invariant}
-use Rattle.list_lemmas.proofs.Elements.{sum_beside, below_length}
 use Rattle.list_lemmas.proofs.Maps.{each_of_two}
 use Rattle.segment_invariant.proofs.Frames.Deeds.{Deeds, sums_of}
 use Rattle.segment_invariant.proofs.Frames.GoesOn.{not_opener}

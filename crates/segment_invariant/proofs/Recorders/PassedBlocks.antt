@@ -1,22 +1,11 @@
 -- Blocks that pass from one owner to another: their words and places stay, and so does all that is said of others.
-use Rattle.std.proofs.Common.{◌≡◌, ◌≢◌, ℕ, ◌+◌, ◌≤◌, pos, ◌+ℤ◌, Bool, true, false, cond, List, [], ◌∷◌, ◌++◌, map, replicate, ◌%◌, IsPermutation, inl, inr, ⊎_elim, refl, sym, ap, ◌∙◌, subst, eq-eqb, ne_eqb, All}
-use Rattle.std.specs.Prelude.{fold, if◌then◌else◌, ◌==◌}
-use Rattle.std.specs.List.{flat_map}
+use Rattle.segment_invariant.proofs.Prelude.Std.{◌≡◌, ◌≢◌, ℕ, ◌+◌, ◌≤◌, pos, ◌+ℤ◌, Bool, true, false, cond, List, [], ◌∷◌, ◌++◌, map, replicate, ◌%◌, IsPermutation, inl, inr, ⊎_elim, refl, sym, ap, ◌∙◌, subst, eq-eqb, ne_eqb, All, fold, if◌then◌else◌, ◌==◌, flat_map, some, none, some-ne-none, get_elem?, at_map, from_map}
+use Rattle.segment_invariant.proofs.Prelude.Machine.{Dimensions, Behind, IsShown, Actor, Known, Seen, Claim}
+use Rattle.segment_invariant.proofs.Prelude.Invariant.{Body, words_of, Piece, extent_of, Anatomy, layout_of, free_of, is_claimed, claims_of, Stands, Knows, Sees, StandStill, ClaimedRight, CallsRight, Fits}
 use Rattle.std.proofs.lemmas.List.Folds.{fold-map}
-use mathlib.Core.Option.{Option, some, none, some-ne-none}
-use lib.ListN.{get_elem?}
-use Rattle.atomic_table.proofs.Lists.{at_map}
-use Rattle.segment_image.specs.Shape.{Dimensions}
-use Rattle.alloc_core.specs.Laws.{Behind}
-use Rattle.alloc_core.specs.Layout.{Block, queue_block, end_of, spread, IsLaid, head_words, flags_of, IsShown}
-use Rattle.segment_machine.specs.declared.actor.Actor.{Actor}
-use Rattle.segment_machine.specs.declared.actor.Known.{Known}
-use Rattle.segment_machine.specs.declared.seen.Seen.{Seen}
-use Rattle.segment_machine.specs.declared.actor.Claim.{Claim}
-use Rattle.segment_invariant.specs.Body.{Body, words_of, Piece, extent_of, block_of, Anatomy, layout_of, free_of, is_claimed, claims_of}
-use Rattle.segment_invariant.specs.Seen.{Stands, Knows, Sees}
-use Rattle.segment_invariant.specs.Invariant.{StandStill, ClaimedRight, CallsRight, Fits}
-use Rattle.list_lemmas.proofs.Elements.{from_map}
+use mathlib.Core.Option.{Option}
+use Rattle.alloc_core.specs.Layout.{Block, queue_block, end_of, spread, IsLaid, head_words, flags_of}
+use Rattle.segment_invariant.specs.Body.{block_of}
 use Rattle.segment_invariant.proofs.Frames.Anatomies.{balanced_along, list_along, records_along, sums_along, sees_along, names_along, calls_along, fits_along}
 use Rattle.list_lemmas.proofs.Maps.{map_after}
 use Rattle.segment_invariant.proofs.Frames.Books.{Books}

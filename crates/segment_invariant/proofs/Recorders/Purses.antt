@@ -1,25 +1,11 @@
 -- A purse that an opener fills keeps what holds: it is one actor more, which has units and nothing else.
-use Rattle.std.proofs.Common.{◌≡◌, ◌≢◌, ℕ, ◌-◌, ◌≤◌, Bool, true, false, true≢false, List, [], ◌∷◌, ◌++◌, set, refl, sym, ap, subst, subst₂, arith}
-use Rattle.std.specs.Prelude.{if◌then◌else◌}
-use mathlib.Core.Option.{some}
-use lib.ListN.{get_elem?}
-use Rattle.std.specs.List.{flat_map, Contains, All}
+use Rattle.segment_invariant.proofs.Prelude.Std.{◌≡◌, ◌≢◌, ℕ, ◌-◌, ◌≤◌, Bool, true, false, true≢false, List, [], ◌∷◌, ◌++◌, set, refl, sym, ap, subst, subst₂, arith, if◌then◌else◌, some, get_elem?, flat_map, Contains, All, All-nil, sum_by-append, IsPermutation-refl, at_longer, set_here, none_at, sum_beside, below_length}
+use Rattle.segment_invariant.proofs.Prelude.Machine.{Dimensions, Spent, SumLoaded, Actor, Given, all_counted, all_noted, all_published, all_taken, is_opener, made_of, offered_of, outstanding_of, State, purse}
+use Rattle.segment_invariant.proofs.Prelude.Invariant.{Anatomy, order_of, is_living, RolesAreKept, StandsRight, Fits, Invariant}
 use Rattle.std.proofs.Math.Bool.{or-false}
-use Rattle.std.proofs.lemmas.List.Elements.{All-nil}
-use Rattle.std.proofs.lemmas.List.Sums.{sum_by-append}
-use Rattle.std.proofs.lemmas.List.Sorted.{IsPermutation-refl}
-use Rattle.atomic_table.proofs.Lists.{at_longer, set_here}
-use Rattle.segment_image.specs.Shape.{Dimensions}
-use Rattle.segment_machine.specs.declared.place.Place.TheVariants.{Spent, SumLoaded}
-use Rattle.segment_machine.specs.declared.actor.Actor.{Actor}
-use Rattle.segment_machine.specs.declared.actor.Given.{Given}
-use Rattle.segment_machine.specs.Actor.{all_counted, all_noted, all_published, all_given, all_names, all_owed, all_taken, is_opener, made_of, offered_of, outstanding_of}
-use Rattle.segment_machine.specs.State.{State}
-use Rattle.segment_machine.specs.Seats.{MayFill, lender, purse}
+use Rattle.segment_machine.specs.Actor.{all_given, all_names, all_owed}
+use Rattle.segment_machine.specs.Seats.{MayFill, lender}
 use Rattle.segment_invariant.specs.Keeps.{FillsKeep}
-use Rattle.segment_invariant.specs.Body.{Anatomy, order_of}
-use Rattle.segment_invariant.specs.Invariant.{is_living, RolesAreKept, StandsRight, Fits, Invariant}
-use Rattle.list_lemmas.proofs.Elements.{none_at, sum_beside, below_length}
 use Rattle.list_lemmas.proofs.Maps.{each_of_more}
 use Rattle.segment_invariant.proofs.Frames.Deeds.{Deeds, deeds_more, sums_of}
 use Rattle.segment_invariant.proofs.Frames.Together.{LoadedBefore}

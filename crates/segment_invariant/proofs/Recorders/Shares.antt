@@ -1,13 +1,10 @@
 -- An actor whose share, whose offer, or whose recorders are other ones has seen and done what it had.
-use Rattle.std.proofs.Common.{inl, inr, ⊎_elim, ap, ◌+◌, ◌≡◌, ℕ, List, false, true≢false, sym, ◌∙◌}
-use Rattle.segment_image.specs.Shape.{Dimensions}
-use Rattle.segment_machine.specs.declared.actor.Actor.{Actor}
-use Rattle.segment_invariant.specs.Body.{Anatomy}
-use Rattle.segment_invariant.specs.Invariant.{IsAlone, IsSettled, LooksBack, FinalsAreExact, Fits}
-use Rattle.segment_machine.specs.Actor.{is_opener, made_of, offered_of, outstanding_of}
+use Rattle.segment_invariant.proofs.Prelude.Std.{inl, inr, ⊎_elim, ap, ◌+◌, ◌≡◌, ℕ, List, false, true≢false, sym, ◌∙◌}
+use Rattle.segment_invariant.proofs.Prelude.Machine.{Dimensions, Actor, is_opener, made_of, offered_of, outstanding_of, Known}
+use Rattle.segment_invariant.proofs.Prelude.Invariant.{Anatomy, IsAlone, LooksBack, FinalsAreExact, Fits}
+use Rattle.segment_invariant.specs.Invariant.{IsSettled}
 use Rattle.segment_machine.specs.declared.actor.Role.TheVariants.{Opener}
 use Rattle.segment_machine.specs.declared.actor.Role.{Role}
-use Rattle.segment_machine.specs.declared.actor.Known.{Known}
 use Rattle.segment_invariant.proofs.Frames.Anew.{fits_anew}
 
 -- with another share, another offer and other recorders

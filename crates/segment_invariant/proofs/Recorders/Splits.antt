@@ -1,37 +1,15 @@
 -- A recorder that is made keeps what holds.
-use Rattle.std.proofs.Common.{◌≡◌, ◌≢◌, ◌⊎◌, ℕ, ◌+◌, ◌-◌, ◌<◌, ◌≤◌, Bool, true, ◌&&◌, true≢false, List, [], ◌∷◌, ◌++◌, map, set, length, inl, inr, ⊎_elim, refl, sym, ap, ◌∙◌, subst, subst₂, append-nil, arith, drop, pos, false}
-use Rattle.std.specs.Prelude.{if◌then◌else◌, slice_index}
-use mathlib.Core.Option.{some}
-use lib.ListN.{get_elem?}
-use Rattle.std.specs.List.{flat_map, Contains, All}
+use Rattle.segment_invariant.proofs.Prelude.Std.{◌≡◌, ◌≢◌, ◌⊎◌, ℕ, ◌+◌, ◌-◌, ◌<◌, ◌≤◌, Bool, true, ◌&&◌, true≢false, List, [], ◌∷◌, ◌++◌, map, set, length, inl, inr, ⊎_elim, refl, sym, ap, ◌∙◌, subst, subst₂, append-nil, arith, drop, pos, false, if◌then◌else◌, slice_index, some, get_elem?, flat_map, Contains, All, and_parts, All-nil, All-contains, Contains-append_left, Contains-append_right, Contains-append_cases, sum_by-append, IsPermutation-refl, at_longer, set_here, none_in, none_at, contains_filter, sum_at_least, sum_beside, below_length, contains_map, contains_mapped}
+use Rattle.segment_invariant.proofs.Prelude.Machine.{Dimensions, IsStop, Entry, EntryProgress, Spent, SumLoaded, Actor, Given, Sighting, is_counted, is_summed, is_noted, has_ended, counted_among, log_of, counted_of, all_counted, all_noted, all_published, all_taken, is_opener, made_of, offered_of, outstanding_of, State}
+use Rattle.segment_invariant.proofs.Prelude.Invariant.{IsWithinCounts, Anatomy, order_of, Knows, is_living, HoldsOwn, CallsRight, IsAlone, LooksBack, FinalsAreExact, RolesAreKept, StandsRight, Fits, Invariant}
 use Rattle.std.proofs.Math.Bool.{or-false, or_self}
-use Rattle.std.proofs.lemmas.Bool.{and_parts}
 use Rattle.std.proofs.lemmas.List.{drop_all}
-use Rattle.std.proofs.lemmas.List.Elements.{All-nil, All-contains, Contains-append_left, Contains-append_right, Contains-append_cases}
-use Rattle.std.proofs.lemmas.List.Sums.{sum_by-append}
-use Rattle.std.proofs.lemmas.List.Sorted.{IsPermutation-refl}
-use Rattle.atomic_table.proofs.Lists.{at_longer, set_here}
-use Rattle.segment_image.specs.Shape.{Dimensions}
-use Rattle.list_core.specs.Chain.{IsStop}
 use Rattle.segment_invariant.proofs.Frames.Ahead.{ahead_anew, reached_stop}
-use Rattle.segment_machine.specs.declared.entry.Entry.{Entry}
-use Rattle.segment_machine.specs.declared.entry.EntryProgress.{EntryProgress}
-use Rattle.segment_machine.specs.declared.place.Place.TheVariants.{Spent, SumLoaded}
-use Rattle.segment_machine.specs.declared.actor.Actor.{Actor}
-use Rattle.segment_machine.specs.declared.actor.Given.{Given}
-use Rattle.segment_machine.specs.declared.seen.Sighting.{Sighting}
-use Rattle.segment_machine.specs.Entry.{is_counted, is_summed, is_noted, has_ended, counted_among}
-use Rattle.segment_machine.specs.Actor.{log_of, counted_of, all_counted, all_noted, all_published, all_given, all_names, all_owed, all_taken, is_opener, made_of, offered_of, outstanding_of}
-use Rattle.segment_invariant.specs.Consistent.{IsWithinCounts}
-use Rattle.segment_machine.specs.State.{State}
+use Rattle.segment_machine.specs.Actor.{all_given, all_names, all_owed}
 use Rattle.segment_machine.specs.Seats.{MaySplit, parent, newcomer}
 use Rattle.segment_invariant.specs.Keeps.{SplitsKeep}
-use Rattle.segment_invariant.specs.Body.{Anatomy, order_of}
-use Rattle.segment_invariant.specs.Seen.{Knows}
-use Rattle.segment_invariant.specs.Invariant.{is_living, HoldsOwn, CallsRight, IsAlone, LooksBack, FinalsAreExact, RolesAreKept, StandsRight, Fits, Invariant}
-use Rattle.list_lemmas.proofs.Elements.{none_in, none_at, contains_filter, sum_at_least, sum_beside, below_length}
 use Rattle.segment_invariant.proofs.Frames.OneActor.{lives_on}
-use Rattle.list_lemmas.proofs.Maps.{each_of_more, contains_map, contains_mapped, one_at}
+use Rattle.list_lemmas.proofs.Maps.{each_of_more, one_at}
 use Rattle.segment_invariant.proofs.Frames.Deeds.{Deeds, deeds_more, sums_of}
 use Rattle.segment_invariant.proofs.Frames.Together.{LoadedBefore, IsLater, fits}
 use Rattle.segment_invariant.proofs.Frames.Books.{GivenInOrder, books_of, books_by, kept_by}

@@ -1,27 +1,11 @@
 -- A count is loaded: of a bucket, or of a sample that was met.
-use Rattle.std.proofs.Common.{◌≡◌, ◌≢◌, ℕ, ◌+◌, ◌-◌, ◌<◌, ℤ, true, false, [], ◌∷◌, ◌++◌, length, set, Contains, inl, inr, ⊎_elim, refl, sym, ap, ◌∙◌, subst, arith, length-append}
-use Rattle.std.proofs.lemmas.List.Elements.{All-push, All-contains, Contains-push}
-use mathlib.Core.Option.{some}
-use lib.ListN.{get_elem?}
-use Rattle.segment_image.specs.Shape.{Dimensions}
-use Rattle.segment_image.specs.Words.{word_at}
-use Rattle.bucket_ranges.specs.Spec.{buckets_of}
-use Rattle.segment_machine.specs.declared.actor.Actor.{Actor}
-use Rattle.segment_machine.specs.declared.actor.Known.{Known}
-use Rattle.segment_machine.specs.declared.place.Look.{Look}
-use Rattle.segment_machine.specs.declared.place.Place.{Place}
-use Rattle.segment_machine.specs.declared.place.Place.TheVariants.{Spent, Looking, Moving, CountLoaded, SampleLoaded}
-use Rattle.segment_machine.specs.declared.seen.Sighting.{Sighting}
-use Rattle.segment_machine.specs.Actor.{is_bound, Buckets, Sparse, is_opener}
-use Rattle.segment_calls.specs.Form.{is_off}
-use Rattle.segment_machine.specs.Made.{SawSample}
-use Rattle.segment_machine.specs.State.{State}
-use Rattle.segment_machine.specs.Taking.{load_count, at_count, is_looking}
-use Rattle.segment_machine.specs.Event.{taking_event, Ready, next}
-use Rattle.segment_invariant.specs.Body.{Record, Counts, Sample, counts, sample, Anatomy}
-use Rattle.segment_invariant.specs.Ledger.{key_of_bucket}
-use Rattle.segment_invariant.specs.Seen.{HasRecord, HasCounts, HasSample, WasFixed, WasCounter, WasInUse, WasSingle, WasMet}
-use Rattle.segment_invariant.specs.Invariant.{LoadedOff, StandsRight, Invariant, IsCountsOf}
+use Rattle.segment_invariant.proofs.Prelude.Std.{◌≡◌, ◌≢◌, ℕ, ◌+◌, ◌-◌, ◌<◌, ℤ, true, false, [], ◌∷◌, ◌++◌, length, set, Contains, inl, inr, ⊎_elim, refl, sym, ap, ◌∙◌, subst, arith, length-append, All-push, All-contains, Contains-push, some, get_elem?}
+use Rattle.segment_invariant.proofs.Prelude.Machine.{Dimensions, word_at, buckets_of, Actor, Known, Look, Place, Spent, Looking, Moving, CountLoaded, Sighting, is_bound, Buckets, is_opener, is_off, SawSample, State, load_count, taking_event, Ready, next}
+use Rattle.segment_invariant.proofs.Prelude.Invariant.{Record, Counts, Sample, counts, sample, Anatomy, key_of_bucket, HasRecord, HasCounts, HasSample, WasFixed, WasCounter, WasInUse, WasSingle, WasMet, StandsRight, Invariant, IsCountsOf}
+use Rattle.segment_machine.specs.declared.place.Place.TheVariants.{SampleLoaded}
+use Rattle.segment_machine.specs.Actor.{Sparse}
+use Rattle.segment_machine.specs.Taking.{at_count, is_looking}
+use Rattle.segment_invariant.specs.Invariant.{LoadedOff}
 use Rattle.segment_invariant.proofs.Blocks.Places.{counter_within}
 use Rattle.segment_invariant.proofs.Frames.GoesOn.{happens}
 use Rattle.segment_invariant.proofs.Frames.Leads.{off_leads}

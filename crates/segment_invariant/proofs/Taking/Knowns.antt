@@ -1,22 +1,10 @@
 -- What a delta takes of: the first record of its name, whose buckets, keys and forms are those that its recorder knows.
-use Rattle.std.proofs.Common.{◌≡◌, ◌≢◌, ℕ, Option, Some, sym, ap, ◌∙◌, subst, false}
-use mathlib.Core.Option.{some}
-use lib.ListN.{get_elem?}
-use Rattle.segment_image.specs.Shape.{Dimensions}
-use Rattle.bucket_ranges.specs.Spec.{buckets_of}
-use Rattle.bucket_ranges.specs.Single.{single_of}
-use Rattle.segment_machine.specs.declared.actor.Actor.{Actor}
-use Rattle.segment_machine.specs.declared.actor.Known.{Known}
-use Rattle.segment_machine.specs.declared.place.Place.TheVariants.{Spent}
-use Rattle.segment_machine.specs.Actor.{bucket_key, known_at, known_buckets, is_opener}
+use Rattle.segment_invariant.proofs.Prelude.Std.{◌≡◌, ◌≢◌, ℕ, Option, Some, sym, ap, ◌∙◌, subst, false, some, get_elem?, at_from}
+use Rattle.segment_invariant.proofs.Prelude.Machine.{Dimensions, buckets_of, single_of, Actor, Known, Spent, bucket_key, known_at, is_opener, State}
+use Rattle.segment_invariant.proofs.Prelude.Invariant.{Record, Anatomy, key_of_bucket, HasRecord, IsFirst, Invariant}
+use Rattle.segment_machine.specs.Actor.{known_buckets}
 use Rattle.segment_machine.specs.Calls.{form_seen}
-use Rattle.segment_machine.specs.State.{State}
 use Rattle.segment_machine.specs.Taking.{Takes}
-use Rattle.segment_invariant.specs.Body.{Record, Anatomy}
-use Rattle.segment_invariant.specs.Ledger.{key_of_bucket}
-use Rattle.segment_invariant.specs.Seen.{HasRecord, IsFirst}
-use Rattle.segment_invariant.specs.Invariant.{Invariant}
-use Rattle.list_lemmas.proofs.Elements.{at_from}
 use Rattle.segment_invariant.proofs.Consistency.Totals.{find_known}
 use Rattle.segment_invariant.proofs.Counting.Looks.{knows_of, one_record}
 

@@ -1,31 +1,13 @@
 -- A delta goes on, which is the last of its actor: what was taken, and that final deltas and snapshots are as exact as they were.
-use Rattle.std.proofs.Common.{◌≡◌, ◌⊎◌, ℕ, ◌+◌, ◌-◌, ◌<◌, ◌≤◌, ℤ, pos, ◌+ℤ◌, Bool, true, false, List, [], ◌∷◌, ◌++◌, length, take, drop, Contains, inl, inr, ⊎_elim, refl, sym, ap, ◌∙◌, subst, arith, map}
-use Rattle.std.specs.Prelude.{if◌then◌else◌}
-use Rattle.std.specs.Str.{bytes_eq}
-use Rattle.std.proofs.Math.IntN.{+ℤ_assoc, +ℤ_idl, +ℤ_idr}
-use Rattle.std.proofs.Math.Seq.{take-append_seam}
-use Rattle.std.proofs.lemmas.List.{length_push, same_from_push, drop-append-le}
-use Rattle.std.proofs.lemmas.List.Elements.{Contains-append_cases, Contains-append_left, Contains-append_right}
+use Rattle.segment_invariant.proofs.Prelude.Std.{◌≡◌, ◌⊎◌, ℕ, ◌+◌, ◌-◌, ◌<◌, ◌≤◌, ℤ, pos, ◌+ℤ◌, Bool, true, false, List, [], ◌∷◌, ◌++◌, length, take, drop, Contains, inl, inr, ⊎_elim, refl, sym, ap, ◌∙◌, subst, arith, map, if◌then◌else◌, bytes_eq, +ℤ_idl, +ℤ_idr, take-append_seam, length_push, drop-append-le, Contains-append_cases, Contains-append_left, Contains-append_right, some, get_elem?, one_in, below_length}
+use Rattle.segment_invariant.proofs.Prelude.Machine.{Actor, Portion, Moment, Taken, Entry, Place, Sighting, SawSample, change_last, tally_units, tally_sum, tally_noted, counted_of, units_listed, taken_units, taken_sum, all_counted, all_summed, all_noted, all_taken, portion_of, is_opener, made_of}
+use Rattle.segment_invariant.proofs.Prelude.Invariant.{Listed, Anatomy, IsFirst, IsFirstOf, of_name, IsAlone, CallsRight, RolesAreKept, FinalsAreExact}
+use Rattle.std.proofs.Math.IntN.{+ℤ_assoc}
+use Rattle.std.proofs.lemmas.List.{same_from_push}
 use Rattle.std.proofs.lemmas.List.Sums.{sum_by_push}
-use mathlib.Core.Option.{some}
-use lib.ListN.{get_elem?}
-use Rattle.segment_machine.specs.declared.actor.Actor.{Actor}
-use Rattle.segment_machine.specs.declared.actor.Portion.{Portion}
-use Rattle.segment_machine.specs.declared.actor.Moment.{Moment}
-use Rattle.segment_machine.specs.declared.actor.Taken.{Taken}
-use Rattle.segment_machine.specs.declared.entry.Entry.{Entry}
-use Rattle.segment_machine.specs.declared.place.Place.{Place}
-use Rattle.segment_machine.specs.declared.seen.Sighting.{Sighting}
 use Rattle.bucket_ranges.specs.declared.spec.Spec.TheVariants as spec
-use Rattle.segment_machine.specs.Made.{SawSample}
-use Rattle.segment_machine.specs.Calls.{change_last}
-use Rattle.segment_machine.specs.Entry.{tally_units, tally_sum, tally_noted}
-use Rattle.segment_machine.specs.Actor.{counted_of, units_listed, taken_units, taken_sum, all_counted, all_summed, all_noted, all_taken, portion_of, is_opener, made_of}
-use Rattle.segment_invariant.specs.Body.{Listed, Anatomy}
-use Rattle.segment_invariant.specs.Seen.{IsFirst, IsFirstOf}
-use Rattle.segment_invariant.specs.Ledger.{of_name, amount_of_name}
-use Rattle.segment_invariant.specs.Invariant.{ended_deltas, accepted_at, IsAlone, IsMoment, IsMomentOf, CallsRight, RolesAreKept, FinalsAreExact}
-use Rattle.list_lemmas.proofs.Elements.{one_in, below_length}
+use Rattle.segment_invariant.specs.Ledger.{amount_of_name}
+use Rattle.segment_invariant.specs.Invariant.{ended_deltas, accepted_at, IsMoment, IsMomentOf}
 use Rattle.segment_invariant.proofs.Lists.FewTerms.{if_nothing}
 use Rattle.segment_invariant.proofs.Notes.Amounts.{last_changed}
 use Rattle.segment_invariant.proofs.Frames.Roles.{SameRoles}

@@ -1,25 +1,9 @@
 -- Sums and redundant counts are loaded. A recorder sees a counter of a record.
-use Rattle.std.proofs.Common.{◌≡◌, ◌≢◌, ℕ, ◌+◌, ◌<◌, ℤ, false, List, [], ◌∷◌, ◌++◌, set, inl, inr, refl, sym, ap, ◌∙◌, subst, arith, ⊎_elim}
-use Rattle.std.specs.Int.{w64, cast_signed}
-use Rattle.std.proofs.lemmas.List.Elements.{All-push, Contains-append_left}
-use mathlib.Core.Option.{some}
-use lib.ListN.{get_elem?}
-use Rattle.atomic_table.proofs.Lists.{at_set}
-use Rattle.segment_image.specs.Shape.{Dimensions}
-use Rattle.segment_image.specs.Words.{word_at}
-use Rattle.segment_machine.specs.declared.actor.Actor.{Actor}
-use Rattle.segment_machine.specs.declared.place.Look.{Look}
-use Rattle.segment_machine.specs.declared.place.Place.{Place}
-use Rattle.segment_machine.specs.declared.place.Place.TheVariants.{Spent, Idle, FlagsLoaded, FreeLoaded, Raised, Sized, Marked, TailLoaded, Beaten, Linked, Looking, Losing, Moving, CountLoaded, SampleLoaded, SumLoaded, CursorLoaded, BehindCursor}
-use Rattle.segment_machine.specs.declared.seen.Sighting.{Sighting}
-use Rattle.segment_machine.specs.Actor.{is_bound, is_opener}
-use Rattle.segment_machine.specs.State.{State}
-use Rattle.segment_machine.specs.Taking.{load_sum, load_redundant}
-use Rattle.segment_machine.specs.Event.{taking_event, Ready, next}
-use Rattle.segment_invariant.specs.Body.{Record, histogram, Anatomy, Sample, sample}
-use Rattle.segment_invariant.specs.Seen.{HasRecord, IsCounterIn, WasCounter, WasInUse, WasMet, HasSample}
-use Rattle.segment_invariant.specs.Invariant.{StandsRight, SumsAreNear, IsSumOf, summed_cost, Invariant}
-use Rattle.list_lemmas.proofs.Elements.{sum_same}
+use Rattle.segment_invariant.proofs.Prelude.Std.{◌≡◌, ◌≢◌, ℕ, ◌+◌, ◌<◌, ℤ, false, List, [], ◌∷◌, ◌++◌, set, inl, inr, refl, sym, ap, ◌∙◌, subst, arith, ⊎_elim, w64, cast_signed, All-push, Contains-append_left, some, get_elem?, at_set, sum_same}
+use Rattle.segment_invariant.proofs.Prelude.Machine.{Dimensions, word_at, Actor, Look, Place, Spent, Idle, Looking, Moving, CountLoaded, SumLoaded, Sighting, is_bound, is_opener, State, load_sum, load_redundant, taking_event, Ready, next}
+use Rattle.segment_invariant.proofs.Prelude.Invariant.{Record, histogram, Anatomy, Sample, sample, HasRecord, WasCounter, WasInUse, WasMet, HasSample, StandsRight, SumsAreNear, IsSumOf, summed_cost, Invariant}
+use Rattle.segment_machine.specs.declared.place.Place.TheVariants.{FlagsLoaded, FreeLoaded, Raised, Sized, Marked, TailLoaded, Beaten, Linked, Losing, SampleLoaded, CursorLoaded, BehindCursor}
+use Rattle.segment_invariant.specs.Seen.{IsCounterIn}
 use Rattle.segment_invariant.proofs.Blocks.Places.{counter_within}
 use Rattle.segment_invariant.proofs.Frames.GoesOn.{happens}
 use Rattle.segment_invariant.proofs.Frames.OneActor.{rests_at}

@@ -1,36 +1,11 @@
 -- The mark of a bucket is raised to the count that was loaded: the invariant is kept, with what is learned.
-use Rattle.std.proofs.Common.{◌≡◌, ◌≢◌, Bool, true, false, if◌then◌else◌, ℕ, ◌+◌, ◌-◌, max, ◌<◌, ◌≤◌, ℤ, List, [], ◌∷◌, ◌++◌, length, set, Option, Some, inl, refl, sym, ap, ◌∙◌, subst, arith}
-use Rattle.std.specs.Prelude.{slice_index}
-use Rattle.std.specs.Ordering.{int_eq}
-use Rattle.std.specs.Str.{bytes_eq}
-use Rattle.std.proofs.lemmas.List.{set-set, get_or-set_same}
-use Rattle.std.proofs.lemmas.List.Elements.{All-contains}
-use mathlib.Core.Option.{some}
-use lib.ListN.{get_elem?}
+use Rattle.segment_invariant.proofs.Prelude.Std.{◌≡◌, ◌≢◌, Bool, true, false, if◌then◌else◌, ℕ, ◌+◌, ◌-◌, max, ◌<◌, ◌≤◌, ℤ, List, [], ◌∷◌, ◌++◌, length, set, Option, Some, inl, refl, sym, ap, ◌∙◌, subst, arith, slice_index, int_eq, bytes_eq, set-set, get_or-set_same, All-contains, some, get_elem?}
+use Rattle.segment_invariant.proofs.Prelude.Machine.{Dimensions, word_at, Spec, SingleWord, buckets_of, single_of, packed_bucket, is_packed_bucket, Actor, Known, Taken, Look, Place, Spent, Looking, CountLoaded, is_bound, bucket_key, known_at, all_counted, all_taken, taken_units, is_opener, back, change_last, tally_units, taking_event, is_off, State, raise_mark}
+use Rattle.segment_invariant.proofs.Prelude.Invariant.{Record, Counts, counts, Anatomy, of_name, form_at, key_of_bucket, keyed, marks_held, HasRecord, HasCounts, IsFirst, WasFixed, WasCounter, IsCountsOf, StandsRight, Invariant, is_beaten}
 use Rattle.alloc_core.proofs.Owners.{set_at}
-use Rattle.segment_image.specs.Shape.{Dimensions}
-use Rattle.segment_image.specs.Words.{word_at}
-use Rattle.bucket_ranges.specs.declared.spec.Spec.{Spec}
-use Rattle.bucket_ranges.specs.declared.single.SingleWord.{SingleWord}
-use Rattle.bucket_ranges.specs.Spec.{buckets_of}
-use Rattle.bucket_ranges.specs.Single.{single_of, packed_bucket, is_packed_bucket}
-use Rattle.segment_machine.specs.declared.actor.Actor.{Actor}
-use Rattle.segment_machine.specs.declared.actor.Known.{Known}
-use Rattle.segment_machine.specs.declared.actor.Taken.{Taken}
-use Rattle.segment_machine.specs.declared.place.Look.{Look}
-use Rattle.segment_machine.specs.declared.place.Place.{Place}
-use Rattle.segment_machine.specs.declared.place.Place.TheVariants.{Spent, Looking, CountLoaded}
-use Rattle.segment_machine.specs.Actor.{is_bound, bucket_key, known_at, all_counted, all_taken, taken_units, is_opener}
-use Rattle.segment_machine.specs.Calls.{back, change_last, form_seen}
-use Rattle.segment_machine.specs.Entry.{tally_units}
-use Rattle.segment_machine.specs.Event.{taking_event}
-use Rattle.segment_calls.specs.Form.{is_off}
-use Rattle.segment_machine.specs.State.{State}
-use Rattle.segment_machine.specs.Taking.{raise_mark, take_units, taken_key, Takes}
-use Rattle.segment_invariant.specs.Body.{Record, Counts, counts, Anatomy}
-use Rattle.segment_invariant.specs.Ledger.{of_name, form_at, key_of_bucket, keyed, marks_held}
-use Rattle.segment_invariant.specs.Seen.{HasRecord, HasCounts, IsFirst, WasFixed, WasCounter}
-use Rattle.segment_invariant.specs.Invariant.{IsCountsOf, LoadedOff, StandsRight, Invariant, is_beaten}
+use Rattle.segment_machine.specs.Calls.{form_seen}
+use Rattle.segment_machine.specs.Taking.{take_units, taken_key, Takes}
+use Rattle.segment_invariant.specs.Invariant.{LoadedOff}
 use Rattle.segment_invariant.proofs.Blocks.Places.{counter_within}
 use Rattle.segment_invariant.proofs.Consistency.Books.{marks_book, keyed_one, bucket_mounted}
 use Rattle.segment_invariant.proofs.Consistency.Keys.{packed_within, packed_mark}

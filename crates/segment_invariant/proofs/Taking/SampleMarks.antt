@@ -1,37 +1,13 @@
 -- The mark of a sample is raised to the count that was loaded: the invariant is kept, with what is learned.
-use Rattle.std.proofs.Common.{◌≡◌, ◌≢◌, Bool, true, false, if◌then◌else◌, ℕ, ◌+◌, ◌-◌, max, ◌<◌, ◌≤◌, ℤ, List, [], ◌∷◌, ◌++◌, length, set, Contains, Some, inl, inr, refl, sym, ap, ◌∙◌, subst, arith}
-use Rattle.std.specs.Prelude.{unwrap_or}
+use Rattle.segment_invariant.proofs.Prelude.Std.{◌≡◌, ◌≢◌, Bool, true, false, if◌then◌else◌, ℕ, ◌+◌, ◌-◌, max, ◌<◌, ◌≤◌, ℤ, List, [], ◌∷◌, ◌++◌, length, set, Contains, Some, inl, inr, refl, sym, ap, ◌∙◌, subst, arith, unwrap_or, w64, cast_signed, int_eq, bytes_eq, set-set, get_or-set_same, All-contains, dite, some, ℕ_discrete, get_elem?}
+use Rattle.segment_invariant.proofs.Prelude.Machine.{Dimensions, word_at, Actor, Known, Taken, Place, Spent, Idle, word_seen, all_counted, all_taken, taken_units, is_opener, back, change_last, tally_units, taking_event, SawSample, State, raise_mark}
+use Rattle.segment_invariant.proofs.Prelude.Invariant.{Sample, sample, histogram, Anatomy, of_name, marks_held, HasSample, IsFirst, IsFirstOf, WasCounter, StandsRight, HasKey, Invariant, is_beaten}
 use Rattle.std.specs.Prelude as std
-use Rattle.std.specs.Int.{w64, cast_signed}
-use Rattle.std.specs.Ordering.{int_eq}
-use Rattle.std.specs.Str.{bytes_eq}
-use Rattle.std.proofs.lemmas.List.{set-set, get_or-set_same}
-use Rattle.std.proofs.lemmas.List.Elements.{All-contains}
-use mathlib.Core.Logic.{dite}
-use mathlib.Core.Option.{some}
-use native.Mathlib.Decide.{ℕ_discrete}
-use lib.ListN.{get_elem?}
 use Rattle.alloc_core.proofs.Owners.{set_at}
-use Rattle.segment_image.specs.Shape.{Dimensions}
-use Rattle.segment_image.specs.Words.{word_at}
 use Rattle.bucket_ranges.specs.declared.spec.Spec.TheVariants as spec
-use Rattle.segment_machine.specs.declared.actor.Actor.{Actor}
-use Rattle.segment_machine.specs.declared.actor.Known.{Known}
-use Rattle.segment_machine.specs.declared.actor.Taken.{Taken}
-use Rattle.segment_machine.specs.declared.place.Place.{Place}
-use Rattle.segment_machine.specs.declared.place.Place.TheVariants.{Spent, Idle, SampleLoaded}
-use Rattle.segment_machine.specs.Actor.{word_seen, all_counted, all_taken, taken_units, is_opener}
-use Rattle.segment_machine.specs.Calls.{back, change_last}
-use Rattle.segment_machine.specs.Entry.{tally_units}
-use Rattle.segment_machine.specs.Event.{taking_event}
-use Rattle.segment_machine.specs.Made.{SawSample}
-use Rattle.segment_machine.specs.State.{State}
-use Rattle.segment_machine.specs.Taking.{raise_mark, take_units, taken_key, Takes}
+use Rattle.segment_machine.specs.declared.place.Place.TheVariants.{SampleLoaded}
+use Rattle.segment_machine.specs.Taking.{take_units, taken_key, Takes}
 use Rattle.segment_machine.proofs.Values.{value_word}
-use Rattle.segment_invariant.specs.Body.{Sample, sample, histogram, Anatomy}
-use Rattle.segment_invariant.specs.Ledger.{of_name, marks_held}
-use Rattle.segment_invariant.specs.Seen.{HasSample, IsFirst, IsFirstOf, WasCounter}
-use Rattle.segment_invariant.specs.Invariant.{StandsRight, HasKey, Invariant, is_beaten}
 use Rattle.segment_invariant.proofs.Lists.Tallies.{tally_at}
 use Rattle.segment_invariant.proofs.Consistency.Books.{marks_book, one_first, one_name, sample_first, value_held}
 use Rattle.segment_invariant.proofs.Consistency.Firsts.{record_of_first}

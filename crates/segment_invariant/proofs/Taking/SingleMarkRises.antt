@@ -1,38 +1,12 @@
 -- A single mark rises to what was seen of the packed bucket: the invariant is kept, with what is learned. First the mark rises, and then its recorder
 -- sees it.
-use Rattle.std.proofs.Common.{◌≡◌, ◌≢◌, Bool, true, false, if◌then◌else◌, ℕ, ◌+◌, ◌-◌, max, ◌<◌, ◌≤◌, ℤ, List, [], ◌∷◌, ◌++◌, length, set, Option, Some, inl, refl, sym, ap, ◌∙◌, subst, arith}
-use Rattle.std.specs.Prelude.{slice_index}
-use Rattle.std.specs.Ordering.{int_eq}
-use Rattle.std.specs.Str.{bytes_eq}
-use Rattle.std.proofs.lemmas.Bool.Decides.{Decides-int_eq}
-use Rattle.std.proofs.lemmas.List.{set-set, get_or-set_same}
-use mathlib.Core.Logic.{dite}
-use mathlib.Core.Option.{some}
-use native.Mathlib.Decide.{ℕ_discrete}
-use lib.ListN.{get_elem?}
+use Rattle.segment_invariant.proofs.Prelude.Std.{◌≡◌, ◌≢◌, Bool, true, false, if◌then◌else◌, ℕ, ◌+◌, ◌-◌, max, ◌<◌, ◌≤◌, ℤ, List, [], ◌∷◌, ◌++◌, length, set, Option, Some, inl, refl, sym, ap, ◌∙◌, subst, arith, slice_index, int_eq, bytes_eq, Decides-int_eq, set-set, get_or-set_same, dite, some, ℕ_discrete, get_elem?}
+use Rattle.segment_invariant.proofs.Prelude.Machine.{Dimensions, word_at, Spec, buckets_of, packed_bucket, units_packed, Actor, Known, Taken, Look, Spent, Looking, is_bound, all_counted, all_taken, taken_units, is_opener, back, change_last, tally_units, taking_event, units_in, State, raise_single_mark}
+use Rattle.segment_invariant.proofs.Prelude.Invariant.{Record, Counts, histogram, Anatomy, of_name, form_at, key_of_bucket, at_bucket, keyed, marks_held, all_held, HasRecord, HasCounts, IsFirst, is_beaten, IsLawfulRecord, IsCountsOf, Invariant}
 use Rattle.alloc_core.proofs.Owners.{set_at}
-use Rattle.segment_image.specs.Shape.{Dimensions}
-use Rattle.segment_image.specs.Words.{word_at}
-use Rattle.bucket_ranges.specs.declared.spec.Spec.{Spec}
 use Rattle.bucket_ranges.specs.declared.spec.Spec.TheVariants as spec
-use Rattle.bucket_ranges.specs.Spec.{buckets_of}
-use Rattle.bucket_ranges.specs.Single.{packed_bucket, units_packed}
-use Rattle.segment_machine.specs.declared.actor.Actor.{Actor}
-use Rattle.segment_machine.specs.declared.actor.Known.{Known}
-use Rattle.segment_machine.specs.declared.actor.Taken.{Taken}
-use Rattle.segment_machine.specs.declared.place.Look.{Look}
-use Rattle.segment_machine.specs.declared.place.Place.TheVariants.{Spent, Looking}
-use Rattle.segment_machine.specs.Actor.{is_bound, all_counted, all_taken, taken_units, is_opener}
-use Rattle.segment_machine.specs.Calls.{back, change_last}
-use Rattle.segment_machine.specs.Entry.{tally_units}
-use Rattle.segment_machine.specs.Event.{taking_event}
-use Rattle.segment_calls.specs.Form.{units_in}
-use Rattle.segment_machine.specs.State.{State}
-use Rattle.segment_machine.specs.Taking.{raise_single_mark, take_units, single_key, Takes}
-use Rattle.segment_invariant.specs.Body.{Record, Counts, histogram, Anatomy}
-use Rattle.segment_invariant.specs.Ledger.{of_name, form_at, key_of_bucket, at_bucket, keyed, marks_held, all_held}
-use Rattle.segment_invariant.specs.Seen.{HasRecord, HasCounts, IsFirst}
-use Rattle.segment_invariant.specs.Invariant.{is_beaten, LooksRight, IsLawfulRecord, IsCountsOf, Invariant}
+use Rattle.segment_machine.specs.Taking.{take_units, single_key, Takes}
+use Rattle.segment_invariant.specs.Invariant.{LooksRight}
 use Rattle.segment_invariant.proofs.Consistency.Books.{marks_book, keyed_one, bucket_alone, bucket_mounted}
 use Rattle.segment_invariant.proofs.Consistency.Keys.{packed_within}
 use Rattle.segment_invariant.proofs.Frames.Answers.{first_one}

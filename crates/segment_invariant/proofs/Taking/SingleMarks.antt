@@ -1,29 +1,11 @@
 -- The single mark is raised: to the packed units that were seen, or to the count of the packed bucket that was loaded.
-use Rattle.std.proofs.Common.{◌≡◌, ◌≢◌, Bool, true, false, ℕ, ◌+◌, max, ◌<◌, ◌≤◌, Option, Some, None, inl, inr, refl, sym, ap, ◌∙◌, subst, arith}
-use Rattle.std.specs.Prelude.{slice_index, unwrap_or}
-use Rattle.std.proofs.lemmas.List.Elements.{All-contains}
-use mathlib.Core.Option.{some}
-use lib.ListN.{get_elem?}
-use Rattle.segment_image.specs.Shape.{Dimensions}
-use Rattle.bucket_ranges.specs.declared.single.SingleWord.{SingleWord}
-use Rattle.bucket_ranges.specs.Spec.{buckets_of}
-use Rattle.bucket_ranges.specs.Single.{single_of, packed_bucket, units_packed}
-use Rattle.segment_machine.specs.declared.actor.Actor.{Actor}
-use Rattle.segment_machine.specs.declared.actor.Known.{Known}
-use Rattle.segment_machine.specs.declared.place.Look.{Look}
-use Rattle.segment_machine.specs.declared.place.Place.TheVariants.{Spent, Looking, CountLoaded}
-use Rattle.segment_machine.specs.Actor.{is_bound, bucket_key, known_at, all_counted, SawSingle, is_opener}
-use Rattle.segment_machine.specs.Calls.{back, form_seen}
-use Rattle.segment_machine.specs.Entry.{tally_units}
-use Rattle.segment_machine.specs.Event.{taking_event}
-use Rattle.segment_calls.specs.Form.{is_off, units_in, Leads}
-use Rattle.segment_machine.specs.State.{State}
-use Rattle.segment_machine.specs.Taking.{raise_single_mark, single_key, packed_key, Takes}
-use Rattle.segment_invariant.specs.Body.{Record, Counts, Anatomy}
-use Rattle.segment_invariant.specs.Keeps.{EventKeeps}
-use Rattle.segment_invariant.specs.Ledger.{form_at, key_of_bucket}
-use Rattle.segment_invariant.specs.Seen.{HasRecord, HasCounts, WasFixed, WasCounter, WasSingle}
-use Rattle.segment_invariant.specs.Invariant.{is_beaten, LooksRight, IsCountsOf, LoadedOff, StandsRight, Invariant}
+use Rattle.segment_invariant.proofs.Prelude.Std.{◌≡◌, ◌≢◌, Bool, true, false, ℕ, ◌+◌, max, ◌<◌, ◌≤◌, Option, Some, None, inl, inr, refl, sym, ap, ◌∙◌, subst, arith, slice_index, unwrap_or, All-contains, some, get_elem?}
+use Rattle.segment_invariant.proofs.Prelude.Machine.{Dimensions, SingleWord, buckets_of, single_of, packed_bucket, units_packed, Actor, Known, Look, Spent, Looking, CountLoaded, is_bound, bucket_key, known_at, all_counted, is_opener, back, tally_units, taking_event, is_off, units_in, Leads, State, raise_single_mark}
+use Rattle.segment_invariant.proofs.Prelude.Invariant.{Record, Counts, Anatomy, EventKeeps, form_at, key_of_bucket, HasRecord, HasCounts, WasFixed, WasCounter, WasSingle, is_beaten, IsCountsOf, StandsRight, Invariant}
+use Rattle.segment_machine.specs.Actor.{SawSingle}
+use Rattle.segment_machine.specs.Calls.{form_seen}
+use Rattle.segment_machine.specs.Taking.{single_key, packed_key, Takes}
+use Rattle.segment_invariant.specs.Invariant.{LooksRight, LoadedOff}
 use Rattle.segment_invariant.proofs.Consistency.Keys.{packed_within, no_units}
 use Rattle.segment_invariant.proofs.Consistency.Marks.{packed_all}
 use Rattle.segment_invariant.proofs.Frames.Leads.{on_leads}

@@ -1,39 +1,16 @@
 -- The sum mark is swapped for the sum that was loaded.
-use Rattle.std.proofs.Common.{◌≡◌, ◌≢◌, ℕ, ◌+◌, ◌-◌, ◌*◌, ◌^◌, ◌<◌, ◌≤◌, ℤ, pos, ◌+ℤ◌, ◌-ℤ◌, neg_ℤ, Bool, true, false, if◌then◌else◌, List, [], ◌∷◌, ◌++◌, length, take, drop, set, Contains, inl, inr, ⊎_elim, refl, sym, ap, ◌∙◌, subst, arith, length-append, append-nil, map}
-use Rattle.std.specs.Prelude.{unsigned_abs}
-use Rattle.std.specs.Int.{w64, cast_signed, cast_unsigned}
-use Rattle.std.specs.Str.{bytes_eq}
+use Rattle.segment_invariant.proofs.Prelude.Std.{◌≡◌, ◌≢◌, ℕ, ◌+◌, ◌-◌, ◌*◌, ◌^◌, ◌<◌, ◌≤◌, ℤ, pos, ◌+ℤ◌, ◌-ℤ◌, Bool, true, false, if◌then◌else◌, List, [], ◌∷◌, ◌++◌, length, take, drop, set, Contains, inl, inr, ⊎_elim, refl, sym, ap, ◌∙◌, subst, arith, length-append, append-nil, map, unsigned_abs, w64, cast_signed, cast_unsigned, bytes_eq, +ℤ_idl, +ℤ_idr, take-append_seam, to_z-of_z, All-contains, Contains-append_left, Contains-append_right, Contains-append_cases, bytes_eq-Decides, some, none, get_elem?, rows, row_in, one_in, below_length, sum_same}
+use Rattle.segment_invariant.proofs.Prelude.Machine.{Dimensions, word_at, Entry, Actor, Portion, Known, Moment, Taken, Spent, Idle, SumLoaded, change_last, tally_units, tally_sum, tally_noted, counted_of, summed_of, noted_of, taken_units, taken_sum, all_counted, all_summed, all_noted, all_taken, cost_of, taken_of, portion_of, is_opener, State, swap_sum_mark, taking_event}
+use Rattle.segment_invariant.proofs.Prelude.Invariant.{Record, histogram, Anatomy, HasRecord, IsFirst, Knows, IsLawfulRecord, IsAlone, IsSumOf, SumsAreNear, summed_cost, FinalsAreExact, Invariant, HasKey, is_beaten, EventKeeps}
+use Rattle.std.proofs.Common.{neg_ℤ}
 use Rattle.std.proofs.Math.Facts.{Fits-of_z}
-use Rattle.std.proofs.Math.IntN.{+ℤ_assoc, +ℤ_comm, +ℤ_idl, +ℤ_idr, +ℤ_invr}
-use Rattle.std.proofs.Math.Seq.{take-append_seam}
-use Rattle.std.proofs.lemmas.Int.{to_z-of_z, fits_signed_from_abs}
+use Rattle.std.proofs.Math.IntN.{+ℤ_assoc, +ℤ_comm, +ℤ_invr}
+use Rattle.std.proofs.lemmas.Int.{fits_signed_from_abs}
 use Rattle.std.proofs.lemmas.List.{same_from_push}
-use Rattle.std.proofs.lemmas.List.Elements.{All-contains, Contains-append_left, Contains-append_right, Contains-append_cases}
 use Rattle.std.proofs.lemmas.Simd.{below_from_Fits}
-use Rattle.std.proofs.lemmas.Slice.Eq.{bytes_eq-Decides}
-use mathlib.Core.Option.{some, none}
-use lib.ListN.{get_elem?}
-use Rattle.segment_image.specs.Shape.{Dimensions}
-use Rattle.segment_image.specs.Words.{word_at}
-use Rattle.segment_machine.specs.declared.entry.Entry.{Entry}
-use Rattle.segment_machine.specs.declared.actor.Actor.{Actor}
-use Rattle.segment_machine.specs.declared.actor.Portion.{Portion}
-use Rattle.segment_machine.specs.declared.actor.Known.{Known}
-use Rattle.segment_machine.specs.declared.actor.Moment.{Moment}
-use Rattle.segment_machine.specs.declared.actor.Taken.{Taken}
-use Rattle.segment_machine.specs.declared.place.Place.TheVariants.{Spent, Idle, SumLoaded}
-use Rattle.segment_machine.specs.Calls.{change_last}
-use Rattle.segment_machine.specs.Entry.{tally_units, tally_sum, tally_noted}
-use Rattle.segment_machine.specs.Actor.{counted_of, summed_of, noted_of, taken_units, taken_sum, all_counted, all_summed, all_noted, all_taken, cost_of, taken_of, portion_of, is_opener}
-use Rattle.segment_machine.specs.State.{State}
-use Rattle.segment_machine.specs.Taking.{swap_sum_mark, swap_sum}
-use Rattle.segment_machine.specs.Event.{taking_event}
-use Rattle.segment_invariant.specs.Body.{Record, histogram, Anatomy}
+use Rattle.segment_machine.specs.Taking.{swap_sum}
 use Rattle.segment_invariant.specs.Ledger.{amount_of_name}
-use Rattle.segment_invariant.specs.Seen.{HasRecord, IsFirst, Knows}
-use Rattle.segment_invariant.specs.Invariant.{IsLawfulRecord, IsAlone, IsSumOf, SumsAreNear, summed_cost, ended_deltas, accepted_at, IsMomentOf, FinalsAreExact, Invariant, summed_costs, HasKey, is_beaten}
-use Rattle.segment_invariant.specs.Keeps.{EventKeeps}
-use Rattle.list_lemmas.proofs.Elements.{rows, row_in, one_in, below_length, sum_same}
+use Rattle.segment_invariant.specs.Invariant.{ended_deltas, accepted_at, IsMomentOf, summed_costs}
 use Rattle.segment_invariant.proofs.Lists.Ends.{snoc_split}
 use Rattle.segment_invariant.proofs.Frames.Anatomies.{calls_same}
 use Rattle.segment_invariant.proofs.Frames.Answers.{first_one}

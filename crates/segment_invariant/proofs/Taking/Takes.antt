@@ -1,32 +1,9 @@
 -- A mark rises, and the delta of its recorder takes the units between: what was taken of a key, and the state that is left.
-use Rattle.std.proofs.Common.{◌≡◌, ◌≢◌, ◌⊎◌, ℕ, ◌+◌, ◌-◌, max, ◌≤◌, ℤ, pos, ◌+ℤ◌, Bool, true, false, nat_lt, if◌then◌else◌, List, [], ◌∷◌, ◌++◌, set, Contains, inl, inr, ⊎_elim, refl, sym, ap, ◌∙◌, subst, arith}
-use Rattle.std.specs.Str.{bytes_eq}
-use Rattle.std.specs.Ordering.{int_eq}
-use Rattle.std.proofs.Math.IntN.{+ℤ_idr}
-use Rattle.std.proofs.lemmas.Bool.{ltb-false}
-use Rattle.std.proofs.lemmas.Bool.Decides.{Decides-int_eq}
-use Rattle.std.proofs.lemmas.List.Elements.{Contains-append_cases}
-use Rattle.std.proofs.lemmas.List.Sums.{sum_by-append, sum_by-cons}
-use Rattle.std.proofs.lemmas.Slice.Eq.{bytes_eq-Decides}
-use mathlib.Core.Option.{some, none}
-use lib.ListN.{get_elem?}
-use Rattle.segment_image.specs.Shape.{Dimensions}
-use Rattle.segment_machine.specs.declared.actor.Actor.{Actor}
-use Rattle.segment_machine.specs.declared.actor.Portion.{Portion}
-use Rattle.segment_machine.specs.declared.actor.Known.{Known}
-use Rattle.segment_machine.specs.declared.actor.Taken.{Taken}
-use Rattle.segment_machine.specs.declared.place.Look.{Look}
-use Rattle.segment_machine.specs.declared.place.Place.{Place}
-use Rattle.segment_machine.specs.declared.place.Place.TheVariants.{Spent, SumLoaded, Moving}
-use Rattle.segment_machine.specs.Entry.{tally_units}
-use Rattle.segment_machine.specs.Actor.{counted_of, summed_of, noted_of, units_listed, taken_units, taken_sum, all_counted, all_summed, all_noted, all_taken, taken_of, portion_of, is_opener}
-use Rattle.segment_machine.specs.State.{State}
+use Rattle.segment_invariant.proofs.Prelude.Std.{◌≡◌, ◌≢◌, ◌⊎◌, ℕ, ◌+◌, ◌-◌, max, ◌≤◌, ℤ, pos, ◌+ℤ◌, Bool, true, false, nat_lt, if◌then◌else◌, List, [], ◌∷◌, ◌++◌, set, Contains, inl, inr, ⊎_elim, refl, sym, ap, ◌∙◌, subst, arith, bytes_eq, int_eq, +ℤ_idr, ltb-false, Decides-int_eq, Contains-append_cases, sum_by-append, sum_by-cons, bytes_eq-Decides, some, none, get_elem?, rows, row_in, one_in, none_in}
+use Rattle.segment_invariant.proofs.Prelude.Machine.{Dimensions, Actor, Portion, Known, Taken, Look, Place, Spent, SumLoaded, Moving, tally_units, counted_of, summed_of, noted_of, units_listed, taken_units, taken_sum, all_counted, all_summed, all_noted, all_taken, taken_of, portion_of, is_opener, State}
+use Rattle.segment_invariant.proofs.Prelude.Invariant.{Body, Anatomy, of_name, units_held, marks_held, noted_held, Stands, RecordsAreKept, StandsRight, HasKey, Invariant}
 use Rattle.segment_machine.specs.Taking.{take_units}
-use Rattle.segment_invariant.specs.Body.{Body, Anatomy}
-use Rattle.segment_invariant.specs.Ledger.{of_name, amount_of_name, units_held, marks_held, sum_held, sum_mark_held, noted_held}
-use Rattle.segment_invariant.specs.Seen.{Stands}
-use Rattle.segment_invariant.specs.Invariant.{RecordsAreKept, StandsRight, HasKey, Invariant}
-use Rattle.list_lemmas.proofs.Elements.{rows, row_in, one_in, none_in}
+use Rattle.segment_invariant.specs.Ledger.{amount_of_name, sum_held, sum_mark_held}
 use Rattle.segment_invariant.proofs.Frames.Ahead.{KeepsUp}
 use Rattle.segment_invariant.proofs.Frames.OneActor.{rests_at}
 use Rattle.segment_invariant.proofs.Frames.Roles.{SameRoles}

@@ -1,31 +1,13 @@
 -- What an actor learns of a next that it loads: it is what the actor found there before, the list fits in the segment, and at its end
 -- are all records that the actor met.
-use Rattle.std.proofs.Common.{◌≡◌, ◌≢◌, ℕ, zero, suc, ◌+◌, ◌<◌, ◌≤◌, ◌==◌, not, List, [], ◌∷◌, ◌++◌, map, length, filter, All, Contains, sym, ap, ◌∙◌, subst, arith, length-append, append-nil, eq-eqb}
-use Rattle.std.specs.Prelude.{slice_index}
-use Rattle.std.proofs.lemmas.List.{get_or_append_left}
-use Rattle.std.proofs.lemmas.List.Elements.{All-weaker, All-append, All-map, All-filter, filter_passes, Contains-get_or, Contains-append_right}
-use Rattle.std.proofs.lemmas.List.Sorted.{IsPermutation-sym, Contains-permutation}
-use mathlib.Core.Option.{some}
-use lib.ListN.{get_elem?}
-use Rattle.segment_image.specs.Shape.{Dimensions}
-use Rattle.segment_image.specs.Words.{word_at}
-use Rattle.list_core.specs.Chain.{stops, IsStop}
-use Rattle.list_core.specs.Walk.{IsPrefix}
+use Rattle.segment_invariant.proofs.Prelude.Std.{◌≡◌, ◌≢◌, ℕ, zero, suc, ◌+◌, ◌<◌, ◌≤◌, ◌==◌, not, List, [], ◌∷◌, ◌++◌, map, length, filter, All, Contains, sym, ap, ◌∙◌, subst, arith, length-append, append-nil, eq-eqb, slice_index, get_or_append_left, All-weaker, All-append, Contains-append_right, Contains-permutation, some, get_elem?, row_in, contains_map}
+use Rattle.segment_invariant.proofs.Prelude.Machine.{Dimensions, word_at, stops, IsStop, IsPrefix, Actor, Given, Published, Spent, Sighting, all_published, State}
+use Rattle.segment_invariant.proofs.Prelude.Invariant.{Listed, listed, Anatomy, order_of, IsNoLater, Invariant}
+use Rattle.std.proofs.lemmas.List.Elements.{All-map, All-filter, filter_passes, Contains-get_or}
+use Rattle.std.proofs.lemmas.List.Sorted.{IsPermutation-sym}
 use Rattle.list_core.proofs.Chains.{next_inside, last_stop}
-use Rattle.segment_machine.specs.declared.actor.Actor.{Actor}
-use Rattle.segment_machine.specs.declared.actor.Given.{Given}
-use Rattle.segment_machine.specs.declared.actor.Published.{Published}
-use Rattle.segment_machine.specs.declared.place.Place.TheVariants.{Spent}
-use Rattle.segment_machine.specs.declared.seen.Sighting.{Sighting}
-use Rattle.segment_machine.specs.Actor.{all_published}
 use Rattle.segment_machine.specs.Calls.{IsReference}
-use Rattle.segment_machine.specs.State.{State}
 use Rattle.segment_machine.specs.Walking.{extended, records_met, IsNextOf}
-use Rattle.segment_invariant.specs.Body.{Listed, listed, Anatomy, order_of}
-use Rattle.segment_invariant.specs.Seen.{IsNoLater}
-use Rattle.segment_invariant.specs.Invariant.{Invariant}
-use Rattle.list_lemmas.proofs.Elements.{row_in}
-use Rattle.list_lemmas.proofs.Maps.{contains_map}
 use Rattle.segment_invariant.proofs.Frames.Growth.{stop_at}
 use Rattle.segment_invariant.proofs.Walking.Room.{list_fits}
 

@@ -1,33 +1,16 @@
 -- A next is loaded: the state is kept, and the actor learns that it found the end or a record.
-use Rattle.std.proofs.Common.{◌≡◌, ◌≢◌, ℕ, suc, ◌+◌, ◌<◌, ◌≤◌, ◌==◌, ◌&&◌, not, Bool, true, false, List, [], ◌∷◌, ◌++◌, length, Contains, inl, inr, refl, sym, ap, ◌∙◌, subst, arith, append_assoc, length-append, eq-eqb, ne_eqb}
-use Rattle.std.specs.Prelude.{slice_index, if◌then◌else◌}
-use Rattle.std.proofs.lemmas.List.Elements.{Contains-append_left}
-use mathlib.Core.Option.{some}
-use mathlib.Core.Logic.{dite}
-use native.Mathlib.Decide.{ℕ_discrete}
-use lib.ListN.{get_elem?}
+use Rattle.segment_invariant.proofs.Prelude.Std.{◌≡◌, ◌≢◌, ℕ, suc, ◌+◌, ◌<◌, ◌≤◌, ◌==◌, ◌&&◌, not, Bool, true, false, List, [], ◌∷◌, ◌++◌, length, Contains, inl, inr, refl, sym, ap, ◌∙◌, subst, arith, append_assoc, length-append, eq-eqb, ne_eqb, slice_index, if◌then◌else◌, Contains-append_left, some, dite, ℕ_discrete, get_elem?, at_longer, at_from, below_length, index_at}
+use Rattle.segment_invariant.proofs.Prelude.Machine.{Dimensions, word_at, stops, IsStop, IsLinked, IsPrefix, Actor, Place, Spent, Idle, is_bound, is_opener, State, walking_event, next, Ready, load_next}
+use Rattle.segment_invariant.proofs.Prelude.Invariant.{Anatomy, order_of, IsNoLater, StandsRight, Invariant}
 use lib.Seq.{get_or-append_seam}
-use Rattle.atomic_table.proofs.Lists.{at_longer}
-use Rattle.segment_image.specs.Shape.{Dimensions}
-use Rattle.segment_image.specs.Words.{word_at}
-use Rattle.list_core.specs.Chain.{stops, IsStop, AreNeighbours, IsLinked}
-use Rattle.list_core.specs.Walk.{IsPrefix}
+use Rattle.list_core.specs.Chain.{AreNeighbours}
 use Rattle.list_core.proofs.Chains.{one_place}
 use Rattle.list_core.proofs.EventKinds.{link_missed, behind_stop}
-use Rattle.segment_machine.specs.declared.actor.Actor.{Actor}
-use Rattle.segment_machine.specs.declared.place.Place.{Place}
-use Rattle.segment_machine.specs.declared.place.Place.TheVariants.{Spent, Idle, CursorLoaded, BehindCursor}
-use Rattle.segment_machine.specs.Actor.{is_bound, is_opener}
-use Rattle.segment_machine.specs.State.{State}
-use Rattle.segment_machine.specs.Event.{walking_event, next, Ready}
+use Rattle.segment_machine.specs.declared.place.Place.TheVariants.{CursorLoaded, BehindCursor}
 use Rattle.segment_machine.specs.Calls.{ended}
-use Rattle.segment_machine.specs.Walking.{load_next, behind, extended, MayFollow}
+use Rattle.segment_machine.specs.Walking.{behind, extended, MayFollow}
 use Rattle.segment_invariant.proofs.Walking.Learned.{next_learned}
 use Rattle.segment_invariant.proofs.Frames.Ahead.{ahead_at, unbound_unbeaten, reached_stop}
-use Rattle.segment_invariant.specs.Body.{Anatomy, order_of}
-use Rattle.segment_invariant.specs.Seen.{IsNoLater}
-use Rattle.segment_invariant.specs.Invariant.{StandsRight, Invariant}
-use Rattle.list_lemmas.proofs.Elements.{at_from, below_length, index_at}
 use Rattle.segment_invariant.proofs.Frames.OneActor.{Doing, doing, TurnsTo, is_plain, turns_plain, turns_not}
 use Rattle.segment_invariant.proofs.Frames.GoesOn.{happens}
 use Rattle.segment_invariant.proofs.Frames.Shown.{Goes, loaded}

@@ -1,21 +1,12 @@
 -- A list has room in its segment: five words for each of its records, behind the queue block.
-use Rattle.std.proofs.Common.{◌≡◌, ◌≢◌, ℕ, suc, ◌+◌, ◌*◌, ◌<◌, ◌≤◌, List, map, length, All, Contains, ◌∙◌, subst, arith}
-use Rattle.std.specs.Prelude.{slice_index}
+use Rattle.segment_invariant.proofs.Prelude.Std.{◌≡◌, ◌≢◌, ℕ, suc, ◌+◌, ◌*◌, ◌<◌, ◌≤◌, List, map, length, All, Contains, ◌∙◌, subst, arith, slice_index, length-map, some, none, get_elem?, at_from, from_map, all_at, contains_map}
+use Rattle.segment_invariant.proofs.Prelude.Machine.{Dimensions, IsShown, IsLinked, Claim}
+use Rattle.segment_invariant.proofs.Prelude.Invariant.{Piece, Listed, Anatomy, layout_of, order_of, claims_of, StandsAs, ClaimedRight}
 use Rattle.std.proofs.lemmas.Bool.Decides.{Decides-eqb}
 use Rattle.std.proofs.lemmas.Cmp.{nat_eq_equiv}
-use Rattle.std.proofs.lemmas.List.{get_or_default, length-map}
+use Rattle.std.proofs.lemmas.List.{get_or_default}
 use Rattle.std.proofs.lemmas.Map.Made.{IsDistinct-from_AllPairs, is_member-Decides, length-le_from_is_member}
-use mathlib.Core.Option.{some, none}
-use lib.ListN.{get_elem?}
-use Rattle.segment_image.specs.Shape.{Dimensions}
-use Rattle.alloc_core.specs.Layout.{IsShown}
 use Rattle.alloc_core.proofs.Layouts.{free_word}
-use Rattle.list_core.specs.Chain.{IsLinked}
-use Rattle.segment_machine.specs.declared.actor.Claim.{Claim}
-use Rattle.segment_invariant.specs.Body.{Piece, Listed, Anatomy, layout_of, order_of, claims_of}
-use Rattle.segment_invariant.specs.Invariant.{StandsAs, ClaimedRight}
-use Rattle.list_lemmas.proofs.Elements.{at_from, from_map, all_at}
-use Rattle.list_lemmas.proofs.Maps.{contains_map}
 use Rattle.segment_invariant.proofs.Blocks.Pieces.{claim_of, free_within}
 use Rattle.segment_invariant.proofs.Consistency.Blocks.{claim_there, claims_few}
 use Rattle.segment_invariant.proofs.Walking.Walks.{listed_stands}

@@ -1,34 +1,14 @@
 -- Events that put nothing on the list: the tail is loaded and moved on, a next is loaded, and a link finds another record.
-use Rattle.std.proofs.Common.{◌≡◌, ◌≢◌, ◌⊎◌, ℕ, zero, suc, ◌+◌, ◌<◌, ◌≤◌, ◌==◌, true, List, ◌++◌, length, set, get_or, All, inl, inr, refl, sym, ap, ◌∙◌, subst, arith, eq-eqb, false}
+use Rattle.segment_invariant.proofs.Prelude.Std.{◌≡◌, ◌≢◌, ◌⊎◌, ℕ, zero, suc, ◌+◌, ◌<◌, ◌≤◌, ◌==◌, true, List, ◌++◌, length, set, get_or, All, inl, inr, refl, sym, ap, ◌∙◌, subst, arith, eq-eqb, false, slice_index, Some, None, nat_le, if◌then◌else◌, IsPermutation, le-leb, and_from, length-map, All-weaker, some, none, get_elem?, at_map, rows, column, index_at, all_at}
+use Rattle.segment_invariant.proofs.Prelude.Machine.{Dimensions, word_at, IsShown, Behind, is_reference, IsStop, IsLinked, IsPrefix, Actor, Claim, Own, Made, Sighting, Place, Spent, State, is_opener}
+use Rattle.segment_invariant.proofs.Prelude.Invariant.{Body, histogram, sample, other, words_of, is_claimed, Piece, Listed, Anatomy, layout_of, order_of, free_of, claims_of, Stands, WasFixed, IsNoLater, Sees, WasMet, StandsAs, StandsRight, HoldsOwn, IsSetBy, StandStill, Invariant, IsAhead}
 use Rattle.std.specs.Prelude as std
-use Rattle.std.specs.Prelude.{slice_index, Some, None, nat_le, if◌then◌else◌, IsPermutation}
-use Rattle.std.proofs.lemmas.Bool.{le-leb, and_from, or_left, or_right}
-use Rattle.std.proofs.lemmas.List.{length-map}
-use Rattle.std.proofs.lemmas.List.Elements.{All-weaker}
-use mathlib.Core.Option.{some, none}
-use lib.ListN.{get_elem?}
-use Rattle.atomic_table.proofs.Lists.{at_map}
-use Rattle.segment_image.specs.Shape.{Dimensions}
-use Rattle.segment_image.specs.Words.{word_at}
-use Rattle.alloc_core.specs.Layout.{IsShown}
-use Rattle.alloc_core.specs.Laws.{Behind}
+use Rattle.std.proofs.lemmas.Bool.{or_left, or_right}
 use Rattle.alloc_core.proofs.Layouts.{length_shown}
-use Rattle.list_core.specs.Chain.{is_reference, IsStop, IsLinked}
-use Rattle.list_core.specs.Walk.{IsPrefix}
-use Rattle.segment_machine.specs.declared.actor.Actor.{Actor}
-use Rattle.segment_machine.specs.declared.actor.Claim.{Claim}
-use Rattle.segment_machine.specs.declared.actor.Own.{Own}
-use Rattle.segment_machine.specs.declared.actor.Made.{Made}
 use Rattle.segment_machine.specs.declared.actor.Made.TheVariants as made
-use Rattle.segment_machine.specs.declared.seen.Sighting.{Sighting}
-use Rattle.segment_machine.specs.declared.place.Place.{Place}
-use Rattle.segment_machine.specs.declared.place.Place.TheVariants.{Spent}
-use Rattle.segment_machine.specs.State.{State}
 use Rattle.segment_machine.specs.Calls.{IsReference}
-use Rattle.segment_invariant.specs.Body.{Body, histogram, sample, other, words_of, is_claimed, Piece, Listed, Anatomy, layout_of, order_of, free_of, claims_of}
-use Rattle.segment_invariant.specs.Seen.{Stands, WasFixed, IsNoLater, AreNoLater, Sees, WasMet}
-use Rattle.segment_invariant.specs.Invariant.{StandsAs, StandsRight, HoldsOwn, IsSetBy, StandStill, Invariant, IsAhead}
-use Rattle.list_lemmas.proofs.Elements.{rows, column, there_below, index_at, all_at}
+use Rattle.segment_invariant.specs.Seen.{AreNoLater}
+use Rattle.list_lemmas.proofs.Elements.{there_below}
 use Rattle.segment_invariant.proofs.Blocks.Pieces.{piece_from, piece_ends, free_within}
 use Rattle.segment_invariant.proofs.Frames.OneActor.{Doing, doing, doing_of, TurnsTo}
 use Rattle.segment_invariant.proofs.Frames.Anatomies.{sees_along}
@@ -38,7 +18,6 @@ use Rattle.segment_invariant.proofs.Frames.Growth.{reshaped, Stays, with_next, g
 use Rattle.segment_invariant.proofs.Frames.GrowthOfActors.{SawMore}
 use Rattle.segment_invariant.proofs.Frames.GrowthOfStates.{fits_on}
 use Rattle.segment_invariant.proofs.Frames.Standing.{met_more}
-use Rattle.segment_machine.specs.Actor.{is_opener}
 
 -- ---- the stops of a kept list
 

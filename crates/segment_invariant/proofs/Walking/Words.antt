@@ -1,35 +1,14 @@
 -- A word of a published record that never changes is loaded: its type, its spec, its name, or what a sample is of.
 pub use Rattle.segment_calls.proofs.Letters.{letters_long}
-use Rattle.std.proofs.Common.{◌≡◌, ◌≢◌, ℕ, suc, ◌+◌, ◌-◌, ◌<◌, ◌==◌, Bool, true, false, List, [], ◌∷◌, ◌++◌, length, Contains, inl, inr, refl, sym, ap, ◌∙◌, subst, arith, length-append, eq-eqb, ne_eqb}
-use Rattle.std.specs.Prelude.{slice_index, if◌then◌else◌, Some, None}
+use Rattle.segment_invariant.proofs.Prelude.Std.{◌≡◌, ◌≢◌, ℕ, suc, ◌+◌, ◌-◌, ◌<◌, ◌==◌, Bool, true, false, List, [], ◌∷◌, ◌++◌, length, Contains, inl, inr, refl, sym, ap, ◌∙◌, subst, arith, length-append, eq-eqb, ne_eqb, slice_index, if◌then◌else◌, Some, None, All-contains, All-push, Contains-append_left, some, none, some-injective, dite, ℕ_discrete, get_elem?, at_longer, at_from, all_at, from_map, split_at}
+use Rattle.segment_invariant.proofs.Prelude.Machine.{Dimensions, word_at, spec_ranges, Spec, Linear, Boolean, Custom, Sparse, name_words, Actor, Made, Sighting, Spent, is_bound, word_seen, is_opener, State, load_published, walking_event, next, sight}
+use Rattle.segment_invariant.proofs.Prelude.Invariant.{Record, Sample, Body, histogram, sample, other, record_words, words_of, is_claimed, Piece, Listed, Anatomy, layout_of, order_of, Stands, HasRecord, HasSample, WasFixed, StandsAs, Invariant, IsLawfulRecord, IsPassedOver}
 use Rattle.std.specs.Prelude as std
-use Rattle.std.proofs.lemmas.List.Elements.{All-contains, All-push, Contains-append_left}
-use mathlib.Core.Option.{some, none, some-injective}
-use mathlib.Core.Logic.{dite}
-use native.Mathlib.Decide.{ℕ_discrete}
-use lib.ListN.{get_elem?}
-use Rattle.atomic_table.proofs.Lists.{at_longer}
-use Rattle.segment_image.specs.Shape.{Dimensions}
-use Rattle.segment_image.specs.Words.{word_at}
 use Rattle.alloc_core.proofs.Layouts.{length_shown}
-use Rattle.bucket_ranges.specs.Spec.{spec_ranges}
-use Rattle.bucket_ranges.specs.declared.spec.Spec.{Spec}
-use Rattle.bucket_ranges.specs.declared.spec.Spec.TheVariants.{Linear, Boolean, Custom, Sparse}
-use Rattle.bucket_ranges.specs.Reading.{name_words}
-use Rattle.segment_machine.specs.declared.actor.Actor.{Actor}
-use Rattle.segment_machine.specs.declared.actor.Made.{Made}
 use Rattle.segment_machine.specs.declared.actor.Made.TheVariants as made
-use Rattle.segment_machine.specs.declared.seen.Sighting.{Sighting}
-use Rattle.segment_machine.specs.declared.place.Place.TheVariants.{Spent}
-use Rattle.segment_machine.specs.Actor.{is_bound, word_seen, is_opener}
-use Rattle.segment_machine.specs.State.{State}
-use Rattle.segment_machine.specs.Walking.{load_published, IsFixed, EndsWithin}
-use Rattle.segment_machine.specs.Event.{walking_event, next}
-use Rattle.segment_machine.specs.Calls.{sight}
-use Rattle.segment_invariant.specs.Body.{Record, Sample, Body, histogram, sample, other, record_words, spec_field, words_of, is_claimed, Piece, Listed, Anatomy, layout_of, order_of}
-use Rattle.segment_invariant.specs.Seen.{Stands, HasRecord, HasSample, IsFixedIn, WasFixed}
-use Rattle.segment_invariant.specs.Invariant.{StandsAs, Invariant, IsLawfulRecord, IsPassedOver}
-use Rattle.list_lemmas.proofs.Elements.{at_from, all_at, from_map, split_at}
+use Rattle.segment_machine.specs.Walking.{IsFixed, EndsWithin}
+use Rattle.segment_invariant.specs.Body.{spec_field}
+use Rattle.segment_invariant.specs.Seen.{IsFixedIn}
 use Rattle.segment_invariant.proofs.Blocks.Places.{fixed_within}
 use Rattle.segment_invariant.proofs.Blocks.Pieces.{piece_word, one_index, one_stands}
 use Rattle.segment_invariant.proofs.Frames.OneActor.{Doing, turns_not, doing}

@@ -1,8 +1,6 @@
-use Rattle.std.proofs.Common.{ℕ, [], ◌∷◌, zero, suc, Contains, ap, arith}
-use Rattle.bucket_ranges.specs.Spec.{buckets_of}
-use Rattle.segment_machine.specs.declared.actor.Known.{Known}
+use Rattle.segment_invariant.proofs.Prelude.Std.{ℕ, [], ◌∷◌, zero, suc, Contains, ap, arith, one_in}
+use Rattle.segment_invariant.proofs.Prelude.Machine.{buckets_of, Known}
 use Rattle.segment_machine.specs.Examples.{known_a}
-use Rattle.list_lemmas.proofs.Elements.{one_in}
 use Rattle.segment_invariant.proofs.laws.counts_loaded.Goals as goal
 
 -- no record stands at 57

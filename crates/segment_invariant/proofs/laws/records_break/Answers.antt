@@ -1,5 +1,4 @@
-use Rattle.std.proofs.Common.{ℕ, List, refl, ap, arith}
-use Rattle.std.specs.Prelude.{slice_index}
+use Rattle.segment_invariant.proofs.Prelude.Std.{ℕ, List, refl, ap, arith, slice_index}
 use Rattle.bucket_ranges.specs.declared.spec.Spec.TheVariants as spec
 use Rattle.segment_machine.specs.declared.actor.Made.TheVariants as made
 use Rattle.segment_machine.specs.Examples.{letter_a}

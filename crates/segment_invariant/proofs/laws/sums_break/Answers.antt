@@ -1,5 +1,4 @@
-use Rattle.std.proofs.Common.{refl, ap, arith}
-use Rattle.std.specs.Prelude.{unsigned_abs}
+use Rattle.segment_invariant.proofs.Prelude.Std.{refl, ap, arith, unsigned_abs}
 use Rattle.segment_machine.specs.Examples.{letter_a, packed_segment}
 use Rattle.segment_invariant.proofs.Examples.OneRecord.{the_one}
 use Rattle.segment_invariant.proofs.laws.sums_break.Goals as goal

@@ -1,5 +1,4 @@
-use Rattle.std.proofs.Common.{ℕ, Option, ap, arith}
-use Rattle.std.specs.Prelude.{unwrap_or}
+use Rattle.segment_invariant.proofs.Prelude.Std.{ℕ, Option, ap, arith, unwrap_or}
 use Rattle.segment_invariant.proofs.laws.transit_breaks.Goals as goal
 
 pub returns : goal.returns

@@ -1,7 +1,5 @@
-use Rattle.std.proofs.Common.{◌≡◌, ℕ, Bool, true, false, ◌&&◌, Some, None, if◌then◌else◌, refl}
-use Rattle.bucket_ranges.specs.declared.single.SingleWord.TheVariants.{Packed}
-use Rattle.std.specs.Prelude.{nat_lt}
-use Rattle.bucket_ranges.specs.Single.{single_of}
+use Rattle.segment_invariant.proofs.Prelude.Std.{◌≡◌, ℕ, Bool, true, false, ◌&&◌, Some, None, if◌then◌else◌, refl, nat_lt}
+use Rattle.segment_invariant.proofs.Prelude.Machine.{Packed, single_of}
 use Rattle.segment_invariant.proofs.laws.words_formed.Goals as goal
 
 -- 65,541 units are more than a word has

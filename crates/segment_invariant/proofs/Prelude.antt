@@ -1,0 +1,3 @@
+pub mod Std
+pub mod Machine
+pub mod Invariant

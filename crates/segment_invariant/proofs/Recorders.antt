@@ -7,3 +7,4 @@ pub mod PassedBlocks
 pub mod Purses
 pub mod Shares
 pub mod Splits
+pub mod Newcomers

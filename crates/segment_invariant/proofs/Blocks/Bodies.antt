@@ -1,6 +1,6 @@
 -- A block of one's own that may be published holds just the words of what it is published as: a lawful record or sample that counts
 -- nothing, and a counts block of zeros.
-use Rattle.segment_invariant.proofs.Prelude.Std.{◌≡◌, ◌≢◌, ◌⊎◌, ℕ, suc, ◌+◌, ◌-◌, ◌*◌, ◌≤◌, ℤ, true, List, [], ◌∷◌, ◌++◌, length, replicate, All, inl, inr, refl, sym, ap, ◌∙◌, subst, arith, length-append, append_assoc, slice_index, if◌then◌else◌, Some, None, nat_le, w64, cast_unsigned, and_parts, leb-true, length-replicate}
+use Rattle.segment_invariant.proofs.Prelude.Std.{◌≡◌, ◌≢◌, ◌⊎◌, ℕ, suc, ◌+◌, ◌-◌, ◌*◌, ◌≤◌, ℤ, true, List, [], ◌∷◌, ◌++◌, length, replicate, All, inl, inr, refl, sym, ap, ◌∙◌, subst, arith, length-append, append_assoc, Some, None, nat_le, w64, cast_unsigned, and_parts, leb-true, length-replicate}
 use Rattle.segment_invariant.proofs.Prelude.Machine.{Spec, Linear, Boolean, Custom, Sparse, SingleWord, Empty, buckets_of, spec_fault, spec_fields, spec_ranges, single_of, packed_bucket, Own, units_in, AreNameWords}
 use Rattle.segment_invariant.proofs.Prelude.Invariant.{Record, Counts, Sample, record_words, form_at, IsLawfulRecord, IsCountsOf, CountsNothing}
 use Rattle.std.specs.Prelude as std

@@ -5,7 +5,7 @@ use Rattle.segment_invariant.proofs.Prelude.Invariant.{Record, Counts, counts, k
 use Rattle.std.proofs.Math.Nat.{le-max_left, le-max_right, max-le}
 use Rattle.std.proofs.lemmas.List.{get_or-set_other, set-append_left}
 use Rattle.segment_invariant.specs.Body.{counts_words}
-use Rattle.segment_invariant.proofs.Changes.Words.{Turns}
+use Rattle.segment_invariant.proofs.Changes.Words.{Turns, word_turns}
 use Rattle.segment_invariant.proofs.Counting.Seen.{count_in}
 
 -- ---- numbers of buckets
@@ -98,14 +98,8 @@ module _ (c : Counts) (i u : ℕ) (below : i < length c.units) where
 
   -- it goes on so
   pub risen_turns : (version : ℕ) → Turns version (counts c) (counts risen) (4 + i) (slice_index c.units i + u)
-  risen_turns version = record {
-    claimed = refl;
-    still = refl;
-    is = risen_words;
-    within = within;
-    inside = (λ e. omega (arith, e), λ e. omega (arith, e));
-    goes = (risen, refl, record { is = refl; long = (length-set c.units i (slice_index c.units i + u), refl); rise = rises });
-  }
+  risen_turns version = word_turns version (counts c) (counts risen) (4 + i) (slice_index c.units i + u) refl refl risen_words within (omega arith)
+      (risen, refl, record { is = refl; long = (length-set c.units i (slice_index c.units i + u), refl); rise = rises })
 
   -- and is the counts block of the record whose single word is off
   pub risen_counts : (version at : ℕ) (r : Record) → is_off r.single ≡ true → IsCountsOf version at r c → IsCountsOf version at r risen

@@ -1,14 +1,14 @@
 -- One word of a published block becomes another, and the block goes on: what has then to be shown of the blocks.
 use Rattle.segment_invariant.proofs.Prelude.Std.{◌≡◌, ◌≢◌, ◌⊎◌, ℕ, ◌+◌, ◌<◌, ◌≤◌, ℤ, true, List, length, set, All, Contains, inl, inr, ⊎_elim, refl, sym, ap, ◌∙◌, subst, arith, length-set, false, slice_index, dite, ℕ_discrete, some, none, some-injective, some-ne-none, get_elem?, at_set, set_else, sum_same}
 use Rattle.segment_invariant.proofs.Prelude.Machine.{Dimensions, IsShown, stops, IsLinked, Entry, Actor, Portion, Own, Spent, SumLoaded, Seen, Behind, tally_units, counted_of, all_counted, all_taken, taken_units, taken_of, is_opener, State}
-use Rattle.segment_invariant.proofs.Prelude.Invariant.{Body, held, words_of, is_claimed, Piece, extent_of, Anatomy, layout_of, order_of, claims_of, free_of, Record, Sample, histogram, sample, Stands, Sees, HasRecord, RecordsAreKept, StandsRight, HoldsOwn, CallsRight, HasKey, SumsAreNear, LooksBack, FinalsAreExact, StandStill, Invariant, summed_cost}
+use Rattle.segment_invariant.proofs.Prelude.Invariant.{Body, held, words_of, is_claimed, Piece, extent_of, Anatomy, layout_of, order_of, claims_of, free_of, Record, histogram, Stands, Sees, HasRecord, RecordsAreKept, StandsRight, HoldsOwn, CallsRight, HasKey, SumsAreNear, LooksBack, FinalsAreExact, StandStill, Invariant, summed_cost}
 use Rattle.std.proofs.lemmas.List.{get_or-set_other}
 use Rattle.list_core.proofs.Chains.{linked_beside}
 use Rattle.segment_invariant.proofs.Frames.Ahead.{KeepsUp}
 use Rattle.segment_invariant.proofs.Allocating.Claimers.{still_put, AllClaimedRight, right_put}
 use Rattle.segment_invariant.proofs.Blocks.Pieces.{one_index, one_piece, first_piece, piece_stored, free_with, claims_same, stands_beside, stands_here}
 use Rattle.segment_invariant.proofs.Blocks.Stops.{stop_open}
-use Rattle.segment_invariant.proofs.Frames.Onward.{GoesAs, goes_itself, Onward, sees_on, RecordGoes, SampleGoes}
+use Rattle.segment_invariant.proofs.Frames.Onward.{GoesAs, goes_itself, Onward, sees_on}
 use Rattle.segment_invariant.proofs.Frames.Standing.{own_stays}
 use Rattle.segment_invariant.proofs.Changes.Changes.{changes_on}
 use Rattle.segment_invariant.proofs.Changes.Ledgers.{Balances, balanced_beside}
@@ -26,27 +26,16 @@ pub record Turns (version : ℕ) (body then_is : Body) (j v : ℕ) : Type 0 wher
   pub inside : (j ≢ 0) × (j ≢ 3)
   pub goes : GoesAs version body then_is
 
--- so a word of a record does between its header and its name, and one of a sample behind its value
-pub record_turns : (version : ℕ) (r s : Record) (j v : ℕ) → 4 ≤ j → j < 14 → words_of (histogram s) ≡ set (words_of (histogram r)) j v → RecordGoes version r s
-    → Turns version (histogram r) (histogram s) j v
-record_turns version r s j v from below is goes = record {
-  claimed = refl;
-  still = refl;
+-- so a word behind the next of a block does
+pub word_turns : (version : ℕ) (body then_is : Body) (j v : ℕ) → is_claimed body ≡ true → is_claimed then_is ≡ true → words_of then_is ≡ set (words_of body) j v
+    → j < length (words_of body) → 4 ≤ j → GoesAs version body then_is → Turns version body then_is j v
+word_turns version body then_is j v claimed still is within from goes = record {
+  claimed = claimed;
+  still = still;
   is = is;
-  within = omega (arith, below);
+  within = within;
   inside = (λ e. omega (arith, from, e), λ e. omega (arith, from, e));
-  goes = (s, refl, goes);
-}
-
-pub sample_turns : (version : ℕ) (x y : Sample) (j v : ℕ) → 6 ≤ j → j < 8 → words_of (sample y) ≡ set (words_of (sample x)) j v → SampleGoes x y
-    → Turns version (sample x) (sample y) j v
-sample_turns version x y j v from below is goes = record {
-  claimed = refl;
-  still = refl;
-  is = is;
-  within = omega (arith, below);
-  inside = (λ e. omega (arith, from, e), λ e. omega (arith, from, e));
-  goes = (y, refl, goes);
+  goes = goes;
 }
 
 module _ (shape : Dimensions) (opened : Anatomy) (state : State) (kept : Invariant shape opened state) (at : ℕ) (body then_is : Body) (j v : ℕ)

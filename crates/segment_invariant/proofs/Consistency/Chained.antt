@@ -1,5 +1,5 @@
 -- The list of a kept state is a chain of claimed blocks.
-use Rattle.segment_invariant.proofs.Prelude.Std.{◌≡◌, true, ℕ, ◌<◌, List, length, IsPermutation, refl, ap, subst, Some, None, slice_index, nat_le, ◌&&◌, All, Contains, Contains-permutation, some, get_elem?, at_map, at_from, contains_at}
+use Rattle.segment_invariant.proofs.Prelude.Std.{◌≡◌, true, ℕ, ◌<◌, List, length, IsPermutation, refl, ap, subst, Some, None, slice_index, All, Contains, Contains-permutation, some, get_elem?, at_map, at_from, contains_at}
 use Rattle.segment_invariant.proofs.Prelude.Machine.{Dimensions, word_at, head_of, is_block, IsChain, Claim, Made, State}
 use Rattle.segment_invariant.proofs.Prelude.Invariant.{is_claimed, Piece, Listed, Anatomy, layout_of, order_of, free_of, claims_of, StandsAs, Invariant}
 use Rattle.std.specs.Prelude as std

@@ -1,5 +1,5 @@
 -- What the words of a kept state's records say beside their spec: which counts are theirs, and that nobody counts in later ones.
-use Rattle.segment_invariant.proofs.Prelude.Std.{◌≡◌, ◌≢◌, ℕ, ◌+◌, ◌-◌, ◌*◌, ◌<◌, ◌≤◌, ℤ, List, length, inl, inr, sym, ap, subst, ◌∙◌, arith, Option, Some, None, true, refl, slice_index, ◌==◌, All, Contains, none}
+use Rattle.segment_invariant.proofs.Prelude.Std.{◌≡◌, ◌≢◌, ℕ, ◌+◌, ◌-◌, ◌*◌, ◌<◌, ◌≤◌, ℤ, List, length, inl, inr, sym, ap, subst, ◌∙◌, arith, Option, Some, None, true, refl, slice_index, All, Contains, none}
 use Rattle.segment_invariant.proofs.Prelude.Machine.{Dimensions, word_at, field_at, IsShown, Spec, name_of, record_buckets, sample_value, Sighting, Made, State, Leads}
 use Rattle.segment_invariant.proofs.Prelude.Invariant.{IsHistogram, Record, record_words, Counts, Body, histogram, counts, sample, other, Listed, Anatomy, layout_of, order_of, is_claimed, Stands, HasRecord, HasCounts, IsFirst, IsFirstOf, WasSingle, StandsAs, CountsNothing, Invariant}
 use Rattle.std.specs.Prelude as std

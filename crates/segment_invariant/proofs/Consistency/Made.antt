@@ -1,6 +1,6 @@
 -- The records of a kept state hold what they were given.
 use Rattle.segment_invariant.proofs.Prelude.Std.{◌≡◌, ◌≢◌, Bool, true, false, if◌then◌else◌, ℕ, ◌+◌, ◌-◌, ◌<◌, ◌≤◌, ℤ, List, [], ◌∷◌, ◌++◌, map, length, inl, inr, refl, sym, ap, subst, ◌∙◌, arith, Option, Some, None, slice_index, ◌==◌, Contains, and_from, eq-eqb, eqb-true, le-leb, lt-ltb, map-append, All-contains, Contains-append_right, Contains-permutation, at_map, at_from, contains_at, split_at, contains_map}
-use Rattle.segment_invariant.proofs.Prelude.Machine.{Dimensions, head_of, field_at, IsChain, IsShown, Spec, spec_fault, spec_fields, spec_ranges, SameSpec, name_of, name_words, is_sparse, Published, Made, State, AreNameWords, all_published, Claim}
+use Rattle.segment_invariant.proofs.Prelude.Machine.{Dimensions, head_of, field_at, IsChain, IsShown, Spec, spec_fault, spec_fields, spec_ranges, SameSpec, name_of, name_words, Published, Made, State, AreNameWords, all_published, Claim}
 use Rattle.segment_invariant.proofs.Prelude.Invariant.{IsHistogram, Record, Listed, listed, Anatomy, order_of, layout_of, HasRecord, IsFirst, WasSingle, StandsAs, Invariant, IsLawfulRecord}
 use Rattle.std.specs.Prelude.{is_none}
 use Rattle.std.proofs.lemmas.List.Sorted.{IsPermutation-sym}

@@ -1,7 +1,7 @@
 -- What all blocks of a kept state hold of a name: of its records only the first counts.
 use Rattle.segment_invariant.proofs.Prelude.Std.{◌≡◌, ◌≢◌, Bool, true, false, ℕ, ℤ, pos, if◌then◌else◌, List, refl, sym, ap, subst, ◌∙◌, ⊎_elim, w64, cast_signed, bytes_eq, +ℤ_idl, bytes_eq-Decides, some, none, get_elem?}
 use Rattle.segment_invariant.proofs.Prelude.Machine.{Dimensions, Spec, Own, State}
-use Rattle.segment_invariant.proofs.Prelude.Invariant.{Record, Body, queue, plain, held, histogram, counts, sample, other, is_claimed, Piece, Anatomy, of_name, noted_held, all_held, Stands, HasRecord, IsFirst, Invariant, CountsNothing}
+use Rattle.segment_invariant.proofs.Prelude.Invariant.{Record, Counts, Sample, Body, queue, plain, held, histogram, counts, sample, other, is_claimed, Piece, Anatomy, of_name, noted_held, all_held, Stands, HasRecord, IsFirst, Invariant, CountsNothing}
 use Rattle.segment_invariant.specs.Ledger.{amount_of_name, sum_held, sum_mark_held, all_amounts}
 use Rattle.segment_invariant.proofs.Blocks.Pieces.{one_piece}
 use Rattle.segment_invariant.proofs.Lists.FewTerms.{Elsewhere, sum_one, amounts_one}
@@ -35,33 +35,31 @@ module _ (mine name : List ℕ) where
 abbrev pub OfRecord : List ℕ → Body → (Record → Type 0) → Type 0
 OfRecord name body is = (r : Record) → body ≡ histogram r → r.name ≡ name → is r
 
+-- what no block but a record holds, a block does not hold where its record does not
+of_record : {X : Type 0} (nothing : X) (holds : Body → X) → ((next : ℕ) → holds (queue next) ≡ nothing) → ((words : List ℕ) → holds (plain words) ≡ nothing)
+    → ((block : Own) → holds (held block) ≡ nothing) → ((c : Counts) → holds (counts c) ≡ nothing) → ((s : Sample) → holds (sample s) ≡ nothing)
+    → ((size tag next : ℕ) (payload : List ℕ) → holds (other size tag next payload) ≡ nothing) → (body : Body)
+    → ((r : Record) → body ≡ histogram r → holds (histogram r) ≡ nothing) → holds body ≡ nothing
+of_record nothing holds queues plains owns all_counts samples others (histogram r) empty = empty r refl
+of_record nothing holds queues plains owns all_counts samples others (queue next) empty = queues next
+of_record nothing holds queues plains owns all_counts samples others (plain words) empty = plains words
+of_record nothing holds queues plains owns all_counts samples others (held block) empty = owns block
+of_record nothing holds queues plains owns all_counts samples others (counts c) empty = all_counts c
+of_record nothing holds queues plains owns all_counts samples others (sample s) empty = samples s
+of_record nothing holds queues plains owns all_counts samples others (other size tag next payload) empty = others size tag next payload
+
 -- a block holds no sum where its record of the name has empty
 pub no_sum : (name : List ℕ) (body : Body) → OfRecord name body (λ r. r.sum ≡ 0) → sum_held name body ≡ pos 0
-no_sum name (histogram r) empty = no_amount_of r.name name _ (λ same. ap (cast_signed w64) (empty r refl same))
-no_sum name (queue next) empty = refl
-no_sum name (plain words) empty = refl
-no_sum name (held block) empty = refl
-no_sum name (counts c) empty = refl
-no_sum name (sample s) empty = refl
-no_sum name (other size tag next payload) empty = refl
+no_sum name body empty = of_record (pos 0) (sum_held name) (λ n. refl) (λ w. refl) (λ b. refl) (λ c. refl) (λ s. refl) (λ z t n p. refl) body
+    (λ r is. no_amount_of r.name name _ (λ same. ap (cast_signed w64) (empty r is same)))
 
 pub no_sum_mark : (name : List ℕ) (body : Body) → OfRecord name body (λ r. r.sum_mark ≡ 0) → sum_mark_held name body ≡ pos 0
-no_sum_mark name (histogram r) empty = no_amount_of r.name name _ (λ same. ap (cast_signed w64) (empty r refl same))
-no_sum_mark name (queue next) empty = refl
-no_sum_mark name (plain words) empty = refl
-no_sum_mark name (held block) empty = refl
-no_sum_mark name (counts c) empty = refl
-no_sum_mark name (sample s) empty = refl
-no_sum_mark name (other size tag next payload) empty = refl
+no_sum_mark name body empty = of_record (pos 0) (sum_mark_held name) (λ n. refl) (λ w. refl) (λ b. refl) (λ c. refl) (λ s. refl) (λ z t n p. refl) body
+    (λ r is. no_amount_of r.name name _ (λ same. ap (cast_signed w64) (empty r is same)))
 
 pub no_noted : (name : List ℕ) (body : Body) → OfRecord name body (λ r. r.noted ≡ 0) → noted_held name body ≡ 0
-no_noted name (histogram r) empty = nothing_of r.name name r.noted (λ same. empty r refl same)
-no_noted name (queue next) empty = refl
-no_noted name (plain words) empty = refl
-no_noted name (held block) empty = refl
-no_noted name (counts c) empty = refl
-no_noted name (sample s) empty = refl
-no_noted name (other size tag next payload) empty = refl
+no_noted name body empty = of_record 0 (noted_held name) (λ n. refl) (λ w. refl) (λ b. refl) (λ c. refl) (λ s. refl) (λ z t n p. refl) body
+    (λ r is. nothing_of r.name name r.noted (λ same. empty r is same))
 
 -- ---- a kept state
 

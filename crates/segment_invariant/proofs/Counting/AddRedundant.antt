@@ -24,7 +24,7 @@ use Rattle.alloc_core.proofs.Owners.{set_at}
 use Rattle.segment_invariant.proofs.Changes.Others.{Deed}
 use Rattle.segment_invariant.proofs.Changes.Looks as changes
 use Rattle.segment_invariant.proofs.Changes.Sums.{SameSum, sums_on}
-use Rattle.segment_invariant.proofs.Changes.Words.{Turns, behind, came_from, stands_then, record_turns, record_sums}
+use Rattle.segment_invariant.proofs.Changes.Words.{Turns, behind, came_from, stands_then, word_turns, record_sums}
 
 module _ (shape : Dimensions) (opened : Anatomy) (state : State) (kept : Invariant shape opened state) (id : ℕ) (a : Actor)
     (mine : get_elem? state.actors id ≡ some a) (recorder : is_opener a.role ≡ false) (unbound : is_bound a.hand.place ≡ false)
@@ -52,8 +52,8 @@ module _ (shape : Dimensions) (opened : Anatomy) (state : State) (kept : Invaria
   v = r.noted + units
 
   pub turns : Turns kept.anatomy.version (histogram r) (histogram (with_amount r r.sum v)) 13 v
-  turns = record_turns kept.anatomy.version r (with_amount r r.sum v) 13 v (omega arith) (omega arith) refl
-      (record { is = refl; counts = λ there. refl; single = inl refl; mark = omega arith; noted = omega arith })
+  turns = word_turns kept.anatomy.version (histogram r) (histogram (with_amount r r.sum v)) 13 v refl refl refl (omega arith) (omega arith)
+      (with_amount r r.sum v, refl, record { is = refl; counts = λ there. refl; single = inl refl; mark = omega arith; noted = omega arith })
 
   pub narrow : r.sum < 2 ^ 64
   narrow = (kept.records.lawful known.reference r stands).narrow.0

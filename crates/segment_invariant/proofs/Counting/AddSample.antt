@@ -15,7 +15,7 @@ use Rattle.segment_invariant.proofs.Frames.GoesOn.{happens}
 use Rattle.segment_invariant.proofs.Frames.SeesMore.{seer}
 use Rattle.segment_invariant.proofs.Frames.Shown.{Goes}
 use Rattle.segment_invariant.proofs.Changes.Samples.{sample_kept, no_sample_was}
-use Rattle.segment_invariant.proofs.Changes.Words.{Turns, sample_turns}
+use Rattle.segment_invariant.proofs.Changes.Words.{Turns, word_turns}
 use Rattle.segment_invariant.proofs.Counting.Bounds.{counted_fits}
 use Rattle.segment_invariant.proofs.Counting.Counted.{its_units, as_counted, counter, CountedInto, units_counted}
 use Rattle.segment_invariant.proofs.Counting.Looks.{knows_of, body_word}
@@ -79,8 +79,8 @@ module _ (shape : Dimensions) (opened : Anatomy) (state : State) (kept : Invaria
   more = record s { units = v }
 
   turns : Turns kept.anatomy.version (sample s) (sample more) 6 v
-  turns = sample_turns kept.anatomy.version s more 6 v (omega arith) (omega arith) refl
-      (record { is = refl; units = omega arith; mark = omega arith })
+  turns = word_turns kept.anatomy.version (sample s) (sample more) 6 v refl refl refl (omega arith) (omega arith)
+      (more, refl, record { is = refl; units = omega arith; mark = omega arith })
 
   held : (name : List ℕ) (key : ℤ)
       → units_held kept.anatomy.version name key (sample more) ≡ units_held kept.anatomy.version name key (sample s) + its_units entry name key

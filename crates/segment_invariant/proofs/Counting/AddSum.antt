@@ -14,7 +14,7 @@ use Rattle.segment_invariant.proofs.Notes.Amounts.{zeros}
 use Rattle.segment_invariant.proofs.Counting.Running.{Next, next_of, passes_same, passes_moved}
 use Rattle.segment_invariant.proofs.Counting.Learned.{summed_least}
 use Rattle.segment_invariant.proofs.Counting.Amounts.{with_amount, turner_lives, the_record, later, amount_added}
-use Rattle.segment_invariant.proofs.Changes.Words.{Turns, behind, came_from, record_turns}
+use Rattle.segment_invariant.proofs.Changes.Words.{Turns, behind, came_from, word_turns}
 use Rattle.segment_invariant.specs.Ledger.{amount_of_name}
 use Rattle.segment_invariant.proofs.Frames.GoesOn.{happens}
 use Rattle.segment_invariant.proofs.Frames.Together.{LoadedBefore, loaded_set}
@@ -129,8 +129,8 @@ module _ (shape : Dimensions) (opened : Anatomy) (state : State) (kept : Invaria
   some_amount zero_is = cc (flags_off.1, (Decides-int_eq amount (pos 0)).1 zero_is)
 
   pub turns : Turns kept.anatomy.version (histogram r) (histogram (with_amount r sum r.noted)) 11 sum
-  turns = record_turns kept.anatomy.version r (with_amount r sum r.noted) 11 sum (omega arith) (omega arith) refl
-      (record { is = refl; counts = λ there. refl; single = inl refl; mark = omega arith; noted = omega arith })
+  turns = word_turns kept.anatomy.version (histogram r) (histogram (with_amount r sum r.noted)) 11 sum refl refl refl (omega arith) (omega arith)
+      (with_amount r sum r.noted, refl, record { is = refl; counts = λ there. refl; single = inl refl; mark = omega arith; noted = omega arith })
 
   pub narrow : sum < 2 ^ 64
   narrow = omega arith

@@ -63,11 +63,18 @@ module _ (shape : Dimensions) (opened : Anatomy) (state : State) (kept : Invaria
   count_there = subst (λ (n : ℕ). n < length state.words) (sym spot) (word_within shape opened state kept look.counts (4 + bucket) (counts c) the_counts.3 refl
       (let low = the_counts.5 in counter_within (counts c) (4 + bucket) (omega arith, omega (arith, low))))
 
-  module _ (some_units : 1 ≤ word_at state.words at) where
+  -- it is in use where it counts something
+  in_use : 1 ≤ word_at state.words at → is_off the_counts.0.single ≡ true
+  in_use some_units = by_test (is_off the_counts.0.single) refl the_counts.6
+    where
+      by_test : (b : Bool) → is_off the_counts.0.single ≡ b → word_at state.words at ≡ slice_index c.units bucket → is_off the_counts.0.single ≡ true
+      by_test true is now = is
+      by_test false is now = let none = zero_index c.units bucket (the_counts.4.unused is).0 in absurd (omega (arith, some_units, now, none))
+
+  module _ (off : is_off the_counts.0.single ≡ true) where
     used : WasInUse kept.anatomy.pieces z
     used other i d there is from within =
         let low = the_counts.5 in
-        let now = the_counts.6 in
         let long = length-append d.units d.marks in
         let all = length-append (d.units ++ d.marks) d.rest in
         let (place, bodies, index) = same_block shape opened state kept look.counts other (4 + bucket) i (counts c) (counts d) the_counts.3 there
@@ -75,12 +82,8 @@ module _ (shape : Dimensions) (opened : Anatomy) (state : State) (kept : Invaria
         let same : c ≡ d = cc bodies in (
           the_counts.0,
           subst (λ (n : ℕ). HasRecord kept.anatomy.pieces n the_counts.0) (sym the_counts.4.mine ∙ ap (λ (c : Counts). c.of) same) the_counts.2,
-          off (is_off the_counts.0.single) refl now,
+          off,
         )
-      where
-        off : (b : Bool) → is_off the_counts.0.single ≡ b → word_at state.words at ≡ slice_index c.units bucket → is_off the_counts.0.single ≡ true
-        off true is now = is
-        off false is now = let none = zero_index c.units bucket (the_counts.4.unused is).0 in absurd (omega (arith, some_units, now, none))
 
     no_sample : {X : Type 0} (other i : ℕ) (x : Sample) → HasSample kept.anatomy.pieces other x → at ≡ other + i → i < 8 → X
     no_sample other i x is_sample same few =
@@ -90,14 +93,14 @@ module _ (shape : Dimensions) (opened : Anatomy) (state : State) (kept : Invaria
         absurd (cc bodies)
 
     -- the state is kept where it sees that count, and goes on to a place
-    pub count_seen : (place : Place) → is_bound place ≡ false → ((reference : ℕ) (sum : ℤ) → place ≢ SumLoaded reference sum)
+    pub off_seen : (place : Place) → is_bound place ≡ false → ((reference : ℕ) (sum : ℤ) → place ≢ SumLoaded reference sum)
         → StandsRight shape kept.anatomy id (seer a place (record a.seen { counts = a.seen.counts ++ z ∷ [] }) a.done.given a.done.lost) place
         → Invariant shape opened (record {
           words = state.words;
           cursors = state.cursors;
           actors = set state.actors id (seer a place (record a.seen { counts = a.seen.counts ++ z ∷ [] }) a.done.given a.done.lost);
         })
-    count_seen place free no_sum stood =
+    off_seen place free no_sum stood =
         let fits = kept.each id a mine lives in
         let low = the_counts.5 in
         let moves : (name : List ℕ) (key : ℤ) → _ = λ name key. rests_at a name key place (λ look bucket units moving. cc (free, ap is_bound moving))
@@ -115,3 +118,12 @@ module _ (shape : Dimensions) (opened : Anatomy) (state : State) (kept : Invaria
         which))
         stood
         (looks_count shape opened state kept id a mine recorder lives at place a.done.given still (λ reference sum is. absurd (no_sum reference sum is)))
+
+  pub count_seen : 1 ≤ word_at state.words at → (place : Place) → is_bound place ≡ false → ((reference : ℕ) (sum : ℤ) → place ≢ SumLoaded reference sum)
+      → StandsRight shape kept.anatomy id (seer a place (record a.seen { counts = a.seen.counts ++ z ∷ [] }) a.done.given a.done.lost) place
+      → Invariant shape opened (record {
+        words = state.words;
+        cursors = state.cursors;
+        actors = set state.actors id (seer a place (record a.seen { counts = a.seen.counts ++ z ∷ [] }) a.done.given a.done.lost);
+      })
+  count_seen some_units = off_seen (in_use some_units)

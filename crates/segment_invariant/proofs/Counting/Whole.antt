@@ -1,6 +1,6 @@
 -- What a record, its counts and the calls that move its units have of a bucket is just what was counted there; so is what a sample has of
 -- its value, and a redundant count of all units.
-use Rattle.segment_invariant.proofs.Prelude.Std.{◌≡◌, ◌≢◌, ℕ, ◌+◌, ◌<◌, ℤ, pos, Bool, true, false, List, Some, ⊎_elim, refl, sym, ap, ◌∙◌, subst, arith, slice_index, sum_by, max, ◌==◌, ◌&&◌, if◌then◌else◌, eqb-true, and_parts, some, none, get_elem?}
+use Rattle.segment_invariant.proofs.Prelude.Std.{◌≡◌, ◌≢◌, ℕ, ◌+◌, ◌<◌, ℤ, pos, Bool, true, false, List, Some, ⊎_elim, refl, sym, ap, ◌∙◌, subst, arith, slice_index, sum_by, ◌==◌, ◌&&◌, if◌then◌else◌, eqb-true, and_parts, some, none, get_elem?}
 use Rattle.segment_invariant.proofs.Prelude.Machine.{Dimensions, Spec, buckets_of, packed_bucket, units_packed, Actor, Known, Look, Place, Moving, bucket_key, all_counted, all_noted, cost_of, tally_units, tally_noted, State, units_in}
 use Rattle.segment_invariant.proofs.Prelude.Invariant.{Record, Counts, Sample, Anatomy, sample, form_at, key_of_bucket, keyed, at_bucket, units_held, all_held, HasRecord, HasCounts, HasSample, IsFirst, IsFirstOf, Knows, IsCountsOf, Invariant}
 use Rattle.std.specs.Prelude as std

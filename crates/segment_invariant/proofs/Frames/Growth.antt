@@ -1,6 +1,6 @@
 -- How a segment grows while records are put on its list: published blocks stay but for their nexts, the list becomes longer at its
 -- end, and what was seen stays true.
-use Rattle.segment_invariant.proofs.Prelude.Std.{◌≡◌, ◌≢◌, ◌⊎◌, ℕ, zero, suc, ◌+◌, ◌<◌, ◌≤◌, ℤ, pos, Bool, true, false, List, [], ◌++◌, map, length, All, inl, inr, ⊎_elim, refl, sym, ap, ◌∙◌, subst, arith, append-nil, length-append, slice_index, Some, None, get_or_append_left, map-append, All-weaker, none, first_longer}
+use Rattle.segment_invariant.proofs.Prelude.Std.{◌≡◌, ◌≢◌, ◌⊎◌, ℕ, zero, suc, ◌+◌, ◌<◌, ◌≤◌, ℤ, pos, Bool, true, false, List, [], ◌++◌, map, length, All, inl, inr, ⊎_elim, refl, sym, ap, ◌∙◌, subst, arith, append-nil, length-append, slice_index, get_or_append_left, map-append, All-weaker, none, first_longer}
 use Rattle.segment_invariant.proofs.Prelude.Machine.{Spec, Behind, stops, IsStop, IsPrefix, Seen, Known, Made, Own}
 use Rattle.segment_invariant.proofs.Prelude.Invariant.{Record, Counts, Sample, Body, queue, plain, held, histogram, counts, sample, other, words_of, is_claimed, Piece, Listed, Anatomy, order_of, free_of, all_held, Stands, HasRecord, HasCounts, HasSample, IsNamed, IsValued, IsFirst, IsFirstOf, IsNoLater, Knows, Sees, StandsAs}
 use Rattle.std.specs.Prelude as std

@@ -1,5 +1,5 @@
 -- A kept state in which one actor puts a record on the list or walks along it: all that is kept, from what changes.
-use Rattle.segment_invariant.proofs.Prelude.Std.{◌≡◌, ◌≢◌, ℕ, suc, ◌<◌, ℤ, Bool, true, List, [], ◌∷◌, ◌++◌, map, filter, All, Contains, ⊎_elim, refl, sym, ap, ◌∙◌, subst, arith, slice_index, Some, and_parts, All-contains, Contains-append_left, Contains-append_right, Contains-append_cases, some, some-injective, dite, ℕ_discrete, get_elem?, split_among, row_in}
+use Rattle.segment_invariant.proofs.Prelude.Std.{◌≡◌, ◌≢◌, ℕ, suc, ◌<◌, ℤ, Bool, true, List, [], ◌∷◌, ◌++◌, map, filter, All, Contains, ⊎_elim, refl, sym, ap, ◌∙◌, subst, arith, and_parts, All-contains, Contains-append_left, Contains-append_right, Contains-append_cases, some, some-injective, dite, ℕ_discrete, get_elem?, split_among, row_in}
 use Rattle.segment_invariant.proofs.Prelude.Machine.{Dimensions, Entry, EntryProgress, Actor, Known, Own, Spent, SumLoaded, is_counted, has_ended, counted_among, log_of, counted_of, all_counted, State}
 use Rattle.segment_invariant.proofs.Prelude.Invariant.{Record, Body, Anatomy, order_of, HasRecord, Knows, Sees, StandsAs, HasKey, StandsRight, HoldsOwn, Fits, Invariant, IsAhead}
 use Rattle.std.specs.Prelude as std

@@ -21,7 +21,7 @@ use Rattle.segment_invariant.proofs.Frames.Shown.{Goes}
 use Rattle.segment_invariant.proofs.Changes.Others.{deed_of, changed}
 use Rattle.segment_invariant.proofs.Changes.Places.{Placed, places_on}
 use Rattle.segment_invariant.proofs.Changes.Records.{record_kept}
-use Rattle.segment_invariant.proofs.Changes.Words.{Turns, behind, stands_then, record_turns, record_sums}
+use Rattle.segment_invariant.proofs.Changes.Words.{Turns, behind, stands_then, word_turns, record_sums}
 use Rattle.segment_invariant.proofs.Counting.Looks.{knows_of, body_word, counts_was, in_use_now}
 use Rattle.segment_invariant.proofs.Counting.Sights.{word_within}
 use Rattle.segment_invariant.proofs.Packing.Beaten.{now_seen, disable_beaten}
@@ -127,8 +127,8 @@ module _ (shape : Dimensions) (opened : Anatomy) (state : State) (kept : Invaria
   s = with_single r v
 
   abbrev turns : Turns version (histogram r) (histogram s) 9 v
-  turns = record_turns version r s 9 v (omega arith) (omega arith) refl
-      (record { is = refl; counts = λ there. refl; single = d.leads; mark = omega arith; noted = omega arith })
+  turns = word_turns version (histogram r) (histogram s) 9 v refl refl refl (omega arith) (omega arith)
+      (s, refl, record { is = refl; counts = λ there. refl; single = d.leads; mark = omega arith; noted = omega arith })
 
   abbrev new : Anatomy
   new = behind shape opened state kept h (histogram r) (histogram s) 9 v stands turns

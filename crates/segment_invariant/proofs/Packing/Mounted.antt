@@ -9,7 +9,7 @@ use Rattle.segment_invariant.proofs.Blocks.Pieces.{one_index, stands_beside}
 use Rattle.segment_invariant.proofs.Blocks.Published.{counts_held, holdings_set, holdings_both, Publishes, Only, one_published}
 use Rattle.segment_invariant.proofs.Frames.Anatomies.{SameHoldings}
 use Rattle.segment_invariant.proofs.Frames.Onward.{Onward}
-use Rattle.segment_invariant.proofs.Changes.Words.{Turns, behind, stands_still, turned_onward, turned_free, record_turns}
+use Rattle.segment_invariant.proofs.Changes.Words.{Turns, behind, stands_still, turned_onward, turned_free, word_turns}
 
 -- the units of a word are those of its packed bucket
 packed_here : (form : Option SingleWord) (i : ℕ) → packed_bucket form ≡ Some i → units_in form ≤ units_packed form i
@@ -39,8 +39,8 @@ module _ (shape : Dimensions) (opened : Anatomy) (state : State) (kept : Invaria
 
   -- its counts reference is 0 before
   pub turns : Turns kept.anatomy.version (histogram r) (histogram s) 8 own.at
-  turns = record_turns kept.anatomy.version r s 8 own.at (omega arith) (omega arith) refl
-      (record { is = refl; counts = λ there. absurd (there unmounted); single = inl refl; mark = omega arith; noted = omega arith })
+  turns = word_turns kept.anatomy.version (histogram r) (histogram s) 8 own.at refl refl refl (omega arith) (omega arith)
+      (s, refl, record { is = refl; counts = λ there. absurd (there unmounted); single = inl refl; mark = omega arith; noted = omega arith })
 
   -- with the record alone
   abbrev pub half : Anatomy

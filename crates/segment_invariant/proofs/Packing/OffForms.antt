@@ -99,22 +99,25 @@ module _ (version n old : ℕ) (on : is_off old ≡ false) (names : is_packed_wo
       let some_units = some_units in
       (old / 2 ^ 32, ap packed_bucket form, omega (arith, is, some_units))
 
+-- a word that is empty
+disabling_empty : (version n : ℕ) → is_off (off_word version 0) ≡ true → single_of version n (off_word version 0) ≢ None
+    → packed_bucket (single_of version n (off_word version 0)) ≡ packed_bucket (single_of version n 0)
+    → units_in (single_of version n (off_word version 0)) ≡ (if version == 2 then units_in (single_of version n 0) else 0) → units_in (single_of version n 0) ≤ 65535 → Disabling version n 0
+disabling_empty version n off formed names units few = record {
+  off = off;
+  formed = formed;
+  names = names;
+  units = units;
+  leads = inr (inl refl);
+  few = few;
+  packed = λ some_there. absurd (some_there refl);
+}
+
 disabling_one : (n old : ℕ) → n ≤ 65535 → single_of 1 n old ≢ None → is_off old ≡ false → Disabling 1 n old
 disabling_one n old few formed on = by_form (on_form 1 n old formed on)
   where
-    empty_one : Disabling 1 n 0
-    empty_one = record {
-      off = refl;
-      formed = λ e. cc e;
-      names = refl;
-      units = refl;
-      leads = inr (inl refl);
-      few = omega arith;
-      packed = λ some_there. absurd (some_there refl);
-    }
-
     by_form : (old ≡ 0) ⊎ ((is_packed_word n old ≡ true) × (single_of 1 n old ≡ Some (Packed (old / 2 ^ 32) (old % 2 ^ 32)))) → Disabling 1 n old
-    by_form (inl empty) = subst (Disabling 1 n) (sym empty) empty_one
+    by_form (inl empty) = subst (Disabling 1 n) (sym empty) (disabling_empty 1 n refl (λ e. cc e) refl refl (omega arith))
     by_form (inr (names, form)) =
         let is : off_word 1 old ≡ 2 ^ 63 + old / 2 ^ 32 =
         (λ i. if ne_eqb old 0 (some_there 1 n old on names form) i then 2 ^ 63 + 65535 else 2 ^ 63 + old / 2 ^ 32) in
@@ -135,19 +138,8 @@ disabling_one n old few formed on = by_form (on_form 1 n old formed on)
 disabling_two : (n old : ℕ) → single_of 2 n old ≢ None → is_off old ≡ false → Disabling 2 n old
 disabling_two n old formed on = by_form (on_form 2 n old formed on)
   where
-    empty_two : Disabling 2 n 0
-    empty_two = record {
-      off = refl;
-      formed = λ e. cc e;
-      names = refl;
-      units = refl;
-      leads = inr (inl refl);
-      few = omega arith;
-      packed = λ some_there. absurd (some_there refl);
-    }
-
     by_form : (old ≡ 0) ⊎ ((is_packed_word n old ≡ true) × (single_of 2 n old ≡ Some (Packed (old / 2 ^ 32) (old % 2 ^ 32)))) → Disabling 2 n old
-    by_form (inl empty) = subst (Disabling 2 n) (sym empty) empty_two
+    by_form (inl empty) = subst (Disabling 2 n) (sym empty) (disabling_empty 2 n refl (λ e. cc e) refl refl (omega arith))
     by_form (inr (names, form)) =
         let new : single_of 2 n (off_word 2 old) ≡ Some (Frozen (old / 2 ^ 32) (old % 2 ^ 32)) =
         high_form 2 n old ∙ frozen_form n old (some_there 2 n old on names form) names in

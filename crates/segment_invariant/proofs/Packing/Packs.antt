@@ -12,7 +12,7 @@ use Rattle.segment_invariant.proofs.Frames.GoesOn.{happens}
 use Rattle.segment_invariant.proofs.Frames.SeesMore.{seer}
 use Rattle.segment_invariant.proofs.Frames.Shown.{Goes}
 use Rattle.segment_invariant.proofs.Changes.Records.{record_kept}
-use Rattle.segment_invariant.proofs.Changes.Words.{Turns, record_turns, record_sums}
+use Rattle.segment_invariant.proofs.Changes.Words.{Turns, word_turns, record_sums}
 use Rattle.segment_invariant.proofs.Consistency.Keys.{at_no_bucket, no_packed}
 use Rattle.segment_invariant.proofs.Counting.Counted.{as_counted, has_units, counter, CountedInto, units_counted}
 use Rattle.segment_invariant.proofs.Counting.Held.{not_sparse}
@@ -170,8 +170,8 @@ module _ (shape : Dimensions) (opened : Anatomy) (state : State) (kept : Invaria
   s = with_single r new
 
   turns : Turns version (histogram r) (histogram s) 9 new
-  turns = record_turns version r s 9 new (omega arith) (omega arith) refl
-      (record { is = refl; counts = λ there. refl; single = packs.leads; mark = omega arith; noted = omega arith })
+  turns = word_turns version (histogram r) (histogram s) 9 new refl refl refl (omega arith) (omega arith)
+      (s, refl, record { is = refl; counts = λ there. refl; single = packs.leads; mark = omega arith; noted = omega arith })
 
   shows : CountedInto shape opened state kept id a mine recorder unbound entry next uncounted h (histogram r) (histogram s) 9 new stands turns
   shows = record {

@@ -39,6 +39,9 @@ module _ (actors : List Actor) (opener : Actor) (other : ℕ) (a b : Actor) (may
       ∙ sym (append_assoc a.entries.first (map (λ (c : EntryProgress). c.entry) a.entries.log) (map (λ (c : EntryProgress). c.entry) b.entries.log))
       ∙ ap (λ (list : List Entry). log_of a ++ (list ++ map (λ (c : EntryProgress). c.entry) b.entries.log)) (sym may.begins)
 
+  long_joined : length (log_of both) ≡ length (log_of a) + length (log_of b)
+  long_joined = ap length log_joined ∙ length-append (log_of a) (log_of b)
+
   -- ---- where nothing was counted since
 
   quiet_first : (name : List ℕ) (n : ℕ) → IsQuiet both name n → IsQuiet a name n
@@ -60,11 +63,7 @@ module _ (actors : List Actor) (opener : Actor) (other : ℕ) (a b : Actor) (may
 
   moment_first : (m : Moment) → IsMoment actors opener 0 a m → IsMoment actors opener 0 both m
   moment_first m is = record {
-    logged = (
-        let low = is.logged in
-        let long = ap length log_joined in
-        let all = length-append (log_of a) (log_of b) in
-        omega (arith, low, long, all));
+    logged = (let low = is.logged in let long = long_joined in omega (arith, low, long));
     before = is.before;
     mine = λ records. absurd (true≢false records);
     eldest = is.eldest;
@@ -72,11 +71,7 @@ module _ (actors : List Actor) (opener : Actor) (other : ℕ) (a b : Actor) (may
 
   moment_second : (m : Moment) → IsMoment actors opener other b m → IsMoment actors opener 0 both (shifted before m)
   moment_second m is = record {
-    logged = (
-        let low = is.logged in
-        let long = ap length log_joined in
-        let all = length-append (log_of a) (log_of b) in
-        omega (arith, low, long, all));
+    logged = (let low = is.logged in let long = long_joined in omega (arith, low, long));
     before = is.before;
     mine = λ records. absurd (true≢false records);
     eldest = λ nobody k c at lives apart. is.eldest nobody k c at lives

@@ -1,17 +1,17 @@
 -- A purse that an opener fills keeps what holds: it is one actor more, which has units and nothing else.
-use Rattle.segment_invariant.proofs.Prelude.Std.{◌≡◌, ◌≢◌, ℕ, ◌-◌, ◌≤◌, Bool, true, false, true≢false, List, [], ◌∷◌, ◌++◌, set, refl, sym, ap, subst, subst₂, arith, if◌then◌else◌, some, get_elem?, flat_map, Contains, All, All-nil, sum_by-append, IsPermutation-refl, at_longer, set_here, none_at, sum_beside, below_length}
-use Rattle.segment_invariant.proofs.Prelude.Machine.{Dimensions, Spent, SumLoaded, Actor, Given, all_counted, all_noted, all_published, all_taken, is_opener, made_of, offered_of, outstanding_of, State, purse}
-use Rattle.segment_invariant.proofs.Prelude.Invariant.{Anatomy, order_of, is_living, RolesAreKept, StandsRight, Fits, Invariant}
+use Rattle.segment_invariant.proofs.Prelude.Std.{◌≡◌, ◌≢◌, ℕ, ◌-◌, ◌≤◌, Bool, true, true≢false, List, [], ◌∷◌, ◌++◌, set, refl, sym, ap, subst, subst₂, arith, if◌then◌else◌, some, get_elem?, flat_map, sum_by-append, IsPermutation-refl, sum_beside}
+use Rattle.segment_invariant.proofs.Prelude.Machine.{Dimensions, Spent, Actor, all_counted, all_noted, all_published, all_taken, made_of, offered_of, outstanding_of, State, purse}
+use Rattle.segment_invariant.proofs.Prelude.Invariant.{Anatomy, is_living, RolesAreKept, Fits, Invariant}
 use Rattle.std.proofs.Math.Bool.{or-false}
 use Rattle.segment_machine.specs.Actor.{all_given, all_names, all_owed}
 use Rattle.segment_machine.specs.Seats.{MayFill, lender}
 use Rattle.segment_invariant.specs.Keeps.{FillsKeep}
 use Rattle.list_lemmas.proofs.Maps.{each_of_more}
 use Rattle.segment_invariant.proofs.Frames.Deeds.{Deeds, deeds_more, sums_of}
-use Rattle.segment_invariant.proofs.Frames.Together.{LoadedBefore}
-use Rattle.segment_invariant.proofs.Frames.Books.{GivenInOrder, books_of, books_by, kept_by}
+use Rattle.segment_invariant.proofs.Frames.Books.{books_of, books_by, kept_by}
 use Rattle.segment_invariant.proofs.Frames.Roles.{no_recorder, opens_nothing, AllStood, Stood, still_younger, still_apart, still_eldest, still_heirs, opens_first, fits_beside}
 use Rattle.segment_invariant.proofs.Recorders.Shares.{opener_fits}
+use Rattle.segment_invariant.proofs.Recorders.Newcomers.{Comes, comes}
 
 -- what both did together
 fill_deeds : (a : Actor) → offered_of a.role ≤ a.units.share → Deeds (a ∷ []) (lender a ∷ purse (offered_of a.role) ∷ [])
@@ -50,8 +50,8 @@ module _ (shape : Dimensions) (opened : Anatomy) (old : State) (kept : Invariant
   deeds : Deeds old.actors more
   deeds = deeds_more old.actors opener later carrier kept.roles.stands (fill_deeds opener may.2)
 
-  first : get_elem? more 0 ≡ some later
-  first = at_longer (set old.actors 0 later) (carrier ∷ []) 0 later (set_here old.actors 0 later (below_length old.actors 0 opener kept.roles.stands))
+  came : Comes shape kept.anatomy old later carrier
+  came = comes shape opened old kept (opener.units.share - offered_of opener.role) (made_of opener.role) (outstanding_of opener.role) carrier (refl, refl, refl, refl, refl) refl refl (λ at sum is. cc is)
 
   -- the same recorders live
   stood : AllStood old.actors more
@@ -63,14 +63,11 @@ module _ (shape : Dimensions) (opened : Anatomy) (old : State) (kept : Invariant
   roles : RolesAreKept more
   roles = record {
     opener = later;
-    stands = first;
+    stands = came.first;
     opens = refl;
     idle = kept.roles.idle;
     rests = kept.roles.rests;
-    only = each_of_more (λ k c. k ≢ 0 → (is_opener c.role ≡ false) × (c.entries.first ≡ []) × (c.entries.first_noted ≡ []) × (c.deltas.first_taken ≡ []) × (offered_of c.role ≡ 0)) old.actors 0 later carrier
-        (λ away. absurd (away refl))
-        (λ away. (refl, refl, refl, refl, refl))
-        (λ k c within front at away. kept.roles.only k c at away);
+    only = came.only;
     offers = omega arith;
     living = (
         let one : Actor → ℕ = λ c. if is_living c then 1 else 0 in
@@ -86,26 +83,8 @@ module _ (shape : Dimensions) (opened : Anatomy) (old : State) (kept : Invariant
     heirs = still_heirs old.actors more kept.roles stood later refl refl;
   }
 
-  ordered : (k : ℕ) (c : Actor) → get_elem? more k ≡ some c → is_opener c.role ≡ false → GivenInOrder (order_of kept.anatomy) c.done.given
-  ordered = each_of_more (λ k c. is_opener c.role ≡ false → GivenInOrder (order_of kept.anatomy) c.done.given) old.actors 0 later carrier
-      (λ records. absurd (true≢false records))
-      (λ records i j k l x y below here. absurd (none_at i x here))
-      (λ k c within front at. kept.cursors.ordered k c at)
-
-  given : (k : ℕ) (c : Actor) → get_elem? more k ≡ some c → All (λ g. Contains (order_of kept.anatomy) g.reference) c.done.given
-  given = each_of_more (λ k c. All (λ g. Contains (order_of kept.anatomy) g.reference) c.done.given) old.actors 0 later carrier
-      (kept.cursors.given 0 opener kept.roles.stands)
-      (All-nil (λ (g : Given). Contains (order_of kept.anatomy) g.reference))
-      (λ k c within front at. kept.cursors.given k c at)
-
-  standing : (k : ℕ) (c : Actor) → get_elem? more k ≡ some c → StandsRight shape kept.anatomy k c c.hand.place
-  standing = each_of_more (λ k c. StandsRight shape kept.anatomy k c c.hand.place) old.actors 0 later carrier
-      (subst (StandsRight shape kept.anatomy 0 later) (sym kept.roles.idle) tt)
-      refl
-      (λ k c within front at. kept.standing k c at)
-
   beside : (k : ℕ) (c : Actor) → Fits shape kept.anatomy old.cursors old.actors opener k c → Fits shape kept.anatomy old.cursors more later k c
-  beside k c = fits_beside shape kept.anatomy old.cursors old.actors more opener later k c kept.roles.stands first refl (refl, refl) (sums_of old.actors more deeds) stood
+  beside k c = fits_beside shape kept.anatomy old.cursors old.actors more opener later k c kept.roles.stands came.first refl (refl, refl) (sums_of old.actors more deeds) stood
 
   each : (k : ℕ) (c : Actor) → get_elem? more k ≡ some c → c.hand.place ≢ Spent → Fits shape kept.anatomy old.cursors more later k c
   each = each_of_more (λ k c. c.hand.place ≢ Spent → Fits shape kept.anatomy old.cursors more later k c) old.actors 0 later carrier
@@ -114,19 +93,11 @@ module _ (shape : Dimensions) (opened : Anatomy) (old : State) (kept : Invariant
       (λ live. absurd (live refl))
       (λ k c within front at live. beside k c (kept.each k c at live))
 
-  loaded : LoadedBefore old.actors more
-  loaded at sum = each_of_more
-      (λ k c. c.hand.place ≡ SumLoaded at sum → (j : ℕ) × (d : Actor) × (get_elem? old.actors j ≡ some d) × (d.hand.place ≡ SumLoaded at sum))
-      old.actors 0 later carrier
-      (λ stands. (0, opener, kept.roles.stands, stands))
-      (λ stands. absurd (cc stands))
-      (λ k c within front is stands. (k, c, is, stands))
-
   pub fill_kept : Invariant shape opened (record old { actors = more })
   unfolding roles
   fill_kept = kept_by shape opened kept.anatomy old.words old.cursors more
-      (books_by shape opened kept.anatomy old.words old.cursors old.actors more deeds loaded (books_of shape opened old kept))
-      roles kept.first_noted ordered given standing each
+      (books_by shape opened kept.anatomy old.words old.cursors old.actors more deeds came.loaded (books_of shape opened old kept))
+      roles kept.first_noted came.ordered came.given came.standing each
 
 pub fills_keep : FillsKeep
 fills_keep shape opened old new id kept (a, stands, may, is) =

@@ -1,7 +1,7 @@
 -- A recorder that is made keeps what holds.
-use Rattle.segment_invariant.proofs.Prelude.Std.{◌≡◌, ◌≢◌, ◌⊎◌, ℕ, ◌+◌, ◌-◌, ◌<◌, ◌≤◌, Bool, true, ◌&&◌, true≢false, List, [], ◌∷◌, ◌++◌, map, set, length, inl, inr, ⊎_elim, refl, sym, ap, ◌∙◌, subst, subst₂, append-nil, arith, drop, pos, false, if◌then◌else◌, slice_index, some, get_elem?, flat_map, Contains, All, and_parts, All-nil, All-contains, Contains-append_left, Contains-append_right, Contains-append_cases, sum_by-append, IsPermutation-refl, at_longer, set_here, none_in, none_at, contains_filter, sum_at_least, sum_beside, below_length, contains_map, contains_mapped}
-use Rattle.segment_invariant.proofs.Prelude.Machine.{Dimensions, IsStop, Entry, EntryProgress, Spent, SumLoaded, Actor, Given, Sighting, is_counted, is_summed, is_noted, has_ended, counted_among, log_of, counted_of, all_counted, all_noted, all_published, all_taken, is_opener, made_of, offered_of, outstanding_of, State}
-use Rattle.segment_invariant.proofs.Prelude.Invariant.{IsWithinCounts, Anatomy, order_of, Knows, is_living, HoldsOwn, CallsRight, IsAlone, LooksBack, FinalsAreExact, RolesAreKept, StandsRight, Fits, Invariant}
+use Rattle.segment_invariant.proofs.Prelude.Std.{◌≡◌, ◌≢◌, ◌⊎◌, ℕ, ◌+◌, ◌-◌, ◌<◌, ◌≤◌, Bool, true, ◌&&◌, true≢false, List, [], ◌∷◌, ◌++◌, map, set, length, inl, inr, ⊎_elim, refl, sym, ap, ◌∙◌, subst, subst₂, append-nil, arith, drop, pos, if◌then◌else◌, slice_index, some, get_elem?, flat_map, Contains, All, and_parts, All-nil, All-contains, Contains-append_left, Contains-append_right, Contains-append_cases, sum_by-append, IsPermutation-refl, none_in, none_at, contains_filter, sum_at_least, sum_beside, contains_map, contains_mapped}
+use Rattle.segment_invariant.proofs.Prelude.Machine.{Dimensions, IsStop, Entry, EntryProgress, Spent, Actor, Sighting, is_counted, is_summed, is_noted, has_ended, counted_among, log_of, counted_of, all_counted, all_noted, all_published, all_taken, made_of, offered_of, outstanding_of, State}
+use Rattle.segment_invariant.proofs.Prelude.Invariant.{IsWithinCounts, Anatomy, order_of, Knows, is_living, HoldsOwn, CallsRight, IsAlone, LooksBack, FinalsAreExact, RolesAreKept, Fits, Invariant}
 use Rattle.std.proofs.Math.Bool.{or-false, or_self}
 use Rattle.std.proofs.lemmas.List.{drop_all}
 use Rattle.segment_invariant.proofs.Frames.Ahead.{ahead_anew, reached_stop}
@@ -11,10 +11,11 @@ use Rattle.segment_invariant.specs.Keeps.{SplitsKeep}
 use Rattle.segment_invariant.proofs.Frames.OneActor.{lives_on}
 use Rattle.list_lemmas.proofs.Maps.{each_of_more, one_at}
 use Rattle.segment_invariant.proofs.Frames.Deeds.{Deeds, deeds_more, sums_of}
-use Rattle.segment_invariant.proofs.Frames.Together.{LoadedBefore, IsLater, fits}
-use Rattle.segment_invariant.proofs.Frames.Books.{GivenInOrder, books_of, books_by, kept_by}
+use Rattle.segment_invariant.proofs.Frames.Together.{IsLater, fits}
+use Rattle.segment_invariant.proofs.Frames.Books.{books_of, books_by, kept_by}
 use Rattle.segment_invariant.proofs.Frames.Roles.{no_recorder, opens_nothing, opens_first}
 use Rattle.segment_invariant.proofs.Recorders.Shares.{opener_fits}
+use Rattle.segment_invariant.proofs.Recorders.Newcomers.{Comes, comes}
 
 -- ---- what both did together
 
@@ -141,8 +142,8 @@ module _ (shape : Dimensions) (opened : Anatomy) (old : State) (kept : Invariant
   deeds : Deeds old.actors split
   deeds = deeds_more old.actors opener later made kept.roles.stands (split_deeds opener may.2)
 
-  first : get_elem? split 0 ≡ some later
-  first = at_longer (set old.actors 0 later) (made ∷ []) 0 later (set_here old.actors 0 later (below_length old.actors 0 opener kept.roles.stands))
+  came : Comes shape kept.anatomy old later made
+  came = comes shape opened old kept (opener.units.share - offered_of opener.role) (made_of opener.role + 1) (outstanding_of opener.role + 1) made (refl, refl, refl, refl, refl) refl tt (λ at sum is. cc is)
 
   -- who was made before was made earlier
   earlier : (k : ℕ) (c : Actor) → get_elem? old.actors k ≡ some c → is_living c ≡ true → made_of c.role < made_of made.role
@@ -190,14 +191,11 @@ module _ (shape : Dimensions) (opened : Anatomy) (old : State) (kept : Invariant
   roles : RolesAreKept split
   roles = record {
     opener = later;
-    stands = first;
+    stands = came.first;
     opens = refl;
     idle = kept.roles.idle;
     rests = kept.roles.rests;
-    only = each_of_more (λ k c. k ≢ 0 → (is_opener c.role ≡ false) × (c.entries.first ≡ []) × (c.entries.first_noted ≡ []) × (c.deltas.first_taken ≡ []) × (offered_of c.role ≡ 0)) old.actors 0 later made
-        (λ away. absurd (away refl))
-        (λ away. (refl, refl, refl, refl, refl))
-        (λ k c within front at away. kept.roles.only k c at away);
+    only = came.only;
     offers = omega arith;
     living = (
         let one : Actor → ℕ = λ c. if is_living c then 1 else 0 in
@@ -224,24 +222,6 @@ module _ (shape : Dimensions) (opened : Anatomy) (old : State) (kept : Invariant
         (was.0, was.1, λ none last. let below = earlier k c at lives in absurd (omega (arith, below, last))));
   }
 
-  ordered : (k : ℕ) (c : Actor) → get_elem? split k ≡ some c → is_opener c.role ≡ false → GivenInOrder (order_of kept.anatomy) c.done.given
-  ordered = each_of_more (λ k c. is_opener c.role ≡ false → GivenInOrder (order_of kept.anatomy) c.done.given) old.actors 0 later made
-      (λ records. absurd (true≢false records))
-      (λ records i j k l x y below here. absurd (none_at i x here))
-      (λ k c within front at. kept.cursors.ordered k c at)
-
-  given : (k : ℕ) (c : Actor) → get_elem? split k ≡ some c → All (λ g. Contains (order_of kept.anatomy) g.reference) c.done.given
-  given = each_of_more (λ k c. All (λ g. Contains (order_of kept.anatomy) g.reference) c.done.given) old.actors 0 later made
-      (kept.cursors.given 0 opener kept.roles.stands)
-      (All-nil (λ (g : Given). Contains (order_of kept.anatomy) g.reference))
-      (λ k c within front at. kept.cursors.given k c at)
-
-  standing : (k : ℕ) (c : Actor) → get_elem? split k ≡ some c → StandsRight shape kept.anatomy k c c.hand.place
-  standing = each_of_more (λ k c. StandsRight shape kept.anatomy k c c.hand.place) old.actors 0 later made
-      (subst (StandsRight shape kept.anatomy 0 later) (sym kept.roles.idle) tt)
-      tt
-      (λ k c within front at. kept.standing k c at)
-
   since : IsLater old.actors split opener later
   since = record {
     first = (refl, refl);
@@ -259,7 +239,7 @@ module _ (shape : Dimensions) (opened : Anatomy) (old : State) (kept : Invariant
   -- no recorder that lived is the last any more
   not_alone : (k : ℕ) (c : Actor) → get_elem? old.actors k ≡ some c → is_living c ≡ true → IsAlone split c → ⊥
   not_alone k c at lives alone =
-      let same = ap (λ (x : Actor). made_of x.role) (one_at split 0 alone.0 later alone.1 first) in
+      let same = ap (λ (x : Actor). made_of x.role) (one_at split 0 alone.0 later alone.1 came.first) in
       let below = earlier k c at lives in
       let last = alone.3 in
       omega (arith, same, below, last)
@@ -283,19 +263,11 @@ module _ (shape : Dimensions) (opened : Anatomy) (old : State) (kept : Invariant
       opener_lives : opener.hand.place ≢ Spent
       opener_lives e = cc (sym kept.roles.idle ∙ e)
 
-  loaded : LoadedBefore old.actors split
-  loaded at sum = each_of_more
-      (λ k c. c.hand.place ≡ SumLoaded at sum → (j : ℕ) × (d : Actor) × (get_elem? old.actors j ≡ some d) × (d.hand.place ≡ SumLoaded at sum))
-      old.actors 0 later made
-      (λ stands. (0, opener, kept.roles.stands, stands))
-      (λ stands. absurd (cc stands))
-      (λ k c within front is stands. (k, c, is, stands))
-
   pub split_kept : Invariant shape opened (record old { actors = split })
   unfolding roles
   split_kept = kept_by shape opened kept.anatomy old.words old.cursors split
-      (books_by shape opened kept.anatomy old.words old.cursors old.actors split deeds loaded (books_of shape opened old kept))
-      roles kept.first_noted ordered given standing each
+      (books_by shape opened kept.anatomy old.words old.cursors old.actors split deeds came.loaded (books_of shape opened old kept))
+      roles kept.first_noted came.ordered came.given came.standing each
 
 pub splits_keep : SplitsKeep
 splits_keep shape opened old new id kept splitting =

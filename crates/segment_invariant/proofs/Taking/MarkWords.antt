@@ -9,7 +9,7 @@ use Rattle.segment_invariant.proofs.Blocks.Places.{counter_within}
 use Rattle.segment_invariant.proofs.Frames.Leads.{off_leads}
 use Rattle.segment_invariant.proofs.Frames.OneActor.{rests_at}
 use Rattle.segment_invariant.proofs.Frames.SeesMore.{seer, near_on}
-use Rattle.segment_invariant.proofs.Changes.Words.{Turns}
+use Rattle.segment_invariant.proofs.Changes.Words.{Turns, word_turns}
 use Rattle.segment_invariant.proofs.Counting.CountSeen.{the_counts}
 use Rattle.segment_invariant.proofs.Counting.Looks.{same_block, body_word, single_now, looks_count}
 use Rattle.segment_invariant.proofs.Counting.Seen.{mark_in}
@@ -58,14 +58,8 @@ module _ (c : Counts) (i u : ℕ) (below : i < length c.marks) where
 
   -- it goes on so
   pub marked_turns : (version : ℕ) → Turns version (counts c) (counts marked) spot v
-  marked_turns version = record {
-    claimed = refl;
-    still = refl;
-    is = marked_words;
-    within = within;
-    inside = (λ e. omega (arith, e), λ e. omega (arith, e));
-    goes = (marked, refl, record { is = refl; long = (refl, length-set c.marks i v); rise = rises });
-  }
+  marked_turns version = word_turns version (counts c) (counts marked) spot v refl refl marked_words within (omega arith)
+      (marked, refl, record { is = refl; long = (refl, length-set c.marks i v); rise = rises })
 
   -- and is the counts block of a record whose single word is off and packs another bucket
   pub marked_counts : (version at : ℕ) (r : Record) → is_off r.single ≡ true → packed_bucket (form_at version r) ≢ Some i → IsCountsOf version at r c

@@ -15,7 +15,7 @@ use Rattle.segment_invariant.proofs.Frames.GoesOn.{happens}
 use Rattle.segment_invariant.proofs.Frames.SeesMore.{seer}
 use Rattle.segment_invariant.proofs.Frames.Shown.{Goes}
 use Rattle.segment_invariant.proofs.Changes.Samples.{sample_kept, no_sample_was}
-use Rattle.segment_invariant.proofs.Changes.Words.{Turns, sample_turns}
+use Rattle.segment_invariant.proofs.Changes.Words.{Turns, word_turns}
 use Rattle.segment_invariant.proofs.Counting.AddSample.{one_sample}
 use Rattle.segment_invariant.proofs.Counting.Bounds.{counted_fits}
 use Rattle.segment_invariant.proofs.Counting.Held.{not_sparse, sample_most}
@@ -129,8 +129,8 @@ module _ (shape : Dimensions) (opened : Anatomy) (state : State) (kept : Invaria
   more = record s { mark = v }
 
   turns : Turns kept.anatomy.version (sample s) (sample more) 7 v
-  turns = sample_turns kept.anatomy.version s more 7 v (omega arith) (omega arith) refl
-      (record { is = refl; units = omega arith; mark = omega arith })
+  turns = word_turns kept.anatomy.version (sample s) (sample more) 7 v refl refl refl (omega arith) (omega arith)
+      (more, refl, record { is = refl; units = omega arith; mark = omega arith })
 
   abbrev front : List Taken
   front = takes.3.0

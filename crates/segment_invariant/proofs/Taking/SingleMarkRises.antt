@@ -14,7 +14,7 @@ use Rattle.segment_invariant.proofs.Frames.GoesOn.{happens}
 use Rattle.segment_invariant.proofs.Frames.SeesMore.{seer}
 use Rattle.segment_invariant.proofs.Frames.Shown.{Goes}
 use Rattle.segment_invariant.proofs.Changes.Records.{record_kept}
-use Rattle.segment_invariant.proofs.Changes.Words.{Turns, record_turns, record_sums}
+use Rattle.segment_invariant.proofs.Changes.Words.{Turns, word_turns, record_sums}
 use Rattle.segment_invariant.proofs.Counting.Bounds.{counted_fits}
 use Rattle.segment_invariant.proofs.Counting.Held.{not_sparse}
 use Rattle.segment_invariant.proofs.Counting.Looks.{knows_of, body_word}
@@ -120,8 +120,8 @@ module _ (shape : Dimensions) (opened : Anatomy) (state : State) (kept : Invaria
   s = with_mark r v
 
   turns : Turns version (histogram r) (histogram s) 10 v
-  turns = record_turns version r s 10 v (omega arith) (omega arith) refl
-      (record { is = refl; counts = λ there. refl; single = inl refl; mark = omega arith; noted = omega arith })
+  turns = word_turns version (histogram r) (histogram s) 10 v refl refl refl (omega arith) (omega arith)
+      (s, refl, record { is = refl; counts = λ there. refl; single = inl refl; mark = omega arith; noted = omega arith })
 
   marks_more : (name : List ℕ) (other : ℤ)
       → marks_held version name other (histogram s) ≡ marks_held version name other (histogram r) + of_name known.name name (if int_eq key other then least - m else 0)

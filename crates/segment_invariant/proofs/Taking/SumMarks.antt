@@ -21,7 +21,7 @@ use Rattle.segment_invariant.proofs.Frames.Together.{loaded_set, moment, ended_b
 use Rattle.segment_invariant.proofs.Changes.Ledgers.{rows_beside, amounts_moved}
 use Rattle.segment_invariant.proofs.Changes.Others.{Deed, deed_of, changed, changed_roles, alone_was, is_later}
 use Rattle.segment_invariant.proofs.Changes.Records.{record_kept}
-use Rattle.segment_invariant.proofs.Changes.Words.{Turns, behind, came_from, sees_turned, turned_on, looks_turned, record_turns}
+use Rattle.segment_invariant.proofs.Changes.Words.{Turns, behind, came_from, sees_turned, turned_on, looks_turned, word_turns}
 use Rattle.segment_invariant.proofs.Consistency.Sums.{sum_is, sum_mark_is}
 use Rattle.segment_invariant.proofs.Notes.Amounts.{last_changed}
 use Rattle.segment_invariant.proofs.Taking.Lasts.{further_is, units_later, sum_later, ended_before}
@@ -101,8 +101,8 @@ module _ (shape : Dimensions) (opened : Anatomy) (state : State) (kept : Invaria
   narrow = (below_from_Fits w64 (v ∷ []) (Fits-of_z {w = w64} {z = sum} (fits_signed_from_abs w64 sum small), tt)).0
 
   turns : Turns kept.anatomy.version (histogram r) (histogram (with_mark r v)) 12 v
-  turns = record_turns kept.anatomy.version r (with_mark r v) 12 v (omega arith) (omega arith) refl
-      (record { is = refl; counts = λ there. refl; single = inl refl; mark = omega arith; noted = omega arith })
+  turns = word_turns kept.anatomy.version (histogram r) (histogram (with_mark r v)) 12 v refl refl refl (omega arith) (omega arith)
+      (with_mark r v, refl, record { is = refl; counts = λ there. refl; single = inl refl; mark = omega arith; noted = omega arith })
 
   abbrev new : Anatomy
   new = behind shape opened state kept known.reference (histogram r) (histogram (with_mark r v)) 12 v stands turns

@@ -1,5 +1,5 @@
 -- Events that put nothing on the list: the tail is loaded and moved on, a next is loaded, and a link finds another record.
-use Rattle.segment_invariant.proofs.Prelude.Std.{◌≡◌, ◌≢◌, ◌⊎◌, ℕ, zero, suc, ◌+◌, ◌<◌, ◌≤◌, ◌==◌, true, List, ◌++◌, length, set, get_or, All, inl, inr, refl, sym, ap, ◌∙◌, subst, arith, eq-eqb, false, slice_index, Some, None, nat_le, if◌then◌else◌, IsPermutation, le-leb, and_from, length-map, All-weaker, some, none, get_elem?, at_map, rows, column, index_at, all_at}
+use Rattle.segment_invariant.proofs.Prelude.Std.{◌≡◌, ◌≢◌, ◌⊎◌, ℕ, zero, suc, ◌+◌, ◌<◌, ◌≤◌, ◌==◌, true, List, ◌++◌, length, set, get_or, All, inl, inr, refl, sym, ap, ◌∙◌, subst, arith, eq-eqb, false, Some, None, nat_le, IsPermutation, le-leb, and_from, length-map, All-weaker, some, none, get_elem?, at_map, rows, column, index_at, all_at}
 use Rattle.segment_invariant.proofs.Prelude.Machine.{Dimensions, word_at, IsShown, Behind, is_reference, IsStop, IsLinked, IsPrefix, Actor, Claim, Own, Made, Sighting, Place, Spent, State, is_opener}
 use Rattle.segment_invariant.proofs.Prelude.Invariant.{Body, histogram, sample, other, words_of, is_claimed, Piece, Listed, Anatomy, layout_of, order_of, free_of, claims_of, Stands, WasFixed, IsNoLater, Sees, WasMet, StandsAs, StandsRight, HoldsOwn, IsSetBy, StandStill, Invariant, IsAhead}
 use Rattle.std.specs.Prelude as std

@@ -1,13 +1,8 @@
 -- The chain of a state that is reached: what it was, and then the records whose link was done, in the order of these links.
-use Rattle.std.proofs.Common.{◌≡◌, ℕ, Bool, List, [], ◌∷◌, ◌++◌, inl, inr, sym, ap, ◌∙◌, subst, append_assoc, eq-eqb}
-use Rattle.std.specs.Prelude.{if◌then◌else◌}
-use Rattle.std.proofs.lemmas.List.{append-nil}
-use Rattle.segment_image.specs.Head.{head_of}
-use Rattle.list_core.specs.Chain.{IsChain}
-use Rattle.segment_machine.specs.Event.{Event}
-use Rattle.segment_machine.specs.State.{State}
+use Rattle.segment_invariant.proofs.Prelude.Std.{◌≡◌, ℕ, Bool, List, [], ◌∷◌, ◌++◌, inl, inr, sym, ap, ◌∙◌, subst, append_assoc, eq-eqb, if◌then◌else◌, append-nil}
+use Rattle.segment_invariant.proofs.Prelude.Machine.{head_of, IsChain, Event, State}
+use Rattle.segment_invariant.proofs.Prelude.Invariant.{found_at}
 use Rattle.segment_machine.specs.Reached.{IsReached, started, stepped, announced, offered, split, lent, returned, purse_filled, purse_poured, joined_in}
-use Rattle.segment_invariant.specs.Keeps.{found_at}
 use Rattle.segment_promises.specs.Lists.{chain_behind, links_of, ChainsAreLinks}
 use Rattle.segment_promises.proofs.Links.{links_or_not, links_append}
 use Rattle.segment_promises.proofs.Reached.{reached_states_follow}

@@ -1,26 +1,17 @@
 -- The tally of the entries of samples is what the samples add up to.
-use Rattle.std.proofs.Common.{◌≡◌, ◌≢◌, ◌⊎◌, ℕ, zero, suc, ◌+◌, ◌-◌, ◌<◌, ◌≤◌, max, Bool, true, false, true≢false, ◌&&◌, nat_lt, nat_le, ℤ, pos, negsuc, ◌+ℤ◌, List, [], ◌∷◌, map, length, inl, inr, refl, sym, ap, ◌∙◌, subst, arith}
-use mathlib.Core.Logic.{dite}
-use native.Mathlib.Decide.{dec_le, ℕ_discrete}
-use Rattle.std.specs.Prelude.{if◌then◌else◌, slice_index, fold, sum_by}
-use Rattle.std.specs.List.{filter, range_with_len, Contains, AllByRecursion}
+use Rattle.segment_invariant.proofs.Prelude.Std.{◌≡◌, ◌≢◌, ◌⊎◌, ℕ, zero, suc, ◌+◌, ◌-◌, ◌<◌, ◌≤◌, max, Bool, true, false, true≢false, ◌&&◌, nat_lt, nat_le, ℤ, pos, ◌+ℤ◌, List, [], ◌∷◌, map, length, inl, inr, refl, sym, ap, ◌∙◌, subst, arith, dite, ℕ_discrete, if◌then◌else◌, slice_index, fold, sum_by, filter, range_with_len, Contains, AllByRecursion, int_eq, bytes_eq, and_parts, cases_order, le-leb, lt-ltb, leb-true, ltb-true, Decides-int_eq, bytes_eq-Decides, All-contains, Contains-append_right, sum_by-cons}
+use Rattle.segment_invariant.proofs.Prelude.Machine.{Entry, key_of, is_of, tally_units, tally_noted, units_listed}
+use Rattle.std.proofs.Common.{negsuc}
+use native.Mathlib.Decide.{dec_le}
 use Rattle.std.specs.List.Sorted.{IsStrictlySortedBy}
 use Rattle.std.specs.declared.cmp.Ordering.TheVariants.{Less}
-use Rattle.std.specs.Ordering.{int_cmp, int_eq, is_eq}
+use Rattle.std.specs.Ordering.{int_cmp, is_eq}
 use Rattle.std.specs.Bool.{MatchBool}
-use Rattle.std.specs.Str.{bytes_eq}
-use Rattle.std.proofs.lemmas.Bool.{and_parts, cases_order, le-leb, lt-ltb, leb-true, ltb-true}
-use Rattle.std.proofs.lemmas.Bool.Decides.{Decides-int_eq}
-use Rattle.std.proofs.lemmas.Slice.Eq.{bytes_eq-Decides}
 use Rattle.std.proofs.lemmas.List.{get_or_past}
-use Rattle.std.proofs.lemmas.List.Elements.{All-contains, Contains-append_right}
-use Rattle.std.proofs.lemmas.List.Sums.{sum_by-cons}
 use Rattle.bucket_ranges.specs.Ranges.{clamped, AreBoundaries, IsBucketOf}
 use Rattle.bucket_ranges.specs.Tally.{AreValueCounts, is_in_bucket, bucket_counts, units_where, units_at, amount_of}
 use Rattle.bucket_ranges.proofs.Buckets.{one_bucket}
-use Rattle.segment_machine.specs.declared.entry.Entry.{Entry}
-use Rattle.segment_machine.specs.Entry.{key_of, sample_entry, is_of, tally_units, tally_noted}
-use Rattle.segment_machine.specs.Actor.{units_listed}
+use Rattle.segment_machine.specs.Entry.{sample_entry}
 use Rattle.segment_machine.proofs.Keys.{keys_are_least}
 use Rattle.list_lemmas.proofs.Sums.{numbers}
 use Rattle.segment_promises.specs.Tallies.{TalliesAreCounts}

@@ -1,21 +1,10 @@
 -- What all deltas took, once one of them has taken all that it saw, is at least what its recorder had accepted and seen.
-use Rattle.std.proofs.Common.{◌≡◌, ◌≢◌, ℕ, ◌<◌, ℤ, ⊎_elim, arith, false}
-use mathlib.Core.Option.{some}
-use lib.ListN.{get_elem?}
-use Rattle.std.specs.Prelude.{true}
-use Rattle.std.specs.List.{Contains}
-use Rattle.segment_image.specs.Shape.{Dimensions}
+use Rattle.segment_invariant.proofs.Prelude.Std.{◌≡◌, ◌≢◌, ℕ, ◌<◌, ℤ, ⊎_elim, arith, false, some, get_elem?, true, Contains}
+use Rattle.segment_invariant.proofs.Prelude.Machine.{Dimensions, buckets_of, Spent, Actor, Known, has_buckets, is_opener, State}
+use Rattle.segment_invariant.proofs.Prelude.Invariant.{Anatomy, Invariant}
 use Rattle.bucket_ranges.specs.declared.spec.Spec.TheVariants as spec
-use Rattle.bucket_ranges.specs.Spec.{buckets_of}
-use Rattle.segment_machine.specs.declared.place.Place.TheVariants.{Spent}
-use Rattle.segment_machine.specs.declared.actor.Actor.{Actor}
-use Rattle.segment_machine.specs.declared.actor.Known.{Known}
-use Rattle.segment_machine.specs.Actor.{has_buckets, is_opener}
 use Rattle.segment_machine.specs.Note.{TookAll}
-use Rattle.segment_machine.specs.State.{State}
 use Rattle.segment_invariant.specs.Consistent.{units_taken}
-use Rattle.segment_invariant.specs.Body.{Anatomy}
-use Rattle.segment_invariant.specs.Invariant.{Invariant}
 use Rattle.segment_invariant.proofs.Counting.Owed.{mark_taken, sample_taken}
 use Rattle.segment_promises.specs.Deltas.{DeltasTakeAccepted}
 use Rattle.segment_promises.proofs.Enough.{CoversBucket, CoversValue, knower_lives, buckets_enough, values_enough}

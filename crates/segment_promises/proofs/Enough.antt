@@ -1,35 +1,11 @@
 -- Units of each key are enough for a recorder where they are at least what it has seen of each bucket, or of the first sample of each
 -- value that it met.
-use Rattle.std.proofs.Common.{◌≡◌, ◌≢◌, ℕ, ◌+◌, ◌<◌, ◌≤◌, ℤ, true, List, ◌++◌, Some, inl, ⊎_elim, sym, ap, subst, refl, arith, false}
-use mathlib.Core.Option.{some}
-use mathlib.Core.Logic.{dite}
+use Rattle.segment_invariant.proofs.Prelude.Std.{◌≡◌, ◌≢◌, ℕ, ◌+◌, ◌<◌, ◌≤◌, ℤ, true, List, ◌++◌, Some, inl, ⊎_elim, sym, ap, subst, refl, arith, false, some, dite, get_elem?, slice_index, filter, Contains, and_parts, All-contains, Contains-append_left, Contains-append_right, Contains-append_cases, none_in, contains_filter, contains_mapped, contains_map}
+use Rattle.segment_invariant.proofs.Prelude.Machine.{Dimensions, Spec, buckets_of, SameSpec, Entry, EntryProgress, Spent, Actor, Known, Sighting, is_counted, has_ended, tally_units, accepted_by, counted_of, bucket_key, SawCount, is_opener, SawSample, SawBucket, purse, State}
+use Rattle.segment_invariant.proofs.Prelude.Invariant.{Anatomy, IsFirst, IsFirstOf, Knows, WasMet, Invariant, Fits, LooksBack, StandsRight}
 use native.Mathlib.Decide.{dec_le}
-use lib.ListN.{get_elem?}
-use Rattle.std.specs.Prelude.{slice_index}
-use Rattle.std.specs.List.{filter, Contains}
-use Rattle.std.proofs.lemmas.Bool.{and_parts}
-use Rattle.std.proofs.lemmas.List.Elements.{All-contains, Contains-append_left, Contains-append_right, Contains-append_cases}
-use Rattle.segment_image.specs.Shape.{Dimensions}
-use Rattle.bucket_ranges.specs.declared.spec.Spec.{Spec}
 use Rattle.bucket_ranges.specs.declared.spec.Spec.TheVariants as spec
-use Rattle.bucket_ranges.specs.Spec.{buckets_of, SameSpec}
-use Rattle.segment_machine.specs.declared.entry.Entry.{Entry}
-use Rattle.segment_machine.specs.declared.entry.EntryProgress.{EntryProgress}
-use Rattle.segment_machine.specs.declared.place.Place.TheVariants.{Spent}
-use Rattle.segment_machine.specs.declared.actor.Actor.{Actor}
-use Rattle.segment_machine.specs.declared.actor.Known.{Known}
-use Rattle.segment_machine.specs.declared.seen.Sighting.{Sighting}
-use Rattle.segment_machine.specs.Entry.{is_counted, has_ended, tally_units}
-use Rattle.segment_machine.specs.Actor.{accepted_by, counted_of, bucket_key, SawCount, is_opener}
-use Rattle.segment_machine.specs.Made.{SawSample}
-use Rattle.segment_machine.specs.Note.{SawBucket}
-use Rattle.segment_machine.specs.Seats.{purse}
-use Rattle.segment_machine.specs.State.{State}
-use Rattle.segment_invariant.specs.Body.{Anatomy}
-use Rattle.segment_invariant.specs.Seen.{IsFirst, IsFirstOf, Knows, WasMet}
-use Rattle.segment_invariant.specs.Invariant.{Invariant, Fits, LooksBack, StandsRight}
-use Rattle.list_lemmas.proofs.Elements.{none_in, contains_filter}
-use Rattle.list_lemmas.proofs.Maps.{contains_mapped, contains_map, contains_take}
+use Rattle.list_lemmas.proofs.Maps.{contains_take}
 use Rattle.segment_invariant.proofs.Lists.Tallies.{tally_at}
 use Rattle.segment_invariant.proofs.Consistency.Firsts.{sample_of_first}
 use Rattle.segment_promises.specs.Deltas.{HadSample, HasBuckets, HasValues}

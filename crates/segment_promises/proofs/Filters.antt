@@ -1,7 +1,6 @@
 -- What is in a list that a test filters.
-use Rattle.std.proofs.Common.{◌≡◌, Bool, true, cond, List, [], ◌∷◌, refl, ap, ◌∙◌}
-use Rattle.std.specs.List.{All, Contains, filter}
-use Rattle.std.proofs.lemmas.List.Elements.{All-head, All-tail, All-contains, All-contains_itself, All-filter, filter_passes}
+use Rattle.segment_invariant.proofs.Prelude.Std.{◌≡◌, Bool, true, cond, List, [], ◌∷◌, refl, ap, ◌∙◌, All, Contains, filter, All-head, All-tail, All-contains}
+use Rattle.std.proofs.lemmas.List.Elements.{All-contains_itself, All-filter, filter_passes}
 
 -- what passes a test is in the list, and passes it
 pub filtered : {X : Type 0} (p : X → Bool) (l : List X) (x : X) → Contains (filter p l) x → Contains l x × (p x ≡ true)

@@ -1,19 +1,10 @@
 -- The samples of a sparse histogram along the list: where a recorder saw of each record which value it is a sample of, or that it is none,
 -- a sample behind another of its value is a later one.
-use Rattle.std.proofs.Common.{◌≡◌, ◌≢◌, ◌⊎◌, ℕ, zero, suc, ℤ, Bool, true, false, true≢false, List, [], ◌∷◌, ◌++◌, Some, inl, inr, refl, sym, ap, subst, ◌∙◌, arith}
-use Rattle.std.specs.Int.{cast_signed, cast_unsigned, w64}
-use Rattle.std.specs.List.{All, AllByRecursion, Contains}
-use Rattle.std.specs.Ordering.{int_eq}
-use Rattle.std.proofs.lemmas.Bool.Decides.{Decides-int_eq}
-use Rattle.std.proofs.lemmas.List.{append_assoc}
-use Rattle.std.proofs.lemmas.List.Elements.{Contains-append_right}
+use Rattle.segment_invariant.proofs.Prelude.Std.{◌≡◌, ◌≢◌, ◌⊎◌, ℕ, zero, suc, ℤ, Bool, true, false, true≢false, List, [], ◌∷◌, ◌++◌, Some, inl, inr, refl, sym, ap, subst, ◌∙◌, arith, cast_signed, cast_unsigned, w64, All, AllByRecursion, Contains, int_eq, Decides-int_eq, append_assoc, Contains-append_right}
+use Rattle.segment_invariant.proofs.Prelude.Machine.{Actor, Known, Seen, SawOther, SawSample}
 use Rattle.bucket_ranges.specs.Reading.{is_i32}
-use Rattle.segment_machine.specs.declared.actor.Actor.{Actor}
-use Rattle.segment_machine.specs.declared.actor.Known.{Known}
-use Rattle.segment_machine.specs.declared.seen.Seen.{Seen}
 use Rattle.segment_machine.specs.Actor.{Sparse}
 use Rattle.list_lemmas.specs.Firsts.{ComesFirst}
-use Rattle.segment_machine.specs.Made.{SawOther, SawSample}
 use Rattle.segment_machine.specs.Taking.{IsLaterSample}
 use Rattle.segment_machine.proofs.Values.{value_word}
 

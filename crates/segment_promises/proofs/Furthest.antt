@@ -1,10 +1,6 @@
 -- How far along a chain a block stands for the last time.
-use Rattle.std.proofs.Common.{◌≡◌, ◌⊎◌, ⊎_elim, ℕ, zero, suc, ◌+◌, ◌-◌, ◌<◌, ◌≤◌, ◌==◌, Bool, true, false, List, [], ◌∷◌, ◌++◌, length, slice_index, inl, inr, refl, sym, ap, subst, ◌∙◌, arith, length-append, eq-eqb, eqb-true}
-use Rattle.std.specs.Prelude.{if◌then◌else◌, nat_lt}
-use Rattle.std.proofs.lemmas.Bool.{lt-ltb, ltb-true, ltb-false}
-use mathlib.Core.Logic.{dite}
-use native.Mathlib.Decide.{ℕ_discrete}
-use Rattle.list_core.specs.Chain.{stops}
+use Rattle.segment_invariant.proofs.Prelude.Std.{◌≡◌, ◌⊎◌, ⊎_elim, ℕ, zero, suc, ◌+◌, ◌-◌, ◌<◌, ◌≤◌, ◌==◌, Bool, true, false, List, [], ◌∷◌, ◌++◌, length, slice_index, inl, inr, refl, sym, ap, subst, ◌∙◌, arith, length-append, eq-eqb, eqb-true, if◌then◌else◌, nat_lt, lt-ltb, ltb-true, ltb-false, dite, ℕ_discrete}
+use Rattle.segment_invariant.proofs.Prelude.Machine.{stops}
 use Rattle.list_core.specs.Walk.{stands_behind}
 use Rattle.list_core.proofs.Walks.{place_of}
 use Rattle.segment_promises.specs.Values.{NoRepeats}

@@ -1,18 +1,8 @@
 -- What only grows: lists, the chain that an actor has seen, and what it has seen of records.
-use Rattle.std.proofs.Common.{◌≡◌, ◌≢◌, ℕ, ◌+◌, ◌≤◌, ◌==◌, ◌&&◌, ℤ, Bool, true, false, true≢false, not, if◌then◌else◌, List, [], ◌∷◌, ◌++◌, length, slice_index, inl, inr, refl, sym, ap, subst, ◌∙◌, ⊎_elim, eq-eqb, arith}
-use Rattle.std.specs.Prelude.{Some}
-use Rattle.std.specs.List.{All, AllByRecursion}
-use Rattle.std.proofs.Math.ListN.{get_or}
-use Rattle.std.proofs.lemmas.Bool.{or_cases, and_parts, eqb-true, leb-true}
-use Rattle.std.proofs.lemmas.List.{append-nil, append_assoc}
-use Rattle.segment_image.specs.Shape.{Dimensions}
-use Rattle.alloc_core.specs.Layout.{IsShape}
-use Rattle.list_core.specs.Chain.{is_reference, stops}
-use Rattle.segment_machine.specs.declared.seen.Seen.{Seen}
-use Rattle.segment_machine.specs.declared.seen.Sighting.{Sighting}
-use Rattle.segment_machine.specs.Actor.{word_seen}
+use Rattle.segment_invariant.proofs.Prelude.Std.{◌≡◌, ◌≢◌, ℕ, ◌+◌, ◌≤◌, ◌==◌, ◌&&◌, ℤ, Bool, true, false, true≢false, not, if◌then◌else◌, List, [], ◌∷◌, ◌++◌, length, slice_index, inl, inr, refl, sym, ap, subst, ◌∙◌, ⊎_elim, eq-eqb, arith, Some, All, AllByRecursion, get_or, and_parts, eqb-true, leb-true, append-nil, append_assoc}
+use Rattle.segment_invariant.proofs.Prelude.Machine.{Dimensions, IsShape, is_reference, stops, Seen, Sighting, word_seen, SawOther}
+use Rattle.std.proofs.lemmas.Bool.{or_cases}
 use Rattle.segment_machine.specs.Calls.{ended}
-use Rattle.segment_machine.specs.Made.{SawOther}
 use Rattle.segment_machine.specs.Walking.{extended}
 use Rattle.segment_invariant.proofs.Walking.Words.{word_still}
 use Rattle.segment_promises.specs.Onward.{Grows}

@@ -1,28 +1,10 @@
 -- Where all recorders are joined, the opener alone has done what was done.
-use Rattle.std.proofs.Common.{◌≡◌, ◌≢◌, ℕ, suc, Bool, true, false, ℤ, ◌⊎◌, ◌≤◌, ◌+◌, ◌+ℤ◌, ◌-◌, List, [], ◌∷◌, ◌++◌, map, take, drop, length, refl, sym, ap, subst, ◌∙◌, append-nil, ⊎_elim, arith}
-use Rattle.std.specs.Prelude.{if◌then◌else◌}
-use Rattle.std.specs.List.{filter, flat_map, All, Contains}
-use mathlib.Core.Option.{some, some-injective, some-ne-none}
-use lib.ListN.{get_elem?}
+use Rattle.segment_invariant.proofs.Prelude.Std.{◌≡◌, ◌≢◌, ℕ, suc, Bool, true, false, ℤ, ◌⊎◌, ◌≤◌, ◌+◌, ◌+ℤ◌, ◌-◌, List, [], ◌∷◌, ◌++◌, map, take, drop, length, refl, sym, ap, subst, ◌∙◌, append-nil, ⊎_elim, arith, if◌then◌else◌, filter, flat_map, All, Contains, some, some-injective, some-ne-none, get_elem?, and_parts, All-contains, All-nil, all_of, sum_at_least}
+use Rattle.segment_invariant.proofs.Prelude.Machine.{Dimensions, Entry, EntryProgress, Actor, Portion, Taken, is_counted, is_summed, is_noted, has_ended, is_of, tally_units, tally_sum, tally_noted, log_of, counted_of, summed_of, noted_of, all_counted, all_summed, all_noted, all_taken, portion_of, taken_of, taken_units, taken_sum, made_of, outstanding_of, is_untouched, purse, State}
+use Rattle.segment_invariant.proofs.Prelude.Invariant.{Anatomy, IsWithinCounts, Invariant, is_living, Fits, StandsRight, IsQuiet}
 use Rattle.std.proofs.Math.Seq.{drop-append-add}
-use Rattle.std.proofs.lemmas.Bool.{and_parts}
-use Rattle.std.proofs.lemmas.List.Elements.{All-contains, All-nil}
-use Rattle.segment_image.specs.Shape.{Dimensions}
-use Rattle.segment_machine.specs.declared.entry.Entry.{Entry}
-use Rattle.segment_machine.specs.declared.entry.EntryProgress.{EntryProgress}
-use Rattle.segment_machine.specs.declared.actor.Actor.{Actor}
-use Rattle.segment_machine.specs.declared.actor.Portion.{Portion}
-use Rattle.segment_machine.specs.declared.actor.Taken.{Taken}
-use Rattle.segment_machine.specs.Entry.{is_counted, is_summed, is_noted, has_ended, is_of, tally_units, tally_sum, tally_noted}
-use Rattle.segment_machine.specs.Actor.{log_of, counted_of, summed_of, noted_of, all_counted, all_summed, all_noted, all_taken, portion_of, taken_of, taken_units, taken_sum, made_of, outstanding_of}
-use Rattle.segment_machine.specs.Note.{is_untouched}
-use Rattle.segment_machine.specs.Seats.{purse}
-use Rattle.segment_machine.specs.State.{State}
 use Rattle.segment_machine.specs.Reached.{IsJoined}
-use Rattle.segment_invariant.specs.Body.{Anatomy}
-use Rattle.segment_invariant.specs.Consistent.{IsWithinCounts}
-use Rattle.segment_invariant.specs.Invariant.{Invariant, is_living, ended_deltas, Fits, StandsRight, IsQuiet}
-use Rattle.list_lemmas.proofs.Elements.{all_of, sum_at_least}
+use Rattle.segment_invariant.specs.Invariant.{ended_deltas}
 use Rattle.list_lemmas.proofs.Maps.{one_at}
 use Rattle.segment_invariant.proofs.Frames.OneActor.{lives_on}
 use Rattle.segment_invariant.proofs.Frames.Spending.{spent_or_not}

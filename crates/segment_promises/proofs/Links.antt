@@ -1,40 +1,22 @@
 -- The list grows at its end, and by links alone. What shows it is an opener that has walked along the whole list before the event: what
 -- an actor has walked stays the front of the list.
-use Rattle.std.proofs.Common.{◌≡◌, ◌≢◌, ◌⊎◌, ℕ, ◌+◌, ◌≤◌, ◌==◌, Bool, true, false, List, [], ◌∷◌, ◌++◌, map, length, set, inl, inr, refl, sym, ap, ◌∙◌, subst, subst₂, arith, length-append, eq-eqb}
-use Rattle.std.specs.Prelude.{slice_index, Some, None, if◌then◌else◌, Option}
-use Rattle.std.proofs.lemmas.List.{append-nil, length-map}
+use Rattle.segment_invariant.proofs.Prelude.Std.{◌≡◌, ◌≢◌, ◌⊎◌, ℕ, ◌+◌, ◌≤◌, ◌==◌, Bool, true, false, List, [], ◌∷◌, ◌++◌, map, length, set, inl, inr, refl, sym, ap, ◌∙◌, subst, subst₂, arith, length-append, eq-eqb, slice_index, Some, None, if◌then◌else◌, Option, append-nil, length-map, eqb-true, some, get_elem?, set_else, set_here, sum_beside, below_length}
+use Rattle.segment_invariant.proofs.Prelude.Machine.{Dimensions, word_at, head_of, stops, IsStop, IsChain, IsPrefix, Actor, Own, Made, all_published, is_opener, Event, Ready, next, allocating_event, publishing_event, walking_event, counting_event, taking_event, packing_event, load_flags, load_free, exchange_free, store_size, store_cookie, store_type, store_payload, set_corrupt, set_full, store_own_next, load_tail, link, move_tail, after_link, load_next, load_published, load_counts, add_count, add_sum, load_count, raise_mark, load_sum, swap_sum_mark, load_redundant, raise_single_mark, load_single, pack, mount_counts, purge_block, disable, add_moved, after_pack, after_mount, after_disable, State}
+use Rattle.segment_invariant.proofs.Prelude.Invariant.{Anatomy, Listed, listed, order_of, StandsRight, Invariant, found_at}
 use Rattle.std.proofs.lemmas.List.Concat.{length-flat_map}
 use Rattle.std.proofs.lemmas.List.Sorted.{length_permutation}
-use Rattle.std.proofs.lemmas.Bool.{eqb-true}
-use mathlib.Core.Option.{some}
-use lib.ListN.{get_elem?}
-use Rattle.atomic_table.proofs.Lists.{set_else, set_here}
 use Rattle.alloc_core.proofs.Owners.{set_at}
-use Rattle.segment_image.specs.Shape.{Dimensions}
-use Rattle.segment_image.specs.Words.{word_at}
-use Rattle.segment_image.specs.Head.{head_of}
-use Rattle.list_core.specs.Chain.{stops, IsStop, AreNeighbours, IsChain}
-use Rattle.list_core.specs.Walk.{IsPrefix}
+use Rattle.list_core.specs.Chain.{AreNeighbours}
 use Rattle.list_core.proofs.Chains.{one_place, last_stop}
-use Rattle.segment_machine.specs.declared.actor.Actor.{Actor}
-use Rattle.segment_machine.specs.declared.actor.Own.{Own}
-use Rattle.segment_machine.specs.declared.actor.Made.{Made}
 use Rattle.segment_machine.specs.declared.place.Place.TheVariants.{Linked}
-use Rattle.segment_machine.specs.Actor.{all_published, is_opener}
-use Rattle.segment_machine.specs.Event.{Event, Ready, after, next, allocating_event, publishing_event, walking_event, counting_event, taking_event, packing_event, cursor_event}
-use Rattle.segment_machine.specs.Allocating.{load_flags, load_free, exchange_free, store_size, store_cookie, store_type, store_payload, set_corrupt, set_full, after_free}
-use Rattle.segment_machine.specs.Publishing.{store_own_next, load_tail, link, move_tail, own_at, published_as, after_link}
-use Rattle.segment_machine.specs.Walking.{load_next, load_published}
-use Rattle.segment_machine.specs.Counting.{load_counts, add_count, add_sum, add_redundant}
-use Rattle.segment_machine.specs.Taking.{load_count, raise_mark, load_sum, swap_sum_mark, load_redundant, raise_single_mark}
-use Rattle.segment_machine.specs.Packing.{load_single, pack, mount_counts, purge_block, disable, add_moved, after_pack, after_mount, after_disable}
+use Rattle.segment_machine.specs.Event.{after, cursor_event}
+use Rattle.segment_machine.specs.Allocating.{after_free}
+use Rattle.segment_machine.specs.Publishing.{own_at, published_as}
+use Rattle.segment_machine.specs.Counting.{add_redundant}
 use Rattle.segment_machine.specs.Cursors.{load_cursor, move_cursor, after_cursor}
-use Rattle.segment_machine.specs.State.{State, memory}
-use Rattle.segment_invariant.specs.Body.{Anatomy, Listed, listed, order_of}
-use Rattle.segment_invariant.specs.Invariant.{StandsRight, Invariant}
-use Rattle.segment_invariant.specs.Keeps.{found_at, happened}
+use Rattle.segment_machine.specs.State.{memory}
+use Rattle.segment_invariant.specs.Keeps.{happened}
 use Rattle.segment_invariant.proofs.Events.{events_keep}
-use Rattle.list_lemmas.proofs.Elements.{sum_beside, below_length}
 use Rattle.segment_invariant.proofs.Frames.Ahead.{reached_stop}
 use Rattle.segment_invariant.proofs.Frames.GoesOn.{not_opener, found_word}
 use Rattle.segment_invariant.proofs.Frames.Growth.{stop_at}

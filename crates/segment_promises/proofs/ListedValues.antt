@@ -1,16 +1,8 @@
 -- What a recorder lists of the samples of a sparse histogram, record by record.
-use Rattle.std.proofs.Common.{◌≡◌, ◌≢◌, ℕ, suc, ◌+◌, ◌<◌, ◌≤◌, ℤ, if◌then◌else◌, sum_by, Bool, true, false, List, [], ◌∷◌, ◌++◌, length, inl, inr, refl, sym, ap, subst, ◌∙◌, arith}
-use Rattle.std.specs.Int.{cast_unsigned, w64}
-use Rattle.std.specs.List.{All, AllByRecursion, Contains}
-use Rattle.std.specs.Ordering.{int_eq}
-use Rattle.std.proofs.Math.ListN.{get_or}
-use Rattle.std.proofs.lemmas.Bool.Decides.{Decides-int_eq}
-use Rattle.std.proofs.lemmas.List.{append_assoc, length_push}
-use Rattle.std.proofs.lemmas.List.Elements.{All-nil, All-cons, All-push, Contains-append_right}
-use Rattle.std.proofs.lemmas.List.Sums.{sum_by-append, sum_by_push}
-use Rattle.segment_machine.specs.declared.seen.Seen.{Seen}
+use Rattle.segment_invariant.proofs.Prelude.Std.{◌≡◌, ◌≢◌, ℕ, suc, ◌+◌, ◌<◌, ◌≤◌, ℤ, if◌then◌else◌, sum_by, Bool, true, false, List, [], ◌∷◌, ◌++◌, length, inl, inr, refl, sym, ap, subst, ◌∙◌, arith, cast_unsigned, w64, All, AllByRecursion, Contains, int_eq, get_or, Decides-int_eq, append_assoc, length_push, All-nil, All-cons, All-push, Contains-append_right, sum_by-append}
+use Rattle.segment_invariant.proofs.Prelude.Machine.{Seen, SawOther, SawSample}
+use Rattle.std.proofs.lemmas.List.Sums.{sum_by_push}
 use Rattle.list_lemmas.specs.Firsts.{ComesFirst}
-use Rattle.segment_machine.specs.Made.{SawOther, SawSample}
 use Rattle.segment_promises.specs.Onward.{Grows}
 use Rattle.segment_promises.specs.Values.{NoKeyRepeats, ListsValues, Passes}
 use Rattle.segment_promises.proofs.Growing.{all_push, other_still, others_still, still}
@@ -64,6 +56,41 @@ module _ (a b : Seen) (grows : Grows a.words b.words) (histogram : ℕ) where
       few = lists.few;
     }
 
+-- ---- one key more
+
+-- each key is listed once, where the new one is not listed yet
+module _ (listed : List (ℤ × ℕ)) (value : ℤ) (units : ℕ) (never : (k : ℕ) (d : ℤ × ℕ) → k < length listed → (get_or listed k d).0 ≢ value) where
+  abbrev test : ℤ → ℤ × ℕ → ℕ
+  test key count = if int_eq count.0 key then 1 else 0
+
+  apart_false : (x y : ℤ) → x ≢ y → int_eq x y ≡ false
+  apart_false x y apart = by (int_eq x y) refl
+    where
+      by : (b : Bool) → int_eq x y ≡ b → b ≡ false
+      by true e = absurd (apart ((Decides-int_eq x y).0 e))
+      by false e = refl
+
+  none_of : (list : List (ℤ × ℕ)) → ((k : ℕ) (d : ℤ × ℕ) → k < length list → (get_or list k d).0 ≢ value) → sum_by (test value) list ≡ 0
+  none_of [] never = refl
+  none_of (c ∷ rest) never =
+      let head : test value c ≡ 0 = ap (λ (b : Bool). if b then 1 else 0) (apart_false c.0 value (never 0 c (omega arith))) in
+      let tail = none_of rest (λ k d low. never (suc k) d (omega (arith, low))) in
+      let one : sum_by (test value) (c ∷ []) ≡ 0 = λ i. 0 + head i in
+      sum_by-append (test value) (c ∷ []) rest ∙ (λ i. one i + tail i)
+
+  pub once_then : NoKeyRepeats listed → NoKeyRepeats (listed ++ (value, units) ∷ [])
+  once_then once key =
+      let all = sum_by_push (test key) listed (value, units) in
+      let was = once key in
+      by (int_eq value key) refl all was
+    where
+      by : (b : Bool) → int_eq value key ≡ b → sum_by (test key) (listed ++ (value, units) ∷ []) ≡ sum_by (test key) listed + test key (value, units)
+          → sum_by (test key) listed ≤ 1 → sum_by (test key) (listed ++ (value, units) ∷ []) ≤ 1
+      by true e all was =
+          let none = subst (λ (x : ℤ). sum_by (test x) listed ≡ 0) ((Decides-int_eq value key).0 e) (none_of listed never) in
+          let one : test key (value, units) ≡ 1 = ap (λ (b : Bool). if b then 1 else 0) e in omega (arith, all, none, one)
+      by false e all was = let one : test key (value, units) ≡ 0 = ap (λ (b : Bool). if b then 1 else 0) e in omega (arith, all, was, one)
+
 -- ---- one record more
 
 module _ (Does : ℤ → ℕ → Type 0) (Has : ℕ → ℕ → Type 0) (histogram : ℕ) (seen : Seen) where
@@ -103,43 +130,12 @@ module _ (Does : ℤ → ℕ → Type 0) (Has : ℕ → ℕ → Type 0) (histogr
           first sample (subst (λ (l : List ℕ). Contains l sample) (sym split) (Contains-append_right front (sample ∷ behind) sample (0, omega arith, refl)))
           (subst (λ (x : ℤ). SawSample seen histogram x sample) same it)
 
-      abbrev test : ℤ → ℤ × ℕ → ℕ
-      test key count = if int_eq count.0 key then 1 else 0
-
-      apart_false : (x y : ℤ) → x ≢ y → int_eq x y ≡ false
-      apart_false x y apart = by (int_eq x y) refl
-        where
-          by : (b : Bool) → int_eq x y ≡ b → b ≡ false
-          by true e = absurd (apart ((Decides-int_eq x y).0 e))
-          by false e = refl
-
-      none_of : (list : List (ℤ × ℕ)) → ((k : ℕ) (d : ℤ × ℕ) → k < length list → (get_or list k d).0 ≢ value) → sum_by (test value) list ≡ 0
-      none_of [] never = refl
-      none_of (c ∷ rest) never =
-          let head : test value c ≡ 0 = ap (λ (b : Bool). if b then 1 else 0) (apart_false c.0 value (never 0 c (omega arith))) in
-          let tail = none_of rest (λ k d low. never (suc k) d (omega (arith, low))) in
-          let one : sum_by (test value) (c ∷ []) ≡ 0 = λ i. 0 + head i in
-          sum_by-append (test value) (c ∷ []) rest ∙ (λ i. one i + tail i)
-
-      once_then : NoKeyRepeats (listed ++ (value, units) ∷ [])
-      once_then key =
-          let all = sum_by_push (test key) listed (value, units) in
-          let was = lists.once key in
-          by (int_eq value key) refl all was
-        where
-          by : (b : Bool) → int_eq value key ≡ b → sum_by (test key) (listed ++ (value, units) ∷ []) ≡ sum_by (test key) listed + test key (value, units)
-              → sum_by (test key) listed ≤ 1 → sum_by (test key) (listed ++ (value, units) ∷ []) ≤ 1
-          by true e all was =
-              let none = subst (λ (x : ℤ). sum_by (test x) listed ≡ 0) ((Decides-int_eq value key).0 e) (none_of listed not_listed) in
-              let one : test key (value, units) ≡ 1 = ap (λ (b : Bool). if b then 1 else 0) e in omega (arith, all, none, one)
-          by false e all was = let one : test key (value, units) ≡ 0 = ap (λ (b : Bool). if b then 1 else 0) e in omega (arith, all, was, one)
-
       pub lists_one : ListsValues Does Has histogram (passed ++ at ∷ []) (listed ++ (value, units) ∷ []) seen
       lists_one = let on = lists_on (inl (value, saw, does)) in record {
         passes = on.passes;
         firsts = All-push
             (λ (count : ℤ × ℕ). (sample : ℕ) × ComesFirst (SawOther seen histogram count.0) (SawSample seen histogram count.0) (passed ++ at ∷ []) sample × Has sample count.1)
             listed (value, units) on.firsts (at, (passed, [], refl, others_of passed lists.passes first, saw), has);
-        once = once_then;
+        once = once_then listed value units not_listed lists.once;
         few = let few = lists.few in let one = length_push passed at in let more = length_push listed (value, units) in omega (arith, few, one, more);
       }

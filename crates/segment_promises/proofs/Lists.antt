@@ -1,29 +1,14 @@
 -- What walks and shared cursors give, of any kept state.
-use Rattle.std.proofs.Common.{◌≡◌, ◌≢◌, ℕ, zero, suc, ◌+◌, ◌<◌, ◌≤◌, ◌==◌, Bool, true, false, cond, List, [], ◌∷◌, take, length, ⊎_elim, refl, sym, ap, subst, ◌∙◌, length-append, eqb-true, arith}
-use Rattle.std.specs.Prelude.{slice_index, IsPermutation}
-use Rattle.std.specs.List.{filter, Contains}
-use mathlib.Core.Option.{some, some-injective, some-ne-none}
-use lib.ListN.{get_elem?}
+use Rattle.segment_invariant.proofs.Prelude.Std.{◌≡◌, ◌≢◌, ℕ, zero, suc, ◌+◌, ◌<◌, ◌≤◌, ◌==◌, Bool, true, false, cond, List, [], ◌∷◌, take, length, ⊎_elim, refl, sym, ap, subst, ◌∙◌, length-append, eqb-true, arith, slice_index, IsPermutation, filter, Contains, some, some-injective, some-ne-none, get_elem?, All-contains, Contains-append_left, Contains-append_cases, Contains-permutation, from_map}
+use Rattle.segment_invariant.proofs.Prelude.Machine.{Dimensions, word_at, head_of, stops, IsChain, IsPrefix, Actor, Given, Spent, State}
+use Rattle.segment_invariant.proofs.Prelude.Invariant.{Anatomy, order_of, IsNoLater, Invariant, StandsRight}
 use Rattle.std.proofs.lemmas.List.{take_all}
-use Rattle.std.proofs.lemmas.List.Elements.{All-contains, Contains-append_left, Contains-append_cases}
-use Rattle.std.proofs.lemmas.List.Sorted.{IsPermutation-sym, Contains-permutation}
-use Rattle.segment_image.specs.Shape.{Dimensions}
-use Rattle.segment_image.specs.Words.{word_at}
-use Rattle.segment_image.specs.Head.{head_of}
-use Rattle.list_core.specs.Chain.{stops, IsChain}
-use Rattle.list_core.specs.Walk.{IsPrefix}
+use Rattle.std.proofs.lemmas.List.Sorted.{IsPermutation-sym}
 use Rattle.list_core.proofs.Chains.{linked_of, one_place, last_stop}
-use Rattle.segment_machine.specs.declared.actor.Actor.{Actor}
-use Rattle.segment_machine.specs.declared.actor.Given.{Given}
-use Rattle.segment_machine.specs.declared.place.Place.TheVariants.{Spent, CursorLoaded}
+use Rattle.segment_machine.specs.declared.place.Place.TheVariants.{CursorLoaded}
 use Rattle.segment_machine.specs.Actor.{all_given}
-use Rattle.segment_machine.specs.State.{State}
 use Rattle.segment_machine.specs.Walking.{records_met}
-use Rattle.segment_invariant.specs.Body.{Anatomy, order_of}
-use Rattle.segment_invariant.specs.Seen.{IsNoLater}
-use Rattle.segment_invariant.specs.Invariant.{Invariant, StandsRight}
 use Rattle.segment_invariant.proofs.Consistency.OneChain.{one_chain}
-use Rattle.list_lemmas.proofs.Elements.{from_map}
 use Rattle.segment_invariant.proofs.Frames.Growth.{stop_at}
 use Rattle.segment_invariant.proofs.Walking.Learned.{whole_front, met_listed}
 use Rattle.segment_promises.specs.Lists.{HasMet, WalksGiveAll, CursorsKeepOrder, CursorsGiveFronts, CursorsGiveAll}

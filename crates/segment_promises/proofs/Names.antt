@@ -1,11 +1,7 @@
 -- What `hist` answers, of any kept state: the first record of a name, with the same spec; it refuses only where that has another one.
-use Rattle.std.proofs.Common.{ℕ, List, sym, subst, ◌∙◌}
-use Rattle.std.proofs.lemmas.List.Elements.{All-contains}
-use Rattle.bucket_ranges.specs.declared.spec.Spec.{Spec}
-use Rattle.bucket_ranges.specs.Reading.{spec_of}
-use Rattle.bucket_ranges.specs.Spec.{SameSpec}
-use Rattle.segment_invariant.specs.Consistent.{IsHistogram}
-use Rattle.segment_invariant.specs.Seen.{Knows}
+use Rattle.segment_invariant.proofs.Prelude.Std.{ℕ, List, sym, subst, ◌∙◌, All-contains}
+use Rattle.segment_invariant.proofs.Prelude.Machine.{Spec, spec_of, SameSpec}
+use Rattle.segment_invariant.proofs.Prelude.Invariant.{IsHistogram, Knows}
 use Rattle.segment_invariant.proofs.Consistency.Specs.{record_spec, same_spelled}
 use Rattle.segment_invariant.proofs.Consistency.Firsts.{name_of_first, record_of_first}
 use Rattle.segment_invariant.proofs.Notes.Names as names

@@ -1,28 +1,9 @@
 -- What a recorder has seen of a bucket since its delta or snapshot began is at least what it had accepted and seen.
-use Rattle.std.proofs.Common.{◌≡◌, ◌≢◌, ℕ, ◌+◌, ◌<◌, ◌≤◌, ◌==◌, zero, ne_eqb, Bool, true, false, true≢false, take, Option, Some, None, inl, inr, refl, sym, ap, subst, ◌∙◌, arith}
-use mathlib.Core.Option.{some, none}
-use lib.ListN.{get_elem?}
-use Rattle.std.specs.Prelude.{if◌then◌else◌}
-use Rattle.std.specs.List.{Contains}
-use Rattle.std.proofs.lemmas.List.Elements.{All-contains}
-use Rattle.segment_image.specs.Shape.{Dimensions}
-use Rattle.bucket_ranges.specs.Spec.{buckets_of}
-use Rattle.bucket_ranges.specs.declared.single.SingleWord.{SingleWord}
-use Rattle.bucket_ranges.specs.declared.single.SingleWord.TheVariants.{Empty, Packed, Disabled, FrozenEmpty, Frozen}
-use Rattle.bucket_ranges.specs.Single.{single_of, packed_bucket, units_packed}
-use Rattle.segment_machine.specs.declared.actor.Actor.{Actor}
-use Rattle.segment_machine.specs.declared.actor.Known.{Known}
-use Rattle.segment_machine.specs.declared.place.Place.TheVariants.{Spent}
-use Rattle.segment_machine.specs.Entry.{tally_units}
-use Rattle.segment_calls.specs.Form.{is_off, units_in, Leads}
-use Rattle.segment_image.specs.Blocks.{field_at}
-use Rattle.segment_machine.specs.Actor.{word_seen, accepted_by, bucket_key, SawSingle, SawCount, is_opener}
-use Rattle.segment_machine.specs.Note.{SawBucket}
-use Rattle.segment_machine.specs.State.{State}
-use Rattle.segment_invariant.specs.Body.{Record, Body, Anatomy, histogram}
-use Rattle.segment_invariant.specs.Ledger.{form_at}
-use Rattle.segment_invariant.specs.Seen.{HasRecord, Knows}
-use Rattle.segment_invariant.specs.Invariant.{Invariant, Fits, LooksBack, IsSettled}
+use Rattle.segment_invariant.proofs.Prelude.Std.{◌≡◌, ◌≢◌, ℕ, ◌+◌, ◌<◌, ◌≤◌, ◌==◌, zero, ne_eqb, Bool, true, false, true≢false, take, Option, Some, None, inl, inr, refl, sym, ap, subst, ◌∙◌, arith, some, none, get_elem?, if◌then◌else◌, Contains, All-contains}
+use Rattle.segment_invariant.proofs.Prelude.Machine.{Dimensions, buckets_of, SingleWord, Empty, Packed, Disabled, FrozenEmpty, Frozen, single_of, packed_bucket, units_packed, Actor, Known, Spent, tally_units, is_off, units_in, Leads, field_at, word_seen, accepted_by, bucket_key, SawCount, is_opener, SawBucket, State}
+use Rattle.segment_invariant.proofs.Prelude.Invariant.{Record, Body, Anatomy, histogram, form_at, HasRecord, Knows, Invariant, Fits, LooksBack}
+use Rattle.segment_machine.specs.Actor.{SawSingle}
+use Rattle.segment_invariant.specs.Invariant.{IsSettled}
 use Rattle.segment_invariant.proofs.Counting.Whole.{known_first}
 use Rattle.segment_invariant.proofs.Counting.Seen.{off_is}
 use Rattle.segment_invariant.proofs.Walking.Words.{sighted}

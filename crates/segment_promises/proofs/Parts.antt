@@ -1,15 +1,9 @@
 -- The tallies of the parts of a list add up to that of the list, whatever is added up.
-use Rattle.std.proofs.Common.{◌≡◌, ◌≢◌, ℕ, zero, suc, ◌+◌, ◌%◌, ◌<◌, ◌≤◌, Bool, true, false, ◌&&◌, eqb, eq-eqb, ne_eqb, ℤ, pos, ◌+ℤ◌, List, [], ◌∷◌, map, refl, sym, ap, ◌∙◌, arith}
-use mathlib.Core.Logic.{dite}
-use native.Mathlib.Decide.{ℕ_discrete}
-use Rattle.std.specs.Prelude.{if◌then◌else◌, fold, sum_by}
-use Rattle.std.specs.List.{range_with_len, enumerate_from, filter}
-use Rattle.std.proofs.Math.IntN.{+ℤ_idl}
-use Rattle.std.proofs.lemmas.List.Sums.{sum_by-cons}
+use Rattle.segment_invariant.proofs.Prelude.Std.{◌≡◌, ◌≢◌, ℕ, zero, suc, ◌+◌, ◌%◌, ◌<◌, ◌≤◌, Bool, true, false, ◌&&◌, eq-eqb, ne_eqb, ℤ, pos, ◌+ℤ◌, List, [], ◌∷◌, map, refl, sym, ap, ◌∙◌, arith, dite, ℕ_discrete, if◌then◌else◌, fold, sum_by, range_with_len, filter, +ℤ_idl, sum_by-cons, int_eq}
+use Rattle.segment_invariant.proofs.Prelude.Machine.{Entry, is_of}
+use Rattle.std.proofs.Common.{eqb}
+use Rattle.std.specs.List.{enumerate_from}
 use Rattle.list_lemmas.proofs.Sums.{IsAddition, numbers, amounts, amounts_total}
-use Rattle.segment_machine.specs.declared.entry.Entry.{Entry}
-use Rattle.segment_machine.specs.Entry.{is_of}
-use Rattle.std.specs.Ordering.{int_eq}
 use Rattle.segment_promises.specs.Tallies.{part, PartsAddUp}
 
 -- ---- whatever is added up

@@ -1,11 +1,7 @@
 -- How far a single word has come: how many units it packs, and behind that whether it is off. It rises along whatever leads on.
-use Rattle.std.proofs.Common.{◌≡◌, ◌≢◌, ◌⊎◌, ℕ, suc, ◌-◌, ◌%◌, ◌/◌, ◌^◌, ◌<◌, ◌≤◌, Bool, true, false, ◌==◌, ◌&&◌, nat_lt, nat_le, if◌then◌else◌, List, [], ◌∷◌, ◌++◌, Some, None, inl, inr, refl, sym, ap, ◌∙◌, arith}
-use Rattle.std.proofs.lemmas.Bool.{leb-true, and_parts, eq-eqb, eqb-true}
-use Rattle.std.specs.List.{Contains}
-use Rattle.bucket_ranges.specs.declared.single.SingleWord.TheVariants.{Empty, Packed, Disabled, FrozenEmpty, Frozen}
-use Rattle.bucket_ranges.specs.Single.{single_of, is_packed_word, packed_of, disabled_of, frozen_of, packed_bucket}
-use Rattle.segment_machine.specs.declared.seen.Sighting.{Sighting}
-use Rattle.segment_calls.specs.Form.{is_off, units_in, Leads}
+use Rattle.segment_invariant.proofs.Prelude.Std.{◌≡◌, ◌≢◌, ◌⊎◌, ℕ, suc, ◌-◌, ◌%◌, ◌/◌, ◌^◌, ◌<◌, ◌≤◌, Bool, true, false, ◌==◌, ◌&&◌, nat_lt, nat_le, if◌then◌else◌, List, [], ◌∷◌, ◌++◌, Some, None, inl, inr, refl, sym, ap, ◌∙◌, arith, leb-true, and_parts, eq-eqb, eqb-true, Contains}
+use Rattle.segment_invariant.proofs.Prelude.Machine.{Empty, Packed, Disabled, FrozenEmpty, Frozen, single_of, is_packed_word, packed_bucket, Sighting, is_off, units_in, Leads}
+use Rattle.bucket_ranges.specs.Single.{packed_of, disabled_of, frozen_of}
 use Rattle.segment_invariant.proofs.Packing.OffForms.{on_form}
 
 -- ---- words

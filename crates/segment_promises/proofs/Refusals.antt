@@ -1,19 +1,8 @@
 -- What a refused call that counts has done: its first entries.
-use Rattle.std.proofs.Common.{◌≡◌, ◌≢◌, ℕ, Bool, true, false, ℤ, pos, ◌+ℤ◌, List, [], ◌++◌, map, take, drop, refl, sym, ap, ◌∙◌, append-nil, append_assoc}
-use Rattle.std.specs.List.{filter, All, Contains}
-use Rattle.std.specs.Ordering.{int_eq}
-use Rattle.std.proofs.lemmas.Bool.{and_parts}
-use Rattle.std.proofs.lemmas.Bool.Decides.{Decides-int_eq}
-use Rattle.std.proofs.lemmas.List.{map-append, take-append-drop}
-use Rattle.std.proofs.lemmas.List.Elements.{All-contains, All-append}
-use Rattle.segment_machine.specs.declared.entry.Entry.{Entry}
-use Rattle.segment_machine.specs.declared.entry.EntryProgress.{EntryProgress}
-use Rattle.segment_machine.specs.declared.place.Place.{Place}
-use Rattle.segment_machine.specs.declared.place.Place.TheVariants.{Spent, Moving}
-use Rattle.segment_machine.specs.declared.actor.Actor.{Actor}
-use Rattle.segment_machine.specs.Entry.{is_counted, is_summed, is_noted, has_ended, tally_units, tally_sum, tally_noted, counted_among, summed_among, noted_among}
-use Rattle.segment_machine.specs.Actor.{log_of, counted_of, summed_of, noted_of, transit_at, is_bound}
-use Rattle.segment_machine.specs.Note.{is_untouched}
+use Rattle.segment_invariant.proofs.Prelude.Std.{◌≡◌, ◌≢◌, ℕ, Bool, true, false, ℤ, pos, ◌+ℤ◌, List, [], ◌++◌, map, take, drop, refl, sym, ap, ◌∙◌, append-nil, append_assoc, filter, All, Contains, int_eq, and_parts, Decides-int_eq, map-append, take-append-drop, All-contains, All-append}
+use Rattle.segment_invariant.proofs.Prelude.Machine.{Entry, EntryProgress, Place, Spent, Moving, Actor, is_counted, is_summed, is_noted, has_ended, tally_units, tally_sum, tally_noted, counted_among, noted_among, log_of, counted_of, summed_of, noted_of, is_bound, is_untouched}
+use Rattle.segment_machine.specs.Entry.{summed_among}
+use Rattle.segment_machine.specs.Actor.{transit_at}
 use Rattle.segment_invariant.proofs.Lists.Countings.{or_false, beside_same, nothing_among, no_amount, sum_total, untouched_counts, untouched_sums, untouched_notes}
 use Rattle.segment_promises.specs.Refusals.{RefusedAddsFew}
 use Rattle.segment_promises.proofs.Joined.{all_pass}

@@ -1,34 +1,14 @@
 -- What a snapshot answers is at least what its recorder had accepted and seen.
-use Rattle.std.proofs.Common.{◌≡◌, ◌≢◌, ℕ, zero, suc, ◌+◌, ◌<◌, ◌≤◌, ℤ, true, List, length, ⊎_elim, refl, sym, ap, subst, ◌∙◌, arith, false}
-use mathlib.Core.Option.{some, some-injective}
-use lib.ListN.{get_elem?}
-use Rattle.std.specs.Prelude.{if◌then◌else◌, Some}
-use Rattle.std.specs.List.{range_with_len, Contains}
-use Rattle.std.specs.Ordering.{int_eq}
-use Rattle.std.proofs.lemmas.Bool.Decides.{Decides-int_eq}
-use Rattle.std.proofs.lemmas.List.Elements.{All-contains, Contains-append_right}
-use Rattle.std.proofs.lemmas.List.{length-map}
+use Rattle.segment_invariant.proofs.Prelude.Std.{◌≡◌, ◌≢◌, ℕ, zero, suc, ◌+◌, ◌<◌, ◌≤◌, ℤ, true, List, length, ⊎_elim, refl, sym, ap, subst, ◌∙◌, arith, false, some, some-injective, get_elem?, if◌then◌else◌, Some, range_with_len, Contains, int_eq, Decides-int_eq, All-contains, Contains-append_right, length-map, at_map, at_from, sum_at_least, contains_mapped}
+use Rattle.segment_invariant.proofs.Prelude.Machine.{Dimensions, buckets_of, Spent, Actor, Answered, Known, Sighting, tally_noted, has_buckets, bucket_key, units_listed, SawCount, is_opener, IsFirstSample, State}
+use Rattle.segment_invariant.proofs.Prelude.Invariant.{Anatomy, IsFirstOf, Invariant}
 use Rattle.std.proofs.lemmas.List.FromFn.{length-range_with_len}
-use Rattle.atomic_table.proofs.Lists.{at_map}
-use Rattle.segment_image.specs.Shape.{Dimensions}
 use Rattle.bucket_ranges.specs.declared.spec.Spec.TheVariants as spec
-use Rattle.bucket_ranges.specs.Spec.{buckets_of}
-use Rattle.segment_machine.specs.declared.place.Place.TheVariants.{Spent}
-use Rattle.segment_machine.specs.declared.actor.Actor.{Actor}
-use Rattle.segment_machine.specs.declared.actor.Answered.{Answered}
-use Rattle.segment_machine.specs.declared.actor.Known.{Known}
-use Rattle.segment_machine.specs.declared.seen.Sighting.{Sighting}
-use Rattle.segment_machine.specs.Entry.{tally_noted}
-use Rattle.segment_machine.specs.Actor.{has_buckets, accepted_since, bucket_key, units_listed, SawCount, is_opener}
-use Rattle.segment_machine.specs.Made.{IsFirstSample}
+use Rattle.segment_machine.specs.Actor.{accepted_since}
 use Rattle.segment_machine.specs.Note.{SawAll}
-use Rattle.segment_machine.specs.State.{State}
-use Rattle.segment_invariant.specs.Body.{Anatomy}
-use Rattle.segment_invariant.specs.Seen.{IsFirstOf}
-use Rattle.segment_invariant.specs.Invariant.{Invariant}
 use Rattle.segment_invariant.proofs.Counting.AddSample.{one_sample}
-use Rattle.list_lemmas.proofs.Elements.{at_from, there_below, sum_at_least}
-use Rattle.list_lemmas.proofs.Maps.{contains_mapped, one_at}
+use Rattle.list_lemmas.proofs.Elements.{there_below}
+use Rattle.list_lemmas.proofs.Maps.{one_at}
 use Rattle.segment_invariant.proofs.Counting.Samples.{first_met}
 use Rattle.segment_promises.specs.Deltas.{SnapshotsSeeAccepted}
 use Rattle.segment_promises.proofs.Enough.{CoversBucket, CoversValue, knower_lives, buckets_enough, values_enough}

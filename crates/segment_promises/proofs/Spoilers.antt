@@ -1,38 +1,20 @@
 -- Who has set the corrupt flag claims no block any more: an allocation begins with a load of the flags, which has that flag then.
-use Rattle.std.proofs.Common.{◌≡◌, ◌≢◌, ◌⊎◌, ℕ, ◌==◌, ◌&&◌, Bool, true, false, true≢false, List, [], ◌∷◌, set, inl, inr, ⊎_elim, refl, sym, ap, subst, ◌∙◌}
-use Rattle.std.specs.Prelude.{if◌then◌else◌, bit_and, nat_lt}
-use mathlib.Core.Logic.{dite}
-use mathlib.Core.Option.{some, some-injective}
-use native.Mathlib.Decide.{ℕ_discrete}
-use lib.ListN.{get_elem?}
-use Rattle.atomic_table.proofs.Lists.{at_longer, set_else, set_here}
-use Rattle.segment_machine.specs.declared.actor.Actor.{Actor}
-use Rattle.segment_machine.specs.declared.actor.Claim.{Claim}
+use Rattle.segment_invariant.proofs.Prelude.Std.{◌≡◌, ◌≢◌, ◌⊎◌, ℕ, ◌==◌, ◌&&◌, Bool, true, false, true≢false, List, [], ◌∷◌, set, inl, inr, ⊎_elim, refl, sym, ap, subst, ◌∙◌, if◌then◌else◌, bit_and, nat_lt, dite, some, some-injective, ℕ_discrete, get_elem?, at_longer, set_else, set_here, all_at, below_length, All-cons, All-nil, All-push, All}
+use Rattle.segment_invariant.proofs.Prelude.Machine.{Actor, Claim, Place, Spent, Idle, is_bound, is_opener, back, Event, Ready, Learned, next, allocating_event, publishing_event, walking_event, counting_event, taking_event, packing_event, load_flags, load_free, exchange_free, store_size, store_cookie, store_type, store_payload, set_corrupt, set_full, store_own_next, load_tail, link, move_tail, after_link, load_next, load_published, load_counts, add_count, add_sum, load_count, raise_mark, load_sum, swap_sum_mark, load_redundant, raise_single_mark, load_single, pack, mount_counts, purge_block, disable, add_moved, after_pack, after_mount, after_disable, Note, Notes, noted, begins, purse, State, Dimensions}
+use Rattle.segment_invariant.proofs.Prelude.Invariant.{Anatomy, Invariant, found_at}
 use Rattle.segment_machine.specs.declared.actor.Done.{Done}
-use Rattle.segment_machine.specs.declared.place.Place.{Place}
 use Rattle.segment_machine.specs.declared.place.Place.TheVariants as place
-use Rattle.segment_machine.specs.declared.place.Place.TheVariants.{Spent, Idle}
-use Rattle.segment_machine.specs.Actor.{is_bound, is_opener}
-use Rattle.segment_machine.specs.Calls.{back}
-use Rattle.segment_machine.specs.Event.{Event, Ready, Learned, next, allocating_event, publishing_event, walking_event, counting_event, taking_event, packing_event, cursor_event}
-use Rattle.segment_machine.specs.Allocating.{load_flags, load_free, exchange_free, store_size, store_cookie, store_type, store_payload, set_corrupt, set_full, after_free}
-use Rattle.segment_machine.specs.Publishing.{store_own_next, load_tail, link, move_tail, after_link}
-use Rattle.segment_machine.specs.Walking.{load_next, load_published, behind}
-use Rattle.segment_machine.specs.Counting.{load_counts, add_count, add_sum, add_redundant}
-use Rattle.segment_machine.specs.Taking.{load_count, raise_mark, load_sum, swap_sum_mark, load_redundant, raise_single_mark, at_count}
-use Rattle.segment_machine.specs.Packing.{load_single, pack, mount_counts, purge_block, disable, add_moved, after_pack, after_mount, after_disable}
+use Rattle.segment_machine.specs.Event.{cursor_event}
+use Rattle.segment_machine.specs.Allocating.{after_free}
+use Rattle.segment_machine.specs.Walking.{behind}
+use Rattle.segment_machine.specs.Counting.{add_redundant}
+use Rattle.segment_machine.specs.Taking.{at_count}
 use Rattle.segment_machine.specs.Cursors.{load_cursor, move_cursor, after_cursor}
-use Rattle.segment_machine.specs.Note.{Note, Notes, noted, begins, goes_on, amounts, asks, knows, takes, has_taken, looks, answers, ends, refused, declines}
+use Rattle.segment_machine.specs.Note.{goes_on, amounts, asks, knows, takes, has_taken, looks, answers, ends, refused, declines}
 use Rattle.segment_machine.specs.Reached.{IsReached, started, stepped, announced, offered, split, lent, returned, purse_filled, purse_poured, joined_in}
-use Rattle.segment_machine.specs.Seats.{joined, lender, newcomer, offering, parent, purse, spent}
-use Rattle.segment_machine.specs.State.{State, IsStep}
-use Rattle.segment_invariant.specs.Body.{Anatomy}
-use Rattle.segment_invariant.specs.Invariant.{Invariant}
-use Rattle.segment_invariant.specs.Keeps.{found_at}
-use Rattle.segment_image.specs.Shape.{Dimensions}
-use Rattle.list_lemmas.proofs.Elements.{all_at, below_length}
-use Rattle.std.proofs.lemmas.List.Elements.{All-cons, All-nil, All-push, All-set}
-use Rattle.std.specs.List.{All}
+use Rattle.segment_machine.specs.Seats.{joined, lender, newcomer, offering, parent, spent}
+use Rattle.segment_machine.specs.State.{IsStep}
+use Rattle.std.proofs.lemmas.List.Elements.{All-set}
 use Rattle.segment_promises.specs.Spoilers.{SpoilersClaimNothing}
 use Rattle.segment_promises.proofs.Reached.{reached_states_follow}
 use Rattle.segment_promises.proofs.Steps.{steps_follow}

@@ -1,29 +1,18 @@
 -- What follows at once for those who step a segment.
-use Rattle.std.proofs.Common.{◌≡◌, ℕ, Bool, true, false, eqb, List, take, drop, length, set, refl, sym, ap, subst, ◌∙◌}
-use Rattle.std.proofs.lemmas.List.{set-set}
-use Rattle.std.proofs.Math.Seq.{take-append_seam, drop-append_seam}
-use mathlib.Core.Option.{some}
-use lib.ListN.{get_elem?}
+use Rattle.segment_invariant.proofs.Prelude.Std.{◌≡◌, ℕ, Bool, true, false, List, take, drop, length, set, refl, sym, ap, subst, ◌∙◌, set-set, take-append_seam, some, get_elem?}
+use Rattle.segment_invariant.proofs.Prelude.Machine.{Dimensions, Actor, Event, Ready, Learned, allocating_event, publishing_event, walking_event, counting_event, taking_event, packing_event, next, load_flags, load_free, exchange_free, store_size, store_cookie, store_type, store_payload, set_corrupt, set_full, store_own_next, load_tail, link, move_tail, after_link, load_next, load_published, load_counts, add_count, add_sum, load_count, raise_mark, load_sum, swap_sum_mark, load_redundant, raise_single_mark, load_single, pack, mount_counts, purge_block, disable, add_moved, after_pack, after_mount, after_disable, Note, Notes, State, is_opener}
+use Rattle.segment_invariant.proofs.Prelude.Invariant.{Anatomy, Invariant, found_at}
+use Rattle.std.proofs.Common.{eqb}
+use Rattle.std.proofs.Math.Seq.{drop-append_seam}
 use Rattle.alloc_core.proofs.Owners.{set_at}
-use Rattle.segment_image.specs.Shape.{Dimensions}
-use Rattle.segment_machine.specs.declared.actor.Actor.{Actor}
-use Rattle.segment_machine.specs.Event.{Event, Ready, Learned, allocating_event, publishing_event, walking_event, counting_event, taking_event, packing_event, cursor_event, after, next}
-use Rattle.segment_machine.specs.Allocating.{load_flags, load_free, exchange_free, store_size, store_cookie, store_type, store_payload, set_corrupt, set_full, after_free}
-use Rattle.segment_machine.specs.Publishing.{store_own_next, load_tail, link, move_tail, after_link}
-use Rattle.segment_machine.specs.Walking.{load_next, load_published}
-use Rattle.segment_machine.specs.Counting.{load_counts, add_count, add_sum, add_redundant}
-use Rattle.segment_machine.specs.Taking.{load_count, raise_mark, load_sum, swap_sum_mark, load_redundant, raise_single_mark}
-use Rattle.segment_machine.specs.Packing.{load_single, pack, mount_counts, purge_block, disable, add_moved, after_pack, after_mount, after_disable}
+use Rattle.segment_machine.specs.Event.{cursor_event, after}
+use Rattle.segment_machine.specs.Allocating.{after_free}
+use Rattle.segment_machine.specs.Counting.{add_redundant}
 use Rattle.segment_machine.specs.Cursors.{load_cursor, move_cursor, after_cursor}
-use Rattle.segment_machine.specs.Note.{Note, Notes}
-use Rattle.segment_machine.specs.State.{State, memory}
-use Rattle.segment_invariant.specs.Body.{Anatomy}
-use Rattle.segment_invariant.specs.Invariant.{Invariant}
-use Rattle.segment_invariant.specs.Keeps.{found_at}
+use Rattle.segment_machine.specs.State.{memory}
 use Rattle.segment_invariant.proofs.Events.{events_keep}
 use Rattle.segment_invariant.proofs.Notes.Announcements.{with_actor, notes_follow}
 use Rattle.segment_promises.specs.Follows.{StepsFollow}
-use Rattle.segment_machine.specs.Actor.{is_opener}
 
 -- ---- steps
 

@@ -1,20 +1,12 @@
 -- What follows for threads that step a segment over a table of shared words.
-use Rattle.std.proofs.Common.{◌≡◌, ℕ, suc, ◌+◌, List, [], ◌∷◌, ◌++◌, take, drop, length, get_or, set, refl, sym, ap, subst, ◌∙◌, arith}
-use Rattle.std.proofs.lemmas.List.{take-append-drop}
-use mathlib.Core.Option.{some}
-use lib.ListN.{get_elem?}
+use Rattle.segment_invariant.proofs.Prelude.Std.{◌≡◌, ℕ, suc, ◌+◌, List, [], ◌∷◌, ◌++◌, take, drop, length, get_or, set, refl, sym, ap, subst, ◌∙◌, arith, take-append-drop, some, get_elem?, set_else}
+use Rattle.segment_invariant.proofs.Prelude.Machine.{Actor, offered_of, spot, next, purse, State, Dimensions}
+use Rattle.segment_invariant.proofs.Prelude.Invariant.{Anatomy, layout_of, Invariant, found_at}
 use Rattle.atomic_table.specs.Table as table
-use Rattle.atomic_table.proofs.Lists.{set_else}
 use Rattle.alloc_core.proofs.Layouts.{length_shown}
-use Rattle.segment_machine.specs.declared.actor.Actor.{Actor}
-use Rattle.segment_machine.specs.Actor.{offered_of}
-use Rattle.segment_machine.specs.Event.{spot, change, after, next}
-use Rattle.segment_machine.specs.Seats.{offering, parent, newcomer, getter, purse, lender, joined, spent}
-use Rattle.segment_machine.specs.State.{State, memory}
-use Rattle.segment_image.specs.Shape.{Dimensions}
-use Rattle.segment_invariant.specs.Body.{Anatomy, layout_of}
-use Rattle.segment_invariant.specs.Invariant.{Invariant}
-use Rattle.segment_invariant.specs.Keeps.{found_at}
+use Rattle.segment_machine.specs.Event.{change, after}
+use Rattle.segment_machine.specs.Seats.{offering, parent, newcomer, getter, lender, joined, spent}
+use Rattle.segment_machine.specs.State.{memory}
 use Rattle.segment_invariant.proofs.Recorders.Lends.{offers_keep, pours_keep}
 use Rattle.segment_invariant.proofs.Recorders.Purses.{fills_keep}
 use Rattle.segment_invariant.proofs.Recorders.Splits.{splits_keep}

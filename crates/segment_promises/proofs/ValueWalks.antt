@@ -1,15 +1,11 @@
 -- A walk behind the record of a sparse histogram: what a recorder knows once it has loaded the next of the record where it stands.
-use Rattle.std.proofs.Common.{length-append, ◌≡◌, ◌≢◌, ℕ, suc, ◌+◌, ◌-◌, ◌*◌, ◌<◌, ◌≤◌, ◌==◌, ◌&&◌, not, Bool, true, false, true≢false, List, [], ◌∷◌, ◌++◌, length, slice_index, refl, sym, ap, subst, ◌∙◌, arith, eq-eqb, ne_eqb, eqb-true}
-use Rattle.std.specs.Prelude.{◌||◌, if◌then◌else◌}
-use Rattle.std.specs.List.{Contains, list_any}
-use Rattle.std.proofs.lemmas.List.{append_assoc, get_or_push, length_push}
-use Rattle.std.proofs.lemmas.List.Elements.{Contains-append_right}
+use Rattle.segment_invariant.proofs.Prelude.Std.{length-append, ◌≡◌, ◌≢◌, ℕ, suc, ◌+◌, ◌-◌, ◌*◌, ◌<◌, ◌≤◌, ◌==◌, ◌&&◌, not, Bool, true, false, true≢false, List, [], ◌∷◌, ◌++◌, length, slice_index, refl, sym, ap, subst, ◌∙◌, arith, eq-eqb, ne_eqb, eqb-true, ◌||◌, if◌then◌else◌, Contains, append_assoc, length_push, Contains-append_right}
+use Rattle.segment_invariant.proofs.Prelude.Machine.{Dimensions, stops, Actor}
+use Rattle.std.specs.List.{list_any}
+use Rattle.std.proofs.lemmas.List.{get_or_push}
 use lib.Seq.{get_or-append_seam}
-use Rattle.segment_image.specs.Shape.{Dimensions}
-use Rattle.list_core.specs.Chain.{stops}
 use Rattle.list_core.specs.Walk.{stands_behind}
 use Rattle.list_core.proofs.Walks.{place_of}
-use Rattle.segment_machine.specs.declared.actor.Actor.{Actor}
 use Rattle.segment_machine.specs.Walking.{IsNextOf, extended}
 use Rattle.segment_promises.specs.Values.{NoRepeats, ComesTo, first_of}
 use Rattle.segment_promises.proofs.Furthest.{last_of, last_least, last_most, last_stands}

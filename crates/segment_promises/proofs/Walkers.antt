@@ -1,25 +1,8 @@
 -- An opener does nothing. So it may as well have walked along the whole list: the state in which it has is kept too.
-use Rattle.std.proofs.Common.{true≢false, ◌≡◌, ◌≢◌, ℕ, true, false, ◌||◌, List, [], fold, set, inl, inr, refl, sym, ap, ◌∙◌, subst, arith}
-use Rattle.std.specs.Prelude.{IsPermutation, if◌then◌else◌}
-use Rattle.std.specs.List.{flat_map, Contains, All}
-use Rattle.std.proofs.lemmas.List.{append-nil}
-use Rattle.std.proofs.lemmas.List.Elements.{All-weaker, Contains-append_left}
-use Rattle.std.proofs.lemmas.List.Sorted.{IsPermutation-refl}
-use mathlib.Core.Option.{some}
-use lib.ListN.{get_elem?}
-use Rattle.atomic_table.proofs.Lists.{at_set, set_here}
-use Rattle.segment_image.specs.Shape.{Dimensions}
-use Rattle.list_core.specs.Walk.{IsPrefix}
-use Rattle.segment_machine.specs.declared.actor.Actor.{Actor}
-use Rattle.segment_machine.specs.declared.place.Place.TheVariants.{Spent}
-use Rattle.segment_machine.specs.Actor.{counted_of, summed_of, noted_of, given_by, units_of, taken_of, taken_sum, is_opener, made_of, offered_of}
-use Rattle.segment_machine.specs.Entry.{tally_sum}
-use Rattle.segment_machine.specs.State.{State}
-use Rattle.segment_invariant.specs.Body.{Anatomy, order_of}
-use Rattle.segment_invariant.specs.Ledger.{moving_at}
-use Rattle.segment_invariant.specs.Seen.{Sees, WasMet}
-use Rattle.segment_invariant.specs.Invariant.{is_living, summed_cost, RolesAreKept, StandsRight, FinalsAreExact, Fits, Invariant}
-use Rattle.list_lemmas.proofs.Elements.{rows, column, sum_same, below_length}
+use Rattle.segment_invariant.proofs.Prelude.Std.{true≢false, ◌≡◌, ◌≢◌, ℕ, true, false, ◌||◌, List, [], fold, set, inl, inr, refl, sym, ap, ◌∙◌, subst, arith, IsPermutation, if◌then◌else◌, flat_map, Contains, All, append-nil, All-weaker, Contains-append_left, IsPermutation-refl, some, get_elem?, at_set, set_here, rows, column, sum_same, below_length}
+use Rattle.segment_invariant.proofs.Prelude.Machine.{Dimensions, IsPrefix, Actor, Spent, counted_of, summed_of, noted_of, units_of, taken_of, taken_sum, is_opener, made_of, offered_of, tally_sum, State}
+use Rattle.segment_invariant.proofs.Prelude.Invariant.{Anatomy, order_of, moving_at, Sees, WasMet, is_living, summed_cost, RolesAreKept, StandsRight, FinalsAreExact, Fits, Invariant}
+use Rattle.segment_machine.specs.Actor.{given_by}
 use Rattle.segment_invariant.proofs.Frames.Books.{books_of, books_by, kept_by, GivenInOrder}
 use Rattle.segment_invariant.proofs.Frames.Deeds.{Deeds, sums_of}
 use Rattle.segment_invariant.proofs.Frames.Roles.{Stood, AllStood, opens_nothing, still_younger, still_apart, still_eldest, still_heirs, fits_beside}

@@ -1,20 +1,10 @@
 -- The records on the list of a kept state, and the counts blocks that they name, are apart.
-use Rattle.std.proofs.Common.{◌≡◌, ◌≢◌, ℕ, suc, ◌<◌, Bool, true, false, List, [], ◌∷◌, flat_map, Contains, inl, inr, ⊎_elim, refl, sym, ap, ◌∙◌, subst, arith}
-use Rattle.std.specs.Prelude.{not, ◌&&◌, ◌==◌, if◌then◌else◌}
+use Rattle.segment_invariant.proofs.Prelude.Std.{◌≡◌, ◌≢◌, ℕ, suc, ◌<◌, Bool, true, false, List, [], ◌∷◌, flat_map, Contains, inl, inr, ⊎_elim, refl, sym, ap, ◌∙◌, subst, arith, not, ◌&&◌, ◌==◌, if◌then◌else◌, eqb-true, cases_order, Contains-append_cases, some, none, some-injective, get_elem?, none_in, one_in, contains_at, below_length, index_at}
+use Rattle.segment_invariant.proofs.Prelude.Machine.{Dimensions, field_at, is_of_type, State}
+use Rattle.segment_invariant.proofs.Prelude.Invariant.{is_claimed, Piece, extent_of, Anatomy, order_of, Invariant}
 use Rattle.std.specs.Cmp.{first_so, second_so}
-use Rattle.std.proofs.lemmas.Bool.{eqb-true, cases_order}
-use Rattle.std.proofs.lemmas.List.Elements.{Contains-append_cases}
-use mathlib.Core.Option.{some, none, some-injective}
-use lib.ListN.{get_elem?}
-use Rattle.segment_image.specs.Shape.{Dimensions}
-use Rattle.segment_image.specs.Blocks.{field_at}
 use Rattle.alloc_core.specs.Laws.{Apart}
-use Rattle.bucket_ranges.specs.Reading.{is_of_type}
 use Rattle.list_core.proofs.Chains.{one_place}
-use Rattle.segment_machine.specs.State.{State}
-use Rattle.segment_invariant.specs.Body.{is_claimed, Piece, extent_of, Anatomy, order_of}
-use Rattle.segment_invariant.specs.Invariant.{Invariant}
-use Rattle.list_lemmas.proofs.Elements.{none_in, one_in, contains_at, below_length, index_at}
 use Rattle.segment_invariant.proofs.Blocks.Pieces.{pieces_apart}
 use Rattle.segment_invariant.proofs.Consistency.Blocks.{claimed_piece}
 use Rattle.segment_invariant.proofs.Consistency.Held.{own_counts, counts_named}

@@ -1,19 +1,14 @@
 -- What the words of a block are, as those of a record, a counts block, a sample, or anything else.
-use Rattle.std.proofs.Common.{◌≡◌, ◌≢◌, Bool, true, false, ℕ, ◌+◌, ◌-◌, ◌*◌, ◌^◌, ◌<◌, ◌≤◌, List, [], ◌∷◌, ◌++◌, length, take, drop, refl, sym, ap, ◌∙◌, arith}
-use Rattle.std.specs.Prelude.{◌==◌, if◌then◌else◌, slice_index}
-use Rattle.std.specs.Int.{w64}
+use Rattle.segment_invariant.proofs.Prelude.Std.{◌≡◌, ◌≢◌, Bool, true, false, ℕ, ◌+◌, ◌-◌, ◌*◌, ◌^◌, ◌<◌, ◌≤◌, List, [], ◌∷◌, ◌++◌, length, take, drop, refl, sym, ap, ◌∙◌, arith, ◌==◌, if◌then◌else◌, slice_index, w64, and_parts, eqb-true, eqb-false, leb-true}
+use Rattle.segment_invariant.proofs.Prelude.Machine.{field_at, Linear, Boolean, Custom, Sparse, spec_fields, spec_ranges, name_words, name_of, spec_of, record_buckets, sample_value}
+use Rattle.segment_invariant.proofs.Prelude.Invariant.{Record, Counts, Sample, Body, histogram, counts, sample, other, words_of}
 use Rattle.std.specs.List.{slice_range}
-use Rattle.std.proofs.lemmas.Bool.{and_parts, eqb-true, eqb-false, leb-true}
 use Rattle.std.proofs.lemmas.Int.{of_z-to_z}
 use Rattle.segment_image.specs.Words.{bytes_of_words}
-use Rattle.segment_image.specs.Blocks.{field_at}
 use Rattle.segment_image.proofs.ReadWords.{length-bytes_of_words}
-use Rattle.bucket_ranges.specs.declared.spec.Spec.TheVariants.{Linear, Boolean, Custom, Sparse}
-use Rattle.bucket_ranges.specs.Spec.{spec_fields, spec_ranges}
 use Rattle.std.proofs.lemmas.List.{length-take-le}
-use Rattle.bucket_ranges.specs.Reading.{is_kind, name_words, name_length, named_words, name_of, is_custom_named, is_linear_named, is_boolean_named, is_sparse_named, spec_named, is_spec_named, spec_of, inner_ranges, record_words, record_buckets, sample_value}
+use Rattle.bucket_ranges.specs.Reading.{is_kind, name_length, named_words, is_custom_named, is_linear_named, is_boolean_named, is_sparse_named, spec_named, is_spec_named, inner_ranges, record_words}
 use Rattle.bucket_ranges.proofs.Named.{inner-distinct, IsInner-from_named}
-use Rattle.segment_invariant.specs.Body.{Record, Counts, Sample, Body, histogram, counts, sample, other, words_of}
 use Rattle.segment_promises.proofs.Adopting.Slices.{run_more, run_long, three_runs, fields, fields_run}
 
 module _ (words : List ℕ) where

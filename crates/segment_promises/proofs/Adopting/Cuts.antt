@@ -1,13 +1,11 @@
 -- Words as a row of pieces: the blocks that begin at some words, and each other word by itself.
-use Rattle.std.proofs.Common.{◌≡◌, ◌⊎◌, ℕ, zero, suc, ◌+◌, ◌<◌, ◌≤◌, Bool, true, false, List, [], ◌∷◌, ◌++◌, map, length, take, drop, inl, inr, refl, sym, ap, ◌∙◌, subst, arith, drop-cons}
-use Rattle.std.specs.Prelude.{◌%◌}
-use Rattle.std.proofs.lemmas.Bool.{cases_order}
-use Rattle.std.proofs.lemmas.List.{take-append-drop, drop-drop}
-use mathlib.Core.Option.{some, none}
-use lib.ListN.{get_elem?}
-use Rattle.segment_image.specs.Words.{word_at}
+use Rattle.segment_invariant.proofs.Prelude.Std.{◌≡◌, ◌⊎◌, ℕ, zero, suc, ◌+◌, ◌<◌, ◌≤◌, Bool, true, false, List, [], ◌∷◌, ◌++◌, map, length, take, drop, inl, inr, refl, sym, ap, ◌∙◌, subst, arith, ◌%◌, cases_order, take-append-drop, some, none, get_elem?}
+use Rattle.segment_invariant.proofs.Prelude.Machine.{word_at}
+use Rattle.segment_invariant.proofs.Prelude.Invariant.{Body, plain, words_of, Piece}
+use Rattle.std.proofs.Common.{drop-cons}
+use Rattle.std.proofs.lemmas.List.{drop-drop}
 use Rattle.alloc_core.specs.Layout.{IsLaid, spread, end_of}
-use Rattle.segment_invariant.specs.Body.{Body, plain, words_of, Piece, block_of}
+use Rattle.segment_invariant.specs.Body.{block_of}
 
 -- Of these words the blocks begin at some, are `body` there, and are followed by the free pointer.
 module _ (words : List ℕ) (page free : ℕ) (begins : ℕ → Bool) (body : ℕ → Body) where

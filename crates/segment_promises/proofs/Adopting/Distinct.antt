@@ -1,9 +1,5 @@
 -- Lists in which nothing stands twice.
-use Rattle.std.proofs.Common.{◌≡◌, ℕ, zero, suc, List, [], ◌∷◌, ◌++◌, flat_map, Contains, ⊎_elim, refl, sym, ap, ◌∙◌, arith}
-use mathlib.Core.Option.{some, some-ne-none}
-use lib.ListN.{get_elem?}
-use Rattle.std.proofs.lemmas.List.Elements.{Contains-append_cases}
-use Rattle.list_lemmas.proofs.Elements.{at_from, contains_at, none_in}
+use Rattle.segment_invariant.proofs.Prelude.Std.{◌≡◌, ℕ, zero, suc, List, [], ◌∷◌, ◌++◌, flat_map, Contains, ⊎_elim, refl, sym, ap, ◌∙◌, arith, some, some-ne-none, get_elem?, Contains-append_cases, at_from, contains_at, none_in}
 
 -- nothing stands at two places
 abbrev pub IsOnce : {X : Type 0} → List X → Type 0

@@ -1,24 +1,11 @@
 -- What the entries come to that an image stands for, what deltas had taken of it, and what it has used: of each name that of its histogram.
-use Rattle.std.proofs.Common.{◌≡◌, ◌≢◌, ℕ, ◌+◌, ◌≤◌, ℤ, pos, ◌+ℤ◌, Bool, true, false, not, ◌&&◌, ◌==◌, cond, if◌then◌else◌, List, [], ◌∷◌, map, filter, flat_map, fold, sum_by, Contains, refl, sym, ap, ◌∙◌, arith, eqb-true}
-use Rattle.std.proofs.Math.IntN.{+ℤ_idl, +ℤ_idr}
-use Rattle.std.specs.Prelude.{max}
-use Rattle.std.specs.Str.{bytes_eq}
-use Rattle.std.specs.Ordering.{int_eq}
-use Rattle.std.proofs.lemmas.Bool.Decides.{Decides-int_eq}
-use Rattle.std.proofs.lemmas.Slice.Eq.{bytes_eq-Decides}
+use Rattle.segment_invariant.proofs.Prelude.Std.{◌≡◌, ◌≢◌, ℕ, ◌+◌, ◌≤◌, ℤ, pos, ◌+ℤ◌, Bool, true, false, not, ◌&&◌, ◌==◌, cond, if◌then◌else◌, List, [], ◌∷◌, map, filter, flat_map, fold, sum_by, Contains, refl, sym, ap, ◌∙◌, arith, eqb-true, +ℤ_idl, +ℤ_idr, max, bytes_eq, int_eq, Decides-int_eq, bytes_eq-Decides, sum_by-cons, some, get_elem?, at_from, contains_at, IsTotal}
+use Rattle.segment_invariant.proofs.Prelude.Machine.{Histogram, Cost, Portion, Entry, is_of, tally_units, tally_sum, tally_noted, units_listed, taken_units, taken_sum, cost_of}
 use mathlib.Core.List.{map-map}
-use Rattle.std.proofs.lemmas.List.Sums.{sum_by-cons, sum_by-le-sum_by}
-use mathlib.Core.Option.{some}
-use lib.ListN.{get_elem?}
-use Rattle.bucket_ranges.specs.Reading.{Histogram}
-use Rattle.segment_machine.specs.declared.actor.Cost.{Cost}
-use Rattle.segment_machine.specs.declared.actor.Portion.{Portion}
-use Rattle.segment_machine.specs.declared.entry.Entry.{Entry}
-use Rattle.segment_machine.specs.Entry.{is_of, sum_entry, tally_units, tally_sum, tally_noted}
-use Rattle.segment_machine.specs.Actor.{units_listed, taken_units, taken_sum, cost_of}
-use Rattle.list_lemmas.proofs.Elements.{at_from, contains_at}
+use Rattle.std.proofs.lemmas.List.Sums.{sum_by-le-sum_by}
+use Rattle.segment_machine.specs.Entry.{sum_entry}
 use Rattle.segment_invariant.proofs.Lists.FewTerms.{if_nothing, sum_none, sum_one}
-use Rattle.list_lemmas.proofs.Sums.{IsTotal, amounts_total}
+use Rattle.list_lemmas.proofs.Sums.{amounts_total}
 use Rattle.segment_invariant.proofs.Lists.Countings.{units_total, sum_total, noted_total, no_units, no_amount}
 use Rattle.segment_promises.specs.Adoption.{used_by, first_entries, first_portion}
 use Rattle.segment_promises.specs.Reads.{units_read, mark_read}

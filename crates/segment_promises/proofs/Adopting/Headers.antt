@@ -1,17 +1,15 @@
 -- The words of a kept state have a lawful header.
-use Rattle.std.proofs.Common.{◌≡◌, true, false, ℕ, [], ◌∷◌, get_or, get_or-drop, get_or-take, ◌+◌, ◌<◌, List, length, inl, inr, sym, ap, ◌∙◌, arith, eq-eqb}
-use Rattle.std.specs.Prelude.{not, ◌&&◌, ◌||◌, ◌==◌, nat_lt, ◌%◌, Ok, slice_index}
-use Rattle.std.proofs.lemmas.Bool.{and_from, or_from, le-leb, le-ltb}
+use Rattle.segment_invariant.proofs.Prelude.Std.{◌≡◌, true, false, ℕ, [], ◌∷◌, get_or, get_or-drop, ◌+◌, ◌<◌, List, length, inl, inr, sym, ap, ◌∙◌, arith, eq-eqb, not, ◌&&◌, ◌||◌, ◌==◌, nat_lt, ◌%◌, Ok, slice_index, and_from, le-leb, le-ltb}
+use Rattle.segment_invariant.proofs.Prelude.Machine.{Dimensions, word_at, head_of, IsShape, State}
+use Rattle.segment_invariant.proofs.Prelude.Invariant.{Anatomy, layout_of, Invariant}
+use Rattle.std.proofs.Common.{get_or-take}
+use Rattle.std.proofs.lemmas.Bool.{or_from}
 use Rattle.segment_image.specs.Checks.{checked}
-use Rattle.segment_image.specs.Shape.{Dimensions, is_page, is_size}
-use Rattle.segment_image.specs.Words.{word_at}
-use Rattle.segment_image.specs.Head.{header_of, head_of, is_version, is_queue}
+use Rattle.segment_image.specs.Shape.{is_page, is_size}
+use Rattle.segment_image.specs.Head.{header_of, is_version, is_queue}
 use Rattle.segment_image.specs.declared.fault.ImageFault.TheVariants.{TooShort, BadCookie, BadVersion, BadPage, BadSize, NotReady, Deleted, BadFree, BadQueue}
-use Rattle.alloc_core.specs.Layout.{IsShape, queue_block}
+use Rattle.alloc_core.specs.Layout.{queue_block}
 use Rattle.alloc_core.proofs.Layouts.{free_word, free_from, length_shown, slice_shown}
-use Rattle.segment_machine.specs.State.{State}
-use Rattle.segment_invariant.specs.Body.{Anatomy, layout_of}
-use Rattle.segment_invariant.specs.Invariant.{Invariant}
 
 -- a lawful shape is one that a header may have
 page_lawful : (shape : Dimensions) → IsShape shape → is_page shape.page ≡ true

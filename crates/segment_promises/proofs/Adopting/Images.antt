@@ -1,27 +1,20 @@
 -- What is known of an image that may be adopted: its header, its list, and that none of its records has a fault.
-use Rattle.std.proofs.Common.{◌≡◌, Bool, true, false, ℕ, zero, suc, ◌+◌, ◌-◌, ◌*◌, ◌/◌, ◌<◌, ◌≤◌, List, [], ◌∷◌, ◌++◌, length, length-append, take, refl, sym, ap, ◌∙◌, subst, arith, Option, Some, None, Ok, div-add-mod', mod-lt}
-use Rattle.std.specs.Prelude.{not, ◌&&◌, ◌==◌, ◌%◌, if◌then◌else◌, slice_index, option_map}
-use Rattle.std.specs.List.{range_with_len, filter_map, cons_option, Contains}
+use Rattle.segment_invariant.proofs.Prelude.Std.{◌≡◌, Bool, true, false, ℕ, zero, suc, ◌+◌, ◌-◌, ◌*◌, ◌/◌, ◌<◌, ◌≤◌, List, [], ◌∷◌, ◌++◌, length, length-append, take, refl, sym, ap, ◌∙◌, subst, arith, Option, Some, None, Ok, not, ◌&&◌, ◌==◌, ◌%◌, if◌then◌else◌, slice_index, range_with_len, Contains, at_map, and_from, and_parts, eqb-true, eq-eqb, leb-true, ltb-false, some, some-injective, some-ne-none, get_elem?, at_from, index_at, below_length}
+use Rattle.segment_invariant.proofs.Prelude.Machine.{first_fault, word_at, Dimensions, head_of, field_at, is_block, is_of_type, record_fault, IsListed, Reading, reading_along, IsShape, IsChain, IsLinked}
+use Rattle.std.proofs.Common.{div-add-mod', mod-lt}
+use Rattle.std.specs.Prelude.{option_map}
+use Rattle.std.specs.List.{filter_map, cons_option}
 use Rattle.std.proofs.lemmas.List.FromFn.{get_or-range_with_len, length-range_with_len}
-use Rattle.atomic_table.proofs.Lists.{at_map}
-use Rattle.std.proofs.lemmas.Bool.{and_from, and_parts, or_parts, not-false, eqb-true, eq-eqb, leb-true, ltb-false}
-use mathlib.Core.Option.{some, some-injective, some-ne-none}
-use lib.ListN.{get_elem?}
-use Rattle.segment_image.specs.Checks.{first_fault, checked}
-use Rattle.segment_image.specs.Words.{word_at}
-use Rattle.segment_image.specs.Shape.{Dimensions}
-use Rattle.segment_image.specs.Head.{header_checks, head_of, is_queue}
-use Rattle.segment_image.specs.Blocks.{field_at, is_block}
+use Rattle.std.proofs.lemmas.Bool.{or_parts, not-false}
+use Rattle.segment_image.specs.Checks.{checked}
+use Rattle.segment_image.specs.Head.{header_checks, is_queue}
 use Rattle.segment_image.specs.declared.head.SegmentHead.{SegmentHead}
 use Rattle.bucket_ranges.specs.declared.reading.RecordFault.{RecordFault}
 use Rattle.bucket_ranges.specs.declared.reading.RecordFault.TheVariants.{BadSample}
-use Rattle.bucket_ranges.specs.Reading.{before, next_of, next_checks, stop_of, is_of_type, record_fault, is_bad_sample, with_earlier, fault_behind, bad_record, IsListed, Reading, reading_along}
+use Rattle.bucket_ranges.specs.Reading.{before, next_of, next_checks, stop_of, is_bad_sample, with_earlier, fault_behind, bad_record}
 use Rattle.bucket_ranges.proofs.Walks.{is_block-within, IsWalk-push}
-use Rattle.alloc_core.specs.Layout.{IsShape}
-use Rattle.list_core.specs.Chain.{IsChain, IsLinked}
 use Rattle.list_core.proofs.Chains.{linked_of}
 use Rattle.list_lemmas.proofs.Pairs.{element_at}
-use Rattle.list_lemmas.proofs.Elements.{at_from, index_at, below_length}
 use Rattle.segment_promises.specs.Adoption.{IsAdoptable}
 
 -- ---- checks

@@ -1,22 +1,14 @@
 -- The words of a kept state of version 2 that is not corrupt may be adopted.
-use Rattle.std.proofs.Common.{◌≡◌, ℕ, ◌+◌, true, false, List, length, refl, sym, ap, ◌∙◌, subst, arith, inl, inr, Contains}
+use Rattle.segment_invariant.proofs.Prelude.Std.{◌≡◌, ℕ, ◌+◌, true, false, List, length, refl, sym, ap, ◌∙◌, subst, arith, inl, inr, Contains}
+use Rattle.segment_invariant.proofs.Prelude.Machine.{Dimensions, word_at, head_of, field_at, name_words, record_buckets, record_single, Reading, reading_along, name_of, packed_bucket, IsStop, State, AreNameWords}
+use Rattle.segment_invariant.proofs.Prelude.Invariant.{Anatomy, layout_of, order_of, Record, histogram, Invariant}
 use Rattle.std.specs.List.{slice_range}
-use Rattle.segment_image.specs.Shape.{Dimensions}
-use Rattle.segment_image.specs.Words.{word_at}
-use Rattle.segment_image.specs.Head.{head_of}
-use Rattle.segment_image.specs.Blocks.{field_at}
 use Rattle.alloc_core.specs.Planned.{is_pointer}
 use Rattle.alloc_core.proofs.Layouts.{free_word, behind_shown}
 use Rattle.alloc_core.proofs.Runs.{free_is_pointer}
-use Rattle.bucket_ranges.specs.Reading.{name_words, record_buckets, record_single, Reading, IsReading, reading_along, name_of}
-use Rattle.bucket_ranges.specs.Single.{packed_bucket}
+use Rattle.bucket_ranges.specs.Reading.{IsReading}
 use Rattle.bucket_ranges.proofs.Walks.{listed_agree}
-use Rattle.list_core.specs.Chain.{IsStop}
-use Rattle.segment_machine.specs.State.{State}
-use Rattle.segment_machine.specs.Made.{AreNameWords}
 use Rattle.segment_machine.specs.declared.actor.Made.TheVariants as made
-use Rattle.segment_invariant.specs.Body.{Anatomy, layout_of, order_of, Record, histogram}
-use Rattle.segment_invariant.specs.Invariant.{Invariant}
 use Rattle.segment_invariant.proofs.Consistency.Firsts.{record_on_list}
 use Rattle.segment_invariant.proofs.Consistency.Forms.{formed_as, passed_as}
 use Rattle.segment_invariant.proofs.Consistency.Held.{later_sample}

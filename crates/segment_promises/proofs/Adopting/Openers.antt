@@ -1,18 +1,10 @@
 -- What holds of the opener of an adopted image: its units are all, it is the one opener, its shared cursors stand at the begin, it set no
 -- flag, and it fits where what it knows and has seen lies behind the present.
-use Rattle.std.proofs.Common.{◌≡◌, ℕ, ◌<◌, ◌≤◌, Bool, true, false, List, [], ◌∷◌, map, replicate, sum_by, refl, sym, arith}
-use Rattle.std.specs.List.{All, Contains}
+use Rattle.segment_invariant.proofs.Prelude.Std.{◌≡◌, ℕ, ◌<◌, ◌≤◌, Bool, true, false, List, [], ◌∷◌, map, replicate, sum_by, refl, sym, arith, All, Contains}
+use Rattle.segment_invariant.proofs.Prelude.Machine.{Histogram, Reading, IsStop, Actor, Cost, Entry, units_of, SawSample}
+use Rattle.segment_invariant.proofs.Prelude.Invariant.{Anatomy, order_of, IsFirst, IsFirstOf, Sees, Knows, RolesAreKept, Fits, IsSetBy}
 use Rattle.bucket_ranges.specs.declared.spec.Spec.TheVariants as spec
-use Rattle.bucket_ranges.specs.Reading.{Histogram, Reading}
-use Rattle.list_core.specs.Chain.{IsStop}
-use Rattle.segment_machine.specs.declared.actor.Actor.{Actor}
-use Rattle.segment_machine.specs.declared.actor.Cost.{Cost}
-use Rattle.segment_machine.specs.declared.entry.Entry.{Entry}
-use Rattle.segment_machine.specs.Actor.{units_of}
-use Rattle.segment_machine.specs.Made.{SawSample}
-use Rattle.segment_invariant.specs.Body.{Anatomy, order_of}
-use Rattle.segment_invariant.specs.Seen.{IsFirst, IsFirstOf, Sees, Knows}
-use Rattle.segment_invariant.specs.Invariant.{RolesAreKept, CursorsAreKept, Fits, IsSetBy}
+use Rattle.segment_invariant.specs.Invariant.{CursorsAreKept}
 use Rattle.segment_invariant.proofs.Openings.FirstActors.{first_roles, first_cursors, first_fits}
 use Rattle.segment_promises.specs.Adoption.{used_by, used_of, adopter}
 use Rattle.segment_promises.proofs.Counts.{sum_of_map}

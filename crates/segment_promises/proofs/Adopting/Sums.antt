@@ -1,10 +1,6 @@
 -- Sums over keys: what comes to no more for each key comes to no more in all; and what is counted under keys of which each stands once.
-use Rattle.std.proofs.Common.{◌≡◌, ◌≢◌, ℕ, zero, suc, ◌+◌, ◌≤◌, ℤ, Bool, true, false, not, cond, if◌then◌else◌, List, [], ◌∷◌, length, filter, sum_by, refl, sym, ap, ◌∙◌, arith}
-use mathlib.Core.Option.{some}
-use lib.ListN.{get_elem?}
-use Rattle.std.specs.Ordering.{int_eq}
-use Rattle.std.proofs.lemmas.Bool.Decides.{Decides-int_eq}
-use Rattle.std.proofs.lemmas.List.Sums.{sum_by-cons, sum_by-le-sum_by}
+use Rattle.segment_invariant.proofs.Prelude.Std.{◌≡◌, ◌≢◌, ℕ, zero, suc, ◌+◌, ◌≤◌, ℤ, Bool, true, false, not, cond, if◌then◌else◌, List, [], ◌∷◌, length, filter, sum_by, refl, sym, ap, ◌∙◌, arith, some, get_elem?, int_eq, Decides-int_eq, sum_by-cons}
+use Rattle.std.proofs.lemmas.List.Sums.{sum_by-le-sum_by}
 use Rattle.segment_invariant.proofs.Lists.FewTerms.{sum_none}
 use Rattle.segment_promises.proofs.Readings.Keys.{int_test}
 

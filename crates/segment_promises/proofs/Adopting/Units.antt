@@ -1,24 +1,10 @@
 -- What the histograms that are read of a kept state have used is no more than all units.
-use Rattle.std.proofs.Common.{◌≡◌, ℕ, suc, ◌+◌, ◌*◌, ◌/◌, ◌≤◌, ℤ, Bool, true, false, ◌&&◌, if◌then◌else◌, List, [], ◌∷◌, sum_by, Contains, inl, inr, refl, sym, ap, ◌∙◌, subst, arith}
-use Rattle.std.specs.Prelude.{max, unsigned_abs, ◌-ℤ◌}
-use Rattle.std.specs.Int.{w64, cast_signed}
-use Rattle.std.specs.Str.{bytes_eq}
-use Rattle.std.specs.Ordering.{int_eq}
-use Rattle.std.proofs.lemmas.Slice.Eq.{bytes_eq-Decides}
-use Rattle.std.proofs.lemmas.List.Sums.{sum_by-cons, sum_by-le-sum_by}
-use mathlib.Core.Option.{some}
-use lib.ListN.{get_elem?}
-use Rattle.segment_image.specs.Shape.{Dimensions}
-use Rattle.segment_image.specs.Head.{head_of}
-use Rattle.bucket_ranges.specs.Reading.{Histogram, Reading, IsReading, name_of}
-use Rattle.segment_machine.specs.declared.actor.Actor.{Actor}
-use Rattle.segment_machine.specs.declared.actor.Cost.{Cost}
-use Rattle.segment_machine.specs.declared.entry.Entry.{Entry}
-use Rattle.segment_machine.specs.Entry.{is_of, tally_units}
-use Rattle.segment_machine.specs.Actor.{cost_of, cost_total, units_of, all_costs, all_counted}
-use Rattle.segment_machine.specs.State.{State}
-use Rattle.segment_invariant.specs.Body.{Anatomy}
-use Rattle.segment_invariant.specs.Invariant.{IsSumOf, Invariant}
+use Rattle.segment_invariant.proofs.Prelude.Std.{◌≡◌, ℕ, suc, ◌+◌, ◌*◌, ◌/◌, ◌≤◌, ℤ, Bool, true, false, ◌&&◌, if◌then◌else◌, List, [], ◌∷◌, sum_by, Contains, inl, inr, refl, sym, ap, ◌∙◌, subst, arith, max, unsigned_abs, ◌-ℤ◌, w64, cast_signed, bytes_eq, int_eq, bytes_eq-Decides, sum_by-cons, some, get_elem?}
+use Rattle.segment_invariant.proofs.Prelude.Machine.{Dimensions, head_of, Histogram, Reading, name_of, Actor, Cost, Entry, is_of, tally_units, cost_of, cost_total, units_of, all_counted, State}
+use Rattle.segment_invariant.proofs.Prelude.Invariant.{Anatomy, IsSumOf, Invariant}
+use Rattle.std.proofs.lemmas.List.Sums.{sum_by-le-sum_by}
+use Rattle.bucket_ranges.specs.Reading.{IsReading}
+use Rattle.segment_machine.specs.Actor.{all_costs}
 use Rattle.segment_invariant.proofs.Lists.FewTerms.{sum_none}
 use Rattle.segment_invariant.proofs.Consistency.Firsts.{record_of_first}
 use Rattle.segment_invariant.proofs.Consistency.Records.{record_word}

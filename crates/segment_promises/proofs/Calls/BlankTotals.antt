@@ -1,12 +1,8 @@
 -- The totals with which a snapshot begins have the keys of the buckets, and no units.
-use Rattle.std.proofs.Common.{◌≡◌, ℕ, ◌-◌, ℤ, pos, map, true, List, length, slice_index, Some, None, ap, ◌∙◌, arith}
-use Rattle.std.specs.List.{All, range_with_len}
+use Rattle.segment_invariant.proofs.Prelude.Std.{◌≡◌, ℕ, ◌-◌, ℤ, pos, map, true, List, length, slice_index, Some, None, ap, ◌∙◌, arith, All, range_with_len}
+use Rattle.segment_invariant.proofs.Prelude.Machine.{boundaries_of, buckets_of, spec_fault, Known, bucket_key, has_buckets}
 use Rattle.std.proofs.lemmas.Simd.{map-map}
 use Rattle.std.proofs.lemmas.List.FromFn.{get_or-map-range_with_len, length-map-range_with_len}
-use Rattle.bucket_ranges.specs.Ranges.{boundaries_of}
-use Rattle.bucket_ranges.specs.Spec.{buckets_of, spec_fault}
-use Rattle.segment_machine.specs.declared.actor.Known.{Known}
-use Rattle.segment_machine.specs.Actor.{bucket_key, has_buckets}
 use Rattle.segment_promises.specs.Totals.{blank_totals}
 use Rattle.segment_promises.proofs.Calls.SpecBuckets.{count_is}
 

@@ -1,16 +1,12 @@
 -- What a delta lists of the buckets of a histogram, one after the other: their keys ascend.
-use Rattle.std.proofs.Common.{◌≡◌, ℕ, ◌+◌, ◌<◌, ◌≤◌, ℤ, pos, map, nat_lt, if◌then◌else◌, Bool, List, [], ◌∷◌, ◌++◌, slice_index, Some, Less, Equal, Greater, refl, sym, ap, subst, arith}
-use Rattle.std.specs.List.{AllByRecursion}
+use Rattle.segment_invariant.proofs.Prelude.Std.{◌≡◌, ℕ, ◌+◌, ◌<◌, ◌≤◌, ℤ, pos, map, nat_lt, if◌then◌else◌, Bool, List, [], ◌∷◌, ◌++◌, slice_index, Some, refl, sym, ap, subst, arith, AllByRecursion, lt-ltb, All-push}
+use Rattle.segment_invariant.proofs.Prelude.Machine.{boundaries_of, buckets_of, Known, bucket_key}
+use Rattle.std.proofs.Common.{Less, Equal, Greater}
 use Rattle.std.specs.List.Sorted.{IsStrictlySortedBy}
 use Rattle.std.specs.Ordering.{int_cmp}
-use Rattle.std.proofs.lemmas.Bool.{lt-ltb}
 use Rattle.std.proofs.lemmas.List.{map_push}
-use Rattle.std.proofs.lemmas.List.Elements.{All-push}
-use Rattle.bucket_ranges.specs.Ranges.{IsSplit, boundaries_of}
-use Rattle.bucket_ranges.specs.Spec.{buckets_of}
+use Rattle.bucket_ranges.specs.Ranges.{IsSplit}
 use Rattle.bucket_ranges.proofs.Buckets.{ascends}
-use Rattle.segment_machine.specs.declared.actor.Known.{Known}
-use Rattle.segment_machine.specs.Actor.{bucket_key}
 use Rattle.segment_promises.specs.Calls.{AreBelow, AreUnits}
 use Rattle.segment_promises.proofs.Growing.{all_push}
 

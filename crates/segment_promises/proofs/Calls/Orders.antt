@@ -1,26 +1,12 @@
 -- In a state that is reached nothing that an actor met stands out of order: no block twice, and each sample behind the record of its histogram.
-use Rattle.std.proofs.Common.{◌≡◌, ◌≢◌, ℕ, zero, suc, ◌+◌, ◌≤◌, ℤ, List, ◌∷◌, ◌++◌, length, map, slice_index, ⊎_elim, sym, ap, ◌∙◌, subst, arith, append_assoc, length-append}
-use Rattle.std.specs.Prelude.{Some}
-use Rattle.std.specs.List.{Contains}
-use Rattle.std.proofs.Math.ListN.{get_or}
-use Rattle.std.proofs.lemmas.List.{get_or_append_left, map-append}
-use Rattle.std.proofs.lemmas.List.Elements.{Contains-append_cases}
+use Rattle.segment_invariant.proofs.Prelude.Std.{◌≡◌, ◌≢◌, ℕ, zero, suc, ◌+◌, ◌≤◌, ℤ, List, ◌∷◌, ◌++◌, length, map, slice_index, ⊎_elim, sym, ap, ◌∙◌, subst, arith, append_assoc, length-append, Some, Contains, get_or, get_or_append_left, map-append, Contains-append_cases, some, get_elem?, at_from, split_at}
+use Rattle.segment_invariant.proofs.Prelude.Machine.{Dimensions, IsLinked, stops, IsPrefix, Actor, Spent, State}
+use Rattle.segment_invariant.proofs.Prelude.Invariant.{Listed, Anatomy, sample, order_of, Invariant}
 use lib.Seq.{get_or-append_seam}
-use mathlib.Core.Option.{some}
-use lib.ListN.{get_elem?}
-use Rattle.segment_image.specs.Shape.{Dimensions}
 use Rattle.bucket_ranges.specs.declared.spec.Spec.TheVariants as spec
-use Rattle.list_core.specs.Chain.{IsLinked, stops}
-use Rattle.list_core.specs.Walk.{IsPrefix}
 use Rattle.list_core.proofs.Chains.{one_place}
-use Rattle.segment_machine.specs.declared.actor.Actor.{Actor}
 use Rattle.segment_machine.specs.declared.actor.Made.TheVariants as made
-use Rattle.segment_machine.specs.declared.place.Place.TheVariants.{Spent}
-use Rattle.segment_machine.specs.State.{State}
-use Rattle.segment_invariant.specs.Body.{Listed, Anatomy, sample, order_of}
-use Rattle.segment_invariant.specs.Invariant.{Invariant}
 use Rattle.segment_invariant.proofs.Counting.Samples.{sample_met}
-use Rattle.list_lemmas.proofs.Elements.{at_from, split_at}
 use Rattle.segment_promises.specs.Values.{NoRepeats}
 use Rattle.segment_promises.specs.Calls.{SamplesStandBehind}
 

@@ -1,29 +1,27 @@
 -- Where an actor stands: at the single word or the counts of a histogram, or behind a next that it loaded.
-use Rattle.std.proofs.Common.{◌≡◌, ℕ, ◌==◌, Bool, true, false, if◌then◌else◌, refl, ap, ◌∙◌}
-use Rattle.std.proofs.lemmas.Bool.{eq-eqb, eqb-true}
-use Rattle.segment_machine.specs.declared.place.Look.{Look}
-use Rattle.segment_machine.specs.declared.place.Place.{Place}
+use Rattle.segment_invariant.proofs.Prelude.Std.{◌≡◌, ℕ, ◌==◌, Bool, true, false, if◌then◌else◌, refl, ap, ◌∙◌, eq-eqb, eqb-true}
+use Rattle.segment_invariant.proofs.Prelude.Machine.{Look, Place, Looking, is_bound, look_of}
 use Rattle.segment_machine.specs.declared.place.Place.TheVariants as place
-use Rattle.segment_machine.specs.declared.place.Place.TheVariants.{Looking}
-use Rattle.segment_machine.specs.Actor.{is_bound}
-use Rattle.segment_machine.specs.Calls.{look_of, nothing_of}
+use Rattle.segment_machine.specs.Calls.{nothing_of}
 use Rattle.segment_machine.specs.Taking.{is_looking}
 use Rattle.segment_machine.specs.Walking.{behind}
 use Rattle.segment_promises.specs.Onward.{is_holding}
 
 -- ---- who has loaded a next holds nothing else where it held nothing, and is as free as before
 
-pub behind_apart : (p : Place) (at found : ℕ) → is_holding p ≡ false → is_holding (behind p at found) ≡ false
-behind_apart (place.FreeLoaded free) at found was = absurd (cc was)
-behind_apart (place.Looking look) at found was = absurd (cc was)
-behind_apart (place.CountLoaded look bucket count) at found was = absurd (cc was)
-behind_apart (place.CursorLoaded cursor from) at found was = by (at == from) (found == 12)
+-- what is not so of where it stood is not so of where it stands then, if it is not so of who has nothing in hand or is behind a shared cursor
+pub behind_is : (so : Place → Bool) → so place.Idle ≡ false → ((cursor from next : ℕ) → so (place.BehindCursor cursor from next) ≡ false) → (p : Place) (at found : ℕ)
+    → so p ≡ false → so (behind p at found) ≡ false
+behind_is so idle passed (place.CursorLoaded cursor from) at found was = by (at == from) (found == 12)
   where
-    by : (here ends : Bool) → is_holding (if here then (if ends then place.Idle else place.BehindCursor cursor from found) else place.CursorLoaded cursor from) ≡ false
-    by true true = refl
-    by true false = refl
-    by false ends = refl
-behind_apart p at found was = was
+    by : (here ends : Bool) → so (if here then (if ends then place.Idle else place.BehindCursor cursor from found) else place.CursorLoaded cursor from) ≡ false
+    by true true = idle
+    by true false = passed cursor from found
+    by false ends = was
+behind_is so idle passed p at found was = was
+
+pub behind_apart : (p : Place) (at found : ℕ) → is_holding p ≡ false → is_holding (behind p at found) ≡ false
+behind_apart = behind_is is_holding refl (λ cursor from next. refl)
 
 -- and stands at no single word and no counts
 pub not_looking : (p : Place) → is_holding p ≡ false → is_looking p ≡ false
@@ -31,13 +29,7 @@ not_looking (place.FreeLoaded free) holds = absurd (cc holds)
 not_looking p holds = holds
 
 pub behind_free : (p : Place) (at found : ℕ) → is_bound p ≡ false → is_bound (behind p at found) ≡ false
-behind_free (place.CursorLoaded cursor from) at found was = by (at == from) (found == 12)
-  where
-    by : (here ends : Bool) → is_bound (if here then (if ends then place.Idle else place.BehindCursor cursor from found) else place.CursorLoaded cursor from) ≡ false
-    by true true = refl
-    by true false = refl
-    by false ends = refl
-behind_free p at found was = was
+behind_free = behind_is is_bound refl (λ cursor from next. refl)
 
 -- ---- what it looks at
 

@@ -1,15 +1,9 @@
 -- What an actor lists of the samples behind the record of a sparse histogram, once it has passed them.
-use Rattle.std.proofs.Common.{◌≡◌, ◌≢◌, ℕ, zero, suc, ◌+◌, ℤ, List, [], ◌∷◌, ◌++◌, length, slice_index, inl, inr, sym, ap, subst, ◌∙◌, arith, append_assoc, length-append}
-use Rattle.std.specs.List.{AllByRecursion, Contains}
-use Rattle.std.proofs.lemmas.List.{append-nil}
+use Rattle.segment_invariant.proofs.Prelude.Std.{◌≡◌, ◌≢◌, ℕ, zero, suc, ◌+◌, ℤ, List, [], ◌∷◌, ◌++◌, length, slice_index, inl, inr, sym, ap, subst, ◌∙◌, arith, append_assoc, length-append, AllByRecursion, Contains, append-nil, at_from, split_at}
+use Rattle.segment_invariant.proofs.Prelude.Machine.{Actor, Known, Seen, SawOther, SawSample}
 use lib.Seq.{get_or-append_seam}
-use Rattle.segment_machine.specs.declared.actor.Actor.{Actor}
-use Rattle.segment_machine.specs.declared.actor.Known.{Known}
-use Rattle.segment_machine.specs.declared.seen.Seen.{Seen}
 use Rattle.segment_machine.specs.Actor.{Sparse}
-use Rattle.segment_machine.specs.Made.{SawOther, SawSample}
 use Rattle.segment_machine.specs.Taking.{IsLaterSample}
-use Rattle.list_lemmas.proofs.Elements.{at_from, split_at}
 use Rattle.segment_promises.specs.Values.{NoRepeats, ComesTo, Passes, first_of}
 use Rattle.segment_promises.proofs.FirstValues.{Shows, later_sample, not_both}
 

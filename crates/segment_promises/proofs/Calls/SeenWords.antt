@@ -1,11 +1,6 @@
 -- Words that were seen: what was found there is what is seen there now.
-use Rattle.std.proofs.Common.{◌≡◌, ℕ, Bool, if◌then◌else◌, List, [], ◌∷◌, ◌++◌, Some, refl, sym, ap, ◌∙◌}
-use Rattle.std.proofs.lemmas.Bool.{eq-eqb, ne_eqb}
-use mathlib.Core.Logic.{dite}
-use native.Mathlib.Decide.{ℕ_discrete}
-use Rattle.segment_machine.specs.declared.seen.Sighting.{Sighting}
-use Rattle.segment_machine.specs.Actor.{word_seen}
-use Rattle.segment_machine.specs.Calls.{sight}
+use Rattle.segment_invariant.proofs.Prelude.Std.{◌≡◌, ℕ, Bool, if◌then◌else◌, List, [], ◌∷◌, ◌++◌, Some, refl, sym, ap, ◌∙◌, eq-eqb, ne_eqb, dite, ℕ_discrete}
+use Rattle.segment_invariant.proofs.Prelude.Machine.{Sighting, word_seen, sight}
 
 -- a word that is seen now is what was found, since it was so where it was seen before
 pub seen_now : (list : List Sighting) (at found : ℕ) → ((word : ℕ) → word_seen list at ≡ Some word → found ≡ word) → word_seen (list ++ sight at found) at ≡ Some found

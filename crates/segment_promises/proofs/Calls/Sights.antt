@@ -1,17 +1,9 @@
 -- What an actor saw since its call began to look it has still seen when it has seen more.
-use Rattle.std.proofs.Common.{◌≡◌, ℕ, ◌+◌, ◌≤◌, List, ◌++◌, drop, length, inl, inr, refl, sym, ap, subst, ◌∙◌, Some, arith}
-use Rattle.std.specs.List.{Contains}
-use Rattle.std.proofs.lemmas.List.{drop-append-le, length-append}
-use Rattle.std.proofs.lemmas.List.Elements.{Contains-append_left, Contains-append_right}
-use Rattle.bucket_ranges.specs.Spec.{buckets_of}
-use Rattle.bucket_ranges.specs.Single.{single_of, packed_bucket, units_packed}
-use Rattle.segment_machine.specs.declared.actor.Actor.{Actor}
-use Rattle.segment_machine.specs.declared.actor.Known.{Known}
+use Rattle.segment_invariant.proofs.Prelude.Std.{◌≡◌, ℕ, ◌+◌, ◌≤◌, List, ◌++◌, drop, length, inl, inr, refl, sym, ap, subst, ◌∙◌, Some, arith, Contains, drop-append-le, length-append, Contains-append_left, Contains-append_right}
+use Rattle.segment_invariant.proofs.Prelude.Machine.{buckets_of, single_of, packed_bucket, units_packed, Actor, Known, Sighting, SawCount, word_seen, sight, SawBucket}
 use Rattle.segment_machine.specs.declared.actor.Since.{Since}
-use Rattle.segment_machine.specs.declared.seen.Sighting.{Sighting}
-use Rattle.segment_machine.specs.Actor.{SawCount, SawSingle, word_seen}
-use Rattle.segment_machine.specs.Calls.{sight}
-use Rattle.segment_machine.specs.Note.{IsMarkOf, SawBucket, TookBucket, TookSample}
+use Rattle.segment_machine.specs.Actor.{SawSingle}
+use Rattle.segment_machine.specs.Note.{IsMarkOf, TookBucket, TookSample}
 use Rattle.segment_promises.specs.Calls.{BeganBefore, SeesMore}
 use Rattle.segment_promises.specs.Onward.{Grows, SeesOn}
 use Rattle.segment_promises.proofs.Growing.{still}

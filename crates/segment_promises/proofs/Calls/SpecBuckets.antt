@@ -1,20 +1,14 @@
 -- The buckets of a lawful spec, and the bucket that was found for a value.
-use Rattle.std.proofs.Common.{◌≡◌, ◌≢◌, ℕ, zero, suc, ◌-◌, ◌<◌, ◌≤◌, true, true≢false, ℤ, List, subst, w32, of_z, to_z, FitsSigned, length, refl, sym, ap, ◌∙◌, arith, None}
-use mathlib.Core.Logic.{dite}
+use Rattle.segment_invariant.proofs.Prelude.Std.{◌≡◌, ◌≢◌, ℕ, zero, suc, ◌-◌, ◌<◌, ◌≤◌, true, true≢false, ℤ, List, subst, w32, of_z, to_z, length, refl, sym, ap, ◌∙◌, arith, None, dite, to_z-of_z, slice_index}
+use Rattle.segment_invariant.proofs.Prelude.Machine.{Spec, Linear, Boolean, Custom, Sparse, boundaries_of, buckets_of, spec_fault, has_buckets, key_of}
+use Rattle.segment_invariant.proofs.Prelude.Invariant.{key_of_bucket}
+use Rattle.std.proofs.Common.{FitsSigned}
 use native.Mathlib.Decide.{dec_le}
-use Rattle.std.proofs.lemmas.Int.{to_z-of_z}
 use Rattle.std.proofs.lemmas.List.{get_or_past}
-use Rattle.std.specs.Prelude.{slice_index}
-use Rattle.bucket_ranges.specs.declared.spec.Spec.{Spec}
-use Rattle.bucket_ranges.specs.declared.spec.Spec.TheVariants.{Linear, Boolean, Custom, Sparse}
-use Rattle.bucket_ranges.specs.Ranges.{boundaries_of, clamped, AreBoundaries, IsBucketOf, IsSplit}
-use Rattle.bucket_ranges.specs.Spec.{buckets_of, spec_fault}
+use Rattle.bucket_ranges.specs.Ranges.{clamped, AreBoundaries, IsBucketOf, IsSplit}
 use Rattle.bucket_ranges.proofs.Ascent.{boundaries_of-split}
 use Rattle.bucket_ranges.proofs.Buckets.{ascends}
-use Rattle.segment_machine.specs.Actor.{has_buckets}
-use Rattle.segment_machine.specs.Entry.{key_of}
 use Rattle.segment_machine.proofs.Keys.{keys_are_least}
-use Rattle.segment_invariant.specs.Ledger.{key_of_bucket}
 use Rattle.segment_invariant.proofs.Packing.OffForms.{few_buckets}
 
 -- what is found for a value at run time is found for the value

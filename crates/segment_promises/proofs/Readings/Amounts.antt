@@ -1,16 +1,8 @@
 -- The sum, the redundant count, the marks and the sum mark that are read of a histogram in a kept state.
-use Rattle.std.proofs.Common.{◌≡◌, ℕ, ◌+◌, ℤ, List, refl, sym, ap, ◌∙◌, arith}
-use Rattle.std.specs.Int.{w64, cast_signed}
-use Rattle.segment_image.specs.Shape.{Dimensions}
-use Rattle.segment_image.specs.Blocks.{field_at}
-use Rattle.bucket_ranges.specs.declared.spec.Spec.{Spec}
-use Rattle.bucket_ranges.specs.Reading.{Histogram, sum_of, sum_mark_of}
-use Rattle.segment_machine.specs.Entry.{tally_sum, tally_noted}
-use Rattle.segment_machine.specs.Actor.{all_summed, all_noted, all_taken, taken_units, taken_sum}
-use Rattle.segment_machine.specs.State.{State}
-use Rattle.segment_invariant.specs.Body.{Record, Anatomy}
-use Rattle.segment_invariant.specs.Seen.{HasRecord, IsFirst}
-use Rattle.segment_invariant.specs.Invariant.{Invariant}
+use Rattle.segment_invariant.proofs.Prelude.Std.{◌≡◌, ℕ, ◌+◌, ℤ, List, refl, sym, ap, ◌∙◌, arith, w64, cast_signed}
+use Rattle.segment_invariant.proofs.Prelude.Machine.{Dimensions, field_at, Spec, Histogram, tally_sum, tally_noted, all_summed, all_noted, all_taken, taken_units, taken_sum, State}
+use Rattle.segment_invariant.proofs.Prelude.Invariant.{Record, Anatomy, HasRecord, IsFirst, Invariant}
+use Rattle.bucket_ranges.specs.Reading.{sum_of, sum_mark_of}
 use Rattle.segment_invariant.proofs.Consistency.Records.{record_word}
 use Rattle.segment_invariant.proofs.Consistency.Sums.{sum_is, sum_mark_is, noted_is}
 use Rattle.segment_promises.specs.Reads.{mark_read, noted_at_opening, ReadsAmounts}

@@ -1,23 +1,12 @@
 -- How large the totals and marks of a histogram are in a kept state's words, where it is the first of its name: no total is above what
 -- a segment may count, and no mark above its total, but that of the packed bucket in version 1, whose units may be in transit.
-use Rattle.std.proofs.Common.{◌≡◌, ◌≢◌, ◌⊎◌, Bool, true, false, ◌==◌, if◌then◌else◌, ℕ, ◌+◌, ◌<◌, ◌≤◌, ℤ, List, inl, inr, refl, sym, ap, ◌∙◌, arith, Option, Some}
-use Rattle.std.specs.Prelude.{unwrap_or, option_map}
-use Rattle.std.proofs.lemmas.Bool.{eq-eqb, cases_lt}
-use mathlib.Core.Option.{none}
-use Rattle.segment_image.specs.Shape.{Dimensions}
-use Rattle.segment_image.specs.Blocks.{field_at}
-use Rattle.bucket_ranges.specs.declared.single.SingleWord.{SingleWord}
-use Rattle.bucket_ranges.specs.declared.spec.Spec.{Spec}
+use Rattle.segment_invariant.proofs.Prelude.Std.{◌≡◌, ◌≢◌, ◌⊎◌, Bool, true, false, ◌==◌, if◌then◌else◌, ℕ, ◌+◌, ◌<◌, ◌≤◌, ℤ, List, inl, inr, refl, sym, ap, ◌∙◌, arith, Option, Some, unwrap_or, eq-eqb, none}
+use Rattle.segment_invariant.proofs.Prelude.Machine.{Dimensions, field_at, SingleWord, Spec, buckets_of, packed_bucket, is_packed_bucket, record_buckets, record_single, total_of, mark_of, State}
+use Rattle.segment_invariant.proofs.Prelude.Invariant.{Record, histogram, Anatomy, form_at, key_of_bucket, HasRecord, IsFirst, Invariant}
+use Rattle.std.specs.Prelude.{option_map}
+use Rattle.std.proofs.lemmas.Bool.{cases_lt}
 use Rattle.bucket_ranges.specs.declared.spec.Spec.TheVariants as spec
-use Rattle.bucket_ranges.specs.Spec.{buckets_of}
-use Rattle.bucket_ranges.specs.Single.{packed_bucket, is_packed_bucket}
-use Rattle.bucket_ranges.specs.Reading.{record_buckets, record_single, total_of, mark_of}
-use Rattle.segment_machine.specs.State.{State}
 use Rattle.segment_machine.specs.Actor.{transit_of}
-use Rattle.segment_invariant.specs.Body.{Record, histogram, Anatomy}
-use Rattle.segment_invariant.specs.Ledger.{form_at, key_of_bucket}
-use Rattle.segment_invariant.specs.Seen.{HasRecord, IsFirst}
-use Rattle.segment_invariant.specs.Invariant.{Invariant}
 use Rattle.segment_invariant.proofs.Blocks.Pieces.{one_stands}
 use Rattle.segment_invariant.proofs.Counting.Bounds.{counted_fits}
 use Rattle.segment_invariant.proofs.Consistency.Records.{record_word}

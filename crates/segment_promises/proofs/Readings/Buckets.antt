@@ -1,20 +1,10 @@
 -- The buckets of a histogram in a kept state's words, as a reading lists them: each under its key, and what is held of a key stands there.
-use Rattle.std.proofs.Common.{◌≡◌, ◌≢◌, ℕ, ◌+◌, ◌<◌, ℤ, List, ⊎_elim, refl, sym, ap, subst, ◌∙◌, inl, inr, arith}
-use Rattle.std.specs.List.{range_with_len}
+use Rattle.segment_invariant.proofs.Prelude.Std.{◌≡◌, ◌≢◌, ℕ, ◌+◌, ◌<◌, ℤ, List, ⊎_elim, refl, sym, ap, subst, ◌∙◌, inl, inr, arith, range_with_len}
+use Rattle.segment_invariant.proofs.Prelude.Machine.{Dimensions, Spec, buckets_of, record_buckets, total_of, mark_of, State, tally_units, all_counted}
+use Rattle.segment_invariant.proofs.Prelude.Invariant.{Record, Anatomy, key_of_bucket, units_held, marks_held, all_held, HasRecord, IsFirst, HasKey, Invariant}
 use Rattle.std.proofs.lemmas.Bool.{cases_lt}
-use Rattle.segment_image.specs.Shape.{Dimensions}
-use Rattle.bucket_ranges.specs.declared.spec.Spec.{Spec}
 use Rattle.bucket_ranges.specs.declared.spec.Spec.TheVariants as spec
-use Rattle.bucket_ranges.specs.Spec.{buckets_of}
-use Rattle.bucket_ranges.specs.Reading.{record_buckets, total_of, mark_of}
-use Rattle.segment_machine.specs.State.{State}
-use Rattle.segment_machine.specs.Entry.{tally_units}
-use Rattle.segment_machine.specs.Actor.{all_counted}
 use Rattle.segment_invariant.specs.Consistent.{key_at}
-use Rattle.segment_invariant.specs.Body.{Record, Anatomy}
-use Rattle.segment_invariant.specs.Ledger.{key_of_bucket, units_held, marks_held, all_held}
-use Rattle.segment_invariant.specs.Seen.{HasRecord, IsFirst}
-use Rattle.segment_invariant.specs.Invariant.{HasKey, Invariant}
 use Rattle.segment_invariant.proofs.Lists.Tallies.{tally_at}
 use Rattle.segment_invariant.proofs.Consistency.Books.{one_first, range_at, range_there}
 use Rattle.segment_invariant.proofs.Consistency.Keys.{one_key}

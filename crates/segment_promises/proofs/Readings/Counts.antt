@@ -1,19 +1,12 @@
 -- The counts of a histogram in a kept state's words: they are there, and where its totals are bounded, none is too large.
-use Rattle.std.proofs.Common.{◌≡◌, Bool, true, false, if◌then◌else◌, ℕ, ◌<◌, refl, sym, ap, ◌∙◌, arith, List}
-use Rattle.std.specs.Prelude.{not, ◌==◌, nat_lt, slice_index}
-use Rattle.std.specs.List.{range_with_len}
-use Rattle.std.proofs.lemmas.Bool.{or_from, and_from, eq-eqb, le-ltb}
+use Rattle.segment_invariant.proofs.Prelude.Std.{◌≡◌, Bool, true, false, if◌then◌else◌, ℕ, ◌<◌, refl, sym, ap, ◌∙◌, arith, List, not, ◌==◌, nat_lt, slice_index, range_with_len, and_from, eq-eqb, le-ltb}
+use Rattle.segment_invariant.proofs.Prelude.Machine.{Dimensions, head_of, field_at, buckets_of, spec_fields, is_sparse, record_buckets, total_of, IsShown}
+use Rattle.segment_invariant.proofs.Prelude.Invariant.{Record, record_words, Anatomy, layout_of, HasRecord, IsLawfulRecord}
+use Rattle.std.proofs.lemmas.Bool.{or_from}
 use Rattle.std.proofs.lemmas.List.Elements.{All-map}
 use Rattle.std.proofs.lemmas.List.Folds.{list_any_none}
-use Rattle.segment_image.specs.Shape.{Dimensions}
-use Rattle.segment_image.specs.Head.{head_of}
-use Rattle.segment_image.specs.Blocks.{field_at}
 use Rattle.bucket_ranges.specs.declared.spec.Spec.TheVariants as spec
-use Rattle.bucket_ranges.specs.Spec.{buckets_of, spec_fields}
-use Rattle.bucket_ranges.specs.Reading.{is_sparse, record_buckets, total_of, totals_of, has_large, has_no_units, is_bad_bucket_counts, is_bad_counts, has_counts}
-use Rattle.segment_invariant.specs.Body.{Record, record_words, Anatomy, layout_of}
-use Rattle.segment_invariant.specs.Seen.{HasRecord}
-use Rattle.segment_invariant.specs.Invariant.{IsLawfulRecord}
+use Rattle.bucket_ranges.specs.Reading.{totals_of, has_large, has_no_units, is_bad_bucket_counts, is_bad_counts, has_counts}
 use Rattle.list_lemmas.proofs.Elements.{all_from}
 use Rattle.segment_invariant.proofs.Consistency.Books.{range_at}
 use Rattle.segment_invariant.proofs.Consistency.Records.{record_word}
@@ -21,7 +14,6 @@ use Rattle.segment_invariant.proofs.Consistency.Specs.{buckets_are}
 use Rattle.segment_invariant.proofs.Consistency.Totals.{sparse_kind}
 use Rattle.segment_promises.proofs.Readings.Bounds.{AreBounded}
 use Rattle.segment_promises.proofs.Readings.Heads.{version_is}
-use Rattle.alloc_core.specs.Layout.{IsShown}
 
 module _ (shape : Dimensions) (words : List ℕ) (anatomy : Anatomy) (shown : IsShown shape words (layout_of anatomy)) (version at : ℕ) (r : Record)
     (has : HasRecord anatomy.pieces at r) (right : IsLawfulRecord version shape.page r) where

@@ -1,20 +1,7 @@
 -- The entries that actors have begun, that are counted, and that have ended: each of these has those behind it among it.
-use Rattle.std.proofs.Common.{◌≡◌, ℕ, suc, ◌+◌, ◌≤◌, Bool, true, false, cond, ℤ, List, [], ◌∷◌, ◌++◌, map, refl, sym, ap, subst, ◌∙◌, ⊎_elim, arith}
-use Rattle.std.specs.List.{filter, flat_map, All}
-use Rattle.std.proofs.lemmas.Bool.{and_parts}
-use Rattle.std.proofs.lemmas.List.{map-append}
-use Rattle.std.proofs.lemmas.List.Elements.{All-contains, All-nil, filter-append}
-use mathlib.Core.Option.{some}
-use lib.ListN.{get_elem?}
-use Rattle.segment_image.specs.Shape.{Dimensions}
-use Rattle.segment_machine.specs.declared.entry.Entry.{Entry}
-use Rattle.segment_machine.specs.declared.entry.EntryProgress.{EntryProgress}
-use Rattle.segment_machine.specs.declared.actor.Actor.{Actor}
-use Rattle.segment_machine.specs.Entry.{is_counted, has_ended, tally_units, counted_among}
-use Rattle.segment_machine.specs.Actor.{log_of, counted_of, all_counted}
-use Rattle.segment_machine.specs.State.{State}
-use Rattle.segment_invariant.specs.Body.{Anatomy}
-use Rattle.segment_invariant.specs.Invariant.{StandsRight, Invariant}
+use Rattle.segment_invariant.proofs.Prelude.Std.{◌≡◌, ℕ, suc, ◌+◌, ◌≤◌, Bool, true, false, cond, ℤ, List, [], ◌∷◌, ◌++◌, map, refl, sym, ap, subst, ◌∙◌, ⊎_elim, arith, filter, flat_map, All, and_parts, map-append, All-contains, All-nil, filter-append, some, get_elem?}
+use Rattle.segment_invariant.proofs.Prelude.Machine.{Dimensions, Entry, EntryProgress, Actor, is_counted, has_ended, tally_units, counted_among, log_of, counted_of, all_counted, State}
+use Rattle.segment_invariant.proofs.Prelude.Invariant.{Anatomy, StandsRight, Invariant}
 use Rattle.segment_invariant.proofs.Lists.Countings.{units_total}
 use Rattle.segment_invariant.proofs.Frames.Spending.{spent_or_not}
 use Rattle.segment_promises.specs.Reads.{begun_of}

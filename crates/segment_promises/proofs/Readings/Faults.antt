@@ -1,21 +1,13 @@
 -- No record on the list of a kept state is bad, and the list does not stop.
-use Rattle.std.proofs.Common.{◌≡◌, Bool, true, false, ◌&&◌, if◌then◌else◌, ℕ, suc, List, [], ◌∷◌, take, refl, ap, ◌∙◌, Option, Some, None}
+use Rattle.segment_invariant.proofs.Prelude.Std.{◌≡◌, Bool, true, false, ◌&&◌, if◌then◌else◌, ℕ, suc, List, [], ◌∷◌, take, refl, ap, ◌∙◌, Option, Some, None, eqb-true, some, get_elem?, contains_at}
+use Rattle.segment_invariant.proofs.Prelude.Machine.{Dimensions, head_of, field_at, is_of_type, record_fault, Reading, State}
+use Rattle.segment_invariant.proofs.Prelude.Invariant.{Anatomy, order_of, Invariant}
 use Rattle.std.specs.Prelude.{option_map}
 use Rattle.std.specs.List.{cons_option, filter_map}
-use Rattle.std.proofs.lemmas.Bool.{eqb-true}
-use mathlib.Core.Option.{some}
-use lib.ListN.{get_elem?}
-use Rattle.segment_image.specs.Shape.{Dimensions}
-use Rattle.segment_image.specs.Head.{head_of}
-use Rattle.segment_image.specs.Blocks.{field_at}
 use Rattle.segment_image.specs.declared.head.SegmentHead.{SegmentHead}
 use Rattle.bucket_ranges.specs.declared.reading.RecordFault.{RecordFault}
 use Rattle.bucket_ranges.specs.declared.reading.RecordFault.TheVariants.{BadSample}
-use Rattle.bucket_ranges.specs.Reading.{is_of_type, record_fault, is_bad_sample, with_earlier, fault_behind, bad_record, Reading, IsReading}
-use Rattle.segment_machine.specs.State.{State}
-use Rattle.segment_invariant.specs.Body.{Anatomy, order_of}
-use Rattle.segment_invariant.specs.Invariant.{Invariant}
-use Rattle.list_lemmas.proofs.Elements.{contains_at}
+use Rattle.bucket_ranges.specs.Reading.{is_bad_sample, with_earlier, fault_behind, bad_record, IsReading}
 use Rattle.segment_promises.specs.Reads.{HasNoFault}
 use Rattle.segment_promises.proofs.Readings.Lists.{no_stop, read_along}
 use Rattle.segment_promises.proofs.Readings.Names.{no_listed_fault}

@@ -1,10 +1,6 @@
 -- The first element of a list that passes a test: by its place, and among those that pass another.
-use Rattle.std.proofs.Common.{◌≡◌, Bool, true, false, cond, ◌&&◌, ℕ, zero, suc, List, [], ◌∷◌, ◌++◌, refl, ap, ◌∙◌, subst, arith, Some}
-use Rattle.std.specs.List.{filter, find, All}
-use Rattle.std.proofs.lemmas.List.Elements.{All-nil, All-cons, All-head, All-tail}
-use mathlib.Core.Option.{some, some-injective}
-use lib.ListN.{get_elem?}
-use Rattle.list_lemmas.proofs.Elements.{none_at}
+use Rattle.segment_invariant.proofs.Prelude.Std.{◌≡◌, Bool, true, false, cond, ◌&&◌, ℕ, zero, suc, List, [], ◌∷◌, ◌++◌, refl, ap, ◌∙◌, subst, arith, Some, filter, All, All-nil, All-cons, All-head, All-tail, some, some-injective, get_elem?, none_at}
+use Rattle.std.specs.List.{find}
 
 module _ {X : Type 0} (test : X → Bool) where
   -- it is found where none before it passes

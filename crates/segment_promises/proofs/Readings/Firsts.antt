@@ -1,18 +1,15 @@
 -- Which records of a list are read, by the words: where no histogram on it has a fault, the first of each name.
-use Rattle.std.proofs.Common.{◌≡◌, Bool, true, false, cond, ℕ, zero, suc, ◌<◌, List, [], ◌∷◌, ◌++◌, inl, inr, refl, sym, ap, subst, ◌∙◌, arith, None}
-use Rattle.std.specs.Prelude.{not, is_none}
-use Rattle.std.specs.List.{All, AllPairs, Contains, filter}
-use Rattle.std.proofs.lemmas.Bool.{eqb-true, eq-eqb, not-true, cases_order}
-use Rattle.std.proofs.lemmas.List.Elements.{All-nil, All-cons, All-head, All-tail, All-weaker, filter_passes, Contains-append_right}
+use Rattle.segment_invariant.proofs.Prelude.Std.{◌≡◌, Bool, true, false, cond, ℕ, zero, suc, ◌<◌, List, [], ◌∷◌, ◌++◌, inl, inr, refl, sym, ap, subst, ◌∙◌, arith, None, not, All, Contains, filter, eqb-true, eq-eqb, cases_order, All-nil, All-cons, All-head, All-tail, All-weaker, Contains-append_right, bytes_eq-Decides, some, get_elem?, none_in, all_of, below_length, index_at, contains_filter}
+use Rattle.segment_invariant.proofs.Prelude.Machine.{field_at, is_of_type, name_of, record_fault}
+use Rattle.segment_invariant.proofs.Prelude.Invariant.{IsHistogram}
+use Rattle.std.specs.Prelude.{is_none}
+use Rattle.std.specs.List.{AllPairs}
+use Rattle.std.proofs.lemmas.Bool.{not-true}
+use Rattle.std.proofs.lemmas.List.Elements.{filter_passes}
 use Rattle.std.proofs.lemmas.List.Kept.{AllPairs-cons, AllPairs-filter}
-use Rattle.std.proofs.lemmas.Slice.Eq.{bytes_eq-Decides}
-use mathlib.Core.Option.{some}
-use lib.ListN.{get_elem?}
-use Rattle.segment_image.specs.Blocks.{field_at}
 use Rattle.segment_image.specs.declared.head.SegmentHead.{SegmentHead}
-use Rattle.bucket_ranges.specs.Reading.{is_of_type, name_of, same_name, first_of_each, record_fault, histogram_records, lawful_records, read_records}
-use Rattle.segment_invariant.specs.Consistent.{HasName, IsHistogram}
-use Rattle.list_lemmas.proofs.Elements.{none_in, all_of, below_length, index_at, contains_filter}
+use Rattle.bucket_ranges.specs.Reading.{same_name, first_of_each, histogram_records, lawful_records, read_records}
+use Rattle.segment_invariant.specs.Consistent.{HasName}
 use Rattle.segment_promises.proofs.Filters.{filtered, all_kept}
 
 -- ---- lists

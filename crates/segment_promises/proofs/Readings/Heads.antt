@@ -1,15 +1,10 @@
 -- What is read of the header of a kept state's words: the version, the id and the flags.
-use Rattle.std.proofs.Common.{◌≡◌, ℕ, List, ap, ◌∙◌}
-use Rattle.std.specs.Prelude.{not, ◌==◌, bit_and}
-use Rattle.segment_image.specs.Shape.{Dimensions}
-use Rattle.segment_image.specs.Words.{word_at}
-use Rattle.segment_image.specs.Head.{head_of}
+use Rattle.segment_invariant.proofs.Prelude.Std.{◌≡◌, ℕ, List, ap, ◌∙◌, not, ◌==◌, bit_and}
+use Rattle.segment_invariant.proofs.Prelude.Machine.{Dimensions, word_at, head_of, Reading, State}
+use Rattle.segment_invariant.proofs.Prelude.Invariant.{Anatomy, layout_of, Invariant}
 use Rattle.alloc_core.proofs.Flags.{corrupt_read, full_read}
 use Rattle.alloc_core.proofs.Layouts.{flags_word}
-use Rattle.bucket_ranges.specs.Reading.{Reading, IsReading}
-use Rattle.segment_machine.specs.State.{State}
-use Rattle.segment_invariant.specs.Body.{Anatomy, layout_of}
-use Rattle.segment_invariant.specs.Invariant.{Invariant}
+use Rattle.bucket_ranges.specs.Reading.{IsReading}
 use Rattle.segment_promises.specs.Reads.{ReadsHead}
 use Rattle.segment_promises.proofs.Readings.Lists.{read_along}
 

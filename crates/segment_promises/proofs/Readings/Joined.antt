@@ -1,28 +1,11 @@
 -- What the words of a kept state read as once all recorders are joined.
-use Rattle.std.proofs.Common.{◌≡◌, ◌≢◌, Bool, true, false, ◌||◌, ◌==◌, ℕ, suc, ◌+◌, ℤ, List, [], ◌∷◌, map, fold, ⊎_elim, refl, sym, ap, subst, ◌∙◌, arith}
-use Rattle.std.specs.List.{Contains}
+use Rattle.segment_invariant.proofs.Prelude.Std.{◌≡◌, ◌≢◌, Bool, true, false, ◌||◌, ◌==◌, ℕ, suc, ◌+◌, ℤ, List, [], ◌∷◌, map, fold, ⊎_elim, refl, sym, ap, subst, ◌∙◌, arith, Contains, eqb-true, eqb-false, All-contains, some, some-injective, some-ne-none, get_elem?}
+use Rattle.segment_invariant.proofs.Prelude.Machine.{Dimensions, Spec, SameSpec, Histogram, Reading, Entry, Actor, Known, Portion, tally_units, tally_sum, tally_noted, taken_units, taken_sum, purse, State}
+use Rattle.segment_invariant.proofs.Prelude.Invariant.{Anatomy, moving_at, IsFirst, Knows, Invariant}
 use Rattle.std.proofs.Math.Bool.{or-false}
-use Rattle.std.proofs.lemmas.Bool.{eqb-true, eqb-false}
-use Rattle.std.proofs.lemmas.List.Elements.{All-contains}
-use mathlib.Core.Option.{some, some-injective, some-ne-none}
-use lib.ListN.{get_elem?}
-use Rattle.segment_image.specs.Shape.{Dimensions}
-use Rattle.bucket_ranges.specs.declared.spec.Spec.{Spec}
-use Rattle.bucket_ranges.specs.Spec.{SameSpec}
-use Rattle.bucket_ranges.specs.Reading.{Histogram, Reading}
-use Rattle.segment_machine.specs.declared.entry.Entry.{Entry}
-use Rattle.segment_machine.specs.declared.actor.Actor.{Actor}
-use Rattle.segment_machine.specs.declared.actor.Known.{Known}
-use Rattle.segment_machine.specs.declared.actor.Portion.{Portion}
-use Rattle.segment_machine.specs.Entry.{tally_units, tally_sum, tally_noted}
-use Rattle.segment_machine.specs.Actor.{taken_units, taken_sum, all_owed}
-use Rattle.segment_machine.specs.Seats.{purse}
-use Rattle.segment_machine.specs.State.{State}
+use Rattle.segment_machine.specs.Actor.{all_owed}
 use Rattle.segment_machine.specs.Reached.{IsJoined}
-use Rattle.segment_invariant.specs.Body.{Anatomy}
-use Rattle.segment_invariant.specs.Ledger.{moving_at, all_moving}
-use Rattle.segment_invariant.specs.Seen.{IsFirst, Knows}
-use Rattle.segment_invariant.specs.Invariant.{Invariant}
+use Rattle.segment_invariant.specs.Ledger.{all_moving}
 use Rattle.segment_invariant.proofs.Lists.FewTerms.{sum_none}
 use Rattle.segment_invariant.proofs.Consistency.Books.{one_first}
 use Rattle.segment_promises.specs.Reads.{noted_at_opening, ReadsNames, ReadsUnits, ReadsAmounts, ReadsAnswers, ReadsLog, JoinedReads}

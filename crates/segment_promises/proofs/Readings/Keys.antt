@@ -1,13 +1,8 @@
 -- Numbers that are listed under keys: where each key stands once, and what is held of any key is listed under it, those of a key are what
 -- is held of it.
-use Rattle.std.proofs.Common.{◌≡◌, ◌≢◌, ◌⊎◌, Bool, true, false, if◌then◌else◌, ℕ, zero, suc, ℤ, List, [], ◌∷◌, map, inl, inr, ⊎_elim, refl, sym, ap, ◌∙◌}
-use Rattle.std.specs.List.{zip, sum_by}
-use Rattle.std.specs.Ordering.{int_eq}
-use Rattle.std.proofs.lemmas.Bool.Decides.{Decides-int_eq}
-use mathlib.Core.Option.{some, some-injective}
-use lib.ListN.{get_elem?}
-use Rattle.segment_machine.specs.Actor.{units_listed}
-use Rattle.list_lemmas.proofs.Elements.{none_at}
+use Rattle.segment_invariant.proofs.Prelude.Std.{◌≡◌, ◌≢◌, ◌⊎◌, Bool, true, false, if◌then◌else◌, ℕ, zero, suc, ℤ, List, [], ◌∷◌, map, inl, inr, ⊎_elim, refl, sym, ap, ◌∙◌, sum_by, int_eq, Decides-int_eq, some, some-injective, get_elem?, none_at}
+use Rattle.segment_invariant.proofs.Prelude.Machine.{units_listed}
+use Rattle.std.specs.List.{zip}
 use Rattle.segment_invariant.proofs.Lists.FewTerms.{sum_none, sum_one}
 use Rattle.segment_promises.proofs.Counts.{sum_of_map}
 

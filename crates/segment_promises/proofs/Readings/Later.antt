@@ -1,21 +1,10 @@
 -- The histograms of a kept state's list are the first of their names or later ones. In a later one nothing is counted. So the totals and
 -- marks of each are bounded.
-use Rattle.std.proofs.Common.{◌≡◌, ◌≢◌, Bool, true, false, ℕ, inl, refl, sym, ap, subst, ◌∙◌, arith, Some}
-use Rattle.std.specs.Prelude.{◌==◌}
-use Rattle.std.proofs.lemmas.Bool.{eqb-true, eqb-false}
-use mathlib.Core.Option.{none}
-use Rattle.segment_image.specs.Shape.{Dimensions}
-use Rattle.segment_image.specs.Blocks.{field_at}
-use Rattle.bucket_ranges.specs.declared.single.SingleWord.TheVariants.{Empty}
-use Rattle.bucket_ranges.specs.declared.spec.Spec.{Spec}
-use Rattle.bucket_ranges.specs.Single.{single_of}
-use Rattle.bucket_ranges.specs.Spec.{buckets_of}
-use Rattle.bucket_ranges.specs.Reading.{record_buckets, record_single, mark_at, total_of, mark_of}
+use Rattle.segment_invariant.proofs.Prelude.Std.{◌≡◌, ◌≢◌, Bool, true, false, ℕ, inl, refl, sym, ap, subst, ◌∙◌, arith, Some, ◌==◌, eqb-true, eqb-false, none}
+use Rattle.segment_invariant.proofs.Prelude.Machine.{Dimensions, field_at, Empty, Spec, single_of, buckets_of, record_buckets, record_single, total_of, mark_of, State}
+use Rattle.segment_invariant.proofs.Prelude.Invariant.{Record, histogram, Anatomy, HasRecord, IsFirst, CountsNothing, Invariant}
+use Rattle.bucket_ranges.specs.Reading.{mark_at}
 use Rattle.bucket_ranges.specs.Units.{total_at}
-use Rattle.segment_machine.specs.State.{State}
-use Rattle.segment_invariant.specs.Body.{Record, histogram, Anatomy}
-use Rattle.segment_invariant.specs.Seen.{HasRecord, IsFirst}
-use Rattle.segment_invariant.specs.Invariant.{CountsNothing, Invariant}
 use Rattle.segment_invariant.proofs.Blocks.Pieces.{one_stands}
 use Rattle.segment_invariant.proofs.Consistency.Records.{record_word}
 use Rattle.segment_invariant.proofs.Consistency.Specs.{form_is}

@@ -1,24 +1,13 @@
 -- The list that a reader finds in the words of a kept state: the records, in their order, up to the end.
-use Rattle.std.proofs.Common.{◌≡◌, true, ℕ, List, length, refl, ap, subst, ◌∙◌, eq-eqb, Some, None}
+use Rattle.segment_invariant.proofs.Prelude.Std.{◌≡◌, true, ℕ, List, length, refl, ap, subst, ◌∙◌, eq-eqb, Some, None, slice_index, if◌then◌else◌, ◌==◌, Bool, Contains, none}
+use Rattle.segment_invariant.proofs.Prelude.Machine.{first_fault, Dimensions, head_of, is_block, IsListed, Reading, reading_along, IsChain, Made, State}
+use Rattle.segment_invariant.proofs.Prelude.Invariant.{Body, is_claimed, Listed, Anatomy, order_of, Stands, StandsAs, Invariant}
 use Rattle.std.specs.Prelude as std
-use Rattle.std.specs.Prelude.{slice_index, if◌then◌else◌, ◌==◌, Bool}
-use Rattle.std.specs.List.{Contains}
 use Rattle.std.proofs.lemmas.List.Elements.{Contains-get_or}
-use Rattle.segment_image.specs.Checks.{first_fault}
-use Rattle.segment_image.specs.Shape.{Dimensions}
-use Rattle.segment_image.specs.Head.{head_of}
-use Rattle.segment_image.specs.Blocks.{is_block}
-use Rattle.bucket_ranges.specs.Reading.{before, next_of, next_checks, IsListed, stop_of, Reading, reading_along, IsReading}
+use Rattle.bucket_ranges.specs.Reading.{before, next_of, next_checks, stop_of, IsReading}
 use Rattle.bucket_ranges.proofs.Walks.{IsListed-from_end, listed_agree}
-use Rattle.list_core.specs.Chain.{IsChain}
 use Rattle.list_core.proofs.Chains.{chain_of}
-use Rattle.segment_machine.specs.declared.actor.Made.{Made}
 use Rattle.segment_machine.specs.declared.actor.Made.TheVariants as made
-use Rattle.segment_machine.specs.State.{State}
-use Rattle.segment_invariant.specs.Body.{Body, is_claimed, Listed, Anatomy, order_of}
-use Rattle.segment_invariant.specs.Seen.{Stands}
-use Rattle.segment_invariant.specs.Invariant.{StandsAs, Invariant}
-use mathlib.Core.Option.{none}
 use Rattle.segment_invariant.proofs.Consistency.Blocks.{lawful_piece}
 use Rattle.segment_invariant.proofs.Consistency.Records.{listed_there}
 

@@ -1,24 +1,16 @@
 -- The marks of a histogram in a kept state's words: where they are bounded, their check finds nothing.
-use Rattle.std.proofs.Common.{◌≡◌, ◌⊎◌, Bool, false, ◌||◌, ◌&&◌, ◌==◌, ℕ, ◌≤◌, inl, inr, refl, sym, ap, ◌∙◌, arith, Option, Some, None, List}
-use Rattle.std.specs.Prelude.{not, nat_lt, is_none}
-use Rattle.std.specs.List.{range_with_len}
-use Rattle.std.proofs.lemmas.Bool.{or_from, and_left, and_right, eq-eqb, le-ltb}
+use Rattle.segment_invariant.proofs.Prelude.Std.{◌≡◌, ◌⊎◌, Bool, false, ◌||◌, ◌&&◌, ◌==◌, ℕ, ◌≤◌, inl, inr, refl, sym, ap, ◌∙◌, arith, Option, Some, None, List, not, nat_lt, range_with_len, eq-eqb, le-ltb}
+use Rattle.segment_invariant.proofs.Prelude.Machine.{Dimensions, field_at, SingleWord, buckets_of, packed_bucket, is_packed_bucket, record_buckets, record_single, total_of, mark_of, IsShown}
+use Rattle.segment_invariant.proofs.Prelude.Invariant.{Record, Anatomy, layout_of, HasRecord, IsLawfulRecord}
+use Rattle.std.specs.Prelude.{is_none}
+use Rattle.std.proofs.lemmas.Bool.{or_from, and_left, and_right}
 use Rattle.std.proofs.lemmas.List.Folds.{list_any_none}
-use Rattle.segment_image.specs.Shape.{Dimensions}
-use Rattle.segment_image.specs.Blocks.{field_at}
-use Rattle.bucket_ranges.specs.declared.single.SingleWord.{SingleWord}
-use Rattle.bucket_ranges.specs.Spec.{buckets_of}
-use Rattle.bucket_ranges.specs.Single.{packed_bucket, is_packed_bucket}
-use Rattle.bucket_ranges.specs.Reading.{record_buckets, record_single, total_of, mark_of, is_large_mark, is_bad_mark}
-use Rattle.segment_invariant.specs.Body.{Record, Anatomy, layout_of}
-use Rattle.segment_invariant.specs.Seen.{HasRecord}
-use Rattle.segment_invariant.specs.Invariant.{IsLawfulRecord}
+use Rattle.bucket_ranges.specs.Reading.{is_large_mark, is_bad_mark}
 use Rattle.list_lemmas.proofs.Elements.{all_from}
 use Rattle.segment_invariant.proofs.Consistency.Books.{range_at}
 use Rattle.segment_invariant.proofs.Consistency.Records.{record_word}
 use Rattle.segment_invariant.proofs.Consistency.Specs.{buckets_are, form_is}
 use Rattle.segment_promises.proofs.Readings.Bounds.{AreBounded, packed_test}
-use Rattle.alloc_core.specs.Layout.{IsShown}
 
 -- a mark that is bounded is not too large
 mark_small : (version mark total i : ℕ) (form : Option SingleWord)

@@ -1,20 +1,9 @@
 -- Which histograms are read of a kept state's words: of each name that is on the list the first record, with the spec that its maker was
 -- given.
-use Rattle.std.proofs.Common.{inl, inr, ◌≡◌, ℕ, List, map, sym, ap, subst, ◌∙◌, None}
-use Rattle.std.specs.List.{Contains}
-use lib.ListN.{get_elem?}
-use Rattle.segment_image.specs.Shape.{Dimensions}
-use Rattle.segment_image.specs.Head.{head_of}
-use Rattle.segment_image.specs.Blocks.{field_at}
-use Rattle.bucket_ranges.specs.declared.spec.Spec.{Spec}
-use Rattle.bucket_ranges.specs.Spec.{SameSpec}
-use Rattle.bucket_ranges.specs.Reading.{spec_of, name_of, record_fault, read_records, lawful_samples, Histogram, histogram_of, Reading, IsReading}
-use Rattle.segment_machine.specs.State.{State}
-use Rattle.segment_invariant.specs.Body.{Anatomy, order_of}
-use Rattle.segment_invariant.specs.Seen.{IsFirst}
-use Rattle.segment_invariant.specs.Invariant.{Invariant}
-use Rattle.list_lemmas.proofs.Elements.{from_map}
-use Rattle.list_lemmas.proofs.Maps.{contains_map, contains_mapped}
+use Rattle.segment_invariant.proofs.Prelude.Std.{inl, inr, ◌≡◌, ℕ, List, map, sym, ap, subst, ◌∙◌, None, Contains, get_elem?, from_map, contains_map, contains_mapped}
+use Rattle.segment_invariant.proofs.Prelude.Machine.{Dimensions, head_of, field_at, Spec, SameSpec, spec_of, name_of, record_fault, Histogram, Reading, State}
+use Rattle.segment_invariant.proofs.Prelude.Invariant.{Anatomy, order_of, IsFirst, Invariant}
+use Rattle.bucket_ranges.specs.Reading.{read_records, lawful_samples, histogram_of, IsReading}
 use Rattle.segment_invariant.proofs.Consistency.Firsts.{record_on_list, first_of_name, name_of_first}
 use Rattle.segment_invariant.proofs.Consistency.Specs.{record_spec, same_spelled}
 use Rattle.segment_promises.specs.Reads.{ReadsNames}

@@ -1,19 +1,9 @@
 -- A record that is passed over in a kept state's words: its counts are there, its totals and marks are bounded, and so are its sums.
-use Rattle.std.proofs.Common.{◌≡◌, ◌≢◌, Bool, true, false, if◌then◌else◌, ℕ, ◌+◌, ◌<◌, ◌≤◌, inl, refl, ap, ◌∙◌, arith, Option, Some, List, None}
-use Rattle.std.specs.Prelude.{◌==◌}
-use Rattle.std.specs.Int.{w64, cast_signed}
-use Rattle.std.proofs.lemmas.Bool.{eq-eqb, ne_eqb, eqb-true, eqb-false}
-use Rattle.segment_image.specs.Shape.{Dimensions}
-use Rattle.segment_image.specs.Blocks.{field_at}
-use Rattle.bucket_ranges.specs.Spec.{buckets_of}
-use Rattle.bucket_ranges.specs.declared.single.SingleWord.{SingleWord}
-use Rattle.bucket_ranges.specs.Single.{units_packed, packed_bucket, is_packed_bucket}
-use Rattle.bucket_ranges.specs.Reading.{count_at, total_of, mark_of, is_bad_sum, is_bad_record_sum}
-use Rattle.segment_machine.specs.State.{State}
-use Rattle.segment_calls.specs.Form.{is_off}
-use Rattle.segment_invariant.specs.Body.{Record, Listed, Anatomy}
-use Rattle.segment_invariant.specs.Ledger.{form_at}
-use Rattle.segment_invariant.specs.Invariant.{IsPassedOver, Invariant, total_in, mark_in}
+use Rattle.segment_invariant.proofs.Prelude.Std.{◌≡◌, ◌≢◌, Bool, true, false, if◌then◌else◌, ℕ, ◌+◌, ◌<◌, ◌≤◌, inl, refl, ap, ◌∙◌, arith, Option, Some, List, None, ◌==◌, w64, cast_signed, eq-eqb, ne_eqb, eqb-true, eqb-false}
+use Rattle.segment_invariant.proofs.Prelude.Machine.{Dimensions, field_at, buckets_of, SingleWord, units_packed, packed_bucket, is_packed_bucket, total_of, mark_of, State, is_off}
+use Rattle.segment_invariant.proofs.Prelude.Invariant.{Record, Listed, Anatomy, form_at, IsPassedOver, Invariant}
+use Rattle.bucket_ranges.specs.Reading.{count_at, is_bad_sum, is_bad_record_sum}
+use Rattle.segment_invariant.specs.Invariant.{total_in, mark_in}
 use Rattle.segment_invariant.proofs.Packing.Forms.{units_most}
 use Rattle.segment_invariant.proofs.Packing.OffForms.{few_buckets, disabling}
 use Rattle.segment_invariant.proofs.Consistency.Marks.{packed_all}

@@ -1,24 +1,17 @@
 -- No record of a histogram in a kept state's words has a fault.
-use Rattle.std.proofs.Common.{◌≡◌, ℕ, [], ◌∷◌, ap, ◌∙◌, None, List, true, false}
-use Rattle.segment_image.specs.Shape.{Dimensions}
-use Rattle.segment_image.specs.Checks.{first_fault}
-use Rattle.segment_image.specs.Head.{head_of}
+use Rattle.segment_invariant.proofs.Prelude.Std.{◌≡◌, ℕ, [], ◌∷◌, ap, ◌∙◌, None, List, true, false}
+use Rattle.segment_invariant.proofs.Prelude.Machine.{Dimensions, first_fault, head_of, record_fault, State, IsShown, buckets_of}
+use Rattle.segment_invariant.proofs.Prelude.Invariant.{Record, Anatomy, layout_of, histogram, Listed, HasRecord, Invariant, IsLawfulRecord, IsPassedOver}
 use Rattle.bucket_ranges.specs.declared.reading.RecordFault.TheVariants.{BadKind, BadName, BadSpec, BadCounts, BadSingle, BadMark, BadSum}
-use Rattle.bucket_ranges.specs.Reading.{is_bad_record_single, is_bad_mark, record_fault, has_counts, is_bad_record_sum}
-use Rattle.segment_machine.specs.State.{State}
-use Rattle.segment_invariant.specs.Body.{Record, Anatomy, layout_of, histogram, Listed}
-use Rattle.segment_invariant.specs.Seen.{HasRecord}
-use Rattle.segment_invariant.specs.Invariant.{Invariant, IsLawfulRecord, IsPassedOver}
+use Rattle.bucket_ranges.specs.Reading.{is_bad_record_single, is_bad_mark, has_counts, is_bad_record_sum}
 use Rattle.segment_promises.proofs.Readings.Heads.{version_is}
 use Rattle.segment_promises.proofs.Readings.Records.{kind_is_right, name_is_right, spec_is_right, single_is_right, sum_is_right}
 use Rattle.segment_promises.proofs.Readings.Counts.{counts_are_right}
 use Rattle.segment_promises.proofs.Readings.Marks.{marks_are_right}
 use Rattle.segment_promises.proofs.Readings.Later.{all_bounded}
-use Rattle.alloc_core.specs.Layout.{IsShown}
 use Rattle.segment_invariant.proofs.Consistency.PassedOver.{told, told_shown, told_stands}
 use Rattle.segment_invariant.proofs.Consistency.Forms.{counts_are, told_counts, tells_passed}
 use Rattle.segment_promises.proofs.Readings.PassedOver.{passed_bounded, passed_sum}
-use Rattle.bucket_ranges.specs.Spec.{buckets_of}
 use Rattle.segment_promises.proofs.Readings.Bounds.{AreBounded}
 
 -- a record whose counts are there, whose totals and marks are bounded, and whose sums are lawful

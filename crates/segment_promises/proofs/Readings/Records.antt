@@ -1,30 +1,15 @@
 -- The record of a histogram in a kept state's words: the checks of its kind, name, spec, single word and sums find nothing.
-use Rattle.std.proofs.Common.{◌≡◌, ◌≢◌, ◌||◌, Bool, true, false, if◌then◌else◌, ℕ, ◌+◌, ◌-◌, ◌*◌, ◌^◌, ◌<◌, ℤ, pos, inl, inr, refl, ap, subst, ◌∙◌, arith, Option, Some, None, List, []}
-use Rattle.std.specs.Prelude.{not, ◌==◌, nat_lt, slice_index, unsigned_abs, ◌-ℤ◌}
-use Rattle.std.specs.Int.{w64, cast_signed}
-use Rattle.std.proofs.Math.IntN.{+ℤ_idr}
-use Rattle.std.proofs.lemmas.Bool.{or_from, le-ltb, le-leb, ltb-false, ne_eqb}
+use Rattle.segment_invariant.proofs.Prelude.Std.{◌≡◌, ◌≢◌, ◌||◌, Bool, true, false, if◌then◌else◌, ℕ, ◌+◌, ◌-◌, ◌*◌, ◌^◌, ◌<◌, ℤ, pos, inl, inr, refl, ap, subst, ◌∙◌, arith, Option, Some, None, List, [], not, ◌==◌, nat_lt, slice_index, unsigned_abs, ◌-ℤ◌, w64, cast_signed, +ℤ_idr, le-ltb, le-leb, ltb-false, ne_eqb}
+use Rattle.segment_invariant.proofs.Prelude.Machine.{Dimensions, head_of, field_at, SingleWord, Empty, Packed, Disabled, FrozenEmpty, Frozen, single_of, is_packed_word, buckets_of, record_buckets, State, is_off, units_of, IsShown}
+use Rattle.segment_invariant.proofs.Prelude.Invariant.{Record, record_words, Anatomy, layout_of, form_at, HasRecord, summed_cost, IsSumOf, IsLawfulRecord, Invariant}
+use Rattle.std.proofs.lemmas.Bool.{or_from}
 use Rattle.std.proofs.lemmas.List.Sums.{sum_by-le-sum_by}
-use Rattle.segment_image.specs.Shape.{Dimensions}
-use Rattle.segment_image.specs.Head.{head_of}
-use Rattle.segment_image.specs.Blocks.{field_at}
-use Rattle.bucket_ranges.specs.declared.single.SingleWord.{SingleWord}
-use Rattle.bucket_ranges.specs.declared.single.SingleWord.TheVariants.{Empty, Packed, Disabled, FrozenEmpty, Frozen}
-use Rattle.bucket_ranges.specs.Single.{single_of, is_packed_word, packed_of, frozen_of, disabled_of, is_disabled}
-use Rattle.bucket_ranges.specs.Spec.{buckets_of}
-use Rattle.bucket_ranges.specs.Reading.{is_bad_kind, has_name, is_bad_spec, record_buckets, is_bad_single, is_bad_record_single, is_beyond, is_bad_sum, is_bad_record_sum}
-use Rattle.segment_machine.specs.State.{State}
-use Rattle.segment_calls.specs.Form.{is_off}
-use Rattle.segment_machine.specs.Actor.{units_of}
-use Rattle.segment_invariant.specs.Body.{Record, record_words, Anatomy, layout_of}
-use Rattle.segment_invariant.specs.Ledger.{form_at}
-use Rattle.segment_invariant.specs.Seen.{HasRecord}
-use Rattle.segment_invariant.specs.Invariant.{summed_cost, IsSumOf, IsLawfulRecord, Invariant}
+use Rattle.bucket_ranges.specs.Single.{packed_of, frozen_of, disabled_of, is_disabled}
+use Rattle.bucket_ranges.specs.Reading.{is_bad_kind, has_name, is_bad_spec, is_bad_single, is_bad_record_single, is_beyond, is_bad_sum, is_bad_record_sum}
 use Rattle.segment_invariant.proofs.Counting.Learned.{summed_least}
 use Rattle.segment_invariant.proofs.Consistency.Records.{record_word}
 use Rattle.segment_invariant.proofs.Consistency.Specs.{form_is}
 use Rattle.segment_invariant.proofs.Consistency.Made.{record_holds}
-use Rattle.alloc_core.specs.Layout.{IsShown}
 
 -- ---- a single word
 

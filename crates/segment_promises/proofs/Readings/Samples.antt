@@ -1,41 +1,25 @@
 -- The samples on the list of a kept state: none has a fault, so those that are read are all of them.
-use Rattle.std.proofs.Common.{◌≡◌, ◌≢◌, ◌⊎◌, Bool, true, false, cond, ◌&&◌, ◌||◌, ℕ, suc, ◌<◌, ◌≤◌, ℤ, List, [], ◌∷◌, ◌++◌, map, take, drop, length, append_assoc, inl, inr, refl, sym, ap, subst, ◌∙◌, arith, Option, Some, None}
-use Rattle.std.specs.Prelude.{not, ◌==◌, nat_lt, slice_index}
-use Rattle.std.specs.Ordering.{int_eq}
-use Rattle.std.specs.List.{filter, list_any, range_with_len, Contains}
-use Rattle.std.proofs.lemmas.Bool.{and_from, or_from, eqb-true, eqb-false, eq-eqb, le-ltb}
-use Rattle.std.proofs.lemmas.Bool.Decides.{Decides-int_eq}
-use Rattle.std.proofs.lemmas.List.{take-map, take-append-drop, same_lists, get_or_default}
+use Rattle.segment_invariant.proofs.Prelude.Std.{◌≡◌, ◌≢◌, ◌⊎◌, Bool, true, false, cond, ◌&&◌, ◌||◌, ℕ, suc, ◌<◌, ◌≤◌, ℤ, List, [], ◌∷◌, ◌++◌, map, take, drop, length, append_assoc, inl, inr, refl, sym, ap, subst, ◌∙◌, arith, Option, Some, None, not, ◌==◌, nat_lt, slice_index, int_eq, filter, range_with_len, Contains, and_from, eqb-true, eqb-false, eq-eqb, le-ltb, Decides-int_eq, take-append-drop, some, get_elem?, contains_at, from_map, first_longer, split_among}
+use Rattle.segment_invariant.proofs.Prelude.Machine.{Dimensions, head_of, field_at, Spec, spec_fields, is_of_type, is_sparse, sample_value, Made, State}
+use Rattle.segment_invariant.proofs.Prelude.Invariant.{IsHistogram, Sample, sample, Listed, Anatomy, order_of, units_held, all_held, HasSample, IsNamed, IsValued, IsFirst, IsFirstOf, Invariant}
+use Rattle.std.specs.List.{list_any}
+use Rattle.std.proofs.lemmas.Bool.{or_from}
+use Rattle.std.proofs.lemmas.List.{take-map, same_lists, get_or_default}
 use Rattle.std.proofs.lemmas.List.Folds.{list_any-from_Any}
 use Rattle.std.proofs.lemmas.List.FromFn.{length-map-range_with_len, get_or-map-range_with_len}
 use Rattle.std.proofs.lemmas.Simd.{map-map}
-use mathlib.Core.Option.{some}
-use lib.ListN.{get_elem?}
 use Rattle.atomic_table.proofs.Lists.{drop_at}
-use Rattle.segment_image.specs.Shape.{Dimensions}
-use Rattle.segment_image.specs.Head.{head_of}
-use Rattle.segment_image.specs.Blocks.{field_at}
-use Rattle.bucket_ranges.specs.declared.spec.Spec.{Spec}
 use Rattle.bucket_ranges.specs.declared.spec.Spec.TheVariants as spec
-use Rattle.bucket_ranges.specs.Spec.{spec_fields}
-use Rattle.bucket_ranges.specs.Reading.{is_of_type, is_sparse, is_sparse_read, read_records, sample_value, sample_histogram, sample_count, sample_mark, is_i32, has_bad_sample, is_bad_sample, is_sample, with_earlier, lawful_samples}
-use Rattle.segment_machine.specs.declared.actor.Made.{Made}
+use Rattle.bucket_ranges.specs.Reading.{is_sparse_read, read_records, sample_histogram, sample_count, sample_mark, is_i32, has_bad_sample, is_bad_sample, is_sample, with_earlier, lawful_samples}
 use Rattle.segment_machine.specs.declared.actor.Made.TheVariants as made
-use Rattle.segment_machine.specs.State.{State}
-use Rattle.segment_invariant.specs.Consistent.{IsHistogram}
 use Rattle.segment_invariant.specs.Consistent as consistent
-use Rattle.segment_invariant.specs.Body.{Sample, sample, Listed, Anatomy, order_of}
-use Rattle.segment_invariant.specs.Ledger.{units_held, all_held}
-use Rattle.segment_invariant.specs.Seen.{HasSample, IsNamed, IsValued, IsFirst, IsFirstOf}
-use Rattle.segment_invariant.specs.Invariant.{Invariant}
-use Rattle.list_lemmas.proofs.Elements.{contains_at, from_map}
 use Rattle.list_lemmas.proofs.Maps.{contains_take}
 use Rattle.list_lemmas.proofs.Pairs.{element_at}
 use Rattle.segment_invariant.proofs.Blocks.Pieces.{piece_word}
 use Rattle.segment_invariant.proofs.Counting.Bounds.{counted_fits}
 use Rattle.segment_invariant.proofs.Consistency.Books.{range_at, sample_first, units_book, value_held}
 use Rattle.segment_invariant.proofs.Consistency.Firsts.{Valued, is_sample_of, record_of_first, name_given, name_or_before, given_value, first_valued}
-use Rattle.list_lemmas.proofs.Firsts.{first_image, first_longer, first_there, split_among}
+use Rattle.list_lemmas.proofs.Firsts.{first_image, first_there}
 use Rattle.segment_invariant.proofs.Consistency.Totals.{kind_word}
 use Rattle.segment_promises.proofs.Readings.Firsts.{read_to}
 use Rattle.segment_promises.proofs.Readings.Names.{no_listed_fault}

@@ -1,30 +1,16 @@
 -- The samples of a sparse histogram in a kept state's words, as a reading lists them: of each value the first, and what is held of a value
 -- stands there.
-use Rattle.std.proofs.Common.{◌≡◌, Bool, true, false, ◌&&◌, ◌==◌, ℕ, zero, suc, ◌<◌, ℤ, List, [], ◌∷◌, inl, inr, ⊎_elim, refl, sym, ap, subst, ◌∙◌, arith, Some}
-use Rattle.std.specs.List.{filter, find, AllByRecursion}
+use Rattle.segment_invariant.proofs.Prelude.Std.{◌≡◌, Bool, true, false, ◌&&◌, ◌==◌, ℕ, zero, suc, ◌<◌, ℤ, List, [], ◌∷◌, inl, inr, ⊎_elim, refl, sym, ap, subst, ◌∙◌, arith, Some, filter, AllByRecursion, int_eq, and_parts, and_from, eqb-true, eq-eqb, cases_order, Decides-int_eq, All-weaker, some, some-injective, get_elem?, none_at}
+use Rattle.segment_invariant.proofs.Prelude.Machine.{Dimensions, head_of, field_at, Spec, buckets_of, is_of_type, sample_value, State}
+use Rattle.segment_invariant.proofs.Prelude.Invariant.{Record, Sample, Anatomy, order_of, HasRecord, HasSample, IsFirst, IsFirstOf, HasKey, Invariant}
+use Rattle.std.specs.List.{find}
 use Rattle.std.specs.List.Sorted.{IsStrictlySortedBy}
 use Rattle.std.specs.declared.cmp.Ordering.{Ordering}
 use Rattle.std.specs.declared.cmp.Ordering.TheVariants.{Less}
-use Rattle.std.specs.Ordering.{int_eq}
-use Rattle.std.proofs.lemmas.Bool.{and_parts, and_from, eqb-true, eq-eqb, cases_order}
-use Rattle.std.proofs.lemmas.Bool.Decides.{Decides-int_eq}
-use Rattle.std.proofs.lemmas.List.Elements.{All-weaker}
-use mathlib.Core.Option.{some, some-injective}
-use lib.ListN.{get_elem?}
-use Rattle.segment_image.specs.Shape.{Dimensions}
-use Rattle.segment_image.specs.Head.{head_of}
-use Rattle.segment_image.specs.Blocks.{field_at}
-use Rattle.bucket_ranges.specs.declared.spec.Spec.{Spec}
 use Rattle.bucket_ranges.specs.declared.spec.Spec.TheVariants as spec
-use Rattle.bucket_ranges.specs.Spec.{buckets_of}
-use Rattle.bucket_ranges.specs.Reading.{is_of_type, sample_value, sample_count, sample_mark, sample_histogram, by_value, lawful_samples, first_samples}
+use Rattle.bucket_ranges.specs.Reading.{sample_count, sample_mark, sample_histogram, by_value, lawful_samples, first_samples}
 use Rattle.bucket_ranges.proofs.FirstSamples.{first_samples-ascend, first_samples-first}
-use Rattle.segment_machine.specs.State.{State}
 use Rattle.segment_invariant.specs.Consistent.{IsSample, IsSampleOf}
-use Rattle.segment_invariant.specs.Body.{Record, Sample, Anatomy, order_of}
-use Rattle.segment_invariant.specs.Seen.{HasRecord, HasSample, IsFirst, IsFirstOf}
-use Rattle.segment_invariant.specs.Invariant.{HasKey, Invariant}
-use Rattle.list_lemmas.proofs.Elements.{none_at}
 use Rattle.segment_invariant.proofs.Blocks.Pieces.{piece_word}
 use Rattle.segment_invariant.proofs.Consistency.Books.{one_first, units_book, marks_book, value_held}
 use Rattle.segment_invariant.proofs.Consistency.Firsts.{first_of_value, value_of_first}

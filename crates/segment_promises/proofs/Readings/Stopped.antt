@@ -1,17 +1,11 @@
 -- Stopped after any event, the words of a kept state read as the histograms that were published, with all units but those in transit.
-use Rattle.std.proofs.Common.{◌≡◌, ◌≢◌, subst, Bool, true, false, if◌then◌else◌, ℕ, ℤ, List, map, refl, sym, ap, ◌∙◌}
-use Rattle.std.specs.List.{zip, range_with_len}
-use Rattle.segment_image.specs.Shape.{Dimensions}
-use Rattle.segment_image.specs.Head.{head_of}
-use Rattle.bucket_ranges.specs.declared.spec.Spec.{Spec}
+use Rattle.segment_invariant.proofs.Prelude.Std.{◌≡◌, ◌≢◌, subst, Bool, true, false, if◌then◌else◌, ℕ, ℤ, List, map, refl, sym, ap, ◌∙◌, range_with_len}
+use Rattle.segment_invariant.proofs.Prelude.Machine.{Dimensions, head_of, Spec, name_of, is_sparse, record_buckets, total_of, mark_of, sample_value, Histogram, State, units_listed}
+use Rattle.segment_invariant.proofs.Prelude.Invariant.{Record, Anatomy, order_of, HasRecord, IsFirst, Invariant}
+use Rattle.std.specs.List.{zip}
 use Rattle.bucket_ranges.specs.declared.spec.Spec.TheVariants as spec
-use Rattle.bucket_ranges.specs.Reading.{name_of, is_sparse, record_buckets, total_of, mark_of, bucket_counts, bucket_marks, sample_value, sample_count, sample_mark, lawful_samples, first_samples, sample_counts, sample_marks, Histogram, histogram_of}
-use Rattle.segment_machine.specs.State.{State}
-use Rattle.segment_machine.specs.Actor.{units_listed}
+use Rattle.bucket_ranges.specs.Reading.{bucket_counts, bucket_marks, sample_count, sample_mark, lawful_samples, first_samples, sample_counts, sample_marks, histogram_of}
 use Rattle.segment_invariant.specs.Consistent.{key_at}
-use Rattle.segment_invariant.specs.Body.{Record, Anatomy, order_of}
-use Rattle.segment_invariant.specs.Seen.{HasRecord, IsFirst}
-use Rattle.segment_invariant.specs.Invariant.{Invariant}
 use Rattle.segment_invariant.proofs.Consistency.Firsts.{record_of_first}
 use Rattle.segment_invariant.proofs.Consistency.Totals.{sparse_kind, bucketed_kind, kind_word}
 use Rattle.segment_promises.specs.Reads.{ReadsUnits, ReadsAmounts, StoppedReads}

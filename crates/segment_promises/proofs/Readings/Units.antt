@@ -1,26 +1,8 @@
 -- The units that are read of a histogram in a kept state: of each key those that were counted, less those in transit.
-use Rattle.std.proofs.Common.{◌≡◌, Bool, true, false, if◌then◌else◌, ℕ, ◌<◌, ℤ, pos, List, ⊎_elim, refl, sym, ap, subst, ◌∙◌, arith, Option, Some}
-use Rattle.std.specs.Prelude.{slice_index}
-use Rattle.std.specs.Str.{bytes_eq}
-use Rattle.std.specs.Ordering.{int_eq}
-use Rattle.std.proofs.lemmas.Bool.Decides.{Decides-int_eq}
-use Rattle.std.proofs.lemmas.Slice.Eq.{bytes_eq-Decides}
-use mathlib.Core.Option.{some, none}
-use lib.ListN.{get_elem?}
-use Rattle.segment_image.specs.Shape.{Dimensions}
-use Rattle.bucket_ranges.specs.declared.spec.Spec.{Spec}
-use Rattle.bucket_ranges.specs.Ranges.{boundaries_of}
-use Rattle.bucket_ranges.specs.Single.{packed_bucket}
-use Rattle.bucket_ranges.specs.Reading.{Histogram, spec_of, record_single}
-use Rattle.segment_machine.specs.declared.actor.Actor.{Actor}
-use Rattle.segment_machine.specs.declared.actor.Known.{Known}
-use Rattle.segment_machine.specs.declared.place.Place.{Place}
-use Rattle.segment_machine.specs.Actor.{bucket_key}
-use Rattle.segment_machine.specs.State.{State}
-use Rattle.segment_invariant.specs.Body.{Record, histogram, Anatomy}
-use Rattle.segment_invariant.specs.Ledger.{form_at, key_of_bucket, moving_of, moving_at, all_moving}
-use Rattle.segment_invariant.specs.Seen.{HasRecord, IsFirst}
-use Rattle.segment_invariant.specs.Invariant.{StandsRight, Invariant}
+use Rattle.segment_invariant.proofs.Prelude.Std.{◌≡◌, Bool, true, false, if◌then◌else◌, ℕ, ◌<◌, ℤ, pos, List, ⊎_elim, refl, sym, ap, subst, ◌∙◌, arith, Option, Some, slice_index, bytes_eq, int_eq, Decides-int_eq, bytes_eq-Decides, some, none, get_elem?}
+use Rattle.segment_invariant.proofs.Prelude.Machine.{Dimensions, Spec, boundaries_of, packed_bucket, Histogram, spec_of, record_single, Actor, Known, Place, bucket_key, State}
+use Rattle.segment_invariant.proofs.Prelude.Invariant.{Record, histogram, Anatomy, form_at, key_of_bucket, moving_at, HasRecord, IsFirst, StandsRight, Invariant}
+use Rattle.segment_invariant.specs.Ledger.{moving_of, all_moving}
 use Rattle.segment_invariant.proofs.Lists.FewTerms.{some_counts}
 use Rattle.segment_invariant.proofs.Frames.OneActor.{moves_or_not}
 use Rattle.segment_invariant.proofs.Blocks.Pieces.{one_stands}

@@ -1,21 +1,14 @@
 -- The anatomy of an image that may be adopted, and that its words are shown by it.
-use Rattle.std.proofs.Common.{◌≡◌, inl, inr, true, ℕ, ◌+◌, ◌-◌, ◌/◌, ◌^◌, ◌<◌, ◌≤◌, List, [], ◌∷◌, ◌++◌, map, length, take, drop, replicate, refl, sym, ap, ◌∙◌, subst, arith, Option, Some, None, div-add-mod', length-drop}
-use Rattle.std.specs.Prelude.{nat_le, ◌&&◌, ◌%◌, ◌==◌}
-use Rattle.std.specs.List.{All}
-use Rattle.std.proofs.lemmas.Bool.{cases_order, and_parts, leb-true}
-use Rattle.std.proofs.lemmas.List.{take-append-drop, drop-drop, ext_get_or, get_or-replicate, get_or-drop, length-replicate}
-use mathlib.Core.Option.{some-injective}
-use lib.ListN.{get_elem?}
-use Rattle.segment_image.specs.Words.{word_at}
-use Rattle.segment_image.specs.Head.{head_of}
-use Rattle.bucket_ranges.specs.Reading.{IsListed, Reading, reading_along}
-use Rattle.alloc_core.specs.Layout.{spread, end_of, IsShown, head_words, render}
+use Rattle.segment_invariant.proofs.Prelude.Std.{◌≡◌, inl, inr, true, ℕ, ◌+◌, ◌-◌, ◌/◌, ◌^◌, ◌<◌, ◌≤◌, List, [], ◌∷◌, ◌++◌, map, length, take, drop, replicate, refl, sym, ap, ◌∙◌, subst, arith, Option, Some, None, nat_le, ◌&&◌, ◌%◌, ◌==◌, All, cases_order, and_parts, leb-true, take-append-drop, get_or-drop, length-replicate, some-injective, get_elem?, at_from}
+use Rattle.segment_invariant.proofs.Prelude.Machine.{word_at, head_of, IsListed, Reading, reading_along, IsShown, Made}
+use Rattle.segment_invariant.proofs.Prelude.Invariant.{Body, histogram, sample, words_of, Piece, Listed, Anatomy, layout_of, order_of}
+use Rattle.std.proofs.Common.{div-add-mod', length-drop}
+use Rattle.std.proofs.lemmas.List.{drop-drop, ext_get_or, get_or-replicate}
+use Rattle.alloc_core.specs.Layout.{spread, end_of, head_words, render}
 use Rattle.alloc_core.proofs.Flags.{word_of_flags}
-use Rattle.segment_machine.specs.declared.actor.Made.{Made}
 use Rattle.segment_machine.specs.declared.actor.Made.TheVariants as made
-use Rattle.segment_invariant.specs.Body.{Body, histogram, sample, words_of, Piece, block_of, Listed, Anatomy, layout_of, order_of}
+use Rattle.segment_invariant.specs.Body.{block_of}
 use Rattle.segment_invariant.proofs.Blocks.Pieces.{queue_piece}
-use Rattle.list_lemmas.proofs.Elements.{at_from}
 use Rattle.segment_promises.specs.Adoption.{IsAdoptable, blocks_of}
 use Rattle.segment_promises.proofs.Adopting.Slices.{fields_run, run_long}
 use Rattle.segment_promises.proofs.Adopting.Bodies.{size_at}

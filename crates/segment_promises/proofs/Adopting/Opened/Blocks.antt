@@ -1,16 +1,13 @@
 -- The blocks of an image that may be adopted: which there are, and what each is.
-use Rattle.std.proofs.Common.{◌≡◌, ◌≢◌, ◌⊎◌, inl, inr, Bool, true, false, ℕ, ◌+◌, ◌*◌, ◌^◌, ◌<◌, ◌≤◌, List, length, refl, sym, ap, subst, arith, ⊎_elim, None}
-use Rattle.std.specs.Prelude.{◌%◌, not, ◌==◌, ◌&&◌, if◌then◌else◌, slice_index}
-use Rattle.std.specs.List.{filter, list_any, flat_map, Contains, All}
-use Rattle.std.proofs.lemmas.Bool.{and_from, and_parts, ne_eqb, or_parts, eqb-true, eqb-false, eq-eqb, not-true, ltb-false}
-use Rattle.std.proofs.lemmas.List.Elements.{Contains-append_cases, Contains-get_or}
+use Rattle.segment_invariant.proofs.Prelude.Std.{◌≡◌, ◌≢◌, ◌⊎◌, inl, inr, Bool, true, false, ℕ, ◌+◌, ◌*◌, ◌^◌, ◌<◌, ◌≤◌, List, length, refl, sym, ap, subst, arith, ⊎_elim, None, ◌%◌, not, ◌==◌, ◌&&◌, if◌then◌else◌, slice_index, filter, flat_map, Contains, All, and_from, and_parts, ne_eqb, eqb-true, eqb-false, eq-eqb, ltb-false, Contains-append_cases, contains_filter, contains_at, at_from}
+use Rattle.segment_invariant.proofs.Prelude.Machine.{field_at, is_block, head_of, is_of_type, is_sparse, record_fault, record_buckets, IsListed, Reading, reading_along}
+use Rattle.segment_invariant.proofs.Prelude.Invariant.{Body, histogram, counts, sample, words_of}
+use Rattle.std.specs.List.{list_any}
+use Rattle.std.proofs.lemmas.Bool.{or_parts, not-true}
+use Rattle.std.proofs.lemmas.List.Elements.{Contains-get_or}
 use Rattle.std.proofs.lemmas.List.Folds.{list_any-from_Any, Any-from_list_any}
-use Rattle.segment_image.specs.Blocks.{field_at, is_block}
-use Rattle.segment_image.specs.Head.{head_of}
-use Rattle.bucket_ranges.specs.Reading.{is_of_type, is_sparse, read_records, record_fault, record_buckets, IsListed, Reading, reading_along}
-use Rattle.segment_invariant.specs.Body.{Body, histogram, counts, sample, words_of}
+use Rattle.bucket_ranges.specs.Reading.{read_records}
 use Rattle.segment_promises.specs.Adoption.{IsAdoptable, named_counts, blocks_of}
-use Rattle.list_lemmas.proofs.Elements.{contains_filter, contains_at, at_from}
 use Rattle.segment_promises.proofs.Filters.{filtered}
 use Rattle.segment_promises.proofs.Adopting.Opened.Records.{kind_found, spec_found, named_found}
 use Rattle.segment_promises.proofs.Adopting.Distinct.{among_rows}

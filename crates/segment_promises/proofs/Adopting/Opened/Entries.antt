@@ -1,27 +1,10 @@
 -- The first entries of an image and what deltas had taken of it: each has a key that is there, and the opener met the sample of each.
-use Rattle.std.proofs.Common.{◌≡◌, Bool, true, false, ℕ, zero, suc, ◌^◌, ◌<◌, ℤ, pos, List, [], ◌∷◌, ◌++◌, map, replicate, All, Contains, filter, flat_map, refl, sym, ap, ◌∙◌, subst, arith, ⊎_elim}
-use Rattle.std.specs.Prelude.{not, ◌==◌, if◌then◌else◌}
-use Rattle.std.specs.Ordering.{int_eq}
+use Rattle.segment_invariant.proofs.Prelude.Std.{◌≡◌, Bool, true, false, ℕ, zero, suc, ◌^◌, ◌<◌, ℤ, pos, List, [], ◌∷◌, ◌++◌, map, replicate, All, Contains, filter, flat_map, refl, sym, ap, ◌∙◌, subst, arith, ⊎_elim, not, ◌==◌, if◌then◌else◌, int_eq, append-nil, Contains-append_cases, split_among, none_in, one_in, contains_at, at_from, contains_mapped}
+use Rattle.segment_invariant.proofs.Prelude.Machine.{field_at, head_of, buckets_of, spec_of, Histogram, IsListed, Reading, reading_along, Entry, Portion, all_counted, all_taken, SawSample, IsStop}
+use Rattle.segment_invariant.proofs.Prelude.Invariant.{Anatomy, IsFirst, IsFirstOf, HasKey, Fits}
 use Rattle.std.specs.List.{zip}
-use Rattle.std.proofs.lemmas.List.{append-nil}
-use Rattle.std.proofs.lemmas.List.Elements.{Contains-append_cases}
-use Rattle.segment_image.specs.Blocks.{field_at}
-use Rattle.segment_image.specs.Head.{head_of}
 use Rattle.bucket_ranges.specs.declared.spec.Spec.TheVariants as spec
-use Rattle.bucket_ranges.specs.Spec.{buckets_of}
-use Rattle.bucket_ranges.specs.Reading.{spec_of, Histogram, IsListed, Reading, reading_along}
-use Rattle.segment_machine.specs.declared.entry.Entry.{Entry}
-use Rattle.segment_machine.specs.declared.actor.Portion.{Portion}
 use Rattle.segment_machine.specs.Entry.{sum_entry}
-use Rattle.segment_machine.specs.Actor.{all_counted, all_taken}
-use Rattle.segment_machine.specs.Made.{SawSample}
-use Rattle.segment_invariant.specs.Body.{Anatomy}
-use Rattle.segment_invariant.specs.Seen.{IsFirst, IsFirstOf}
-use Rattle.segment_invariant.specs.Invariant.{HasKey, Fits}
-use Rattle.list_lemmas.proofs.Firsts.{split_among}
-use Rattle.list_lemmas.proofs.Elements.{none_in, one_in, contains_at, at_from}
-use Rattle.list_lemmas.proofs.Maps.{contains_mapped}
-use Rattle.list_core.specs.Chain.{IsStop}
 use Rattle.segment_promises.specs.Adoption.{IsAdoptable, first_entries, first_portion}
 use Rattle.segment_promises.proofs.Filters.{filtered}
 use Rattle.segment_promises.proofs.Adopting.Distinct.{among_rows}

@@ -1,26 +1,13 @@
 -- What the blocks of an image hold of a name and a key: what its record and the counts of that have, or of a sparse value its first sample.
-use Rattle.std.proofs.Common.{◌≡◌, ◌≢◌, inr, Bool, true, false, ℕ, ◌+◌, ◌^◌, ◌<◌, ℤ, List, All, Contains, refl, sym, ap, ◌∙◌, subst, arith, Option}
-use Rattle.std.specs.Prelude.{◌==◌, if◌then◌else◌}
-use Rattle.std.proofs.lemmas.Bool.{eqb-true, eqb-false}
-use Rattle.std.proofs.lemmas.Bool.Decides.{Decides-int_eq}
-use mathlib.Core.Option.{some, none, some-injective}
-use lib.ListN.{get_elem?}
-use Rattle.segment_image.specs.Blocks.{field_at}
-use Rattle.segment_image.specs.Head.{head_of}
+use Rattle.segment_invariant.proofs.Prelude.Std.{◌≡◌, ◌≢◌, inr, Bool, true, false, ℕ, ◌+◌, ◌^◌, ◌<◌, ℤ, List, All, Contains, refl, sym, ap, ◌∙◌, subst, arith, Option, ◌==◌, if◌then◌else◌, eqb-true, eqb-false, Decides-int_eq, some, none, some-injective, get_elem?, split_among, at_from}
+use Rattle.segment_invariant.proofs.Prelude.Machine.{field_at, head_of, buckets_of, packed_bucket, name_of, spec_of, sample_value, IsListed, Reading, reading_along}
+use Rattle.segment_invariant.proofs.Prelude.Invariant.{Record, Counts, Sample, Body, histogram, counts, sample, Anatomy, Piece, at_bucket, keyed, form_at, all_held, Stands, HasRecord, HasSample}
 use Rattle.bucket_ranges.specs.declared.spec.Spec.TheVariants as spec
-use Rattle.bucket_ranges.specs.Spec.{buckets_of}
-use Rattle.bucket_ranges.specs.Single.{packed_bucket}
-use Rattle.bucket_ranges.specs.Reading.{name_of, spec_of, sample_value, IsListed, Reading, reading_along}
-use Rattle.segment_invariant.specs.Body.{Record, Counts, Sample, Body, histogram, counts, sample, Anatomy, Piece}
 use Rattle.segment_invariant.specs.Consistent.{IsSample, IsSampleOf}
-use Rattle.segment_invariant.specs.Ledger.{at_bucket, keyed, form_at, all_held}
-use Rattle.segment_invariant.specs.Seen.{Stands, HasRecord, HasSample}
-use Rattle.list_lemmas.proofs.Firsts.{split_among}
 use Rattle.segment_invariant.proofs.Blocks.Pieces.{one_piece}
 use Rattle.segment_invariant.proofs.Consistency.Books.{IsBook, nothing_held}
 use Rattle.segment_invariant.proofs.Consistency.Keys.{no_packed}
 use Rattle.segment_invariant.proofs.Consistency.Sums.{of_mine}
-use Rattle.list_lemmas.proofs.Elements.{at_from}
 use Rattle.segment_invariant.proofs.Lists.FewTerms.{sum_none, sum_one, sum_pair}
 use Rattle.segment_promises.specs.Adoption.{IsAdoptable}
 use Rattle.segment_promises.proofs.Adopting.Bodies.{record_at, sample_at, counts_at}

@@ -1,21 +1,11 @@
 -- The records of an image are kept in its anatomy: its `records`, and those that are passed over.
-use Rattle.std.proofs.Common.{◌≡◌, ◌≢◌, Bool, true, ℕ, ◌^◌, ◌<◌, ◌≤◌, ℤ, List, [], ◌∷◌, ◌++◌, map, length, take, All, Contains, refl, sym, ap, ◌∙◌, subst, Some}
-use Rattle.std.specs.Prelude.{if◌then◌else◌}
-use Rattle.std.proofs.Math.Seq.{take-append_seam}
-use mathlib.Core.Option.{some, none}
-use lib.ListN.{get_elem?}
-use Rattle.segment_image.specs.Blocks.{field_at}
-use Rattle.segment_image.specs.Head.{head_of}
-use Rattle.bucket_ranges.specs.declared.spec.Spec.{Spec}
+use Rattle.segment_invariant.proofs.Prelude.Std.{◌≡◌, ◌≢◌, Bool, true, ℕ, ◌^◌, ◌<◌, ◌≤◌, ℤ, List, [], ◌∷◌, ◌++◌, map, length, take, All, Contains, refl, sym, ap, ◌∙◌, subst, Some, if◌then◌else◌, take-append_seam, some, none, get_elem?, at_from}
+use Rattle.segment_invariant.proofs.Prelude.Machine.{field_at, head_of, Spec, name_of, sample_value, IsListed, Reading, reading_along, units_in}
+use Rattle.segment_invariant.proofs.Prelude.Invariant.{Record, Counts, Sample, counts, Listed, Anatomy, form_at, Stands, HasRecord, HasCounts, HasSample, IsFirst, IsFirstOf, IsLawfulRecord, IsCountsOf, CountsNothing, RecordsAreKept}
 use Rattle.bucket_ranges.specs.declared.spec.Spec.TheVariants as spec
-use Rattle.bucket_ranges.specs.Reading.{name_of, sample_value, IsListed, Reading, reading_along}
 use Rattle.segment_machine.specs.declared.actor.Made.TheVariants as made
-use Rattle.segment_calls.specs.Form.{units_in}
-use Rattle.segment_invariant.specs.Body.{Record, Counts, Sample, counts, Listed, Anatomy}
-use Rattle.segment_invariant.specs.Ledger.{form_at}
-use Rattle.segment_invariant.specs.Seen.{Stands, HasRecord, HasCounts, HasSample, IsFirst, IsFirstOf}
-use Rattle.segment_invariant.specs.Invariant.{IsLawfulRecord, IsCountsOf, IsLawfulSample, CountsNothing, RecordsAreKept}
-use Rattle.list_lemmas.proofs.Elements.{at_from, split_map}
+use Rattle.segment_invariant.specs.Invariant.{IsLawfulSample}
+use Rattle.list_lemmas.proofs.Elements.{split_map}
 use Rattle.segment_promises.specs.Adoption.{IsAdoptable}
 use Rattle.segment_promises.proofs.Adopting.Bodies.{record_at, counts_at, other_at}
 use Rattle.segment_promises.proofs.Adopting.Opened.Anatomy.{listed_at, opened}

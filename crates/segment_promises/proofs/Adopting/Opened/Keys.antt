@@ -1,35 +1,18 @@
 -- The keys of an image: what its reading lists of a histogram has the key of a bucket, or the value of a first sample; and the opener saw
 -- that sample.
-use Rattle.std.proofs.Common.{◌≡◌, ◌⊎◌, inl, inr, Bool, true, false, ℕ, zero, suc, ◌+◌, ◌^◌, ◌<◌, ℤ, pos, List, [], ◌∷◌, All, Contains, filter, flat_map, refl, sym, ap, ◌∙◌, subst, arith, ⊎_elim, length, Some}
-use Rattle.std.specs.Prelude.{◌==◌, ◌&&◌, if◌then◌else◌, slice_index}
-use Rattle.std.specs.Int.{w64}
-use Rattle.std.specs.Ordering.{int_eq}
-use Rattle.std.specs.List.{find, range_with_len}
+use Rattle.segment_invariant.proofs.Prelude.Std.{◌≡◌, ◌⊎◌, inl, inr, Bool, true, false, ℕ, zero, suc, ◌+◌, ◌^◌, ◌<◌, ℤ, pos, List, [], ◌∷◌, All, Contains, filter, flat_map, refl, sym, ap, ◌∙◌, subst, arith, ⊎_elim, length, Some, ◌==◌, ◌&&◌, if◌then◌else◌, slice_index, w64, int_eq, range_with_len, eqb-true, eq-eqb, Decides-int_eq, append-nil, All-nil, All-head, All-tail, some, none, get_elem?, at_map, none_in, row_in, all_of, at_from, contains_at, contains_filter, contains_mapped}
+use Rattle.segment_invariant.proofs.Prelude.Machine.{word_at, field_at, head_of, boundaries_of, is_of_type, is_sparse, name_of, spec_of, record_buckets, sample_value, total_of, IsListed, Reading, reading_along, Sighting, word_seen, SawSample}
+use Rattle.segment_invariant.proofs.Prelude.Invariant.{Anatomy, sample, Stands, WasFixed, Sees, IsFirstOf, HasKey}
+use Rattle.std.specs.List.{find}
 use Rattle.std.specs.List.Sorted.{IsStrictlySortedBy}
-use Rattle.std.proofs.lemmas.Bool.{cases_lt, eqb-true, eq-eqb}
-use Rattle.std.proofs.lemmas.Bool.Decides.{Decides-int_eq}
+use Rattle.std.proofs.lemmas.Bool.{cases_lt}
 use Rattle.std.proofs.lemmas.Int.{of_z-to_z}
-use Rattle.std.proofs.lemmas.List.{append-nil, get_or_past}
-use Rattle.std.proofs.lemmas.List.Elements.{All-nil, All-head, All-tail}
-use mathlib.Core.Option.{some, none}
-use lib.ListN.{get_elem?}
-use Rattle.segment_image.specs.Words.{word_at}
-use Rattle.segment_image.specs.Blocks.{field_at}
-use Rattle.segment_image.specs.Head.{head_of}
-use Rattle.bucket_ranges.specs.Ranges.{boundaries_of}
-use Rattle.bucket_ranges.specs.Reading.{is_of_type, is_sparse, name_of, spec_of, record_buckets, sample_value, sample_count, is_sample, is_bad_sample, with_earlier, by_value, lawful_samples, first_samples, sample_counts, bucket_counts, total_of, IsListed, Reading, reading_along}
+use Rattle.std.proofs.lemmas.List.{get_or_past}
+use Rattle.bucket_ranges.specs.Reading.{sample_count, is_sample, is_bad_sample, with_earlier, by_value, lawful_samples, first_samples, sample_counts, bucket_counts}
 use Rattle.bucket_ranges.proofs.FirstSamples.{first_samples-ascend, first_samples-first}
-use Rattle.segment_machine.specs.declared.seen.Sighting.{Sighting}
-use Rattle.segment_machine.specs.Actor.{word_seen}
-use Rattle.segment_machine.specs.Made.{SawSample}
-use Rattle.segment_invariant.specs.Body.{Anatomy, sample}
 use Rattle.segment_invariant.specs.Consistent.{IsSample}
-use Rattle.segment_invariant.specs.Seen.{Stands, WasFixed, Sees, IsFirstOf}
-use Rattle.segment_invariant.specs.Invariant.{HasKey, IsLawfulSample}
-use Rattle.atomic_table.proofs.Lists.{at_map}
+use Rattle.segment_invariant.specs.Invariant.{IsLawfulSample}
 use Rattle.segment_invariant.proofs.Consistency.Books.{range_at}
-use Rattle.list_lemmas.proofs.Elements.{none_in, row_in, all_of, at_from, contains_at, contains_filter}
-use Rattle.list_lemmas.proofs.Maps.{contains_mapped}
 use Rattle.segment_promises.specs.Adoption.{IsAdoptable, seen_sample}
 use Rattle.segment_promises.proofs.Filters.{filtered}
 use Rattle.segment_promises.proofs.Readings.Finds.{find_one, find_both, found_at}

@@ -1,31 +1,22 @@
 -- A histogram's record on the list of an image is lawful, whether it is read or passed over: its words, its single word, its marks, and the
 -- counts block that it names.
-use Rattle.std.proofs.Common.{◌≡◌, ◌≢◌, Bool, true, false, ℕ, ◌+◌, ◌-◌, ◌*◌, ◌/◌, ◌^◌, ◌<◌, ◌≤◌, List, [], ◌∷◌, ◌++◌, length, take, drop, All, Contains, refl, sym, ap, ◌∙◌, subst, arith, Option, Some, None, length-append, get_or-take, get_or-drop}
-use Rattle.std.specs.Prelude.{◌%◌, not, ◌==◌, ◌&&◌, ◌||◌, nat_lt, if◌then◌else◌, slice_index, is_none, unwrap_or, option_map}
-use Rattle.std.specs.List.{list_any, range_with_len, slice_range}
-use Rattle.std.proofs.lemmas.Bool.{or_parts, not-false, eqb-true, eq-eqb, ne_eqb, ltb-false, le-ltb, leb-true, both_ways}
+use Rattle.segment_invariant.proofs.Prelude.Std.{◌≡◌, ◌≢◌, Bool, true, false, ℕ, ◌+◌, ◌-◌, ◌*◌, ◌/◌, ◌^◌, ◌<◌, ◌≤◌, List, [], ◌∷◌, ◌++◌, length, take, drop, All, Contains, refl, sym, ap, ◌∙◌, subst, arith, Option, Some, None, length-append, get_or-drop, ◌%◌, not, ◌==◌, ◌&&◌, ◌||◌, nat_lt, if◌then◌else◌, slice_index, unwrap_or, range_with_len, eqb-true, eq-eqb, ne_eqb, ltb-false, le-ltb, leb-true, some, contains_at, contains_map}
+use Rattle.segment_invariant.proofs.Prelude.Machine.{field_at, head_of, SingleWord, Empty, FrozenEmpty, Frozen, spec_fields, spec_ranges, single_of, packed_bucket, is_packed_bucket, units_packed, is_packed_word, name_of, name_words, spec_of, is_sparse, record_single, record_buckets, record_fault, total_of, mark_of, IsListed, Reading, reading_along, is_off, units_in, AreNameWords, word_at}
+use Rattle.segment_invariant.proofs.Prelude.Invariant.{Record, Counts, histogram, counts, words_of, IsLawfulRecord, IsCountsOf}
+use Rattle.std.proofs.Common.{get_or-take}
+use Rattle.std.specs.Prelude.{is_none, option_map}
+use Rattle.std.specs.List.{list_any, slice_range}
+use Rattle.std.proofs.lemmas.Bool.{or_parts, not-false, both_ways}
 use Rattle.std.proofs.lemmas.List.Folds.{list_any-from_Any}
-use mathlib.Core.Option.{some}
-use Rattle.segment_image.specs.Blocks.{field_at}
-use Rattle.segment_image.specs.Head.{head_of}
-use Rattle.bucket_ranges.specs.declared.single.SingleWord.{SingleWord}
-use Rattle.bucket_ranges.specs.declared.single.SingleWord.TheVariants.{Empty, FrozenEmpty, Frozen}
-use Rattle.bucket_ranges.specs.Spec.{spec_fields, spec_ranges}
-use Rattle.bucket_ranges.specs.Single.{single_of, is_disabled, packed_bucket, is_packed_bucket, units_packed, is_packed_word, frozen_of, packed_of}
-use Rattle.bucket_ranges.specs.Reading.{is_bad_record_sum, inner_ranges, name_of, name_words, name_length, spec_of, is_sparse, record_single, record_buckets, record_fault, total_of, mark_of, is_bad_single, is_bad_mark, is_large_mark_at, has_large, totals_of, IsListed, Reading, reading_along}
+use Rattle.bucket_ranges.specs.Single.{is_disabled, frozen_of, packed_of}
+use Rattle.bucket_ranges.specs.Reading.{is_bad_record_sum, inner_ranges, name_length, is_bad_single, is_bad_mark, is_large_mark_at, has_large, totals_of}
 use Rattle.bucket_ranges.proofs.Named.{named-lawful}
-use Rattle.segment_calls.specs.Form.{is_off, units_in}
-use Rattle.segment_machine.specs.Made.{AreNameWords}
-use Rattle.segment_invariant.specs.Body.{Record, Counts, histogram, counts, words_of}
-use Rattle.segment_invariant.specs.Invariant.{IsLawfulRecord, IsCountsOf, total_in, mark_in}
+use Rattle.segment_invariant.specs.Invariant.{total_in, mark_in}
 use Rattle.segment_invariant.proofs.Consistency.Keys.{packed_within}
 use Rattle.segment_invariant.proofs.Consistency.Marks.{packed_all}
 use Rattle.segment_invariant.proofs.Consistency.Books.{range_there}
 use Rattle.segment_invariant.specs.Consistent.{counts_word}
-use Rattle.segment_image.specs.Words.{word_at}
 use Rattle.std.proofs.lemmas.List.{get_or_default}
-use Rattle.list_lemmas.proofs.Elements.{contains_at}
-use Rattle.list_lemmas.proofs.Maps.{contains_map}
 use Rattle.segment_promises.specs.Adoption.{IsAdoptable}
 use Rattle.segment_promises.proofs.Adopting.Slices.{run_long}
 use Rattle.segment_promises.proofs.Adopting.Bodies.{record_at, counts_at, size_at, other_at, fields_named, name_long, record_words_are, other_words, counts_words}

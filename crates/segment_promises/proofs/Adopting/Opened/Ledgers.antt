@@ -1,29 +1,12 @@
 -- The ledger of an image: what its blocks hold is what its opener has accepted and what deltas had taken.
-use Rattle.std.proofs.Common.{◌≡◌, ◌≢◌, ◌⊎◌, inl, inr, Bool, true, false, ℕ, ◌^◌, ◌<◌, ◌≤◌, ℤ, pos, ◌+ℤ◌, List, [], ◌++◌, map, fold, All, Contains, flat_map, refl, sym, ap, ◌∙◌, subst, arith, ⊎_elim}
-use Rattle.std.specs.Prelude.{if◌then◌else◌}
-use Rattle.std.specs.Int.{w64, cast_signed}
-use Rattle.std.specs.Str.{bytes_eq}
-use Rattle.std.proofs.Math.IntN.{+ℤ_idl}
-use Rattle.std.proofs.lemmas.Slice.Eq.{bytes_eq-Decides}
-use Rattle.std.proofs.lemmas.List.{append-nil}
-use Rattle.std.proofs.lemmas.List.Elements.{All-contains}
-use mathlib.Core.Option.{some}
-use lib.ListN.{get_elem?}
-use Rattle.segment_image.specs.Blocks.{field_at}
-use Rattle.segment_image.specs.Head.{head_of}
-use Rattle.bucket_ranges.specs.Reading.{name_of, Histogram, IsListed, Reading, reading_along}
-use Rattle.segment_machine.specs.declared.entry.Entry.{Entry}
-use Rattle.segment_machine.specs.declared.actor.Portion.{Portion}
-use Rattle.segment_machine.specs.Entry.{tally_units, tally_sum}
-use Rattle.segment_machine.specs.Actor.{taken_units, taken_sum, cost_of}
+use Rattle.segment_invariant.proofs.Prelude.Std.{◌≡◌, ◌≢◌, ◌⊎◌, inl, inr, Bool, true, false, ℕ, ◌^◌, ◌<◌, ◌≤◌, ℤ, pos, ◌+ℤ◌, List, [], ◌++◌, map, fold, All, Contains, flat_map, refl, sym, ap, ◌∙◌, subst, arith, ⊎_elim, if◌then◌else◌, w64, cast_signed, bytes_eq, +ℤ_idl, bytes_eq-Decides, append-nil, All-contains, some, get_elem?, split_among, from_map, contains_at, at_from}
+use Rattle.segment_invariant.proofs.Prelude.Machine.{field_at, head_of, name_of, Histogram, IsListed, Reading, reading_along, Entry, Portion, tally_units, tally_sum, taken_units, taken_sum, cost_of}
+use Rattle.segment_invariant.proofs.Prelude.Invariant.{Record, histogram, Anatomy, Piece, units_held, marks_held, noted_held, all_held, HasRecord}
 use Rattle.list_lemmas.specs.Firsts.{IsFirstThat}
-use Rattle.list_lemmas.proofs.Firsts.{first_or_none, split_among}
-use Rattle.segment_invariant.specs.Body.{Record, histogram, Anatomy, Piece}
-use Rattle.segment_invariant.specs.Ledger.{units_held, marks_held, sum_held, sum_mark_held, noted_held, all_held, all_amounts, IsBalanced}
-use Rattle.segment_invariant.specs.Seen.{HasRecord}
+use Rattle.list_lemmas.proofs.Firsts.{first_or_none}
+use Rattle.segment_invariant.specs.Ledger.{sum_held, sum_mark_held, all_amounts, IsBalanced}
 use Rattle.segment_invariant.proofs.Consistency.Books.{units_book, marks_book}
 use Rattle.segment_invariant.proofs.Consistency.Sums.{no_sum, no_sum_mark, no_noted, of_mine, amount_of_mine}
-use Rattle.list_lemmas.proofs.Elements.{from_map, contains_at, at_from}
 use Rattle.segment_invariant.proofs.Lists.FewTerms.{sum_none, sum_one, amounts_none, amounts_one}
 use Rattle.segment_promises.specs.Adoption.{IsAdoptable, first_entries, first_portion}
 use Rattle.segment_promises.specs.Reads.{units_read, mark_read}

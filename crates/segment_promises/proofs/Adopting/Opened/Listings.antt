@@ -1,24 +1,11 @@
 -- What is read of a histogram of an image is what its blocks hold: of each key the units and the mark.
-use Rattle.std.proofs.Common.{◌≡◌, ◌≢◌, ◌⊎◌, inl, inr, Bool, true, false, ℕ, ◌+◌, ◌^◌, ◌<◌, ℤ, List, All, Contains, refl, sym, ap, ◌∙◌, arith, length, Option, Some, None}
-use Rattle.std.specs.Prelude.{◌==◌, if◌then◌else◌, slice_index}
-use Rattle.std.specs.Ordering.{int_eq}
-use Rattle.std.specs.List.{range_with_len}
-use Rattle.std.proofs.lemmas.Bool.{eqb-true, eqb-false, eq-eqb}
-use Rattle.std.proofs.lemmas.Bool.Decides.{Decides-int_eq}
-use Rattle.std.proofs.lemmas.List.Elements.{All-contains}
-use Rattle.segment_image.specs.Blocks.{field_at}
-use Rattle.segment_image.specs.Head.{head_of}
-use Rattle.bucket_ranges.specs.declared.spec.Spec.{Spec}
+use Rattle.segment_invariant.proofs.Prelude.Std.{◌≡◌, ◌≢◌, ◌⊎◌, inl, inr, Bool, true, false, ℕ, ◌+◌, ◌^◌, ◌<◌, ℤ, List, All, Contains, refl, sym, ap, ◌∙◌, arith, length, Option, Some, None, ◌==◌, if◌then◌else◌, slice_index, int_eq, range_with_len, eqb-true, eqb-false, eq-eqb, Decides-int_eq, All-contains, split_among, ◌≤◌, map, ⊎_elim, at_from}
+use Rattle.segment_invariant.proofs.Prelude.Machine.{field_at, head_of, Spec, SingleWord, buckets_of, spec_fault, spec_fields, packed_bucket, units_packed, is_packed_bucket, is_sparse, name_of, spec_of, record_buckets, record_single, total_of, mark_of, sample_value, IsListed, Reading, reading_along, units_in, units_listed}
+use Rattle.segment_invariant.proofs.Prelude.Invariant.{Record, Counts, Sample, Body, Anatomy, key_of_bucket, at_bucket, keyed, all_held, units_held, marks_held}
 use Rattle.bucket_ranges.specs.declared.spec.Spec.TheVariants as spec
-use Rattle.bucket_ranges.specs.declared.single.SingleWord.{SingleWord}
-use Rattle.bucket_ranges.specs.Spec.{buckets_of, spec_fault, spec_fields}
-use Rattle.bucket_ranges.specs.Single.{packed_bucket, units_packed, is_packed_bucket}
-use Rattle.bucket_ranges.specs.Reading.{is_sparse, name_of, spec_of, record_buckets, record_single, total_of, mark_of, sample_value, sample_count, sample_mark, IsListed, Reading, reading_along}
-use Rattle.segment_calls.specs.Form.{units_in}
-use Rattle.segment_invariant.specs.Body.{Record, Counts, Sample, Body, Anatomy}
+use Rattle.bucket_ranges.specs.Reading.{sample_count, sample_mark}
 use Rattle.segment_invariant.specs.Consistent.{IsSample, IsSampleOf}
-use Rattle.segment_invariant.specs.Ledger.{key_of_bucket, at_bucket, keyed, all_held, units_held, marks_held}
-use Rattle.list_lemmas.proofs.Firsts.{first_or_none, split_among}
+use Rattle.list_lemmas.proofs.Firsts.{first_or_none}
 use Rattle.segment_invariant.proofs.Consistency.Books.{IsBook, units_book, marks_book, keyed_one, range_at, range_there}
 use Rattle.segment_invariant.proofs.Consistency.Keys.{one_key, packed_within, packed_units, packed_mark}
 use Rattle.segment_invariant.proofs.Consistency.Marks.{packed_is}
@@ -26,14 +13,11 @@ use Rattle.segment_invariant.proofs.Lists.FewTerms.{sum_none}
 use Rattle.segment_promises.specs.Adoption.{IsAdoptable}
 use Rattle.segment_promises.specs.Reads.{units_read, mark_read}
 use Rattle.std.specs.List.{zip}
-use Rattle.segment_machine.specs.Actor.{units_listed}
 use Rattle.bucket_ranges.specs.Reading.{sample_counts, sample_marks, bucket_counts, bucket_marks}
-use Rattle.std.proofs.Common.{◌≤◌, map, ⊎_elim}
 use Rattle.segment_promises.proofs.Readings.Keys.{under_or_not, units_are_held, marks_are_held}
 use Rattle.segment_promises.proofs.Adopting.Opened.Names.{read_as}
 use Rattle.segment_promises.proofs.Adopting.Opened.Values.{lawful_sample}
 use Rattle.segment_promises.proofs.Adopting.Opened.Lawful.{marks_small}
-use Rattle.list_lemmas.proofs.Elements.{at_from}
 use Rattle.segment_promises.proofs.Readings.Keys.{IsUnder, IsListing, int_test}
 use Rattle.segment_promises.proofs.Readings.Sparse.{one_of_value}
 use Rattle.segment_promises.proofs.Adopting.Bodies.{record_at, counts_at}

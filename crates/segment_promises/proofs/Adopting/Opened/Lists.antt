@@ -1,20 +1,11 @@
 -- The list of an image in its anatomy: each record stands as what was given to its maker, and no others are there; each claimed block says
 -- its size.
-use Rattle.std.proofs.Common.{◌≡◌, ◌≢◌, inl, inr, true, ℕ, ◌+◌, ◌-◌, ◌^◌, ◌<◌, ◌≤◌, List, [], length, drop, take, All, Contains, refl, sym, ap, ◌∙◌, subst, arith, get_or-take, get_or-drop}
-use Rattle.std.specs.Prelude.{slice_index}
-use Rattle.std.proofs.lemmas.List.{append-nil}
-use Rattle.std.proofs.lemmas.List.Sorted.{IsPermutation-refl}
-use mathlib.Core.Option.{none, some}
-use lib.ListN.{get_elem?}
-use Rattle.segment_image.specs.Head.{head_of}
-use Rattle.bucket_ranges.specs.Reading.{IsListed, Reading, reading_along}
-use Rattle.list_core.specs.Chain.{IsStop, IsLinked}
-use Rattle.segment_invariant.specs.Body.{Body, queue, plain, held, histogram, counts, sample, other, words_of, is_claimed, Piece, extent_of, Listed, Anatomy}
-use Rattle.segment_invariant.specs.Seen.{Stands}
-use Rattle.segment_invariant.specs.Invariant.{StandsAs, ListIsKept, ClaimedRight}
+use Rattle.segment_invariant.proofs.Prelude.Std.{◌≡◌, ◌≢◌, inl, inr, true, ℕ, ◌+◌, ◌-◌, ◌^◌, ◌<◌, ◌≤◌, List, [], length, drop, take, All, Contains, refl, sym, ap, ◌∙◌, subst, arith, get_or-drop, slice_index, append-nil, IsPermutation-refl, none, some, get_elem?, all_of, contains_map, contains_mapped}
+use Rattle.segment_invariant.proofs.Prelude.Machine.{head_of, IsListed, Reading, reading_along, IsStop, IsLinked}
+use Rattle.segment_invariant.proofs.Prelude.Invariant.{Body, queue, plain, held, histogram, counts, sample, other, words_of, is_claimed, Piece, extent_of, Listed, Anatomy, Stands, StandsAs, ClaimedRight}
+use Rattle.std.proofs.Common.{get_or-take}
+use Rattle.segment_invariant.specs.Invariant.{ListIsKept}
 use Rattle.segment_invariant.specs.Invariant as invariant
-use Rattle.list_lemmas.proofs.Elements.{all_of}
-use Rattle.list_lemmas.proofs.Maps.{contains_map, contains_mapped}
 use Rattle.segment_promises.specs.Adoption.{IsAdoptable}
 use Rattle.segment_promises.proofs.Adopting.Slices.{run_long}
 use Rattle.segment_promises.proofs.Adopting.Bodies.{size_at}

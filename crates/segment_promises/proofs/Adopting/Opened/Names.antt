@@ -1,24 +1,14 @@
 -- The names of an image: in its anatomy the first record of a name is the one that is read, and the opener knows it.
-use Rattle.std.proofs.Common.{◌≡◌, ◌≢◌, inl, inr, Bool, true, ℕ, ◌^◌, ◌<◌, List, [], map, All, Contains, refl, sym, ap, ◌∙◌, subst, Some, None}
-use Rattle.std.specs.Prelude.{if◌then◌else◌}
-use Rattle.std.proofs.lemmas.Bool.{eq-eqb}
-use Rattle.std.proofs.lemmas.List.Elements.{Contains-append_left}
-use mathlib.Core.Option.{some-injective}
-use lib.ListN.{get_elem?}
-use Rattle.segment_image.specs.Blocks.{field_at}
-use Rattle.segment_image.specs.Head.{head_of}
-use Rattle.bucket_ranges.specs.declared.spec.Spec.{Spec}
-use Rattle.bucket_ranges.specs.Reading.{is_of_type, name_of, spec_of, read_records, record_fault, lawful_samples, Histogram, histogram_of, IsListed, Reading, reading_along}
-use Rattle.segment_machine.specs.declared.actor.Known.{Known}
+use Rattle.segment_invariant.proofs.Prelude.Std.{◌≡◌, ◌≢◌, inl, inr, Bool, true, ℕ, ◌^◌, ◌<◌, List, [], map, All, Contains, refl, sym, ap, ◌∙◌, subst, Some, None, if◌then◌else◌, eq-eqb, Contains-append_left, some-injective, get_elem?, split_among, all_of, at_from, contains_map, contains_mapped}
+use Rattle.segment_invariant.proofs.Prelude.Machine.{field_at, head_of, Spec, is_of_type, name_of, spec_of, record_fault, Histogram, IsListed, Reading, reading_along, Known}
+use Rattle.segment_invariant.proofs.Prelude.Invariant.{Body, histogram, sample, Listed, Anatomy, IsHistogram, IsNamed, IsFirst, Knows}
+use Rattle.bucket_ranges.specs.Reading.{read_records, lawful_samples, histogram_of}
 use Rattle.segment_machine.specs.declared.actor.Made.TheVariants as made
 use Rattle.list_lemmas.specs.Firsts.{IsFirstThat}
-use Rattle.list_lemmas.proofs.Firsts.{first_image, split_among}
-use Rattle.segment_invariant.specs.Body.{Body, histogram, sample, Listed, Anatomy}
-use Rattle.segment_invariant.specs.Consistent.{HasName, IsHistogram}
-use Rattle.segment_invariant.specs.Seen.{IsNamed, IsFirst, Knows}
+use Rattle.list_lemmas.proofs.Firsts.{first_image}
+use Rattle.segment_invariant.specs.Consistent.{HasName}
 use Rattle.segment_invariant.specs.Invariant.{AreAnswered}
-use Rattle.list_lemmas.proofs.Elements.{all_of, at_from, split_map}
-use Rattle.list_lemmas.proofs.Maps.{contains_map, contains_mapped}
+use Rattle.list_lemmas.proofs.Elements.{split_map}
 use Rattle.segment_promises.specs.Adoption.{IsAdoptable}
 use Rattle.segment_promises.proofs.Readings.Firsts.{read_from, read_once}
 use Rattle.segment_promises.proofs.Adopting.Bodies.{record_at, sample_at, other_at}

@@ -1,12 +1,10 @@
 -- The sums of an image are near: any two of a record differ by no more than what its histogram has used.
-use Rattle.std.proofs.Common.{◌≡◌, ◌⊎◌, inl, inr, ℕ, zero, suc, ◌*◌, ◌^◌, ◌<◌, ◌≤◌, ℤ, pos, negsuc, ◌+ℤ◌, List, All, refl, sym, ap, ◌∙◌, subst, arith}
-use Rattle.std.specs.Prelude.{◌-ℤ◌, unsigned_abs}
-use Rattle.std.proofs.Math.IntN.{neg_ℤ, neg_ℤ-neg_ℤ, neg_ℤ-+ℤ, +ℤ_comm, +ℤ_idr, +ℤ_invr}
-use Rattle.segment_image.specs.Head.{head_of}
-use Rattle.bucket_ranges.specs.Reading.{name_of, Histogram, IsListed, Reading, reading_along}
-use Rattle.segment_machine.specs.declared.place.Place.TheVariants.{SumLoaded}
-use Rattle.segment_invariant.specs.Body.{Record, Anatomy}
-use Rattle.segment_invariant.specs.Invariant.{IsSumOf, SumsAreNear, summed_costs}
+use Rattle.segment_invariant.proofs.Prelude.Std.{◌≡◌, ◌⊎◌, inl, inr, ℕ, zero, suc, ◌*◌, ◌^◌, ◌<◌, ◌≤◌, ℤ, pos, ◌+ℤ◌, List, All, refl, sym, ap, ◌∙◌, subst, arith, ◌-ℤ◌, unsigned_abs, +ℤ_idr}
+use Rattle.segment_invariant.proofs.Prelude.Machine.{head_of, name_of, Histogram, IsListed, Reading, reading_along, SumLoaded}
+use Rattle.segment_invariant.proofs.Prelude.Invariant.{Record, Anatomy, IsSumOf, SumsAreNear}
+use Rattle.std.proofs.Common.{negsuc}
+use Rattle.std.proofs.Math.IntN.{neg_ℤ, neg_ℤ-neg_ℤ, neg_ℤ-+ℤ, +ℤ_comm, +ℤ_invr}
+use Rattle.segment_invariant.specs.Invariant.{summed_costs}
 use Rattle.list_lemmas.proofs.Elements.{each_of_one}
 use Rattle.segment_promises.specs.Adoption.{IsAdoptable, units_for, used_by}
 use Rattle.segment_promises.proofs.Adopting.FirstEntries.{costs_are, of_its_name}

@@ -1,15 +1,6 @@
 -- Of an image's blocks none stands twice: a record is no counts block, and no two records name one.
-use Rattle.std.proofs.Common.{◌≡◌, inl, inr, true, ℕ, zero, suc, ◌+◌, ◌^◌, ◌<◌, List, [], ◌∷◌, ◌++◌, length, flat_map, All, Contains, refl, sym, ap, ◌∙◌, subst, arith, ⊎_elim}
-use Rattle.std.specs.Prelude.{not, ◌==◌, ◌&&◌, if◌then◌else◌, Bool, false}
-use Rattle.std.proofs.lemmas.Bool.{cases_order, eq-eqb, ne_eqb}
-use Rattle.std.proofs.lemmas.List.Elements.{Contains-append_left, Contains-append_right}
-use mathlib.Core.Option.{some, some-injective}
-use lib.ListN.{get_elem?}
-use Rattle.atomic_table.proofs.Lists.{at_longer}
-use Rattle.segment_image.specs.Blocks.{field_at}
-use Rattle.segment_image.specs.Head.{head_of}
-use Rattle.bucket_ranges.specs.Reading.{is_of_type, IsListed, Reading, reading_along}
-use Rattle.list_lemmas.proofs.Elements.{at_from, contains_at, row_in, below_length, none_at}
+use Rattle.segment_invariant.proofs.Prelude.Std.{◌≡◌, inl, inr, true, ℕ, zero, suc, ◌+◌, ◌^◌, ◌<◌, List, [], ◌∷◌, ◌++◌, length, flat_map, All, Contains, refl, sym, ap, ◌∙◌, subst, arith, ⊎_elim, not, ◌==◌, ◌&&◌, if◌then◌else◌, Bool, false, cases_order, eq-eqb, ne_eqb, Contains-append_left, Contains-append_right, some, some-injective, get_elem?, at_longer, at_from, contains_at, row_in, below_length, none_at}
+use Rattle.segment_invariant.proofs.Prelude.Machine.{field_at, head_of, is_of_type, IsListed, Reading, reading_along}
 use Rattle.segment_promises.specs.Adoption.{IsAdoptable, named_counts, blocks_of}
 use Rattle.segment_promises.proofs.Adopting.Distinct.{IsOnce}
 use Rattle.segment_promises.proofs.Adopting.Opened.Anatomy.{placed}

@@ -1,13 +1,7 @@
 -- An image that may be adopted opens a kept segment.
-use Rattle.std.proofs.Common.{◌≡◌, ◌≢◌, inr, ℕ, ◌^◌, ◌<◌, List, All, replicate, refl, sym, subst, true≢false}
-use Rattle.std.specs.Prelude.{IsPermutation}
-use Rattle.std.proofs.lemmas.List.{append-nil}
-use Rattle.std.proofs.lemmas.List.Sorted.{IsPermutation-refl}
-use Rattle.segment_image.specs.Head.{head_of}
-use Rattle.bucket_ranges.specs.Reading.{IsListed, Reading, reading_along}
-use Rattle.segment_machine.specs.declared.place.Place.TheVariants.{Spent}
-use Rattle.segment_invariant.specs.Body.{Anatomy, claims_of, order_of}
-use Rattle.segment_invariant.specs.Invariant.{Invariant, StandsRight, Fits}
+use Rattle.segment_invariant.proofs.Prelude.Std.{◌≡◌, ◌≢◌, inr, ℕ, ◌^◌, ◌<◌, List, All, replicate, refl, sym, subst, true≢false, IsPermutation, append-nil, IsPermutation-refl}
+use Rattle.segment_invariant.proofs.Prelude.Machine.{head_of, IsListed, Reading, reading_along, Spent}
+use Rattle.segment_invariant.proofs.Prelude.Invariant.{Anatomy, claims_of, order_of, Invariant, StandsRight, Fits}
 use Rattle.segment_invariant.specs.Keeps.{IsOpening}
 use Rattle.list_lemmas.proofs.Elements.{each_of_one}
 use Rattle.segment_promises.specs.Adoption.{IsAdoptable, adopted, AdoptionOpens}

@@ -1,24 +1,14 @@
 -- The records of an image that are passed over, since one before them has their name: they stay as they are.
-use Rattle.std.proofs.Common.{◌≡◌, ◌≢◌, ◌⊎◌, inl, inr, Bool, true, false, ℕ, ◌+◌, ◌-◌, ◌^◌, ◌<◌, ◌≤◌, List, ◌∷◌, ◌++◌, map, length, take, drop, All, Contains, refl, sym, ap, ◌∙◌, subst, arith, Some, None, get_or-take, get_or-drop}
-use Rattle.std.specs.Prelude.{if◌then◌else◌, slice_index}
-use Rattle.std.specs.Str.{bytes_eq}
-use Rattle.std.proofs.lemmas.Bool.{both_ways, eqb-true, eqb-false}
-use Rattle.std.proofs.lemmas.List.Elements.{Contains-append_right}
-use Rattle.std.proofs.lemmas.Slice.Eq.{bytes_eq-Decides}
-use mathlib.Core.Option.{none}
-use Rattle.segment_image.specs.Blocks.{field_at}
-use Rattle.segment_image.specs.Head.{head_of}
-use Rattle.bucket_ranges.specs.declared.spec.Spec.{Spec}
-use Rattle.bucket_ranges.specs.Spec.{buckets_of}
-use Rattle.bucket_ranges.specs.Reading.{name_of, spec_of, is_of_type, IsListed, Reading, reading_along}
-use Rattle.segment_machine.specs.declared.actor.Made.{Made}
-use Rattle.segment_invariant.specs.Body.{Body, Record, Counts, counts, other, words_of, Listed, Anatomy}
-use Rattle.segment_invariant.specs.Consistent.{HasName, IsHistogram}
-use Rattle.segment_invariant.specs.Seen.{Stands, HoldsAs, IsFirst}
-use Rattle.segment_invariant.specs.Invariant.{IsCountsOf, IsPassedOver, IsOfOtherType, HasPassedOver, ArePassedOver, total_in, mark_in}
-use Rattle.list_lemmas.proofs.Elements.{split_map, contains_at}
-use Rattle.list_lemmas.proofs.Firsts.{first_longer, first_or_none}
-use Rattle.list_lemmas.proofs.Maps.{contains_mapped}
+use Rattle.segment_invariant.proofs.Prelude.Std.{◌≡◌, ◌≢◌, ◌⊎◌, inl, inr, Bool, true, false, ℕ, ◌+◌, ◌-◌, ◌^◌, ◌<◌, ◌≤◌, List, ◌∷◌, ◌++◌, map, length, take, drop, All, Contains, refl, sym, ap, ◌∙◌, subst, arith, Some, None, get_or-drop, if◌then◌else◌, slice_index, bytes_eq, eqb-true, eqb-false, Contains-append_right, bytes_eq-Decides, none, contains_at, first_longer, contains_mapped}
+use Rattle.segment_invariant.proofs.Prelude.Machine.{field_at, head_of, Spec, buckets_of, name_of, spec_of, is_of_type, IsListed, Reading, reading_along, Made}
+use Rattle.segment_invariant.proofs.Prelude.Invariant.{Body, Record, Counts, counts, other, words_of, Listed, Anatomy, IsHistogram, Stands, IsFirst, IsCountsOf, IsPassedOver}
+use Rattle.std.proofs.Common.{get_or-take}
+use Rattle.std.proofs.lemmas.Bool.{both_ways}
+use Rattle.segment_invariant.specs.Consistent.{HasName}
+use Rattle.segment_invariant.specs.Seen.{HoldsAs}
+use Rattle.segment_invariant.specs.Invariant.{IsOfOtherType, HasPassedOver, ArePassedOver, total_in, mark_in}
+use Rattle.list_lemmas.proofs.Elements.{split_map}
+use Rattle.list_lemmas.proofs.Firsts.{first_or_none}
 use Rattle.segment_promises.specs.Adoption.{IsAdoptable}
 use Rattle.segment_promises.proofs.Readings.Firsts.{read_to}
 use Rattle.segment_promises.proofs.Adopting.Bodies.{record_at, counts_at, other_at, size_at}

@@ -1,14 +1,9 @@
 -- Which pieces the anatomy of an image has: the records that are read and their counts, the samples, and other blocks.
-use Rattle.std.proofs.Common.{◌≡◌, ◌≢◌, ◌⊎◌, inl, inr, Bool, true, false, ℕ, zero, suc, ◌+◌, ◌*◌, ◌^◌, ◌<◌, ◌≤◌, List, All, Contains, refl, sym, ap, ◌∙◌, subst}
-use Rattle.std.specs.Prelude.{if◌then◌else◌, ◌==◌}
-use Rattle.std.proofs.lemmas.Bool.{both_ways, eqb-true, eqb-false}
-use mathlib.Core.Option.{Option, some, none, some-injective}
-use lib.ListN.{get_elem?}
-use Rattle.segment_image.specs.Blocks.{field_at}
-use Rattle.segment_image.specs.Head.{head_of}
-use Rattle.bucket_ranges.specs.Reading.{is_of_type, is_sparse, record_buckets, IsListed, Reading, reading_along}
-use Rattle.segment_invariant.specs.Body.{Record, Counts, Sample, Body, queue, plain, held, histogram, counts, sample, other, is_claimed, Piece}
-use Rattle.segment_invariant.specs.Seen.{Stands, HasRecord, HasCounts, HasSample}
+use Rattle.segment_invariant.proofs.Prelude.Std.{◌≡◌, ◌≢◌, ◌⊎◌, inl, inr, Bool, true, false, ℕ, zero, suc, ◌+◌, ◌*◌, ◌^◌, ◌<◌, ◌≤◌, List, All, Contains, refl, sym, ap, ◌∙◌, subst, if◌then◌else◌, ◌==◌, eqb-true, eqb-false, some, none, some-injective, get_elem?}
+use Rattle.segment_invariant.proofs.Prelude.Machine.{field_at, head_of, is_of_type, is_sparse, record_buckets, IsListed, Reading, reading_along}
+use Rattle.segment_invariant.proofs.Prelude.Invariant.{Record, Counts, Sample, Body, queue, plain, held, histogram, counts, sample, other, is_claimed, Piece, Stands, HasRecord, HasCounts, HasSample}
+use Rattle.std.proofs.lemmas.Bool.{both_ways}
+use mathlib.Core.Option.{Option}
 use Rattle.segment_promises.specs.Adoption.{IsAdoptable}
 use Rattle.segment_promises.proofs.Adopting.Bodies.{record_at, sample_at, counts_at, other_at}
 use Rattle.segment_promises.proofs.Adopting.Opened.Anatomy.{body, are_cut, opened, placed}

@@ -1,12 +1,9 @@
 -- A histogram's record without a fault, by its fields: its kind, name, spec, counts, single word, marks and sums.
-use Rattle.std.proofs.Common.{◌≡◌, ◌≢◌, Bool, true, false, ℕ, ◌+◌, ◌*◌, ◌≤◌, List, refl, ⊎_elim, None}
-use Rattle.std.specs.Prelude.{not, if◌then◌else◌}
-use Rattle.std.proofs.lemmas.Bool.{and_parts, or_parts, or_cases, eqb-true, leb-true, not-false, ltb-false}
-use mathlib.Core.Option.{some}
-use lib.ListN.{get_elem?}
-use Rattle.segment_image.specs.Blocks.{field_at, is_block}
+use Rattle.segment_invariant.proofs.Prelude.Std.{◌≡◌, ◌≢◌, Bool, true, false, ℕ, ◌+◌, ◌*◌, ◌≤◌, List, refl, ⊎_elim, None, not, if◌then◌else◌, and_parts, eqb-true, leb-true, ltb-false, some, get_elem?}
+use Rattle.segment_invariant.proofs.Prelude.Machine.{field_at, is_block, name_of, is_sparse, record_buckets, record_single, record_fault}
+use Rattle.std.proofs.lemmas.Bool.{or_parts, or_cases, not-false}
 use Rattle.segment_image.specs.declared.head.SegmentHead.{SegmentHead}
-use Rattle.bucket_ranges.specs.Reading.{is_kind, is_name, has_name, named_words, name_of, is_sparse, is_spec_named, inner_ranges, record_words, record_buckets, record_single, record_fault, record_checks, has_counts, has_large, totals_of, is_bad_single, is_bad_mark, is_bad_record_sum, has_no_units, is_bad_bucket_counts}
+use Rattle.bucket_ranges.specs.Reading.{is_kind, is_name, has_name, named_words, is_spec_named, inner_ranges, record_words, record_checks, has_counts, has_large, totals_of, is_bad_single, is_bad_mark, is_bad_record_sum, has_no_units, is_bad_bucket_counts}
 use Rattle.segment_promises.proofs.Adopting.Images.{faults_pass}
 
 module _ (words : List ℕ) (head : SegmentHead) (at : ℕ) (none : record_fault words head at ≡ None) where

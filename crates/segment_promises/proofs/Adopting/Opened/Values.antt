@@ -1,24 +1,16 @@
 -- The samples of an image: each names a sparse histogram that is read before it, and in its anatomy the first of a value is the first of its words.
-use Rattle.std.proofs.Common.{◌≡◌, ◌≢◌, inl, inr, true, false, ℕ, ◌+◌, ◌-◌, ◌^◌, ◌<◌, ◌≤◌, ℤ, List, map, take, drop, All, Contains, refl, sym, ap, ◌∙◌, subst, arith, Some, None}
-use Rattle.std.specs.Prelude.{not, ◌==◌, ◌&&◌, nat_lt}
-use Rattle.std.proofs.lemmas.Bool.{cond-true, and_parts, or_parts, not-false, eqb-true, ltb-false}
-use Rattle.std.proofs.lemmas.List.{take-append-drop}
+use Rattle.segment_invariant.proofs.Prelude.Std.{◌≡◌, ◌≢◌, inl, inr, true, false, ℕ, ◌+◌, ◌-◌, ◌^◌, ◌<◌, ◌≤◌, ℤ, List, map, take, drop, All, Contains, refl, sym, ap, ◌∙◌, subst, arith, Some, None, not, ◌==◌, ◌&&◌, nat_lt, and_parts, eqb-true, ltb-false, take-append-drop, some, get_elem?, first_longer, contains_at}
+use Rattle.segment_invariant.proofs.Prelude.Machine.{field_at, head_of, Spec, name_of, spec_of, is_sparse, record_fault, sample_value, IsListed, Reading, reading_along}
+use Rattle.segment_invariant.proofs.Prelude.Invariant.{Body, histogram, sample, Listed, Anatomy, IsHistogram, IsValued, IsFirst, IsFirstOf}
+use Rattle.std.proofs.lemmas.Bool.{cond-true, or_parts, not-false}
 use Rattle.std.proofs.lemmas.List.Folds.{Any-from_list_any}
-use mathlib.Core.Option.{some}
-use lib.ListN.{get_elem?}
-use Rattle.segment_image.specs.Blocks.{field_at}
-use Rattle.segment_image.specs.Head.{head_of}
-use Rattle.bucket_ranges.specs.declared.spec.Spec.{Spec}
 use Rattle.bucket_ranges.specs.declared.spec.Spec.TheVariants as spec
-use Rattle.bucket_ranges.specs.Reading.{name_of, spec_of, is_sparse, read_records, record_fault, sample_value, is_i32, is_sparse_read, IsListed, Reading, reading_along}
+use Rattle.bucket_ranges.specs.Reading.{read_records, is_i32, is_sparse_read}
 use Rattle.segment_machine.specs.declared.actor.Made.TheVariants as made
-use Rattle.segment_invariant.specs.Body.{Body, histogram, sample, Listed, Anatomy}
-use Rattle.segment_invariant.specs.Consistent.{HasName, IsHistogram, IsSample, IsSampleOf}
-use Rattle.segment_invariant.specs.Seen.{IsValued, IsFirst, IsFirstOf}
+use Rattle.segment_invariant.specs.Consistent.{HasName, IsSample, IsSampleOf}
 use Rattle.segment_invariant.specs.Invariant.{IsLawfulSample}
 use Rattle.segment_invariant.proofs.Consistency.Firsts.{first_valued}
-use Rattle.list_lemmas.proofs.Firsts.{first_from, first_image, first_longer}
-use Rattle.list_lemmas.proofs.Elements.{contains_at}
+use Rattle.list_lemmas.proofs.Firsts.{first_from, first_image}
 use Rattle.list_lemmas.proofs.Maps.{contains_take}
 use Rattle.segment_promises.specs.Adoption.{IsAdoptable}
 use Rattle.segment_promises.proofs.Readings.Firsts.{read_from, read_to}

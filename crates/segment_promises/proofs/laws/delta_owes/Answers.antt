@@ -1,7 +1,6 @@
-use Rattle.std.proofs.Common.{zero, suc, inl, inr, refl, sym, ap, arith}
-use Rattle.segment_calls.specs.Form.{is_off}
+use Rattle.segment_invariant.proofs.Prelude.Std.{zero, suc, inl, inr, refl, sym, ap, arith}
+use Rattle.segment_invariant.proofs.Prelude.Machine.{is_off, Sighting}
 use Rattle.segment_promises.specs.Deltas.{SawOpen}
-use Rattle.segment_machine.specs.declared.seen.Sighting.{Sighting}
 use Rattle.segment_machine.specs.Examples.{known_a}
 use Rattle.segment_machine.proofs.Delta.{done, took_all}
 use Rattle.segment_promises.proofs.laws.delta_owes.Goals as goal

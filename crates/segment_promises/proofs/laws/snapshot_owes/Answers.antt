@@ -1,9 +1,7 @@
-use Rattle.std.proofs.Common.{pos, ◌≡◌, ℕ, ℤ, zero, suc, [], inl, refl, sym, subst, arith}
-use mathlib.Core.Option.{some, some-injective, some-ne-none}
-use lib.ListN.{get_elem?}
-use Rattle.segment_machine.specs.declared.actor.Actor.{Actor}
-use Rattle.segment_machine.specs.Actor.{Buckets, SawSingle}
-use Rattle.segment_machine.specs.Note.{SawAll, SawBucket}
+use Rattle.segment_invariant.proofs.Prelude.Std.{pos, ◌≡◌, ℕ, ℤ, zero, suc, [], inl, refl, sym, subst, arith, some, some-injective, some-ne-none, get_elem?}
+use Rattle.segment_invariant.proofs.Prelude.Machine.{Actor, Buckets, SawBucket}
+use Rattle.segment_machine.specs.Actor.{SawSingle}
+use Rattle.segment_machine.specs.Note.{SawAll}
 use Rattle.segment_machine.specs.Examples.{known_a}
 use Rattle.segment_promises.specs.Examples.{snaps, snapping, snapshot}
 use Rattle.segment_machine.specs.Examples.{run}

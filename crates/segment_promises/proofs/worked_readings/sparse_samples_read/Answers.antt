@@ -1,5 +1,4 @@
-use Rattle.std.proofs.Common.{[], ◌∷◌, refl}
-use Rattle.std.specs.Prelude.{slice_set}
+use Rattle.segment_invariant.proofs.Prelude.Std.{[], ◌∷◌, refl, slice_set}
 use Rattle.segment_machine.specs.Examples.{sparse_segment}
 use Rattle.segment_promises.specs.WorkedReadings.{sparse_reading}
 use Rattle.segment_promises.proofs.Readings.Tried.{reads_along}

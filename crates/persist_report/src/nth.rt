@@ -10,7 +10,7 @@ pub struct Nth {
 }
 
 impl Nth {
-    /// Returns the segment with this number [same], where there may be one: from 1 on [all].
+    /// Returns the segment with this number [same]; none for 0 [all].
     pub fn of(number: u64) -> Option<Nth>
         ensures all { IsSome result ↔ (1 ≤ number) }
         ensures same { IfSome result (λ nth. nth.number ≡ number) }

@@ -1,14 +1,11 @@
 //! An image is recorded into again: which image may be, and what its segment has then.
 
-use crate::images::{THREE_SAMPLES, stand};
+use crate::images::{OFF, Words, changed, stand, three_samples};
 use bucket_ranges::Spec;
 use image_reader::read;
 use live_segment::{AdoptFault, Segment};
 use segment_image::ImageFault;
 use std::test::Fail;
-
-// The highest bit of a single word: it is frozen.
-const OFF: u64 = 1 << 63;
 
 const BLOCK: u64 = 0xC879_9269;
 
@@ -126,28 +123,10 @@ const RACED: [u64; 48] = [
     0,
 ];
 
-/// The image of three samples in version 2, in which these words are others: two units stay in the single word.
-pub(crate) fn image_with(changes: &[(usize, u64)]) -> [u64; 128] {
-    let mut words = [0; 128];
-    words[..38].copy_from_slice(&THREE_SAMPLES);
-    for (at, word) in [(1, 2), (25, OFF + (1 << 32) + 2), (37, 0)] {
-        words[at] = word;
-    }
-    for (at, word) in changes {
-        if let Some(changed) = words.get_mut(*at) {
-            *changed = *word;
-        }
-    }
-    words
-}
-
-// The words of an image that begins with these, and is 0 behind them.
-fn whole(front: &[u64]) -> [u64; 128] {
-    let mut words = [0; 128];
-    for (place, word) in words.iter_mut().zip(front.iter()) {
-        *place = *word;
-    }
-    words
+/// The image of three samples in version 2, but for some words: two units stay in the single word.
+pub(crate) fn image_with(changes: &[(usize, u64)]) -> Words {
+    let frozen = three_samples(&[(1, 2), (25, OFF + (1 << 32) + 2), (37, 0)]);
+    changed(&frozen, changes)
 }
 
 #[test]
@@ -217,9 +196,9 @@ fn refused_images(rt: HostRuntime) -> Result<(), Fail> {
 // Each block is of one record, but a value may have more than one, of which the first counts.
 #[test]
 fn shared_blocks(rt: HostRuntime) -> Result<(), Fail> {
-    let made = Segment::adopt(rt.alloc(), &whole(&SHARED_COUNTS), 0);
+    let made = Segment::adopt(rt.alloc(), &changed(&SHARED_COUNTS, &[]), 0);
     assert_eq!(rt; made.err(), Some(AdoptFault::Damaged));
-    let mut words = whole(&RACED);
+    let mut words = changed(&RACED, &[]);
     let (segment, mut opener) = Segment::adopt(rt.alloc(), &words, 0)?;
     let mut recorder = opener.recorder(&segment, 1)?;
     let histogram = recorder.hist(b"S", &Spec::Sparse)?;

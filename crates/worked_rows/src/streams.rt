@@ -3,7 +3,7 @@
 ghost use Rattle.std.specs.Prelude.{◌≡◌, false};
 ghost use Rattle.segment_image.specs.Watched.{has_failed};
 
-use crate::images::THREE_SAMPLES;
+use crate::images::{THREE_SAMPLES, three_samples};
 use persist_report_core::CliFault;
 use reading_shows::{Form, write_text};
 use segment_image::{ReadFault, Watched, WriteFault, read_bytes, read_words, write_words};
@@ -122,8 +122,7 @@ fn limit_of_two_words(rt: HostRuntime) -> Result<(), Fail> {
 /// The bytes of an image of three samples.
 pub(crate) fn image(alloc: Global) -> Result<Vec<u8>, Fail> {
     let mut bytes = Watched::new(Vec::new(alloc));
-    write_words(&mut bytes, &THREE_SAMPLES)?;
-    write_words(&mut bytes, &[0; 90])?;
+    write_words(&mut bytes, &three_samples(&[]))?;
     Ok(bytes.into_inner())
 }
 

@@ -3,7 +3,7 @@
 ghost use Rattle.std.specs.Prelude.{◌<◌, IfOk};
 ghost use Rattle.live_segment.specs.Holders.{HasCursor, IsMadeWith, SharesSegment};
 
-use crate::words::stand;
+use crate::images::stand;
 use bucket_ranges::Spec;
 use image_reader::read;
 use live_segment::{OpenFault, Opener, Recorder, Segment};

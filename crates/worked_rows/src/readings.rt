@@ -1,6 +1,6 @@
 //! What words read as, and what a merge adds of it.
 
-use crate::words::{OFF, Words, three_samples};
+use crate::images::{OFF, Words, three_samples};
 use image_reader::read;
 use live_segment::Segment;
 use segment_calls::Refusal;

@@ -1,6 +1,6 @@
 //! Actors of a world: who is refused a move, who makes a record first, and what two takers of the same units are answered.
 
-use crate::words::stand;
+use crate::images::stand;
 use bucket_ranges::Spec;
 use hist_core::{Answer, Begun, Call, Move, Stepped, World, WorldFault, run_schedule};
 use image_reader::read;

@@ -11,7 +11,7 @@ use std::alloc::AllocError;
 use std::fmt;
 
 /// Why the program did not do what it was asked to. Its text is whole lines for the error stream.
-#[derive(Debug, Drop)]
+#[derive(Drop)]
 pub enum Failure {
     /// The command line is not one that the program supports.
     Usage(clap::Error),

@@ -12,7 +12,7 @@ use std::alloc::{AllocError, Global};
 use std::convert::AsStr;
 
 /// What the program is asked to do.
-#[derive(Debug, Drop)]
+#[derive(Drop)]
 pub struct Request<'a> {
     pub task: Task<'a>,
     /// Whether faults are to be explained.
@@ -20,7 +20,7 @@ pub struct Request<'a> {
 }
 
 /// What a command does. The image in `file` is that on standard input if there is no file.
-#[derive(Debug, Drop)]
+#[derive(Drop)]
 pub enum Task<'a> {
     /// Write the report of an image.
     Report {

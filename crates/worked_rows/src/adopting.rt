@@ -1,4 +1,4 @@
-//! An image is recorded into again: which image may be, and what its segment has then.
+//! A segment continues from an image: which image may be adopted, and what its segment has then.
 
 use crate::images::{OFF, Words, changed, stand, three_samples};
 use bucket_ranges::Spec;
@@ -71,7 +71,7 @@ const SHARED_COUNTS: [u64; 58] = [
     0,
 ];
 
-// A sparse histogram `S` with three samples -5: two recorders made a block for the value at once, and that at 40 stands first on the list.
+// A sparse histogram `S` with three samples -5: two recorders made a block for the value at once, and that at 40 is first on the list.
 const RACED: [u64; 48] = [
     0x4083_05DC,
     2,
@@ -151,7 +151,7 @@ fn goes_on(rt: HostRuntime) -> Result<(), Fail> {
     Ok(())
 }
 
-// A recorder stopped behind the event that froze the single word, with its sample still to be counted.
+// A recorder stopped after the event that froze the single word, with its sample still to be counted.
 #[test]
 fn goes_on_behind_a_stop(rt: HostRuntime) -> Result<(), Fail> {
     let words = image_with(&[(29, 2), (36, 0)]);
@@ -212,7 +212,7 @@ fn shared_blocks(rt: HostRuntime) -> Result<(), Fail> {
     Ok(())
 }
 
-// The sum and what deltas took of it are far apart, and what is used stands for both.
+// The sum and what deltas took of it are far apart, and the units that are used pay for both.
 #[test]
 fn used_for_sums(rt: HostRuntime) -> Result<(), Fail> {
     let (segment, mut opener) = Segment::create(rt.alloc(), 128, 64, 7, 0, 2)?;

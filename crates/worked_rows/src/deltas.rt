@@ -45,7 +45,7 @@ fn takes_by_turns(recorder: &mut Recorder, histogram: Hist) -> Result<bool, Refu
     Ok(first && second && third && all)
 }
 
-// The image behind those, of a segment that was marked as corrupt. None where they are not so.
+// The image after those, of a segment that was marked as corrupt. None if they did not take this.
 fn image_of_deltas(alloc: Global, version: u64) -> Result<Option<Image>, Fail> {
     let (segment, mut opener) = Segment::create(alloc, 128, 64, 7, 0, version)?;
     let mut recorder = opener.recorder(&segment, 3)?;

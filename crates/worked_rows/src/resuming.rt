@@ -70,7 +70,7 @@ fn goes_on_with_a_script(rt: HostRuntime) -> Result<(), Fail> {
     Ok(())
 }
 
-// The first calls of two workers wait for each other, so both run beside one another.
+// The first calls of two workers wait for each other, so both run at the same time.
 #[test]
 fn two_workers_go_on(rt: HostRuntime) -> Result<(), Fail> {
     let image = image_with(&[]);

@@ -1,4 +1,4 @@
-//! A reader and a writer that fail once in mid-stream: the fault comes, and what was written is the beginning of the answer.
+//! A reader and a writer that fail once in mid-stream: the fault is returned, and what was written is the beginning of the text.
 
 ghost use Rattle.std.specs.Prelude.{◌≡◌, false};
 ghost use Rattle.segment_image.specs.Watched.{has_failed};
@@ -41,7 +41,7 @@ impl FailAt {
     }
 }
 
-/// Gives at most so many bytes a call.
+/// Gives at most `most` bytes a call.
 #[derive(Drop)]
 pub(crate) struct Source<'a> {
     pub(crate) bytes: &'a [u8],

@@ -65,7 +65,7 @@ fn delta(rt: &impl Print, recorder: &mut Recorder, name: &str, histogram: Hist) 
     Ok(())
 }
 
-// Takes what is left to be taken, records, takes that, and records once more.
+// Takes what is left to be taken, records, takes that, and records again.
 fn record_into(
     rt: &impl Print,
     recorder: &mut Recorder,
@@ -86,7 +86,7 @@ fn record_into(
     Ok(())
 }
 
-// Asks for a histogram and records into it, where it is not refused.
+// Asks for a histogram and records into it, if it is not refused.
 fn record(
     rt: &impl Print,
     recorder: &mut Recorder,

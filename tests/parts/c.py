@@ -4,6 +4,7 @@ the examples, whatever they find; and the programs that the pages show.
 The programs are in `tests/c`. Each prints a line for each group of its checks.
 """
 
+import os
 import pathlib
 import re
 import subprocess
@@ -116,6 +117,21 @@ def examples(installed, program, folder):
     yield "record.c is shown", lambda: None if same else "no page shows it as it stands"
     for name, source in shown.items():
         yield name, lambda source=source: recorded_twice(installed, program, source, source.with_suffix(""))
+    in_readme = next((source for name, source in shown.items() if name.endswith("README.md")), None)
+    yield "the commands of README.md", lambda: wrong_after_program(installed, program, in_readme, folder / "readme")
+
+
+def wrong_after_program(installed, program, source, home):
+    """What is wrong with the commands that README.md has after its program, or None: they are run as they are, with the library in ~/local."""
+    home.mkdir()
+    (home / "local").symlink_to(installed.prefix)
+    (home / "latency.cpp").write_text(source.read_text())
+    commands = next(block for block in re.findall(r"(?:^ {4}.*\n)+", (ROOT / "README.md").read_text(), re.MULTILINE) if "$(pkg-config" in block)
+    setting = {**os.environ, "HOME": str(home), "PATH": os.pathsep.join([str(program.parent), os.environ["PATH"]])}
+    came = answer("bash", ["-e", "-c", commands], cwd=home, env=setting)
+    if came.error or came.status != 0:
+        return f"status {came.status}: {came.error[-1500:]!r}"
+    return difference(Answer(RECORDED.encode()), answer(program, ["report", home / "latency.img"]))
 
 
 def wrong_of(test):

@@ -1,8 +1,11 @@
-"""The tasks of docs/COOKBOOK.md: each command there is run, and prints what stands below it.
+"""The tasks of docs/COOKBOOK.md: each command there is run, and prints what is below it. And the commands of README.md.
 
 A block of the page is code, and the text before it names the file that has it, or commands, each after a `$`. They run one after the
 other in a new folder, which has the examples. What they print, on both streams, is compared line by line; `[..]` stands for any lines. Where
 there is no `sqlite3`, the commands that ask for it are left out, and a line says so.
+
+Each command of README.md that begins with the program succeeds, and prints the lines that are indented below it. The part `c` runs those
+after its program in C++, and `shown_steps` those of `stepped`.
 """
 
 import os
@@ -17,6 +20,7 @@ from support.program import ROOT, built
 PROGRAM = "persist_report"
 STEPPED = "stepped"
 PAGE = ROOT / "docs" / "COOKBOOK.md"
+README = ROOT / "README.md"
 INDENT = "    "
 PROMPT = "$ "
 ANY_LINES = "[..]"
@@ -24,6 +28,7 @@ ENGINE = "sqlite3"
 SECONDS = 120
 # Fewer would not be the page.
 LEAST_TASKS = 12
+LEAST_IN_README = 6
 
 
 def blocks():
@@ -72,6 +77,24 @@ def wrong_code(before, block):
     return None
 
 
+def readme_commands():
+    """Each command of README.md, with the lines below it that are indented further."""
+    for block in re.findall(rf"(?:^{INDENT}.*\n)+", README.read_text(), re.MULTILINE):
+        if "pkg-config" not in block:
+            found = re.findall(rf"^{INDENT}({PROGRAM} .*)\n((?:{INDENT} .*\n)*)", block, re.MULTILINE)
+            yield from ((command, [line.strip() for line in shown.splitlines()]) for command, shown in found)
+
+
+def wrong_in_readme(command, shown, folder, setting):
+    """What is wrong with a command of README.md, or None."""
+    came = subprocess.run(["bash", "-c", command], cwd=folder, env=setting, capture_output=True, timeout=SECONDS)
+    if came.returncode != 0:
+        return f"status {came.returncode}: {came.stderr[:1000]!r}"
+    lines = iter([line.strip() for line in came.stdout.decode().splitlines()])
+    missing = [line for line in shown if line not in lines]
+    return f"not printed, or not in this order: {missing}" if missing else None
+
+
 def cases(program, _options):
     folders = [str(path.parent) for path in (program, built(STEPPED))]
     setting = {**os.environ, "PATH": os.pathsep.join([*folders, os.environ["PATH"]]), "LC_ALL": "C.UTF-8"}
@@ -91,3 +114,9 @@ def cases(program, _options):
                 if has_engine or not command.startswith(ENGINE):
                     yield f"{title}: {command}", wrong_command(command, wanted, folder, setting)
     yield "the tasks", None if len(titles) >= LEAST_TASKS else f"only {len(titles)}"
+    with tempfile.TemporaryDirectory() as scratch:
+        shutil.copytree(ROOT / "examples", pathlib.Path(scratch) / "examples")
+        count = 0
+        for count, (command, shown) in enumerate(readme_commands(), 1):
+            yield f"README.md: {command}", wrong_in_readme(command, shown, scratch, setting)
+        yield "the commands of README.md", None if count >= LEAST_IN_README else f"only {count}"

@@ -1,9 +1,17 @@
-"""Documents that are made of the sources are what these say now, links lead to files that are there, the crates that read stand free of the
-machine, and the Python of tests/ and bench/ is clean. No program is run."""
+"""Documents that are made of the sources are what these say now, links lead to files that are there, README.md is short, the crates that
+read do not depend on the machine, and the Python of tests/ and bench/ is clean. No program is run."""
 
 from support import definitions, faults, layers, linted, links, proved
+from support.program import ROOT
 
 PROGRAM = None
+MOST_LINES = 150
+
+
+def too_long():
+    """How long README.md is, if it is longer than a user reads, or None."""
+    lines = len((ROOT / "README.md").read_text().splitlines())
+    return None if lines <= MOST_LINES else f"{lines} lines, and at most {MOST_LINES} are wanted"
 
 
 def cases(_program, _options):
@@ -12,6 +20,7 @@ def cases(_program, _options):
     yield "what tests/support/proved.py refuses of a made-up file", proved.self_check()
     yield "docs/proved, which tests/support/proved.py --write makes anew", proved.difference()
     yield "the links of documents", links.broken()
-    yield "crates.txt: no crate that reads stands on the machine (tests/support/layers.py)", layers.difference()
+    yield "the length of README.md", too_long()
+    yield "crates.txt: no crate that reads depends on the machine (tests/support/layers.py)", layers.difference()
     yield "that this is found where one does", layers.let_through()
     yield from linted.cases()

@@ -1,94 +1,116 @@
 """The program of docs/USING.md, in a repository of its own: it is proved there, and prints what it has to.
 
-`rt ci` proves it, builds it by both compilers, runs what each made, and compares what that prints with `stdout`. The crates that
-it stands on are copied. They are not proved again, where a run of `rt ci` on this machine has proved the same files.
+All of it is taken from the page: the commands that copy the libraries, and each file, which is a block after a line that names it. `rt ci`
+proves the program, builds it by both compilers, runs what each made, and compares what that prints with `stdout`. The libraries are not
+proved again, where a run of `rt ci` on this machine has proved the same files. Then the program is run twice in one folder: the second
+run continues in the image of the first.
 """
 
+from __future__ import annotations
+
+import os
 import pathlib
-import shutil
+import re
 import subprocess
 import tempfile
 
-from support.program import ROOT
+from support.program import ROOT, Answer, answer, difference
 
 PROGRAM = None
-EXAMPLE = ROOT / "examples" / "first_program"
+NAME = "first_program"
 PAGE = ROOT / "docs" / "USING.md"
-# Ends the name of each source there, since no check reads them where they stand.
-STORED = ".txt"
-# What a proof reads of a crate.
-FOLDERS = ("src", "specs", "proofs")
+# The folder of this repository, as the page has it, and the one where the page has the program.
+CLONE = "povundiri"
+HOME = pathlib.Path("crates") / NAME
+CRATES = "crates.txt"
+INDENT = "    "
+# A paragraph, and the block after it.
+BLOCK = re.compile(rf"((?:^(?!{INDENT}).+\n)+)\n((?:^{INDENT}.*\n(?:\n(?={INDENT}))*)+)", re.MULTILINE)
+FILE = re.compile(rf"`({HOME}/[\w./]+)`")
 MOST_SHOWN = 3000
 
 
-def sources():
-    """The stored sources, each with its place in the crate."""
-    for path in sorted(EXAMPLE.rglob(f"*{STORED}")):
-        yield path, path.relative_to(EXAMPLE).with_suffix("")
+def blocks():
+    """Each block of the page, after its paragraph."""
+    for before, block in BLOCK.findall(PAGE.read_text()):
+        yield before, "".join(f"{line.removeprefix(INDENT)}\n" for line in block.splitlines())
 
 
-def listed(text):
-    """The lines of a list of crates, each by the name of its crate."""
-    lines = (line for line in text.splitlines() if line and not line.startswith("#"))
-    return {line.split(":")[0].split()[0]: line for line in lines}
+def files():
+    """What the page has of each file, by its path in the repository."""
+    return {pathlib.Path(named[1]): block for before, block in blocks() if (named := FILE.match(before)) is not None}
 
 
-def below(name, lines):
-    """The crates of the list that a crate stands on, however far below."""
-    found = {}
-    for one in lines[name].split(":")[1].split():
-        if one in lines:
-            found |= {one: None, **dict.fromkeys(below(one, lines))}
-    return list(found)
+def commands():
+    """The commands of the page that copy the libraries."""
+    return next((block for _, block in blocks() if f">> {CRATES}" in block), None)
 
 
-def lines_of_repository():
-    """The lines of its crates.txt, by the names of the crates: the program's as the page has it, and those below as they are here."""
-    own = [line.strip() for line in PAGE.read_text().splitlines() if line.startswith(f"    {EXAMPLE.name}: ")]
-    lines = {**listed((ROOT / "crates.txt").read_text()), **listed("\n".join(own))}
-    return {crate: lines[crate] for crate in [*below(EXAMPLE.name, lines), EXAMPLE.name]}
+def second_run():
+    """The lines that the page says are in what the second run prints."""
+    return next((block for before, block in blocks() if before.startswith("Run it twice")), "")
 
 
-def make_repository(folder):
-    """A repository with the program and the crates that it stands on."""
-    lines = lines_of_repository()
-    (folder / "crates.txt").write_text("".join(f"{line}\n" for line in lines.values()))
-    shutil.copyfile(ROOT / "HANDLES", folder / "HANDLES")
-    for crate in lines:
-        for part in FOLDERS:
-            if (ROOT / "crates" / crate / part).is_dir():
-                shutil.copytree(ROOT / "crates" / crate / part, folder / "crates" / crate / part)
-    home = folder / "crates" / EXAMPLE.name
-    for path, place in sources():
-        (home / place).parent.mkdir(parents=True, exist_ok=True)
-        shutil.copyfile(path, home / place)
-    shutil.copyfile(EXAMPLE / "stdout", home / "stdout")
+def wrong_counts(found):
+    """What is wrong with the numbers that the page gives of the program, or None."""
+    source = found.get(HOME / "src" / "main.rt", "")
+    clauses = len(re.findall(r"^ *(?:requires|ensures) ", source, re.MULTILINE))
+    proof = sum(len(text.splitlines()) for path, text in found.items() if "proofs" in path.parts)
+    numbers = f"{len(source.splitlines())} lines, {clauses} clauses and {proof} lines of proof"
+    return None if numbers in " ".join(PAGE.read_text().split()) else f"it has {numbers}"
 
 
-def proved_and_run():
-    """What is wrong where the repository is put through the gate, or None."""
-    with tempfile.TemporaryDirectory() as folder:
-        make_repository(pathlib.Path(folder).resolve())
-        came = subprocess.run(["rt", "ci"], cwd=folder, capture_output=True, text=True)
-        if came.returncode != 0 or not came.stdout.endswith(" passed, 0 failed\n"):
-            return f"status {came.returncode}\n{(came.stdout + came.stderr)[-MOST_SHOWN:]}"
+def make_repository(folder, found):
+    """A repository with the program and the libraries: what is wrong with the commands, or None."""
+    (folder / CLONE).symlink_to(ROOT)
+    repository = folder / "repository"
+    repository.mkdir()
+    done = subprocess.run(["bash", "-e", "-c", commands()], cwd=repository, env={**os.environ, "HOME": str(folder)}, capture_output=True, text=True)
+    if done.returncode != 0 or done.stderr:
+        return f"status {done.returncode}: {done.stderr}"
+    for path, text in found.items():
+        (repository / path).parent.mkdir(parents=True, exist_ok=True)
+        (repository / path).write_text(text)
     return None
 
 
-def shown(path):
-    """What is wrong with how the page shows a file, or None."""
-    block = "".join(f"    {line}\n" if line else "\n" for line in path.read_text().splitlines())
-    return None if block in PAGE.read_text() else f"{PAGE.name} does not show it as it stands"
+def wrong_gate(repository):
+    """What is wrong where the repository is put through the gate, or None."""
+    came = subprocess.run(["rt", "ci"], cwd=repository, capture_output=True, text=True)
+    if came.returncode != 0 or not came.stdout.endswith(" passed, 0 failed\n"):
+        return f"status {came.returncode}\n{(came.stdout + came.stderr)[-MOST_SHOWN:]}"
+    return None
 
 
-def wrong_list():
-    """What is wrong with the crates.txt that the page shows, or None."""
-    on_page = PAGE.read_text().splitlines()
-    return next((f"{PAGE.name} lacks the line {line}" for line in lines_of_repository().values() if f"    {line}" not in on_page), None)
+def wrong_runs(program, folder, first):
+    """What is wrong with two runs in one folder, or None: the second counts as much again, whatever the order of its threads."""
+    folder.mkdir()
+    if wrong := difference(Answer(first.encode()), answer(program, [], cwd=folder)):
+        return wrong
+    came = answer(program, [], cwd=folder)
+    wanted = [doubled(line) for line in first.splitlines()]
+    missing = [line for line in second_run().splitlines() if line not in wanted]
+    if missing or not second_run():
+        return f"the page says of the second run: {missing}"
+    return difference(Answer("".join(f"{line}\n" for line in wanted).encode()), came)
+
+
+def doubled(line):
+    """A line of a report of twice as many samples."""
+    name, kind, *numbers = line.split(",")
+    low, high = (numbers[0], numbers[1]) if kind != "total" else (None, None)
+    counts = [str(2 * int(number)) for number in (numbers if low is None else numbers[2:])]
+    return ",".join([name, kind, *([] if low is None else [low, high]), *counts])
 
 
 def cases(_program, _options):
-    yield "crates.txt on the page", wrong_list()
-    for path in [*(path for path, _ in sources()), EXAMPLE / "stdout"]:
-        yield f"{path.relative_to(ROOT)} on the page", shown(path)
-    yield "proved and run", proved_and_run()
+    found = files()
+    yield "the files on the page", None if HOME / "src" / "main.rt" in found and HOME / "stdout" in found else f"it has {sorted(found)}"
+    yield "the commands on the page", None if commands() is not None else f"none writes {CRATES}"
+    yield "the numbers on the page", wrong_counts(found)
+    with tempfile.TemporaryDirectory() as scratch:
+        folder = pathlib.Path(scratch).resolve()
+        yield "the libraries are copied", make_repository(folder, found)
+        repository = folder / "repository"
+        yield "proved and run", wrong_gate(repository)
+        yield "run twice", wrong_runs(repository / HOME / "out" / NAME, folder / "twice", found[HOME / "stdout"])

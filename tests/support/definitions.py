@@ -1,6 +1,6 @@
 #!/usr/bin/env python3
-"""Makes docs/DEFINITIONS.md, which lists the crates that have definitions, and of the comments in specs/ a page of docs/definitions for
-each of them. The pages are not kept in git.
+"""Makes the end of docs/DEFINITIONS.md, which lists the crates that have definitions, and of the comments in specs/ a page of
+docs/definitions for each of them. The pages are not kept in git.
 
     tests/support/definitions.py [--write]
 
@@ -20,23 +20,8 @@ DOCUMENT = ROOT / "docs" / "DEFINITIONS.md"
 PAGES = ROOT / "docs" / "definitions"
 WIDTH = 140
 MOST_SIGNS = 110
-HEAD = """\
-# The definitions
-
-The definitions that contracts cite have a page for each crate. The pages are not in git. This makes them, in `docs/definitions`:
-
-    tests/support/definitions.py --write
-
-They are made of the comments in `specs/`. A page has every module of `specs/`: its name, what it is about, and its definitions in the order of
-the file, each with the first sentence of its comment. It leaves out those that no contract names, and no definition of another crate: they
-are parts of those that are listed. The comment in the file says each in full.
-
-A definition says what is meant, and never how the code finds it. `MACHINE.md` explains the machine; read it first.
-What is proved of the definitions: `PROVED.md`.
-
-These crates have a page, in the order of `ARCHITECTURE.md`:
-
-"""
+# What is above this line of the document is written by hand.
+MADE_FROM = "These crates have a page, in the order of `ARCHITECTURE.md`:\n\n"
 
 # The head of a definition that others may name.
 PUBLIC = re.compile(r"^(?:(?:abbrev|unfoldable|plain|opaque) )*pub (?:(?:abbrev|unfoldable|plain|opaque|record|data) )*([^\W\d][\w']*)")
@@ -150,9 +135,10 @@ def pages():
 
 
 def index():
-    """The document that says how the pages are made, and of which crates, by its path."""
+    """The document that says how the pages are made, with the crates that have one at its end, by its path."""
     crates_in_a_row = " ".join(f"`{crate}`" for crate, _ in pages())
-    return {DOCUMENT: HEAD + "\n".join(textwrap.wrap(crates_in_a_row, WIDTH)) + "\n"}
+    by_hand = DOCUMENT.read_text().partition(MADE_FROM)[0]
+    return {DOCUMENT: by_hand + MADE_FROM + "\n".join(textwrap.wrap(crates_in_a_row, WIDTH)) + "\n"}
 
 
 def difference():

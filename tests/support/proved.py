@@ -5,7 +5,7 @@
 
 A doc comment names the clauses of its function in brackets, each behind a sentence that it carries: 'Returns the bucket of the value
 [bucket].' A clause that stands alone needs no name, and then the whole comment is its sentence. A clause without a bracket is refused,
-and so is a bracket without a clause.
+and so is a bracket without a clause, and a clause that names a definition without a comment.
 
 With --write it writes the pages. Without, it says what differs in the pages that are there, and what was refused; the status is 1 where
 anything was.
@@ -130,8 +130,8 @@ def bracketed(comment):
     return [name for names in BRACKET.findall(CODE.sub("", " ".join(comment))) for name in names.split(", ")]
 
 
-def faults(function):
-    """What is wrong between the comment of a function and its clauses."""
+def faults(function, said):
+    """What is wrong between the comment of a function and its clauses, by what is said of a definition."""
     named, promised = bracketed(function.comment), [clause.name for clause in function.promises()]
     if not any(function.comment):
         yield f"{function.name} has clauses, and no doc comment"
@@ -143,6 +143,9 @@ def faults(function):
     for name in dict.fromkeys(named):
         if name not in promised:
             yield f"{function.name}: there is no clause [{name}]"
+    for name in dict.fromkeys(name for clause in function.clauses for name in NAME.findall(clause.text)):
+        if name in function.names and said(function.names[name]) == "":
+            yield f"{function.name}: the definition {name} has no comment"
 
 
 def sources(crate):
@@ -165,7 +168,7 @@ def refused():
     for crate in done():
         for file in sources(crate):
             for function in functions(file.read_text()):
-                yield from (f"{file.relative_to(ROOT)}: {fault}" for fault in faults(function))
+                yield from (f"{file.relative_to(ROOT)}: {fault}" for fault in faults(function, said_of))
         if f"(proved/{crate}.md)" not in index:
             yield f"docs/PROVED.md does not lead to proved/{crate}.md"
 
@@ -280,7 +283,7 @@ def difference():
 
 # A made-up file: its functions, and what is to be found wrong in each.
 MADE_UP = """
-ghost use Rattle.bucket_ranges.specs.Ranges.{clamped};
+ghost use Rattle.bucket_ranges.specs.Ranges.{clamped, untold};
 
 /// Returns the number [value], which is small [small].
 pub fn right(x: i32) -> u32
@@ -317,6 +320,12 @@ pub fn lacks_a_name() -> u32
 {
 }
 
+/// Returns a number.
+pub fn cites_what_nobody_told() -> u32
+    ensures { untold (clamped result) }
+{
+}
+
 // Nobody else calls it.
 fn private() -> u32
     ensures value { result ≡ 0 }
@@ -336,6 +345,7 @@ FOUND_WRONG = [
     "lacks_a_comment has clauses, and no doc comment",
     "lacks_a_name has a clause without a name beside others",
     "lacks_a_name: no sentence carries the clause [value]",
+    "cites_what_nobody_told: the definition untold has no comment",
     "Reader::read has clauses, and no doc comment",
     "Reader::read: no sentence carries the clause [value]",
 ]
@@ -343,7 +353,8 @@ FOUND_WRONG = [
 
 def self_check():
     """What is found wrong in a made-up file, if it is not what is wrong there; or None."""
-    found = [fault for function in functions(MADE_UP) for fault in faults(function)]
+    told = {"clamped": "a number within bounds", "untold": ""}
+    found = [fault for function in functions(MADE_UP) for fault in faults(function, lambda definition: told[definition[2]])]
     return None if found == FOUND_WRONG else "\n".join(["of a made-up file was found:", *found])
 
 

@@ -142,9 +142,10 @@ abbrev pub record_single : ℕ → List ℕ → ℕ → Option SingleWord
 record_single version words reference =
     single_of version (record_buckets words reference) (field_at words reference HISTOGRAM_SINGLE)
 
--- the sum of the samples, and the part of it that deltas have taken
+-- the sum of the samples
 abbrev pub sum_of : List ℕ → ℕ → ℤ
 sum_of words reference = cast_signed w64 (field_at words reference HISTOGRAM_SUM)
 
+-- the part of the sum that deltas have taken
 abbrev pub sum_mark_of : List ℕ → ℕ → ℤ
 sum_mark_of words reference = cast_signed w64 (field_at words reference HISTOGRAM_SUM_MARK)

@@ -9,16 +9,19 @@ use Rattle.segment_image.specs.Blocks.{field_at}
 use Rattle.segment_image.specs.declared.layout.TheConstants.{BLOCK_SIZE, SAMPLE_HISTOGRAM, SAMPLE_VALUE, SAMPLE_COUNT, SAMPLE_MARK, SAMPLE_LEAST}
 use Rattle.bucket_ranges.specs.declared.limits.TheConstants.{MAX_UNITS}
 
--- the reference of its histogram, the value, the count and the mark
+-- the reference of the histogram of a sample
 abbrev pub sample_histogram : List ℕ → ℕ → ℕ
 sample_histogram words reference = field_at words reference SAMPLE_HISTOGRAM
 
+-- the value of a sample
 abbrev pub sample_value : List ℕ → ℕ → ℤ
 sample_value words reference = cast_signed w64 (field_at words reference SAMPLE_VALUE)
 
+-- the count of a sample
 abbrev pub sample_count : List ℕ → ℕ → ℕ
 sample_count words reference = field_at words reference SAMPLE_COUNT
 
+-- the mark of a sample
 abbrev pub sample_mark : List ℕ → ℕ → ℕ
 sample_mark words reference = field_at words reference SAMPLE_MARK
 
@@ -52,9 +55,10 @@ samples_of words samples histogram = filter (λ sample. sample_histogram words s
 abbrev pub first_samples : List ℕ → List ℕ → ℕ → List ℕ
 first_samples words samples histogram = fold (insert_key (by_value words)) [] (samples_of words samples histogram)
 
--- the counts of these samples, each under its value, and their marks
+-- the counts of these samples, each under its value
 abbrev pub sample_counts : List ℕ → List ℕ → List (ℤ × ℕ)
 sample_counts words samples = map (λ sample. (sample_value words sample, sample_count words sample)) samples
 
+-- the marks of these samples
 abbrev pub sample_marks : List ℕ → List ℕ → List ℕ
 sample_marks words samples = map (λ sample. sample_mark words sample) samples

@@ -86,17 +86,19 @@ is_bad_mark_at version words counts n single single_mark =
 
 -- ---- of a histogram's record, in a version
 
--- the counts reference, and the single mark
+-- the counts reference of a record
 abbrev pub record_counts : List ℕ → ℕ → ℕ
 record_counts words reference = field_at words reference HISTOGRAM_COUNTS
 
+-- the single mark of a record
 abbrev pub record_single_mark : List ℕ → ℕ → ℕ
 record_single_mark words reference = field_at words reference HISTOGRAM_SINGLE_MARK
 
--- the total of bucket i of a record, and the totals of all its buckets
+-- the total of bucket i of a record
 abbrev pub total_of : ℕ → List ℕ → ℕ → ℕ → ℕ
 total_of version words reference i = total_at words (record_counts words reference) (record_single version words reference) i
 
+-- the totals of all buckets of a record
 abbrev pub totals_of : ℕ → List ℕ → ℕ → List ℕ
 totals_of version words reference =
     totals_at words (record_counts words reference) (record_single version words reference) (record_buckets words reference)
@@ -107,12 +109,13 @@ mark_of version words reference i =
     mark_at words (record_counts words reference) (record_buckets words reference) (record_single version words reference)
     (record_single_mark words reference) i
 
--- the counts of the buckets of a record, each under its least value, and their marks
+-- the counts of the buckets of a record, each under its least value
 abbrev pub bucket_counts : ℕ → List ℕ → ℕ → List (ℤ × ℕ)
 bucket_counts version words reference =
     bucket_counts_at (boundaries_of (spec_of words reference)) words (record_counts words reference)
     (record_single version words reference) (record_buckets words reference)
 
+-- the marks of the buckets of a record
 abbrev pub bucket_marks : ℕ → List ℕ → ℕ → List ℕ
 bucket_marks version words reference =
     marks_at words (record_counts words reference) (record_buckets words reference) (record_single version words reference)

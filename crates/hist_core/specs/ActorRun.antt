@@ -74,10 +74,11 @@ use Rattle.hist_core.specs.declared.actor_run.ActorRun.{ActorRun}
 abbrev pub entry_of : Entry → MachineEntry
 entry_of e = record { name = e.name.items; key = e.key; units = e.units; amount = e.amount }
 
--- the entries of its ended calls, and those that have begun: of ended calls, and of the running one from its first event on
+-- the entries of its ended calls
 abbrev pub ended_by : ActorRun → List Entry
 ended_by actor_run = take actor_run.ended actor_run.entries.items
 
+-- the entries that have begun: those of ended calls, and of the running one from its first event on
 abbrev pub begun_by : ActorRun → List Entry
 begun_by actor_run = take actor_run.begun actor_run.entries.items
 
@@ -186,11 +187,12 @@ pub record IsGhostNoting (pending : List Entry) (name : List ℕ) (cost : ℕ) (
   pub pending_are : map entry_of pending ≡ entries
   pub stands : IsBefore name cost entries standing a ⊎ ((a.units.share ≡ 0) × standing a)
 
--- an `add` counts one entry, and a `batch` one for each item and one for its sum
+-- an `add` counts one entry
 abbrev pub IsAdding : Dimensions → List Entry → AddCall → Actor → Type 0
 IsAdding shape pending add a =
     (known : MachineKnown) × IsGhostNoting pending known.name add.units (counted_entry known add ∷ []) (IsAdd shape known (alone add) add) a
 
+-- a `batch` counts an entry for each item and one for its sum
 abbrev pub IsBatching : Dimensions → List Entry → BatchCall → Actor → Type 0
 IsBatching shape pending batch a =
     (known : MachineKnown) × IsGhostNoting pending known.name batch.cost (counted_entries known batch) (IsBatch shape known batch) a

@@ -116,6 +116,7 @@ HasEnded known amid add a = a.entries.running ≡ amid.before ++ ended_entry kno
 abbrev pub Looks : Known → Actor → ℕ → ℕ → Type 0
 Looks known a word counts = a.hand.place ≡ Looking (record { histogram = known.reference; single = Some word; counts = counts })
 
+-- its actor has loaded this single word of the histogram
 abbrev pub HasSeenSingle : Known → Actor → ℕ → Type 0
 HasSeenSingle known a word = Contains a.seen.singles (record { at = known.reference + HISTOGRAM_SINGLE; word = word })
 

@@ -71,9 +71,11 @@ compared_place letters k =
     if k == 1 then 10
     else (if nat_lt k (letters + 2) then k + 9 else (if nat_lt k (letters + 6) then k - letters - 2 else k + 5))
 
+-- which word of a record is compared as number k, counted from the record's first
 abbrev pub compared_index : ℕ → ℕ → ℕ
 compared_index letters k = if k == 0 then BLOCK_TYPE else BLOCK_HEADER + compared_place letters k
 
+-- what stands there in a record of the wanted name and spec
 abbrev pub compared_word : Hist → ℕ → ℕ
 compared_word h k = if k == 0 then TYPE_HISTOGRAM else slice_index h.payload.items (compared_place h.letters k)
 

@@ -37,10 +37,11 @@ pub record StandsBehind (known : Known) (holds : OfPassed) (at : ℕ) (seen : Li
   pub record_there : at ≢ QUEUE
   pub lists : holds (seen passed) a
 
--- those are the records before that one, or that one too
+-- they are the records before that one
 abbrev pub MetRecord : Known → OfPassed → ℕ → Actor → Type 0
 MetRecord known holds at a = StandsBehind known holds at (λ passed. passed) a
 
+-- they are the records before that one, and that one
 abbrev pub PassedRecord : Known → OfPassed → ℕ → Actor → Type 0
 PassedRecord known holds at a = StandsBehind known holds at (λ passed. passed ++ at ∷ []) a
 

@@ -25,16 +25,20 @@ use Rattle.segment_calls.specs.declared.call.Call.TheVariants.{Hist, Add, Delta,
 
 -- ---- what it shows of an actor, where that is there
 
+-- a list that is shown of an actor; none is shown where there is no such actor
 abbrev pub of_actor : {X : Type 0} → (ActorRun → List X) → Option ActorRun → List X
 of_actor shown none = []
 of_actor shown (some actor_run) = shown actor_run
 
+-- the entries of the ended calls of an actor
 abbrev pub ended_of : WorldState → ℕ → List Entry
 ended_of world_state actor = of_actor ended_by (get_elem? world_state.actor_runs.items actor)
 
+-- the entries of an actor that have begun: of its ended calls, and of the running one from its first event on
 abbrev pub begun_of : WorldState → ℕ → List Entry
 begun_of world_state actor = of_actor begun_by (get_elem? world_state.actor_runs.items actor)
 
+-- what the deltas of an actor took
 abbrev pub taken_of : WorldState → ℕ → List Taken
 taken_of world_state actor = of_actor (λ actor_run. actor_run.taken.items) (get_elem? world_state.actor_runs.items actor)
 
@@ -60,11 +64,12 @@ IsAdoptFault words (Adopt adopt.NoMemory) = ⊥
 IsAdoptFault words (Adopt fault) = IsFaultOf words 0 fault
 IsAdoptFault words fault = ⊥
 
--- a call of an actor is going on, or it rests
+-- an actor that is there runs a call
 abbrev pub runs : Option ActorRun → Bool
 runs none = false
 runs (some actor_run) = is_some actor_run.running
 
+-- an actor that is there runs no call
 abbrev pub rests : Option ActorRun → Bool
 rests none = false
 rests (some actor_run) = not (is_some actor_run.running)
@@ -83,6 +88,7 @@ abbrev pub lacks_name : List Known → Option (List ℕ) → Bool
 lacks_name list none = false
 lacks_name list (some name) = not (list_any (λ known. bytes_eq known.name.items name) list)
 
+-- the same of an actor, if it is there
 abbrev pub lacks : Option ActorRun → Option (List ℕ) → Bool
 lacks none name = false
 lacks (some actor_run) name = lacks_name actor_run.known.items name
@@ -99,6 +105,7 @@ name_checks world_state actor name =
     ∷ (lacks (get_elem? world_state.actor_runs.items actor) name, Unknown)
     ∷ []
 
+-- what can be wrong with the begin of a call
 abbrev pub begin_checks : WorldState → ℕ → Call → List (Bool × WorldFault)
 begin_checks world_state actor call = name_checks world_state actor (named_by call)
 

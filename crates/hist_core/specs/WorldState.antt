@@ -374,11 +374,12 @@ BatchBegins actor name items sum old new (Ended answered) = ⊥
 
 -- ---- how a `delta` and a `snapshot` begin
 
--- a running call takes of the histogram of a record, or has just begun to look at it
+-- a running call is a delta of the histogram of a record
 abbrev pub TakesOf : ℕ → Option Running → Type 0
 TakesOf reference (Some (Delta delta_call fresh)) = delta_call.histogram ≡ reference
 TakesOf reference running = ⊥
 
+-- a running call is a snapshot of the histogram of a record, and has looked at nothing yet
 abbrev pub LooksAt : ℕ → Option Running → Type 0
 LooksAt reference (Some (Snapshot snapshot_call)) = (snapshot_call.histogram ≡ reference) × HasJustBegun snapshot_call.stage
 LooksAt reference running = ⊥
@@ -391,9 +392,11 @@ GoesWith IsOf actor name old new Going =
     × ((known : Known) × Contains behind.known.items known × (known.name.items ≡ name) × IsOf known.reference behind.running))
 GoesWith IsOf actor name old new (Ended answered) = ⊥
 
+-- a delta begins
 abbrev pub DeltaBegins : ℕ → List ℕ → WorldState → WorldState → Begun → Type 0
 DeltaBegins = GoesWith TakesOf
 
+-- a snapshot begins
 abbrev pub SnapshotBegins : ℕ → List ℕ → WorldState → WorldState → Begun → Type 0
 SnapshotBegins = GoesWith LooksAt
 

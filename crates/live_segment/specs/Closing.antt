@@ -55,6 +55,7 @@ pub record IsJoinedReading (setting : Setting) (opener : Actor) (reading : Readi
   pub corrupt : reading.corrupt ≡ opener.done.spoiled
   pub full : reading.full ≡ (setting.full || opener.done.filled)
 
+-- any reading of the words has what the opener's log adds up to, as `IsJoinedReading` says
 abbrev pub ReadsJoined : Setting → Actor → List ℕ → Type 0
 ReadsJoined setting opener words = (reading : Reading) → IsReading words (head_of words) reading → IsJoinedReading setting opener reading
 

@@ -75,6 +75,7 @@ AnswersRecorderCall units segment status segment' out =
 abbrev pub mailbox_of_recorder : JoinableRecorder → TableId
 mailbox_of_recorder joinable = (arc_value joinable.mailbox).table.shared.table_id
 
+-- the mailbox of a segment
 abbrev pub mailbox_of_segment : OwnedSegment → TableId
 mailbox_of_segment owned = (arc_value owned.mailbox).table.shared.table_id
 
@@ -206,9 +207,10 @@ ServesContents request passed = BySegment (5, Some passed) (ServesPassed request
 abbrev pub AnswersPassed : Request → Contents → Option Contents → ℕ × Option Contents → Option Contents → Type 0
 AnswersPassed request passed = ByHandle (3, Some passed) (ServesContents request passed)
 
--- a recorder is taken back so, or lent units
+-- a recorder is passed to be taken back
 abbrev pub AnswersJoinCall : Contents → Option Contents → ℕ × Option Contents → Option Contents → Type 0
 AnswersJoinCall = AnswersPassed Join
 
+-- a recorder is passed to be lent units
 abbrev pub AnswersLendCall : ℕ → Contents → Option Contents → ℕ × Option Contents → Option Contents → Type 0
 AnswersLendCall units = AnswersPassed (Lend units)

@@ -90,6 +90,7 @@ FitsState number keeper at Reaches = Unit {0}
 FitsState number keeper at (Laid recorder) = keeper ≡ true → number ≡ at
 FitsState number keeper at (Met recorder) = at < number
 
+-- the same of what a seat has of the mailbox
 abbrev pub Fits : ℕ → View → Type 0
 Fits number view = FitsState number view.1 view.2 view.3
 
@@ -104,6 +105,7 @@ MayReachFrom number keeper at Reaches = ⊥
 MayReachFrom number keeper at (Laid recorder) = number ≡ at
 MayReachFrom number keeper at (Met recorder) = ⊥
 
+-- the same of what a seat has of the mailbox
 abbrev pub MayReach : ℕ → View → Type 0
 MayReach number view = MayReachFrom number view.1 view.2 view.3
 

@@ -70,6 +70,7 @@ pub data Body : Type 0 where
 
 -- ---- its words
 
+-- the words of a block that an actor has claimed and not yet linked: zeros after what it has stored
 abbrev pub own_words : Own → List ℕ
 own_words own =
     own.size ∷ CLAIMED_COOKIE ∷ own.tag ∷ own.next ∷ (own.payload ++ replicate (own.size - BLOCK_HEADER - length own.payload) 0)
@@ -78,17 +79,21 @@ own_words own =
 abbrev pub spec_field : Spec → ℕ → ℕ
 spec_field spec i = slice_index (spec_fields spec) i
 
+-- the words of a histogram's record
 abbrev pub record_words : Record → List ℕ
 record_words r =
     r.size ∷ CLAIMED_COOKIE ∷ TYPE_HISTOGRAM ∷ r.next ∷ spec_field r.spec 0 ∷ spec_field r.spec 1 ∷ spec_field r.spec 2 ∷ spec_field r.spec 3
     ∷ r.counts ∷ r.single ∷ r.mark ∷ r.sum ∷ r.sum_mark ∷ r.noted ∷ length r.name ∷ (r.letters ++ spec_ranges r.spec ++ r.rest)
 
+-- the words of a block of counts
 abbrev pub counts_words : Counts → List ℕ
 counts_words c = c.size ∷ CLAIMED_COOKIE ∷ TYPE_COUNTS ∷ c.next ∷ (c.units ++ c.marks ++ c.rest)
 
+-- the words of a sample
 abbrev pub sample_words : Sample → List ℕ
 sample_words s = s.size ∷ CLAIMED_COOKIE ∷ TYPE_SAMPLE ∷ s.next ∷ s.of ∷ cast_unsigned w64 s.value ∷ s.units ∷ s.mark ∷ s.rest
 
+-- the words of a block
 abbrev pub words_of : Body → List ℕ
 words_of (queue next) = QUEUE_SIZE ∷ QUEUE_COOKIE ∷ TYPE_PURGED ∷ next ∷ []
 words_of (plain words) = words
@@ -116,9 +121,11 @@ pub record Piece : Type 0 where
   pub owner : Option ℕ
   pub body : Body
 
+-- how many words a block has
 abbrev pub extent_of : Piece → ℕ
 extent_of piece = length (words_of piece.body)
 
+-- the block of a layout that a piece is
 abbrev pub block_of : Piece → layout.Block
 block_of piece = record { at = piece.at; owner = piece.owner; words = words_of piece.body }
 
@@ -128,6 +135,7 @@ pub record Listed : Type 0 where
   pub reference : ℕ
   pub made : std.Option Made
 
+-- a record that an actor linked, as one on the list
 abbrev pub listed : Published → Listed
 listed p = record { reference = p.reference; made = std.Some p.made }
 

@@ -65,6 +65,8 @@ pub record SawBefore (words cursors chain : List ℕ) (a : Actor) : Type 0 where
   pub cursor : (s : Sighting) → Contains a.seen.cursors s → (i j : ℕ) → i ≤ length chain → j ≤ length chain
       → slice_index (stops chain) i ≡ s.word → slice_index (stops chain) j ≡ slice_index cursors s.at → i ≤ j
 
+-- The list is the chain: each record that an actor linked or that was there at the opening, once and in order. The header, the free
+-- pointer and the blocks are as they have to be, and what actors have seen is still so.
 pub record ListIsChain (opened : List ℕ) (first : List Claim) (words cursors : List ℕ) (actors : List Actor) (chain : List ℕ) : Type 0 where
   -- the words are as many as at the opening; words 0 to 5 and 9 to 14 are as they were
   pub size : length words ≡ length opened
@@ -154,6 +156,7 @@ CountsStill opened words at =
     ((i : ℕ) → HISTOGRAM_COUNTS ≤ i → i < HISTOGRAM_NAME_LENGTH → field_at words at i ≡ field_at opened at i)
     × ((i : ℕ) → i < counts_words words at → counts_word words at i ≡ counts_word opened at i)
 
+-- each record on the list holds what its maker gave it, and its single word and its counts are as they have to be
 pub record RecordsHold (opened : List ℕ) (first : List Claim) (words : List ℕ) (actors : List Actor) (chain : List ℕ) : Type 0 where
   -- each record that an actor linked holds what it was given, and each of the opening what it held
   pub made : (p : Published) → Contains (all_published actors) p → HoldsMade words chain p.reference p.made
@@ -185,6 +188,7 @@ HasPlace words chain name key =
     × (((i : ℕ) × (is_sparse words at ≡ false) × (i < record_buckets words at) × (key ≡ key_at words at i))
     ⊎ ((sample : ℕ) × (is_sparse words at ≡ true) × IsSample words chain at key sample))
 
+-- what the words count is what was counted
 pub record TotalsAreCounted (version : ℕ) (words : List ℕ) (actors : List Actor) (chain : List ℕ) : Type 0 where
   -- a bucket's total and its units in transit are the units of the entries that are counted there
   pub buckets : (name : List ℕ) (at i : ℕ) → IsHistogram words chain name at → is_sparse words at ≡ false
@@ -208,6 +212,7 @@ units_taken actors name key = taken_units (all_taken actors) name key
 abbrev pub IsWithinCounts : List Actor → Answered → Type 0
 IsWithinCounts actors answered = All (λ count. count.1 ≤ tally_units (all_counted actors) answered.name count.0) answered.counts
 
+-- the marks are what deltas took
 pub record MarksAreTaken (version : ℕ) (words : List ℕ) (actors : List Actor) (chain : List ℕ) : Type 0 where
   -- a bucket's mark is the units that were taken there, and no more than were counted there
   pub buckets : (name : List ℕ) (at i : ℕ) → IsHistogram words chain name at → is_sparse words at ≡ false
@@ -236,6 +241,7 @@ pub record MarksAreTaken (version : ℕ) (words : List ℕ) (actors : List Actor
 
 -- ---- 5: sums are amounts
 
+-- the sums and the redundant counts are what was added to them
 pub record SumsAreAmounts (opened words : List ℕ) (actors : List Actor) (chain : List ℕ) : Type 0 where
   -- The sum is the sum of the amounts, and the redundant count grew by the units, whose events have happened: from what a record of the
   -- opening had there, or from 0 where an actor linked the record.
@@ -274,6 +280,7 @@ IsLoaded actors at sum = (a : Actor) × Contains actors a × (a.hand.place ≡ S
 abbrev pub IsSum : List ℕ → List Actor → ℕ → ℤ → Type 0
 IsSum words actors at sum = (sum ≡ sum_of words at) ⊎ (sum ≡ sum_mark_of words at) ⊎ IsLoaded actors at sum
 
+-- no unit comes from nowhere and none is lost
 pub record UnitsAreKept (words : List ℕ) (actors : List Actor) (chain : List ℕ) : Type 0 where
   -- what all actors may still spend, hold and have spent is what a segment has
   pub pool : sum_by units_of actors ≡ 4294967295

@@ -144,10 +144,11 @@ pub record RecordsAreKept (page : ℕ) (anatomy : Anatomy) : Type 0 where
 
 -- ---- what is passed over
 
--- the total of a bucket of a record with such a counts block, and its mark, which for the packed bucket is the single mark
+-- the total of a bucket of a record with such a counts block
 abbrev pub total_in : ℕ → Record → Counts → ℕ → ℕ
 total_in version r c i = slice_index c.units i + units_packed (form_at version r) i
 
+-- the mark of a bucket of such a record: for the packed bucket the single mark
 abbrev pub mark_in : ℕ → Record → Counts → ℕ → ℕ
 mark_in version r c i = if is_packed_bucket (form_at version r) i then r.mark else slice_index c.marks i
 
@@ -289,6 +290,7 @@ abbrev pub summed_cost : List ℕ → Actor → ℕ
 summed_cost name a =
     cost_of a.units.costs name + (if length (filter (λ c. c.summed) a.entries.running) == 0 then 0 else cost_of a.units.held name)
 
+-- the same of all actors
 abbrev pub summed_costs : List ℕ → List Actor → ℕ
 summed_costs name actors = sum_by (summed_cost name) actors
 
@@ -346,6 +348,7 @@ IsAnswered actors name kind at =
     ((known : Known) × Contains (all_names actors) known × (known.name ≡ name))
     ⊎ Contains (all_owed actors) (record { name = name; spec = kind; reference = at })
 
+-- so it is with the first record of each name on the list
 abbrev pub AreAnswered : List Listed → List Actor → Type 0
 AreAnswered records actors = (name : List ℕ) (kind : Spec) (at : ℕ) → IsFirst records name kind at → IsAnswered actors name kind at
 
@@ -453,6 +456,7 @@ FinalsAreExact actors opener id a = record {
 abbrev pub HasPublished : List Published → Known → Type 0
 HasPublished published mine = Contains published (record { reference = mine.reference; made = made.Histogram mine.name mine.spec })
 
+-- who owes answers has published the records of all
 abbrev pub OwesPublished : List Published → List Known → Type 0
 OwesPublished published owed = All (HasPublished published) owed
 

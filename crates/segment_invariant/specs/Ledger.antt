@@ -39,6 +39,7 @@ keyed spec key numbers =
 abbrev pub of_name : List ℕ → List ℕ → ℕ → ℕ
 of_name mine name n = if bytes_eq mine name then n else 0
 
+-- an amount of a name, where that is the name
 abbrev pub amount_of_name : List ℕ → List ℕ → ℤ → ℤ
 amount_of_name mine name n = if bytes_eq mine name then n else pos 0
 
@@ -61,11 +62,12 @@ marks_held version name key (counts c) = of_name c.name name (keyed c.spec key c
 marks_held version name key (sample s) = of_name s.name name (if int_eq s.value key then s.mark else 0)
 marks_held version name key _ = 0
 
--- sums, sum marks and redundant counts
+-- the sum that a block has for a name
 abbrev pub sum_held : List ℕ → Body → ℤ
 sum_held name (histogram r) = amount_of_name r.name name (cast_signed w64 r.sum)
 sum_held name _ = pos 0
 
+-- the sum mark that a block has for a name
 abbrev pub sum_mark_held : List ℕ → Body → ℤ
 sum_mark_held name (histogram r) = amount_of_name r.name name (cast_signed w64 r.sum_mark)
 sum_mark_held name _ = pos 0
@@ -81,15 +83,18 @@ noted_held name _ = 0
 abbrev pub all_held : (Body → ℕ) → List Piece → ℕ
 all_held holds pieces = sum_by (λ piece. holds piece.body) pieces
 
+-- the amounts that all blocks hold together
 abbrev pub all_amounts : (Body → ℤ) → List Piece → ℤ
 all_amounts holds pieces = fold ◌+ℤ◌ (pos 0) (map (λ piece. holds piece.body) pieces)
 
 -- ---- what is in transit with an actor
 
+-- the units that a move of a bucket's units has in transit for a key of a name
 abbrev pub moving_of : List ℕ → ℤ → Option Known → ℕ → ℕ → ℕ
 moving_of name key None bucket units = 0
 moving_of name key (Some known) bucket units = of_name known.name name (if int_eq (bucket_key (Some known) bucket) key then units else 0)
 
+-- the units of a key of a name that an actor at this place has in transit
 abbrev pub moving_at : Actor → List ℕ → ℤ → Place → ℕ
 moving_at a name key (Moving look bucket units) = moving_of name key (known_at a.answers.names look.histogram) bucket units
 moving_at a name key _ = 0

@@ -28,18 +28,23 @@ use Rattle.segment_invariant.specs.Body.{Record, Counts, Sample, Body, plain, he
 abbrev pub Stands : List Piece → ℕ → Option ℕ → Body → Type 0
 Stands pieces at owner body = (k : ℕ) × (get_elem? pieces k ≡ some (record { at = at; owner = owner; body = body }))
 
+-- words that are no block yet begin there, and this actor has them
 abbrev pub HasPlain : List Piece → ℕ → ℕ → List ℕ → Type 0
 HasPlain pieces id at words = Stands pieces at (some id) (plain words)
 
+-- a block begins there that this actor has in hand
 abbrev pub HasOwn : List Piece → ℕ → Own → Type 0
 HasOwn pieces id own = Stands pieces own.at (some id) (held own)
 
+-- a histogram's record begins there
 abbrev pub HasRecord : List Piece → ℕ → Record → Type 0
 HasRecord pieces at r = Stands pieces at none (histogram r)
 
+-- a block of counts begins there
 abbrev pub HasCounts : List Piece → ℕ → Counts → Type 0
 HasCounts pieces at c = Stands pieces at none (counts c)
 
+-- a sample begins there
 abbrev pub HasSample : List Piece → ℕ → Sample → Type 0
 HasSample pieces at s = Stands pieces at none (sample s)
 

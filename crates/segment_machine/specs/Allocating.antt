@@ -103,6 +103,7 @@ after_free true a old new wanted found = record a {
 }
 after_free false a old new wanted found = record a { hand = record a.hand { place = Idle }; seen = record a.seen { free = found } }
 
+-- the actor after an event that found this number
 abbrev pub next : Actor → AllocatingEvent → ℕ → Actor
 next a load_flags found = record a {
   hand = record a.hand { place = if bit_and found FLAG_CORRUPT == 0 then FlagsLoaded else Idle };

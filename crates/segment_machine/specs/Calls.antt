@@ -69,13 +69,15 @@ ended ends at none = if none then ends ++ at ∷ [] else ends
 
 -- ---- places
 
--- what it has loaded of a histogram, nothing where it stands elsewhere
+-- nothing is loaded of a histogram
 abbrev pub nothing_of : ℕ → Look
 nothing_of histogram = record { histogram = histogram; single = None; counts = 0 }
 
+-- what it has loaded, if that is of this histogram
 abbrev pub same_look : Look → ℕ → Look
 same_look look histogram = if look.histogram == histogram then look else nothing_of histogram
 
+-- what an actor at this place has loaded of a histogram
 abbrev pub look_of : Place → ℕ → Look
 look_of (Looking look) histogram = same_look look histogram
 look_of _ histogram = nothing_of histogram

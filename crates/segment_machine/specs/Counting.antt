@@ -67,6 +67,7 @@ sum_next list = change_next (λ c. record c { summed = true }) list
 abbrev pub note_next : List EntryProgress → List EntryProgress
 note_next list = change_next (λ c. record c { noted = true }) list
 
+-- the actor after an event that found this number
 abbrev pub next : Actor → CountingEvent → ℕ → Actor
 next a (load_counts histogram) found = record a {
   hand = record a.hand { place = Looking (record (look_of a.hand.place histogram) { counts = found }) };

@@ -40,6 +40,7 @@ after_cursor false a cursor new found = record a {
   seen = record a.seen { cursors = a.seen.cursors ++ sight cursor found };
 }
 
+-- the actor after an event that found this number
 abbrev pub next : Actor → CursorEvent → ℕ → Actor
 next a (load_cursor cursor) found =
     record a { hand = record a.hand { place = CursorLoaded cursor found }; seen = record a.seen { cursors = a.seen.cursors ++ sight cursor found } }

@@ -54,6 +54,7 @@ is_counted c = c.counted || (c.entry.units == 0)
 abbrev pub is_summed : EntryProgress → Bool
 is_summed c = c.summed || int_eq c.entry.amount (pos 0)
 
+-- its units are in the redundant count, or are 0
 abbrev pub is_noted : EntryProgress → Bool
 is_noted c = c.noted || (c.entry.units == 0)
 
@@ -65,13 +66,15 @@ has_ended c = is_counted c && is_summed c && is_noted c
 abbrev pub fresh : Entry → EntryProgress
 fresh entry = record { entry = entry; counted = false; summed = false; noted = false }
 
--- the entries that are counted, those whose amounts are in the sum, and those whose units are in the redundant count
+-- the entries that are counted
 abbrev pub counted_among : List EntryProgress → List Entry
 counted_among list = map (λ c. c.entry) (filter is_counted list)
 
+-- the entries whose amounts are in the sum
 abbrev pub summed_among : List EntryProgress → List Entry
 summed_among list = map (λ c. c.entry) (filter is_summed list)
 
+-- the entries whose units are in the redundant count
 abbrev pub noted_among : List EntryProgress → List Entry
 noted_among list = map (λ c. c.entry) (filter is_noted list)
 

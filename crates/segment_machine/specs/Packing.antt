@@ -104,6 +104,7 @@ after_disable false a histogram old found = record a {
   seen = record a.seen { singles = a.seen.singles ++ sight (histogram + HISTOGRAM_SINGLE) found };
 }
 
+-- the actor after an event that found this number
 abbrev pub next : Actor → PackingEvent → ℕ → Actor
 next a (load_single histogram) found = record a {
   hand = record a.hand { place = Looking (record (look_of a.hand.place histogram) { single = Some found }) };

@@ -90,6 +90,7 @@ after_link true a tail at found = record a {
 }
 after_link false a tail at found = record a { hand = record a.hand { place = Beaten tail found }; done = record a.done { beaten = a.done.beaten + 1 } }
 
+-- the actor after an event that found this number
 abbrev pub next : Actor → PublishingEvent → ℕ → Actor
 next a (store_own_next at) found = record a { hand = record a.hand { own = change_own at (λ own. record own { next = QUEUE }) a.hand.own } }
 next a load_tail found = record a { hand = record a.hand { place = TailLoaded found }; seen = record a.seen { tails = a.seen.tails ++ found ∷ [] } }

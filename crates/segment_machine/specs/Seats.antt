@@ -84,10 +84,11 @@ MayLend a b units = (is_opener a.role ≡ true) × (is_opener b.role ≡ false) 
 abbrev pub MayReturn : Actor → Actor → ℕ → Type 0
 MayReturn a b units = (is_opener a.role ≡ true) × (is_opener b.role ≡ false) × (b.hand.place ≢ Spent) × (units ≤ b.units.share)
 
--- who gives units, and who gets them
+-- an opener that has lent units
 abbrev pub giver : Actor → ℕ → Actor
 giver a units = record a { units = record a.units { share = a.units.share - units } }
 
+-- a recorder that was lent units
 abbrev pub getter : Actor → ℕ → Actor
 getter a units = record a { units = record a.units { share = a.units.share + units } }
 
@@ -122,9 +123,11 @@ MayJoin a b = (a.hand.place ≡ Idle) × (is_opener a.role ≡ true) × (1 ≤ o
 abbrev pub shifted : ℕ → Moment → Moment
 shifted entries moment = record moment { log = entries + moment.log }
 
+-- the same of what deltas took
 abbrev pub shifted_taken : ℕ → List Taken → List Taken
 shifted_taken entries list = map (λ (t : Taken). record t { moment = shifted entries t.moment }) list
 
+-- the same of snapshots
 abbrev pub shifted_answers : ℕ → List Answered → List Answered
 shifted_answers entries list = map (λ (s : Answered). record s { moment = shifted entries s.moment }) list
 

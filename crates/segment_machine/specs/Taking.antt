@@ -126,6 +126,7 @@ take_units key least found taken =
 abbrev pub swap_sum : ℤ → ℤ → Taken → Taken
 swap_sum sum mark taken = record taken { sum = taken.sum +ℤ (sum -ℤ mark); swapped = true }
 
+-- the actor after an event that found this number
 abbrev pub next : Actor → TakingEvent → ℕ → Actor
 next a (load_count at) found =
     record a { hand = record a.hand { place = at_count a.hand.place at found }; seen = record a.seen { counts = a.seen.counts ++ sight at found } }

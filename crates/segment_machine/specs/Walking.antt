@@ -64,6 +64,7 @@ behind (CursorLoaded cursor at) from found =
     if from == at then (if found == QUEUE then Idle else BehindCursor cursor at found) else CursorLoaded cursor at
 behind place from found = place
 
+-- the actor after an event that found this number
 abbrev pub next : Actor → WalkingEvent → ℕ → Actor
 next a (load_next at) found = record a {
   hand = record a.hand { place = behind a.hand.place at found };

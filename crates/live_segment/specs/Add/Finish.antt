@@ -17,10 +17,11 @@ use Rattle.live_segment.specs.Steps.GhostNotes.{KnowsAlone}
 abbrev pub counted_entry : Entry → Bool → EntryProgress
 counted_entry entry summed = record { entry = entry; counted = true; summed = summed; noted = false }
 
--- units of a value, before their amount is known; and a sample, whose amount is known
+-- units of a value, before their amount is known
 abbrev pub item_of : Known → ℤ → ℕ → Entry
 item_of known value units = item_entry known.name (boundaries_of known.spec) (value, units)
 
+-- a sample, whose amount is known
 abbrev pub sample_of : Known → ℤ → ℕ → Entry
 sample_of known value units = sample_entry known.name (boundaries_of known.spec) (value, units)
 

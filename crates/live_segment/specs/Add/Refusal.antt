@@ -41,6 +41,7 @@ pub record MayEnd (running : List EntryProgress) : Type 0 where
   pub unsummed : All (λ c. c.summed ≡ false) (take (how_many_ended running) running)
   pub untouched : All (λ c. is_untouched c ≡ true) (drop (how_many_ended running) running)
 
+-- an actor may end its running call so
 abbrev pub MayGiveUp : Actor → Type 0
 MayGiveUp a = MayEnd a.entries.running
 

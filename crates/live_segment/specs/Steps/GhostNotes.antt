@@ -168,57 +168,67 @@ pub record Noted (old : Pass) (before : List Note) (event : Event) (behind : Lis
   pub view : new.me.0 ≡ noted_by (next (noted_by old.me.0 before) event found) behind
   pub learned : Learned (noted_by old.me.0 before) event found
 
--- by one account of a step it may do that; by any that fits it has
+-- by one account of a step that fits, the seat may do that
 abbrev pub MayDoOf : (X : Type 0) → (X → Type 0) → (X → List Note) → (X → Event) → List Note → Pass → Type 0
 MayDoOf X Fits before event behind seat = (x : X) × Fits x × MayDo seat (before x) (event x) behind
 
+-- by any account of a step that fits, the seat has done that
 abbrev pub NotedOf : (X : Type 0) → (X → Type 0) → (X → List Note) → (X → Event) → List Note → Pass → ℕ → Pass → Type 0
 NotedOf X Fits before event behind old found new = (x : X) → Fits x → Noted old (before x) (event x) behind found new
 
--- the same of each step
+-- it may try to pack units
 abbrev pub MayPack : Pass → ℕ → ℕ → ℕ → Type 0
 MayPack seat histogram old new =
     MayDoOf InWord (IsPacked seat.me.0 histogram old new) (λ x. bucket_notes seat.me.0 x.known x.bucket x.units)
     (λ x. packing_event (pack x.known.reference old new)) [] seat
 
+-- it has tried to pack units
 abbrev pub HasPacked : Pass → ℕ → ℕ → ℕ → ℕ → Pass → Type 0
 HasPacked seat histogram old new found after =
     NotedOf InWord (IsPacked seat.me.0 histogram old new) (λ x. bucket_notes seat.me.0 x.known x.bucket x.units)
     (λ x. packing_event (pack x.known.reference old new)) [] seat found after
 
+-- it may add units to a count of a bucket
 abbrev pub MayAddTo : Pass → ℕ → ℕ → Type 0
 MayAddTo seat at units =
     MayDoOf InCounts (IsAddedTo seat.me.0 at units) (λ x. bucket_notes seat.me.0 x.known x.bucket x.units)
     (λ x. counting_event (add_count (x.counts + BLOCK_HEADER + x.bucket) units)) [] seat
 
+-- it has added units to a count of a bucket
 abbrev pub HasAddedTo : Pass → ℕ → ℕ → ℕ → Pass → Type 0
 HasAddedTo seat at units found after =
     NotedOf InCounts (IsAddedTo seat.me.0 at units) (λ x. bucket_notes seat.me.0 x.known x.bucket x.units)
     (λ x. counting_event (add_count (x.counts + BLOCK_HEADER + x.bucket) units)) [] seat found after
 
+-- it may add units to the count of a sample
 abbrev pub MaySample : Pass → ℕ → ℕ → Type 0
 MaySample seat sample units =
     MayDoOf InSample (IsSampled seat.me.0 sample units) (λ x. value_notes seat.me.0 x.known x.value x.units)
     (λ x. counting_event (add_count (x.sample + SAMPLE_COUNT) units)) [] seat
 
+-- it has added units to the count of a sample
 abbrev pub HasSampled : Pass → ℕ → ℕ → ℕ → Pass → Type 0
 HasSampled seat sample units found after =
     NotedOf InSample (IsSampled seat.me.0 sample units) (λ x. value_notes seat.me.0 x.known x.value x.units)
     (λ x. counting_event (add_count (x.sample + SAMPLE_COUNT) units)) [] seat found after
 
+-- it may add the amount of a sample to the sum
 abbrev pub MayAmount : Pass → ℕ → ℤ → Type 0
 MayAmount seat histogram amount =
     MayDoOf InSum (IsSumOf seat.me.0 histogram amount) (λ x. amounts x.amount ∷ []) (λ x. counting_event (add_sum x.known.reference x.amount)) [] seat
 
+-- it has added the amount of a sample to the sum
 abbrev pub HasAmount : Pass → ℕ → ℤ → ℕ → Pass → Type 0
 HasAmount seat histogram amount found after =
     NotedOf InSum (IsSumOf seat.me.0 histogram amount) (λ x. amounts x.amount ∷ []) (λ x. counting_event (add_sum x.known.reference x.amount)) [] seat found after
 
+-- it may add the sum of a batch to the sum, and ends its entry
 abbrev pub MaySum : Pass → ℕ → ℤ → Type 0
 MaySum seat histogram sum =
     MayDoOf InSum (IsSumOf seat.me.0 histogram sum) (λ x. sum_notes seat.me.0 x.known x.amount)
     (λ x. counting_event (add_sum x.known.reference x.amount)) (ends ∷ []) seat
 
+-- it has added the sum of a batch to the sum, and ended its entry
 abbrev pub HasSum : Pass → ℕ → ℤ → ℕ → Pass → Type 0
 HasSum seat histogram sum found after =
     NotedOf InSum (IsSumOf seat.me.0 histogram sum) (λ x. sum_notes seat.me.0 x.known x.amount)

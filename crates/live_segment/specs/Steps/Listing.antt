@@ -66,10 +66,12 @@ Links word at said me =
     TellsOf InLink (λ x. (word ≡ x.tail + BLOCK_NEXT + 1) × ((saying : Announcement) × (said ≡ some saying) × (asked_for saying ≡ Some x.made)))
     (λ x. link_notes me.0 at x.made) (λ x. publishing_event (link x.tail at)) [] me
 
+-- it may try to link a record at the tail
 abbrev pub MayLink : Pass → ℕ → ℕ → Announcement → Type 0
 MayLink seat tail at saying =
     MayDoOf Made (λ made. asked_for saying ≡ Some made) (λ made. link_notes seat.me.0 at made) (λ made. publishing_event (link tail at)) [] seat
 
+-- it has tried to link a record at the tail
 abbrev pub HasLinked : Pass → ℕ → ℕ → Announcement → ℕ → Pass → Type 0
 HasLinked seat tail at saying found after =
     NotedOf Made (λ made. asked_for saying ≡ Some made) (λ made. link_notes seat.me.0 at made) (λ made. publishing_event (link tail at)) [] seat

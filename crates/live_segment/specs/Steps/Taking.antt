@@ -28,10 +28,12 @@ abbrev pub BeginsDelta : ℕ → (ℕ → Event) → ℕ → Sat → ℕ → Sat
 BeginsDelta offset event word me =
     TellsOf Known (λ known. (word ≡ known.reference + offset + 1) × KnowsAlone me.0 known) (λ known. takes known.name ∷ []) (λ known. event known.reference) [] me
 
+-- it may begin a delta of a histogram by this event
 abbrev pub MayBeginDelta : Pass → ℕ → (ℕ → Event) → Type 0
 MayBeginDelta seat histogram event =
     MayDoOf Known (IsTaken seat.me.0 histogram) (λ known. takes known.name ∷ []) (λ known. event known.reference) [] seat
 
+-- it has begun a delta of a histogram by this event
 abbrev pub HasBegunDelta : Pass → ℕ → (ℕ → Event) → ℕ → Pass → Type 0
 HasBegunDelta seat histogram event found after =
     NotedOf Known (IsTaken seat.me.0 histogram) (λ known. takes known.name ∷ []) (λ known. event known.reference) [] seat found after

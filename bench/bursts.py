@@ -1,4 +1,5 @@
-"""Programs that record bursts of samples: built, and run by turns. Each takes FORM SHARING THREADS BURSTS (record.cpp) and prints picoseconds."""
+"""Programs that record bursts of samples: built, and run by turns. Each takes FORM SHARING THREADS BURSTS (record.cpp)
+and prints picoseconds."""
 
 import pathlib
 import subprocess

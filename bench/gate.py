@@ -4,9 +4,9 @@
     bench/gate.py
 
 It prints what the gate prints, and then a table: minutes of processor time (user and system), and the most memory that
-one check had. Behind it stand the ten dearest edits; the first of a crate pays for a check of all of it. The processes of the
-gate are looked at twice a second; what ended between two looks is reported as the rest. The status is that of the gate. Run it on a
-clean clone, on a machine that does nothing else.
+one check had. Behind it stand the ten dearest edits; the first of a crate pays for a check of all of it. The processes
+of the gate are looked at twice a second; what ended between two looks is reported as the rest. The status is that of
+the gate. Run it on a clean clone, on a machine that does nothing else.
 """
 
 import collections
@@ -57,8 +57,8 @@ class Costs:
         return sum(self.seconds[task].values()) / 60
 
     def edits(self):
-        """The seconds of each edit by its crate and name: a crate's edits are tried in the order of their names, each in a room of
-        its own."""
+        """The seconds of each edit by its crate and name: a crate's edits are tried in the order of their names, each
+        in a room of its own."""
         for crate, part in list(self.rooms):
             names = sorted(path.stem for path in ROOT.glob(f"crates/{crate}/must-fail/*.edit"))
             if part == "edits":
@@ -89,7 +89,8 @@ def tasks_below(gate):
 
 
 def task_of(pid):
-    """The crate that a process checks, for which part, and in which folder: an edit is checked on a copy, outside the repository."""
+    """The crate that a process checks, for which part, and in which folder: an edit is checked on a copy, outside the
+    repository."""
     process = pathlib.Path("/proc") / str(pid)
     try:
         words = process.joinpath("cmdline").read_bytes().decode(errors="replace").split("\0")
@@ -139,7 +140,9 @@ def main():
     minutes = (whole.ru_utime + whole.ru_stime) / 60
     rest = minutes - show(costs)
     by_clock = (time.monotonic() - start) / 60
-    print(f"\n{minutes:.1f} minutes of processor time, {rest:.1f} of them the rest; {by_clock:.1f} minutes by the clock")
+    print(
+        f"\n{minutes:.1f} minutes of processor time, {rest:.1f} of them the rest; {by_clock:.1f} minutes by the clock"
+    )
     return gate.returncode
 
 

@@ -64,8 +64,8 @@ class Segment(layout.Words):
 
 
 def adoptable(data):
-    """The bytes of a valid image as one of version 2, which may be adopted: a single word that is disabled, and in which nothing was
-    packed, has another form there."""
+    """The bytes of a valid image as one of version 2, which may be adopted: a single word that is disabled, and in
+    which nothing was packed, has another form there."""
     words = layout.words_of(data)
     words[1] = 2
     for at, word in enumerate(words):
@@ -238,7 +238,9 @@ def shared(size):
     units = BLOCK_COOKIE + 16
     by_name = {name: f"{name},linear,0,4,{units}\n{name},total,{units},1\n" for name in names}
     redundant = "".join(f"!redundant,{name},{LINEAR}\n" for name in sorted(names)).encode()
-    return Image(data, lambda: [*in_order(by_name)(), redundant], MOST_BUCKETS * len(names), f"{len(names):,} histograms")
+    return Image(
+        data, lambda: [*in_order(by_name)(), redundant], MOST_BUCKETS * len(names), f"{len(names):,} histograms"
+    )
 
 
 def refused(size):
@@ -354,7 +356,9 @@ def samples(size):
             following = at + stride
             rest = segment.page - following % segment.page
             value = chance.randrange(smallest, rest + 1) if rest >= smallest else 1
-            segment.store(at, segment.words[at] or smallest, BLOCK_COOKIE, SAMPLE, QUEUE, record, value, BLOCK_COOKIE, SAMPLE)
+            segment.store(
+                at, segment.words[at] or smallest, BLOCK_COOKIE, SAMPLE, QUEUE, record, value, BLOCK_COOKIE, SAMPLE
+            )
             segment.publish(at)
             segment.free += stride
             values.add(value)

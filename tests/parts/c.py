@@ -1,5 +1,5 @@
-"""The interface for C and C++: every call of the headers, and each of its statuses, under the sanitizers; forks, and threads that come and go;
-the examples, whatever they find; and the programs that the pages show.
+"""The interface for C and C++: every call of the headers, and each of its statuses, under the sanitizers; forks, and
+threads that come and go; the examples, whatever they find; and the programs that the pages show.
 
 The programs are in `tests/c`. Each prints a line for each group of its checks.
 """
@@ -32,11 +32,14 @@ CHECKS = (
 
 EXAMPLES = ROOT / "examples"
 PAGES = ("README.md", "docs/C.md")
-# What examples/c/record.c and each program of a page record when they are run twice: where each bucket begins and the last one ends, and
-# the units of each.
+# What examples/c/record.c and each program of a page record when they are run twice: where each bucket begins and the
+# last one ends, and the units of each.
 ENDS = (0, 1, 126, 251, 376, 501, 625, 750, 875, 1000)
 UNITS = (2, 250, 250, 250, 250, 248, 250, 250, 250)
-RECORDED = "".join(f"latency,linear,{low},{high},{units}\n" for low, high, units in zip(ENDS, ENDS[1:], UNITS)) + "latency,total,2000,999000\n"
+RECORDED = (
+    "".join(f"latency,linear,{low},{high},{units}\n" for low, high, units in zip(ENDS, ENDS[1:], UNITS))
+    + "latency,total,2000,999000\n"
+)
 
 
 def checked(installed, name, flags, folder):
@@ -45,7 +48,9 @@ def checked(installed, name, flags, folder):
     try:
         program = installed.program(native.PROGRAMS / name, *native.SANITIZED, *flags)
         words = [program] if folder is None else [program, folder]
-        done = subprocess.run(words, capture_output=True, text=True, timeout=MOST_SECONDS, env={"ASAN_OPTIONS": "detect_leaks=1"})
+        done = subprocess.run(
+            words, capture_output=True, text=True, timeout=MOST_SECONDS, env={"ASAN_OPTIONS": "detect_leaks=1"}
+        )
     except native.Failed as why:
         yield title, str(why)
         return
@@ -58,8 +63,13 @@ def exported(installed):
     """Each function that the headers declare is in the archive, by its name."""
     text = "".join((native.LIBRARY / name).read_text() for name in ("povundiri.h", "povundiri_file.h"))
     declared = set(re.findall(r"^(?:inline )?[a-z][\w ]*[ *](povundiri_\w+)\(", text, re.MULTILINE))
-    defined = set(re.findall(r" T (povundiri_\w+)$", native.run(["nm", "-g", installed.prefix / "lib" / "libpovundiri.a"]), re.MULTILINE))
-    yield "each function is in the archive", None if declared and declared <= defined else f"missing are {sorted(declared - defined)}"
+    defined = set(
+        re.findall(
+            r" T (povundiri_\w+)$", native.run(["nm", "-g", installed.prefix / "lib" / "libpovundiri.a"]), re.MULTILINE
+        )
+    )
+    wrong = None if declared and declared <= defined else f"missing are {sorted(declared - defined)}"
+    yield "each function is in the archive", wrong
 
 
 def text_of_statuses(program):
@@ -67,9 +77,13 @@ def text_of_statuses(program):
     header, names = ((native.LIBRARY / name).read_text() for name in ("povundiri.h", "povundiri.c"))
     listed = dict(re.findall(r"^    \{(POVUNDIRI_\w+), \"([\w ]+)\"\},$", names, re.MULTILINE))
     statuses = re.findall(r"^    (POVUNDIRI_\w+) = \d+", header.split("enum povundiri_status")[1], re.MULTILINE)
-    yield "each status has a name", None if statuses and statuses == [*listed] else f"they differ: {sorted(set(statuses) ^ set(listed))}"
-    classes = re.findall(r"^    \w+ = (POVUNDIRI_\w+),?", (native.LIBRARY / "povundiri_status.hpp").read_text(), re.MULTILINE)
-    yield "each status is one of povundiri::Status", None if classes == statuses else f"they differ: {sorted(set(statuses) ^ set(classes))}"
+    wrong = None if statuses and statuses == [*listed] else f"they differ: {sorted(set(statuses) ^ set(listed))}"
+    yield "each status has a name", wrong
+    classes = re.findall(
+        r"^    \w+ = (POVUNDIRI_\w+),?", (native.LIBRARY / "povundiri_status.hpp").read_text(), re.MULTILINE
+    )
+    wrong = None if classes == statuses else f"they differ: {sorted(set(statuses) ^ set(classes))}"
+    yield "each status is one of povundiri::Status", wrong
     shared = sorted(name for name in listed.values() if [*listed.values()].count(name) > 1)
     yield "no two statuses have one name", f"shared are {shared}" if shared else None
     words = sorted({name.split()[-1] for name in listed.values() if " " in name})
@@ -85,7 +99,8 @@ def report_in(program, file):
 
 
 def recorded_twice(installed, program, source, home):
-    """A program that records a thousand samples into latency.seg, run twice: the second time it continues with what stands there."""
+    """A program that records a thousand samples into latency.seg, run twice: the second time it continues with what
+    stands there."""
     built = installed.program(source)
     home.mkdir()
     for _ in range(2):

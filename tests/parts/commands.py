@@ -1,8 +1,9 @@
-"""Command lines with known answers: in the folders cases/program/NNN and cases/resume/NNN the words (`cmd`) and the files that
-they name, and beside them what the program has to print, its status, and what it has to write into OUT (`OUT.expected`).
+"""Command lines with known answers: in the folders cases/program/NNN and cases/resume/NNN the words (`cmd`) and the
+files that they name, and beside them what the program has to print, its status, and what it has to write into OUT
+(`OUT.expected`).
 
-There is no OUT before the command, and none after a fault: the `OUT.expected` of a fault is empty, which says that nothing
-is written. The answers are those of an independent implementation.
+There is no OUT before the command, and none after a fault: the `OUT.expected` of a fault is empty, which says that
+nothing is written. The answers are those of an independent implementation.
 """
 
 import pathlib
@@ -15,7 +16,8 @@ FOLDERS = (ROOT / "tests" / "cases" / "program", ROOT / "tests" / "cases" / "res
 
 
 def known():
-    """The folder of each case, and its words; first those of `report`, `run` and `merge`, and then those of `resume`."""
+    """The folder of each case, and its words; first those of `report`, `run` and `merge`, and then those of
+    `resume`."""
     for folder in FOLDERS:
         for case in sorted(folder.iterdir()):
             yield case, (case / "cmd").read_text().split()

@@ -1,8 +1,8 @@
 """The tasks of docs/COOKBOOK.md: each command there is run, and prints what stands below it.
 
-A block of the page is code, and the text before it names the file that has it, or commands, each after a `$`. They run one after the
-other in a new folder, which has the examples. What they print, on both streams, is compared line by line; `[..]` stands for any lines. Where
-there is no `sqlite3`, the commands that ask for it are left out, and a line says so.
+A block of the page is code, and the text before it names the file that has it, or commands, each after a `$`. They run
+one after the other in a new folder, which has the examples. What they print, on both streams, is compared line by line;
+`[..]` stands for any lines. Where there is no `sqlite3`, the commands that ask for it are left out, and a line says so.
 """
 
 import os
@@ -55,7 +55,10 @@ def pattern(lines):
 
 def wrong_command(command, wanted, folder, setting):
     """What is wrong with what a command prints, or None."""
-    came = subprocess.run(["bash", "-c", command], cwd=folder, env=setting, stdout=subprocess.PIPE, stderr=subprocess.STDOUT, timeout=SECONDS)
+    came = subprocess.run(
+        ["bash", "-c", command], cwd=folder, env=setting, stdout=subprocess.PIPE, stderr=subprocess.STDOUT,
+        timeout=SECONDS,
+    )
     text = came.stdout.decode()
     return None if re.fullmatch(pattern(wanted), text) else f"wanted {wanted}, came {text[:1000]!r}"
 

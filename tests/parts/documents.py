@@ -1,5 +1,5 @@
-"""Documents that are made of the sources are what these say now, links lead to files that are there, the crates that read stand free of the
-machine, and the Python of tests/ and bench/ is clean. No program is run."""
+"""Documents that are made of the sources are what these say now, links lead to files that are there, the crates that
+read stand free of the machine, and the Python of tests/ and bench/ is clean. No program is run."""
 
 from support import definitions, faults, layers, linted, links, proved
 
@@ -7,7 +7,7 @@ PROGRAM = None
 
 
 def cases(_program, _options):
-    yield "docs/DEFINITIONS.md, which tests/support/definitions.py --write makes anew, as it does docs/definitions", definitions.difference()
+    yield "docs/DEFINITIONS.md, which tests/support/definitions.py --write makes anew", definitions.difference()
     yield "docs/FAULTS.md, which tests/support/faults.py --write makes anew", faults.difference()
     yield "what tests/support/proved.py refuses of a made-up file", proved.self_check()
     yield "docs/proved, which tests/support/proved.py --write makes anew", proved.difference()

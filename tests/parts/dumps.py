@@ -1,9 +1,12 @@
-"""Four threads of a C++ program record into a segment in the heap. It is stopped at random moments, and its memory is read out.
+"""Four threads of a C++ program record into a segment in the heap. It is stopped at random moments, and its memory is
+read out.
 
-`extract` finds the segment in that, `report` shows no bad record and no stop, and each bucket has at most what was begun and at least
-what had ended. The image of the last stop is adopted by the next run, which continues in its own heap.
+`extract` finds the segment in that, `report` shows no bad record and no stop, and each bucket has at most what was
+begun and at least what had ended. The image of the last stop is adopted by the next run, which continues in its own
+heap.
 
-In the memory stand other segments too: what the segment was made of, and the image that was adopted. These have what was there before.
+In the memory stand other segments too: what the segment was made of, and the image that was adopted. These have what
+was there before.
 """
 
 import collections
@@ -98,7 +101,8 @@ def stopped(killed, folder, program, options):
         version = 1 if number % 4 == 3 else 2
         chain = Chain(killed, program, folder, random.Random(f"{options.seed} dump {number}"), version)
         for run in range(RUNS):
-            yield f"chain {number} of seed {options.seed}, version {version}, run {run}, {chain.shape[0]} words", chain.run()
+            name = f"chain {number} of seed {options.seed}, version {version}, run {run}, {chain.shape[0]} words"
+            yield name, chain.run()
 
 
 def cases(program, options):

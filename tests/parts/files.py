@@ -1,9 +1,10 @@
-"""Segments in files: what is opened as one and what is refused, who has it, what children have of it, and what becomes of a file that is
-damaged or spent.
+"""Segments in files: what is opened as one and what is refused, who has it, what children have of it, and what becomes
+of a file that is damaged or spent.
 
-The programs are in `tests/c`. They are compiled with `c/povundiri_file.c`, so that the address sanitizer and the undefined-behaviour
-sanitizer see into it, and the thread sanitizer for threads that open files at once. Of some the calls to the system come to the program,
-which has each of them fail, or is killed there. Then libFuzzer opens files of any bytes for a minute, where clang has it.
+The programs are in `tests/c`. They are compiled with `c/povundiri_file.c`, so that the address sanitizer and the
+undefined-behaviour sanitizer see into it, and the thread sanitizer for threads that open files at once. Of some the
+calls to the system come to the program, which has each of them fail, or is killed there. Then libFuzzer opens files of
+any bytes for a minute, where clang has it.
 """
 
 import os
@@ -18,7 +19,10 @@ PROGRAM = None
 MOST_SECONDS = 300
 FUZZ_SECONDS = 60
 INTERRUPTED = ("flock", "pread", "open", "posix_fallocate", "ftruncate")
-STOPPED = (*INTERRUPTED, "fstat", "fstatat", "mmap", "madvise", "munmap", "close", "renameat2", "link", "unlink", "malloc", "calloc")
+STOPPED = (
+    *INTERRUPTED, "fstat", "fstatat", "mmap", "madvise", "munmap", "close", "renameat2", "link", "unlink", "malloc",
+    "calloc",
+)
 THREAD_SANITIZER = ["-fsanitize=thread"]
 # A source, how it is watched, and the calls to the system that come to it.
 CHECKS = (
@@ -55,7 +59,9 @@ def has_fuzzer(folder):
     if shutil.which(FUZZER[0]) is None:
         return False
     source = folder / "nothing.c"
-    source.write_text("int LLVMFuzzerTestOneInput(const unsigned char *data, unsigned long size) { return data == 0 && size == 1; }\n")
+    source.write_text(
+        "int LLVMFuzzerTestOneInput(const unsigned char *data, unsigned long size) { return data == 0 && size == 1; }\n"
+    )
     words = [*FUZZER, *FUZZER_FLAGS, "-o", folder / "nothing", source]
     return subprocess.run([str(word) for word in words], capture_output=True).returncode == 0
 
@@ -64,7 +70,10 @@ def fuzzed(installed, options):
     """What the fuzzer found, or None."""
     program = installed.with_file_layer(native.PROGRAMS / "fuzz_file.c", FUZZER, FUZZER_FLAGS)
     with tempfile.TemporaryDirectory(dir=MEMORY if os.access(MEMORY, os.W_OK) else None) as folder:
-        words = [program, f"-max_total_time={FUZZ_SECONDS}", *FUZZER_WORDS, f"-seed={options.seed}", f"-artifact_prefix={folder}/"]
+        words = [
+            program, f"-max_total_time={FUZZ_SECONDS}", *FUZZER_WORDS, f"-seed={options.seed}",
+            f"-artifact_prefix={folder}/",
+        ]
         settings = {**os.environ, "FUZZ_FOLDER": folder}
         done = subprocess.run(words, capture_output=True, text=True, timeout=MOST_SECONDS, env=settings, cwd=folder)
     return None if done.returncode == 0 else f"status {done.returncode}: {done.stderr[-3000:]}"

@@ -1,7 +1,8 @@
 """The program of docs/USING.md, in a repository of its own: it is proved there, and prints what it has to.
 
-`rt ci` proves it, builds it by both compilers, runs what each made, and compares what that prints with `stdout`. The crates that
-it stands on are copied. They are not proved again, where a run of `rt ci` on this machine has proved the same files.
+`rt ci` proves it, builds it by both compilers, runs what each made, and compares what that prints with `stdout`. The
+crates that it stands on are copied. They are not proved again, where a run of `rt ci` on this machine has proved the
+same files.
 """
 
 import pathlib
@@ -43,7 +44,8 @@ def below(name, lines):
 
 
 def lines_of_repository():
-    """The lines of its crates.txt, by the names of the crates: the program's as the page has it, and those below as they are here."""
+    """The lines of its crates.txt, by the names of the crates: the program's as the page has it, and those below as
+    they are here."""
     own = [line.strip() for line in PAGE.read_text().splitlines() if line.startswith(f"    {EXAMPLE.name}: ")]
     lines = {**listed((ROOT / "crates.txt").read_text()), **listed("\n".join(own))}
     return {crate: lines[crate] for crate in [*below(EXAMPLE.name, lines), EXAMPLE.name]}
@@ -84,7 +86,14 @@ def shown(path):
 def wrong_list():
     """What is wrong with the crates.txt that the page shows, or None."""
     on_page = PAGE.read_text().splitlines()
-    return next((f"{PAGE.name} lacks the line {line}" for line in lines_of_repository().values() if f"    {line}" not in on_page), None)
+    return next(
+        (
+            f"{PAGE.name} lacks the line {line}"
+            for line in lines_of_repository().values()
+            if f"    {line}" not in on_page
+        ),
+        None,
+    )
 
 
 def cases(_program, _options):

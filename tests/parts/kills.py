@@ -1,7 +1,8 @@
 """Four threads of a C++ program record into a mapped file until it is killed, at a random moment.
 
-`extract` and `report` then show no bad record and no stop, and each bucket has at most what was begun and at least what had ended.
-An image of version 2 is adopted by the next run in the same file, which continues recording and is killed again, twenty times over.
+`extract` and `report` then show no bad record and no stop, and each bucket has at most what was begun and at least what
+had ended. An image of version 2 is adopted by the next run in the same file, which continues recording and is killed
+again, twenty times over.
 """
 
 import collections
@@ -79,7 +80,8 @@ class Chain:
 
 
 def chains(kills):
-    """The version of each chain and how often its program is killed: of version 1 once, five such after each twenty of version 2."""
+    """The version of each chain and how often its program is killed: of version 1 once, five such after each twenty of
+    version 2."""
     while kills > 0:
         for version, length in ((2, CHAIN), *(((1, 1),) * 5)):
             length = min(length, kills)
@@ -94,8 +96,11 @@ def killed_often(killed, folder, program, options):
         chain = Chain(killed, program, folder, random.Random(f"{options.seed} kill {number}"), version)
         yield f"chain {number} of seed {options.seed}, version {version}, {length} kills", chain.run(length)
         met += chain.met
-    print(f"kills: {options.kills}, of which {met['in the midst of a call']} in the midst of a call, {met['full']} in a full segment and "
-          f"{met['nothing was made']} before it was made; {met['units']} units", flush=True)
+    print(
+        f"kills: {options.kills}, of which {met['in the midst of a call']} in the midst of a call, {met['full']} in a "
+        f"full segment and {met['nothing was made']} before it was made; {met['units']} units",
+        flush=True,
+    )
     if options.kills >= 200:
         yield "each kind of kill", None if met["in the midst of a call"] and met["full"] else f"met were {dict(met)}"
 

@@ -1,5 +1,5 @@
-"""Images of the greatest size that are full: of samples, of names, and of the smallest blocks, each with its report; and the
-longest scripts.
+"""Images of the greatest size that are full: of samples, of names, and of the smallest blocks, each with its report;
+and the longest scripts.
 
 A program that searches a list from its front, for each sample or each name, does not end in time.
 """

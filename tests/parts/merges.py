@@ -1,6 +1,7 @@
 """Merges of two images that scripts made: the new image has what both had above their marks, by a plain reckoning.
 
-The images come of one worker or of many. Of one worker the marks are known by the script too: a delta takes all before it.
+The images come of one worker or of many. Of one worker the marks are known by the script too: a delta takes all before
+it.
 """
 
 import collections
@@ -70,7 +71,9 @@ def pair_of(chance):
         dead.hists = [(name, specs.get(name, spec)) for name, spec in dead.hists]
     both = {f"base {name}": one for name, one in base.histograms().items()}
     both |= {f"dead {name}": one for name, one in dead.histograms().items()}
-    calls = [(f"base {call[0]}", *call[1:]) for call in base.calls] + [(f"dead {call[0]}", *call[1:]) for call in dead.calls]
+    calls = [(f"base {call[0]}", *call[1:]) for call in base.calls] + [
+        (f"dead {call[0]}", *call[1:]) for call in dead.calls
+    ]
     base.size, base.page = dead.size, dead.page = seeded.shape_of(chance, both, calls)
     return base, dead
 
@@ -110,7 +113,9 @@ def wrong_of(program, seed, folder):
     if wrong is None and report is None:
         wrong = None if made is None else f"came {len(made)} bytes of an image beside the fault"
     elif wrong is None:
-        wrong = scripts.wrong_image(scripts_of_both[0], made, report) or difference(Answer(report), answer(program, ["report", paths[-1]]))
+        wrong = scripts.wrong_image(scripts_of_both[0], made, report) or difference(
+            Answer(report), answer(program, ["report", paths[-1]])
+        )
     return wrong
 
 

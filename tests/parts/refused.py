@@ -56,8 +56,9 @@ def least_pages(program):
 def wrong_of(program, words, data, pages, step, setting, out=None):
     """What is wrong with the answers under limits that grow by `step` from these pages on, or None.
 
-    Each has to be NoMemory until it is the one that the program gives with ample memory; and NoMemory has to come. Where
-    there is none to start a worker, it is NoThread. Before, `out` is unchanged, and nothing else is made beside it.
+    Each has to be NoMemory until it is the one that the program gives with ample memory; and NoMemory has to come.
+    Where there is none to start a worker, it is NoThread. Before, `out` is unchanged, and nothing else is made beside
+    it.
     """
     ample = answer(program, words, data)
     refused = 0
@@ -87,7 +88,10 @@ def files(program, least):
         script, base, out = (pathlib.Path(scratch) / name for name in ("script", "base", "out"))
         script.write_bytes(SCRIPT)
         answer(program, ["run", script, base])
-        for words in (["run", script, out, "--workers", "3"], ["resume", base, script, out, "--workers", "3"], ["merge", EXAMPLE, EXAMPLE, out]):
+        for words in (
+            ["run", script, out, "--workers", "3"], ["resume", base, script, out, "--workers", "3"],
+            ["merge", EXAMPLE, EXAMPLE, out],
+        ):
             yield words[0], wrong_of(program, words, b"", least, THREAD_STEP, EACH_BY_ITSELF, out)
 
 

@@ -1,8 +1,10 @@
-"""Chains of scripts that are generated from a seed: the first is run, and each other one continues with the image before, with 1 and with 3
-workers. Each gives the report that a plain tally of all samples so far has, and an image that reads as that report too.
+"""Chains of scripts that are generated from a seed: the first is run, and each other one continues with the image
+before, with 1 and with 3 workers. Each gives the report that a plain tally of all samples so far has, and an image that
+reads as that report too.
 
-Where one worker has recorded all, the marks are known by the scripts: a delta takes all before it, also what earlier ones recorded.
-A script that gives a name another spec, or that takes more units than are left, is refused. The next one continues without it.
+Where one worker has recorded all, the marks are known by the scripts: a delta takes all before it, also what earlier
+ones recorded. A script that gives a name another spec, or that takes more units than are left, is refused. The next one
+continues without it.
 """
 
 import random
@@ -90,7 +92,9 @@ def wrong_of(program, seed, folder):
         outs = {workers: folder / f"{seed}-{number}-{workers}.img" for workers in WORKERS}
         for workers, out in outs.items():
             words = ["run", text] if base is None else ["resume", base, text]
-            wrong = wrong_step(program, [*words, "--workers", str(workers)], Answer(report) if why is None else fault(why, 3), out)
+            wrong = wrong_step(
+                program, [*words, "--workers", str(workers)], Answer(report) if why is None else fault(why, 3), out
+            )
             if wrong is not None:
                 return f"script {number} with {workers} workers: {wrong}\n{text.read_bytes().decode()}"
         if why is None:

@@ -1,5 +1,5 @@
-"""Scripts that are generated from a seed, run with 1, 2, 3 and 16 workers: each gives the report that a plain tally of the samples
-has, and an image that reads as that report too."""
+"""Scripts that are generated from a seed, run with 1, 2, 3 and 16 workers: each gives the report that a plain tally of
+the samples has, and an image that reads as that report too."""
 
 import collections
 import random

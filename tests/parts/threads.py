@@ -14,7 +14,10 @@ PROGRAM = "trials"
 THREADS = (2, 3, 4, 8, 16)
 ROUNDS = 200
 RECORDS = 100
-SPECS = {"boolean": ("boolean",), "custom": ("custom", 10, 100, 1000), "linear": ("linear", 1, 100, 20), "sparse": ("sparse",)}
+SPECS = {
+    "boolean": ("boolean",), "custom": ("custom", 10, 100, 1000), "linear": ("linear", 1, 100, 20),
+    "sparse": ("sparse",),
+}
 
 
 class Round:
@@ -118,7 +121,8 @@ def rounds(program, words):
 
 
 def recorded(program, threads, seed, number=ROUNDS, limit=None):
-    """What is wrong with so many rounds, or None. With a limit, the indexes of each recorder have at most so many entries."""
+    """What is wrong with so many rounds, or None. With a limit, the indexes of each recorder have at most so many
+    entries."""
     words = [threads, seed, number, *([] if limit is None else [limit])]
     every, wrong = rounds(program, ["record", *map(str, words)])
     if wrong is not None:

@@ -1,7 +1,9 @@
-"""The rounds of threads of another part (threads.py), while the indexes of each recorder have a limit: each round returns what it always does.
+"""The rounds of threads of another part (threads.py), while the indexes of each recorder have a limit: each round
+returns what it always does.
 
-An index that is full stops at its place, and searches walk on from there. The limits are every small number of entries, none among them,
-so that an index stops at each of the first records that it meets, and some larger ones, at which one index is full and another is not.
+An index that is full stops at its place, and searches walk on from there. The limits are every small number of entries,
+none among them, so that an index stops at each of the first records that it meets, and some larger ones, at which one
+index is full and another is not.
 """
 
 import random
@@ -12,8 +14,8 @@ PROGRAM = "trials"
 
 # The rounds of a run: one of each version.
 ROUNDS = 2
-# Every limit below this is tried with each number of threads, and so many others up to the last. A recorder meets 4 histograms, and up to
-# some hundred samples.
+# Every limit below this is tried with each number of threads, and so many others up to the last. A recorder meets 4
+# histograms, and up to some hundred samples.
 SMALL = 10
 OTHERS = 6
 LARGEST = 120

@@ -1,4 +1,5 @@
-"""Worked examples of images: what is stored in the words of one, or where its bytes are cut, and what then has to be answered."""
+"""Worked examples of images: what is stored in the words of one, or where its bytes are cut, and what then has to be
+answered."""
 
 import struct
 
@@ -7,7 +8,9 @@ from support.program import EXAMPLE, Answer, answer, difference, fault
 PROGRAM = "persist_report"
 COOKIE, VERSION, SIZE, PAGE, STATE, FLAGS, FREE, TAIL = 0, 1, 2, 3, 5, 6, 7, 8
 QUEUE_COOKIE, QUEUE_NEXT = 13, 15
-KIND, BUCKETS, COUNTS_REFERENCE, SINGLE, SINGLE_MARK, SUM, REDUNDANT, NAME_LENGTH, NAME = 20, 23, 24, 25, 26, 27, 29, 30, 31
+KIND, BUCKETS, COUNTS_REFERENCE, SINGLE, SINGLE_MARK, SUM, REDUNDANT, NAME_LENGTH, NAME = (
+    20, 23, 24, 25, 26, 27, 29, 30, 31,
+)
 COUNTS = 36
 BLOCK_COOKIE = 0xC8799269
 FROZEN = DISABLED = 2**63
@@ -16,7 +19,10 @@ NOTHING_PACKED = DISABLED + 65_535
 # A new segment.
 BLANK = [0x408305DC, 1, 128, 64, 7, 1, 0, 16, 12, 0, 0, 0, 4, 1, 0, 12, *112 * [0]]
 # It has the boolean histogram A without samples.
-FRESH = {FREE: 32, TAIL: 16, QUEUE_NEXT: 16, 16: 16, 17: BLOCK_COOKIE, 18: 1, 19: 12, KIND: 2, 21: 1, 22: 2, BUCKETS: 3, NAME_LENGTH: 1, NAME: 65}
+FRESH = {
+    FREE: 32, TAIL: 16, QUEUE_NEXT: 16, 16: 16, 17: BLOCK_COOKIE, 18: 1, 19: 12, KIND: 2, 21: 1, 22: 2, BUCKETS: 3,
+    NAME_LENGTH: 1, NAME: 65,
+}
 # It has the sparse histogram S with two samples -5, by the block at 32, and one sample 7, by the block at 40.
 SPARSE = {
     **FRESH, FREE: 48, TAIL: 40, 19: 32, KIND: 4, 21: 0, 22: 0, BUCKETS: 0, SUM: -3, REDUNDANT: 3, NAME: 83,

@@ -1,4 +1,5 @@
-"""What a killed program may have left: of each bucket at least the units that it had ended, and at most those that it had begun.
+"""What a killed program may have left: of each bucket at least the units that it had ended, and at most those that it
+had begun.
 
 The program is `tests/c/killed.cpp`, and the file in which it tells both is that of `tests/c/tally.hpp`.
 """
@@ -49,16 +50,20 @@ def units_of(report: bytes) -> tuple[Units, list[str]]:
 
 
 def short_of(units: Units, least: Units, version: int) -> list[Cell]:
-    """The buckets that have too few units. In version 1 one of each histogram with buckets may lack those that were being moved."""
+    """The buckets that have too few units. In version 1 one of each histogram with buckets may lack those that were
+    being moved."""
     short = [cell for cell in least if units[cell] < least[cell]]
     if version == 2:
         return short
     names = collections.Counter(name for name, _ in short)
-    return [cell for cell in short if cell[0] == "sparse" or names[cell[0]] > 1 or least[cell] - units[cell] > MOST_PACKED]
+    return [
+        cell for cell in short if cell[0] == "sparse" or names[cell[0]] > 1 or least[cell] - units[cell] > MOST_PACKED
+    ]
 
 
 def wrong_of(units: Units, faults: list[str], before: Units, data: bytes, version: int) -> str | None:
-    """What is wrong with the units of a report, beside those that were there before and what the threads told; or None."""
+    """What is wrong with the units of a report, beside those that were there before and what the threads told; or
+    None."""
     if faults:
         return f"the report has {faults[:3]}"
     begun, ended = numbers(data)

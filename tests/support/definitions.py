@@ -1,6 +1,6 @@
 #!/usr/bin/env python3
-"""Makes docs/DEFINITIONS.md, which lists the crates that have definitions, and of the comments in specs/ a page of docs/definitions for
-each of them. The pages are not kept in git.
+"""Makes docs/DEFINITIONS.md, which lists the crates that have definitions, and of the comments in specs/ a page of
+docs/definitions for each of them. The pages are not kept in git.
 
     tests/support/definitions.py [--write]
 
@@ -23,25 +23,31 @@ MOST_SIGNS = 110
 HEAD = """\
 # The definitions
 
-The definitions that contracts cite have a page for each crate. The pages are not in git. This makes them, in `docs/definitions`:
+The definitions that contracts cite have a page for each crate. The pages are not in git. This makes them, in
+`docs/definitions`:
 
     tests/support/definitions.py --write
 
-They are made of the comments in `specs/`. A page has every module of `specs/`: its name, what it is about, and its definitions in the order of
-the file, each with the first sentence of its comment. It leaves out those that no contract names, and no definition of another crate: they
-are parts of those that are listed. The comment in the file says each in full.
+They are made of the comments in `specs/`. A page has every module of `specs/`: its name, what it is about, and its
+definitions in the order of the file, each with the first sentence of its comment. It leaves out those that no contract
+names, and no definition of another crate: they are parts of those that are listed. The comment in the file says each in
+full.
 
-A definition says what is meant, and never how the code finds it. `MACHINE.md` explains the machine; read it first.
-What is proved of the definitions: `PROVED.md`.
+A definition says what is meant, and never how the code finds it. `MACHINE.md` explains the machine; read it first. What
+is proved of the definitions: `PROVED.md`.
 
 These crates have a page, in the order of `ARCHITECTURE.md`:
 
 """
 
 # The head of a definition that others may name.
-PUBLIC = re.compile(r"^(?:(?:abbrev|unfoldable|plain|opaque) )*pub (?:(?:abbrev|unfoldable|plain|opaque|record|data) )*([^\W\d][\w']*)")
+PUBLIC = re.compile(
+    r"^(?:(?:abbrev|unfoldable|plain|opaque) )*pub (?:(?:abbrev|unfoldable|plain|opaque|record|data) )*([^\W\d][\w']*)"
+)
 # What names definitions: in antt and in contracts.
-IMPORT = re.compile(r"^(pub |ghost |pub ghost )?use (?:Rattle\.)?(?:(\w+)\.)?specs\.([\w.]+)\.\{([^}]*)\}", re.MULTILINE)
+IMPORT = re.compile(
+    r"^(pub |ghost |pub ghost )?use (?:Rattle\.)?(?:(\w+)\.)?specs\.([\w.]+)\.\{([^}]*)\}", re.MULTILINE
+)
 
 
 def crates():
@@ -52,8 +58,8 @@ def crates():
 
 
 def names_in(text, with_public):
-    """Which definitions a file brings in to name them, and those for others where that is wanted: the crate, or None for its own, the
-    module and the name."""
+    """Which definitions a file brings in to name them, and those for others where that is wanted: the crate, or None
+    for its own, the module and the name."""
     for kind, crate, module, names in IMPORT.findall(text):
         if with_public or not kind.startswith("pub"):
             for name in names.split(","):
@@ -89,8 +95,8 @@ def in_short(comment):
 
 
 def definitions(text):
-    """The name and the comment of each definition of a module that others may name. Those without a line between them, and with no
-    comment of their own, share the comment of the first."""
+    """The name and the comment of each definition of a module that others may name. Those without a line between them,
+    and with no comment of their own, share the comment of the first."""
     lines, shared = text.split("\n"), ""
     for place, line in enumerate(lines):
         found = PUBLIC.match(line)
@@ -124,7 +130,8 @@ def wrapped(entry):
 
 
 def module_lines(crate, file, used):
-    """The lines of a module, or none where nothing of it is listed. One in a room has the room's name before its own."""
+    """The lines of a module, or none where nothing of it is listed. One in a room has the room's name before its
+    own."""
     text = file.read_text()
     module = ".".join(file.relative_to(ROOT / "crates" / crate / "specs").with_suffix("").parts)
     begin = re.match(r"(?:--.*\n)*", text)
@@ -143,7 +150,9 @@ def pages():
     """The page of each crate of which anything is listed, by the name of the crate."""
     used = named()
     for crate in crates():
-        modules = [module_lines(crate, file, used) for file in sorted((ROOT / "crates" / crate / "specs").glob("**/*.antt"))]
+        modules = [
+            module_lines(crate, file, used) for file in sorted((ROOT / "crates" / crate / "specs").glob("**/*.antt"))
+        ]
         if any(modules):
             lines = [f"# The definitions of `{crate}`", *(line for module in modules for line in module)]
             yield crate, "\n".join(lines) + "\n"

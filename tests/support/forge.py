@@ -99,7 +99,8 @@ class Forge(Words):
         return record
 
     def single_words(self, bucket, units):
-        """The words that are packed with these units, disabled after that (in version 2: frozen), and before any were packed."""
+        """The words that are packed with these units, disabled after that (in version 2: frozen), and before any were
+        packed."""
         packed = bucket * 2**32 + units
         return (packed, TOP + bucket, NOTHING_PACKED) if self.version == 1 else (packed, TOP + packed, TOP)
 
@@ -124,7 +125,9 @@ class Forge(Words):
         if single not in (0, nothing_packed):
             record.named = bucket
             total = counts[bucket] + kept
-            self.store(at + 10, chance.choice([0, 0, total, total // 2, max(total, 65_535) if self.version == 1 else total]))
+            self.store(
+                at + 10, chance.choice([0, 0, total, total // 2, max(total, 65_535) if self.version == 1 else total])
+            )
             if record.counts:
                 self.store(record.counts + 4 + n + bucket, chance.choice([0, 0, 0, 2**64 - 1]))
         self.store(at + 8, record.counts, single)
@@ -247,7 +250,9 @@ def counts_size(forge, record):
         needed = 4 + 2 * record.n
         rest = forge.free - record.counts
         room = forge.page - record.counts % forge.page
-        forge.store(record.counts, forge.chance.choice([needed - 1, needed - 1, needed, 4, 0, rest, rest + 1, room, room + 1]))
+        forge.store(
+            record.counts, forge.chance.choice([needed - 1, needed - 1, needed, 4, 0, rest, rest + 1, room, room + 1])
+        )
 
 
 def counts_header(forge, record):
@@ -413,8 +418,12 @@ def sample_fault(forge, record):
 
 def near(forge):
     """A value that stands near some limit."""
-    edges = [0, 1, 2, 3, 5, 12, 15, 16, 64, 128, 1000, 65_535, 65_536, 2**31 - 1, 2**31, MOST_UNITS, 2**32, TOP, 2**64 - 1]
-    edges += [forge.free, len(forge.words), forge.page, BLOCK_COOKIE, NOTHING_PACKED, 2**32 + 1, 2**33 + 65_536, MOST_SUM]
+    edges = [
+        0, 1, 2, 3, 5, 12, 15, 16, 64, 128, 1000, 65_535, 65_536, 2**31 - 1, 2**31, MOST_UNITS, 2**32, TOP, 2**64 - 1,
+    ]
+    edges += [
+        forge.free, len(forge.words), forge.page, BLOCK_COOKIE, NOTHING_PACKED, 2**32 + 1, 2**33 + 65_536, MOST_SUM,
+    ]
     edges += [record.at for record in forge.histograms]
     return forge.chance.choice(edges) + forge.chance.choice([-5, -4, -1, 0, 0, 0, 1, 2])
 
@@ -436,7 +445,9 @@ def break_list(forge):
     at = chance.choice(records)
     room = forge.page - at % forge.page
     ways = {
-        3: [at, chance.choice(records), 0, 13, 15, 2**64 - 4, forge.free - 5, forge.free - 4, forge.free, at + 1, QUEUE],
+        3: [
+            at, chance.choice(records), 0, 13, 15, 2**64 - 4, forge.free - 5, forge.free - 4, forge.free, at + 1, QUEUE,
+        ],
         1: [0, 2**64 - 1, BLOCK_COOKIE + 1],
         0: [0, 4, forge.free - at, forge.free - at + 1, room, room + 1, room + 1],
     }

@@ -1,4 +1,5 @@
-"""Images of version 2 that are generated from a seed and may be adopted, and then mostly one or two reasons why they may not.
+"""Images of version 2 that are generated from a seed and may be adopted, and then mostly one or two reasons why they
+may not.
 
 `image_of(chance)` gives the bytes of one; the same random numbers give the same bytes.
 """
@@ -98,7 +99,10 @@ def counts_of_another(made):
 
 def word_behind(made):
     if made.free < len(made.words):
-        made.store(made.chance.choice([made.free, len(made.words) - 1, made.chance.randrange(made.free, len(made.words))]), made.chance.choice([1, 2**63]))
+        made.store(
+            made.chance.choice([made.free, len(made.words) - 1, made.chance.randrange(made.free, len(made.words))]),
+            made.chance.choice([1, 2**63]),
+        )
 
 
 def too_little_room(made):
@@ -111,7 +115,9 @@ def too_little_room(made):
 def another_tail(made):
     """No record, or one that is not the last, as a stop may leave it."""
     listed = [record.at for record in made.histograms + made.samples]
-    made.tail = made.chance.choice([0, 13, made.tail + 1, 2**64 - 1, made.free, layout.QUEUE, made.chance.choice(listed)])
+    made.tail = made.chance.choice(
+        [0, 13, made.tail + 1, 2**64 - 1, made.free, layout.QUEUE, made.chance.choice(listed)]
+    )
 
 
 def later_sample(made):

@@ -3,8 +3,8 @@
 
     tests/support/layers.py
 
-It prints each crate with its depth: 1 for one that stands on no other crate of the workspace, and one more for each on the longest way
-down. Where a crate that reads stands on the machine it says by which way, and the status is 1.
+It prints each crate with its depth: 1 for one that stands on no other crate of the workspace, and one more for each on
+the longest way down. Where a crate that reads stands on the machine it says by which way, and the status is 1.
 """
 
 import functools
@@ -16,7 +16,10 @@ from support.made import ROOT
 
 LIST = ROOT / "crates.txt"
 # What a change of the machine must not prove again: nothing of it says what actors do.
-READING = ["image_reader", "reading_texts", "reading_shows", "persist_report_core", "segment_search", "fault_texts", "schedule"]
+READING = [
+    "image_reader", "reading_texts", "reading_shows", "persist_report_core", "segment_search", "fault_texts",
+    "schedule",
+]
 MACHINE = ["segment_machine", "segment_invariant", "segment_promises"]
 
 
@@ -55,8 +58,8 @@ def difference(text=None):
 
 
 def let_through():
-    """The lists that have to be refused and are not, or None: of each crate that reads, where it stands on the machine itself or by a
-    crate below it; and where the list lacks one."""
+    """The lists that have to be refused and are not, or None: of each crate that reads, where it stands on the machine
+    itself or by a crate below it; and where the list lacks one."""
     text = LIST.read_text()
     wrong = [f"{text}between: {below}\n".replace(f"\n{crate}: ", f"\n{crate}: {by} ")
              for crate in READING for below in MACHINE for by in (below, "between")]

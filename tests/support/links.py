@@ -9,7 +9,9 @@ LINK = re.compile(r"\]\(([^)#\s]+)[^)]*\)")
 
 
 def documents():
-    places = ("*.md", "docs/**/*.md", "crates/*/*.md", "c/**/*.md", "bench/**/*.md", "examples/**/*.md", "tests/**/*.md")
+    places = (
+        "*.md", "docs/**/*.md", "crates/*/*.md", "c/**/*.md", "bench/**/*.md", "examples/**/*.md", "tests/**/*.md",
+    )
     return sorted(file for place in places for file in ROOT.glob(place) if definitions.PAGES not in file.parents)
 
 

@@ -8,13 +8,15 @@ ROOT = pathlib.Path(__file__).resolve().parents[2]
 
 
 def difference(documents, source, folder=None):
-    """Where the files differ from these documents, by their paths, or a file of the folder is none of them; or None. `source` names what
-    they are made of."""
+    """Where the files differ from these documents, by their paths, or a file of the folder is none of them; or None.
+    `source` names what they are made of."""
     there = sorted(folder.glob("*")) if folder else []
     came = [f"{path.relative_to(ROOT)} is made of nothing" for path in there if path not in documents]
     for path, text in documents.items():
         found = path.read_text() if path.is_file() else ""
-        came += difflib.unified_diff(found.splitlines(), text.splitlines(), str(path.relative_to(ROOT)), source, "", "", 0, "")
+        came += difflib.unified_diff(
+            found.splitlines(), text.splitlines(), str(path.relative_to(ROOT)), source, "", "", 0, ""
+        )
     return "\n".join(came) or None
 
 
@@ -25,7 +27,8 @@ def write(documents):
 
 
 def run(arguments, usage, documents, source, folder=None):
-    """The program of a script: with --write it writes the files; without, it says what differs, and the status is 1 where anything does."""
+    """The program of a script: with --write it writes the files; without, it says what differs, and the status is 1
+    where anything does."""
     if arguments == ["--write"]:
         write(documents)
         return 0

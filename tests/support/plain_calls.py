@@ -1,12 +1,15 @@
-"""The calls of the stepped world in plain Python, an event at a time, to know which events are exchanges and what those want.
+"""The calls of the stepped world in plain Python, an event at a time, to know which events are exchanges and what those
+want.
 
-It is written after docs/FORMAT.md and shares nothing with the program. A call is a generator of what its events do. It is sent what each
-event found. The events of a delta or a snapshot are not told here: no event of theirs is an exchange.
+It is written after docs/FORMAT.md and shares nothing with the program. A call is a generator of what its events do. It
+is sent what each event found. The events of a delta or a snapshot are not told here: no event of theirs is an exchange.
 """
 
 from support.layout import BLOCK_COOKIE as CLAIMED
 from support.layout import BLOCK_HEADER as HEADER
-from support.layout import COOKIE, CORRUPT, FLAGS, FREE, FULL, HISTOGRAM, NEXT, QUEUE, SAMPLE, SIZE, TAIL, TOP, TYPE, WASTED, WORD
+from support.layout import (
+    COOKIE, CORRUPT, FLAGS, FREE, FULL, HISTOGRAM, NEXT, QUEUE, SAMPLE, SIZE, TAIL, TOP, TYPE, WASTED, WORD,
+)
 from support.layout import COUNTS as OF_COUNTS
 from support.plain_tally import Histogram, boundaries_of
 
@@ -90,7 +93,8 @@ def spec_words(spec):
     """The kind, the least value, the greatest, the number of buckets, and the ranges of a custom histogram."""
     kind, *numbers = spec
     buckets = max(len(boundaries_of(spec)) - 1, 0)
-    low, high = {"linear": numbers[:2], "boolean": [1, 2], "sparse": [0, 0]}.get(kind) or [min(n for n in numbers if n), max(numbers)]
+    ends = {"linear": numbers[:2], "boolean": [1, 2], "sparse": [0, 0]}.get(kind)
+    low, high = ends or [min(n for n in numbers if n), max(numbers)]
     ranges = boundaries_of(spec)[1:-1] if kind == "custom" else []
     return [KINDS[kind], low, high, buckets], ranges
 
@@ -260,7 +264,8 @@ class Calls:
         self.running[actor] = call(self.world, self.known.get(actor, {}), self.records[number - 1]), None
 
     def step(self, actor, words, change):
-        """What an actor's call does by its next event, or None if it is not told. The event changed this, and is to have changed no more."""
+        """What an actor's call does by its next event, or None if it is not told. The event changed this, and is to
+        have changed no more."""
         events, found = self.running[actor]
         if events is None:
             return None

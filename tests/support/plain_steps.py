@@ -1,4 +1,5 @@
-"""A plain picture of a schedule, made of its records and of the lines that its replay has to write, to compare `stepped --show` with.
+"""A plain picture of a schedule, made of its records and of the lines that its replay has to write, to compare `stepped
+--show` with.
 
 It is written after docs/STEPPED.md, "The picture of a replayed schedule", and shares nothing with the program.
 """
@@ -14,7 +15,10 @@ COLUMN = 32
 HEADER = {6: "flags", 7: "free", 8: "tail", 15: "queue.next"}
 COMMON = ["size", "cookie", "type", "next"]
 FIELDS = {
-    HISTOGRAM: [*COMMON, "kind", "min", "max", "buckets", "counts", "single", "single_mark", "sum", "sum_mark", "redundant", "name_length"],
+    HISTOGRAM: [
+        *COMMON, "kind", "min", "max", "buckets", "counts", "single", "single_mark", "sum", "sum_mark", "redundant",
+        "name_length",
+    ],
     SAMPLE: [*COMMON, "histogram", "value", "count", "mark"],
 }
 

@@ -46,7 +46,12 @@ def explained(text: str, status: int, lines: Iterable[str]) -> Answer:
     """The answer that tells a fault and then these lines, and then what it means and what to do."""
     meant = {name: (meaning, remedy) for name, meaning, remedy in faults.texts()}
     name = next(word for word in reversed(text.split()) if word in meant)
-    return Answer(error="".join(f"{line}\n" for line in (f"persist_report: {text}", *(f"  {more}" for more in (*lines, *meant[name])))).encode(), status=status)
+    return Answer(
+        error="".join(
+            f"{line}\n" for line in (f"persist_report: {text}", *(f"  {more}" for more in (*lines, *meant[name])))
+        ).encode(),
+        status=status,
+    )
 
 
 def answer(program: Path, words: Iterable[Word], data: bytes = b"", **settings: Any) -> Answer:

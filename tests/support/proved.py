@@ -3,12 +3,12 @@
 
     tests/support/proved.py [--write]
 
-A doc comment names the clauses of its function in brackets, each behind a sentence that it carries: 'Returns the bucket of the value
-[bucket].' A clause that stands alone needs no name, and then the whole comment is its sentence. A clause without a bracket is refused,
-and so is a bracket without a clause.
+A doc comment names the clauses of its function in brackets, each behind a sentence that it carries: 'Returns the bucket
+of the value [bucket].' A clause that stands alone needs no name, and then the whole comment is its sentence. A clause
+without a bracket is refused, and so is a bracket without a clause.
 
-With --write it writes the pages. Without, it says what differs in the pages that are there, and what was refused; the status is 1 where
-anything was.
+With --write it writes the pages. Without, it says what differs in the pages that are there, and what was refused; the
+status is 1 where anything was.
 """
 
 from __future__ import annotations
@@ -93,9 +93,14 @@ def comment_above(lines, place):
 
 
 def head_from(lines, place):
-    """The head of the function that begins on a line, on one line and without its type parameters, and the line behind it."""
+    """The head of the function that begins on a line, on one line and without its type parameters, and the line behind
+    it."""
     head = lines[place].strip()
-    while not re.search(r"[{;]$|\{\}$", head) and CLAUSE.match(lines[place + 1]) is None and lines[place + 1].strip() not in ("{", "{}"):
+    while (
+        not re.search(r"[{;]$|\{\}$", head)
+        and CLAUSE.match(lines[place + 1]) is None
+        and lines[place + 1].strip() not in ("{", "{}")
+    ):
         place += 1
         head += " " + lines[place].strip()
     head = re.sub(r"^(?:pub |const |unsafe |extern \"C\" )*fn (\w+)(?:<.*?>)?\(", r"\1(", head.rstrip("{; "))
@@ -187,7 +192,8 @@ def said_of(definition):
 
 
 def clause_entry(clause, function, told):
-    """A clause as it stands, where it is short, and what the definitions that it names say, where they were not told yet."""
+    """A clause as it stands, where it is short, and what the definitions that it names say, where they were not told
+    yet."""
     cited = {}
     for name in dict.fromkeys(NAME.findall(clause.text)):
         if name in function.names and (said := said_of(function.names[name])) is not None:

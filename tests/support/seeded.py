@@ -1,4 +1,5 @@
-"""Lawful scripts that are generated from a seed: all kinds of histograms, in segments with room to spare for up to 16 workers."""
+"""Lawful scripts that are generated from a seed: all kinds of histograms, in segments with room to spare for up to 16
+workers."""
 
 from __future__ import annotations
 
@@ -121,12 +122,15 @@ def calls_of(chance: random.Random, histograms: dict[str, Histogram], most: int)
 
 
 def blocks_of(histograms: dict[str, Histogram], calls: list[ScriptCall]) -> Iterator[int]:
-    """The words of the blocks that a segment may need: where workers meet, each makes a block, and one of these is used."""
+    """The words of the blocks that a segment may need: where workers meet, each makes a block, and one of these is
+    used."""
     for name, one in histograms.items():
         own = len(one.boundaries) - 2 if one.kind == "custom" else 0
         yield 16 + -(-len(name) // 8) + own
         if one.kind == "sparse":
-            yield from (8 for _ in range(MOST_WORKERS * len({call[1] for call in calls if call[0] == name and call[1:]})))
+            yield from (
+                8 for _ in range(MOST_WORKERS * len({call[1] for call in calls if call[0] == name and call[1:]}))
+            )
         else:
             yield from (4 + 2 * (len(one.boundaries) - 1) for _ in range(MOST_WORKERS))
 

@@ -1,7 +1,7 @@
 """Schedules of the stepped world that are generated from a seed, and what the lines of one say of its calls.
 
-A schedule is made a round at a time, in which each actor begins a call or continues by a few events; then it is replayed, to
-know which calls have ended. So no record of it is a fault.
+A schedule is made a round at a time, in which each actor begins a call or continues by a few events; then it is
+replayed, to know which calls have ended. So no record of it is a fault.
 """
 
 import collections
@@ -12,7 +12,10 @@ from support.plain_tally import Histogram
 
 LEAST_VALUE = -(2**31)
 SHAPES = [(64, 64), (128, 64), (128, 128), (192, 64), (256, 128), (512, 64)]
-SPECS = [("linear", 1, 10, 5), ("linear", 1, 4, 4), ("boolean",), ("custom", 7), ("custom", 3, 100), ("sparse",), ("sparse",)]
+SPECS = [
+    ("linear", 1, 10, 5), ("linear", 1, 4, 4), ("boolean",), ("custom", 7), ("custom", 3, 100), ("sparse",),
+    ("sparse",),
+]
 NAMES = ["A", "B", "S", "a-long-name"]
 VALUES = [LEAST_VALUE, -5, -1, 0, 1, 1, 2, 3, 5, 7, 10, 100, GREATEST]
 COUNTS = [0, 1, 1, 1, 1, 2, 3, 65_534, 65_535, 65_536, 2**31]
@@ -23,7 +26,8 @@ COUNTING = ("add", "batch")
 
 
 class Schedule:
-    """A schedule: the shape, the id and the version of its segment, how many actors there are, and the later records."""
+    """A schedule: the shape, the id and the version of its segment, how many actors there are, and the later
+    records."""
 
     def __init__(self, size, page, segment_id, actors, version):
         self.size = size
@@ -52,7 +56,8 @@ class Running:
 
 
 class Done:
-    """What the lines of a schedule say was done up to an event: the words, and the calls that run and that were accepted.
+    """What the lines of a schedule say was done up to an event: the words, and the calls that run and that were
+    accepted.
 
     `lines` are those up to the answer after the event; with -1 events they are all.
     """
@@ -147,7 +152,8 @@ def call_of(chance, actor, specs, known):
 
 
 def schedule_of(chance, replay, versions=(1, 2)):
-    """A schedule without a fault of one of some versions, and the answer to it. `replay` gives the answer to the text of one."""
+    """A schedule without a fault of one of some versions, and the answer to it. `replay` gives the answer to the text
+    of one."""
     size, page = chance.choice(SHAPES)
     schedule = Schedule(size, page, chance.choice([0, 7, 2**64 - 1]), chance.randrange(1, 6), chance.choice(versions))
     specs = {name: chance.choice(SPECS) for name in NAMES}

@@ -1,5 +1,5 @@
-"""`examples/cpp/service.cpp`, run against files that a release, a fault or a disk left it. Whatever it finds, it answers requests until it is told
-to end, and says what it could not record.
+"""`examples/cpp/service.cpp`, run against files that a release, a fault or a disk left it. Whatever it finds, it
+answers requests until it is told to end, and says what it could not record.
 """
 
 import os
@@ -69,7 +69,8 @@ class Service:
         program.write_text(
             "#include <povundiri.hpp>\n"
             "int main(int, char** words) {\n"
-            "    auto opened = povundiri::Segment::open(words[1], povundiri::shape(65536, 4096, 7), povundiri::Policy::AdoptOrFail);\n"
+            "    auto shape = povundiri::shape(65536, 4096, 7);\n"
+            "    auto opened = povundiri::Segment::open(words[1], shape, povundiri::Policy::AdoptOrFail);\n"
             "    povundiri::Recorder recorder = opened.segment.recorder();\n"
             f"    {source}\n"
             "}\n"
@@ -79,7 +80,8 @@ class Service:
 
 
 def counts(said):
-    """How many requests were answered and how many of them not recorded, as the service says at its end; None if it does not."""
+    """How many requests were answered and how many of them not recorded, as the service says at its end; None if it
+    does not."""
     found = re.search(r"^served: (\d+), not recorded: (\d+)$", said, re.MULTILINE)
     return None if found is None else (int(found[1]), int(found[2]))
 
@@ -112,7 +114,12 @@ def has_another_spec(service):
     file = service.made("spec.seg", 'recorder.add_or_throw(recorder.linear("latency_us", 1, 500, 10), 17);')
     said, errors = service.ended(file)
     served, missed = counts(said) or (0, 0)
-    wrong = served < ENOUGH or missed != served or "latency_us is not recorded: OtherSpec" not in errors or service.recorded(file) != 1
+    wrong = (
+        served < ENOUGH
+        or missed != served
+        or "latency_us is not recorded: OtherSpec" not in errors
+        or service.recorded(file) != 1
+    )
     return f"{said} {errors}" if wrong else None
 
 
@@ -126,7 +133,11 @@ def has_few_units(service):
     if wrong:
         return f"{said} {errors} {service.recorded(file)}"
     said, errors = service.ended(file)
-    return None if f"{file} is full" in said and counts(said) and counts(said)[0] == counts(said)[1] else f"spent: {said} {errors}"
+    return (
+        None
+        if f"{file} is full" in said and counts(said) and counts(said)[0] == counts(said)[1]
+        else f"spent: {said} {errors}"
+    )
 
 
 def is_damaged(service):
@@ -139,7 +150,13 @@ def is_damaged(service):
     said, errors = service.ended(file)
     served, missed = counts(said) or (0, 0)
     aside = re.search(r"^set aside as (.*): BadFree$", said, re.MULTILINE)
-    wrong = errors or aside is None or pathlib.Path(aside[1]).read_bytes() != was or missed != 0 or service.recorded(file) != served
+    wrong = (
+        errors
+        or aside is None
+        or pathlib.Path(aside[1]).read_bytes() != was
+        or missed != 0
+        or service.recorded(file) != served
+    )
     return f"{said} {errors}" if wrong or served < ENOUGH else None
 
 
@@ -155,7 +172,11 @@ def has_a_full_disk(service):
         return f"{said} {errors}"
     # With room again, it takes what was left there as new.
     said, errors = service.ended(file)
-    return f"behind the full disk: {said} {errors}" if errors or service.recorded(file) != (counts(said) or (0, 0))[0] else None
+    return (
+        f"behind the full disk: {said} {errors}"
+        if errors or service.recorded(file) != (counts(said) or (0, 0))[0]
+        else None
+    )
 
 
 TESTS = (

@@ -7,10 +7,13 @@ docs/definitions for each of them. The pages are not kept in git.
 With --write it writes the files. Without, it says where docs/DEFINITIONS.md differs, and the status is 1 if it does.
 """
 
+from __future__ import annotations
+
 import pathlib
 import re
 import sys
 import textwrap
+from collections.abc import Collection, Iterable, Iterator, Sequence
 
 sys.path.insert(0, str(pathlib.Path(__file__).resolve().parents[1]))
 from support import made
@@ -50,14 +53,14 @@ IMPORT = re.compile(
 )
 
 
-def crates():
+def crates() -> list[str]:
     """The crates that have definitions, in the order of docs/ARCHITECTURE.md, and then those that it does not have."""
     listed = re.findall(r"^\| `(\w+)` \|", (ROOT / "docs" / "ARCHITECTURE.md").read_text(), re.MULTILINE)
     every = sorted(folder.parent.name for folder in (ROOT / "crates").glob("*/specs"))
     return sorted(every, key=lambda name: (listed.index(name) if name in listed else len(listed), name))
 
 
-def names_in(text, with_public):
+def names_in(text: str, with_public: bool) -> Iterator[tuple[str | None, str, str]]:
     """Which definitions a file brings in to name them, and those for others where that is wanted: the crate, or None
     for its own, the module and the name."""
     for kind, crate, module, names in IMPORT.findall(text):
@@ -66,9 +69,9 @@ def names_in(text, with_public):
                 yield crate or None, module, name.split(" as ")[0].strip()
 
 
-def named():
+def named() -> set[tuple[str, str, str]]:
     """The definitions that a contract names, or a definition of another crate: crate, module and name."""
-    found = set()
+    found: set[tuple[str, str, str]] = set()
     for folder in (ROOT / "crates").iterdir():
         for file in [*folder.glob("src/**/*.rt"), *folder.glob("specs/**/*.antt")]:
             prelude = file.name == "Prelude.antt"  # the words that the contracts of a folder name
@@ -78,7 +81,7 @@ def named():
     return found
 
 
-def comment_above(lines, place):
+def comment_above(lines: Sequence[str], place: int) -> str:
     """The comment that ends above a line: one paragraph."""
     start = place
     while start > 0 and lines[start - 1].startswith("--") and not lines[start - 1].startswith("-- --"):
@@ -86,7 +89,7 @@ def comment_above(lines, place):
     return " ".join(line[2:].strip() for line in lines[start:place])
 
 
-def in_short(comment):
+def in_short(comment: str) -> str:
     """The first sentence, or the whole where it is short, without a sign at the end."""
     whole = comment.replace("`", "").strip()
     if len(whole) > MOST_SIGNS:
@@ -94,7 +97,7 @@ def in_short(comment):
     return whole.rstrip(".:;")
 
 
-def definitions(text):
+def definitions(text: str) -> Iterator[tuple[str, str]]:
     """The name and the comment of each definition of a module that others may name. Those without a line between them,
     and with no comment of their own, share the comment of the first."""
     lines, shared = text.split("\n"), ""
@@ -107,7 +110,7 @@ def definitions(text):
         yield found[1], shared
 
 
-def grouped(listed):
+def grouped(listed: Iterable[tuple[str, str]]) -> list[tuple[list[str], str]]:
     """Definitions with one comment between them stand in one entry."""
     groups: list[tuple[list[str], str]] = []
     for name, comment in listed:
@@ -118,7 +121,7 @@ def grouped(listed):
     return groups
 
 
-def wrapped(entry):
+def wrapped(entry: str) -> list[str]:
     """The lines of an entry of a list."""
     lines, line = [], "-"
     for word in entry.split():
@@ -129,7 +132,7 @@ def wrapped(entry):
     return [*lines, line]
 
 
-def module_lines(crate, file, used):
+def module_lines(crate: str, file: pathlib.Path, used: Collection[tuple[str, str, str]]) -> list[str]:
     """The lines of a module, or none where nothing of it is listed. One in a room has the room's name before its
     own."""
     text = file.read_text()
@@ -146,7 +149,7 @@ def module_lines(crate, file, used):
     return lines
 
 
-def pages():
+def pages() -> Iterator[tuple[str, str]]:
     """The page of each crate of which anything is listed, by the name of the crate."""
     used = named()
     for crate in crates():
@@ -158,13 +161,13 @@ def pages():
             yield crate, "\n".join(lines) + "\n"
 
 
-def index():
+def index() -> made.Documents:
     """The document that says how the pages are made, and of which crates, by its path."""
     crates_in_a_row = " ".join(f"`{crate}`" for crate, _ in pages())
     return {DOCUMENT: HEAD + "\n".join(textwrap.wrap(crates_in_a_row, WIDTH)) + "\n"}
 
 
-def difference():
+def difference() -> str | None:
     """Where that document differs, or None. To say which crates have a page, all pages are made."""
     return made.difference(index(), "specs/")
 

@@ -6,7 +6,6 @@ The programs are in `tests/c`. Each prints a line for each group of its checks.
 
 import pathlib
 import re
-import subprocess
 import tempfile
 
 from support import compiling, native, services
@@ -14,7 +13,6 @@ from support.program import ROOT, Answer, answer, difference
 
 PROGRAM = "persist_report"
 NO_EXCEPTIONS = "-fno-exceptions"
-MOST_SECONDS = 300
 # A source, more flags, and whether it is given a folder to work in.
 CHECKS = (
     ("every_call.c", [], False),
@@ -47,16 +45,11 @@ def checked(installed, name, flags, folder):
     title = " ".join([name, *flags])
     try:
         program = installed.program(native.PROGRAMS / name, *native.SANITIZED, *flags)
-        words = [program] if folder is None else [program, folder]
-        done = subprocess.run(
-            words, capture_output=True, text=True, timeout=MOST_SECONDS, env={"ASAN_OPTIONS": "detect_leaks=1"}
-        )
     except native.Failed as why:
         yield title, str(why)
         return
-    for group, wrong in native.groups(done.stdout):
-        yield f"{title}, {group}", wrong
-    yield f"{title}, its end", None if done.returncode == 0 else f"status {done.returncode}: {done.stderr[-1500:]}"
+    words = [program] if folder is None else [program, folder]
+    yield from native.checks_of(title, words, {"ASAN_OPTIONS": "detect_leaks=1"})
 
 
 def exported(installed):

@@ -16,7 +16,7 @@ import time
 
 from parts.kills import LIVES, SHAPES
 from support import bounds, memory_dump, native
-from support.program import answer
+from support.program import answer, untried
 
 PROGRAM = "persist_report"
 CHAINS = 8
@@ -106,4 +106,6 @@ def stopped(killed, folder, program, options):
 
 
 def cases(program, options):
+    if not memory_dump.can_read():
+        return iter([untried(memory_dump.NOT_ALLOWED, options)])
     return native.cases_of("killed.cpp", lambda killed, folder: stopped(killed, folder, program, options))

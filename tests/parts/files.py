@@ -43,15 +43,12 @@ def checked(installed, name, flags, replaced):
     """The cases of one program."""
     try:
         program = installed.with_file_layer(native.PROGRAMS / name, native.compiler(".c"), flags, replaced)
-        with tempfile.TemporaryDirectory() as folder:
-            settings = {**os.environ, "ASAN_OPTIONS": "detect_leaks=1", "TSAN_OPTIONS": "halt_on_error=1"}
-            done = subprocess.run([program, folder], capture_output=True, text=True, timeout=MOST_SECONDS, env=settings)
-    except (native.Failed, subprocess.TimeoutExpired) as why:
+    except native.Failed as why:
         yield name, str(why)
         return
-    for group, wrong in native.groups(done.stdout):
-        yield f"{name}, {group}", wrong
-    yield f"{name}, its end", None if done.returncode == 0 else f"status {done.returncode}: {done.stderr[-1500:]}"
+    settings = {**os.environ, "ASAN_OPTIONS": "detect_leaks=1", "TSAN_OPTIONS": "halt_on_error=1"}
+    with tempfile.TemporaryDirectory() as folder:
+        yield from native.checks_of(name, [program, folder], settings)
 
 
 def has_fuzzer(folder):

@@ -12,6 +12,22 @@ from typing import Any
 Process = subprocess.Popen[Any]
 
 
+NOT_ALLOWED = "no program may read another's memory here"
+
+
+def can_read() -> bool:
+    """Whether the memory of a child may be read here."""
+    with subprocess.Popen(["sleep", "60"]) as running:
+        try:
+            stop(running)
+            write(running, os.devnull)
+            return True
+        except (OSError, ValueError):
+            return False
+        finally:
+            running.kill()
+
+
 def stop(process: Process) -> None:
     """Stops all threads of a child; returns when they have stopped."""
     os.kill(process.pid, signal.SIGSTOP)

@@ -9,7 +9,7 @@ import shlex
 import shutil
 import subprocess
 import tempfile
-from collections.abc import Callable, Iterable, Iterator
+from collections.abc import Callable, Iterable, Iterator, Mapping
 from typing import Any
 
 from support.program import ROOT, Case, Path, Word
@@ -66,6 +66,19 @@ def groups(said: str) -> Iterator[Case]:
             failed = []
         else:
             failed.append(line)
+
+
+def checks_of(title: str, words: Iterable[Path], setting: Mapping[str, str]) -> Iterator[Case]:
+    """The cases of a program that checks something: each group of its checks, and its end, before which one was run."""
+    try:
+        done = subprocess.run([*words], capture_output=True, text=True, timeout=MOST_SECONDS, env=setting)
+    except subprocess.TimeoutExpired as why:
+        yield title, str(why)
+        return
+    checked = [*groups(done.stdout)]
+    yield from ((f"{title}, {group}", wrong) for group, wrong in checked)
+    wrong = None if done.returncode == 0 else f"status {done.returncode}: {done.stderr[-1500:]}"
+    yield f"{title}, its end", wrong or (None if checked else "no group of checks was run")
 
 
 class Installed:

@@ -14,7 +14,7 @@ from support.program import ROOT, Answer, answer, difference
 PROGRAM = "persist_report"
 NO_EXCEPTIONS = "-fno-exceptions"
 # A source, more flags, and whether it is given a folder to work in.
-CHECKS = (
+CHECKS: tuple[tuple[str, list[str], bool], ...] = (
     ("every_call.c", [], False),
     ("every_call.cpp", [], False),
     ("every_call.cpp", [NO_EXCEPTIONS], False),

@@ -1,12 +1,18 @@
 """Documents that are made of the sources are what these say now, links lead to files that are there, the crates that
 read stand free of the machine, and the Python of tests/ and bench/ is clean. No program is run."""
 
+from __future__ import annotations
+
+import argparse
+from collections.abc import Iterator
+
 from support import definitions, faults, layers, linted, links, proved
+from support.program import Case
 
 PROGRAM = None
 
 
-def cases(_program, _options):
+def cases(_program: None, _options: argparse.Namespace) -> Iterator[Case]:
     yield "docs/DEFINITIONS.md, which tests/support/definitions.py --write makes anew", definitions.difference()
     yield "docs/FAULTS.md, which tests/support/faults.py --write makes anew", faults.difference()
     yield "what tests/support/proved.py refuses of a made-up file", proved.self_check()

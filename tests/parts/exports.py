@@ -61,7 +61,7 @@ NO_PREFIXES = ["", "9a", "a-b", "a b", "a.b", "\u00e9", "a{"]
 def parser():
     """The parser, or None if it is not installed."""
     try:
-        from prometheus_client.parser import text_string_to_metric_families
+        from prometheus_client.parser import text_string_to_metric_families  # type: ignore[import]
     except ImportError:
         if DEBIAN in sys.path or not pathlib.Path(DEBIAN, "prometheus_client").is_dir():
             return None

@@ -6,9 +6,15 @@ none among them, so that an index stops at each of the first records that it mee
 index is full and another is not.
 """
 
+from __future__ import annotations
+
+import argparse
+import pathlib
 import random
+from collections.abc import Iterator
 
 from parts import threads
+from support.program import Case
 
 PROGRAM = "trials"
 
@@ -21,13 +27,13 @@ OTHERS = 6
 LARGEST = 120
 
 
-def limits(seed, number):
+def limits(seed: int, number: int) -> list[int]:
     """The limits that are tried with a number of threads."""
     chance = random.Random(f"unindexed-{seed}-{number}")
     return [*range(SMALL), *(chance.randrange(SMALL, LARGEST) for _ in range(OTHERS))]
 
 
-def cases(program, options):
+def cases(program: pathlib.Path, options: argparse.Namespace) -> Iterator[Case]:
     for number in threads.THREADS:
         for place, limit in enumerate(limits(options.seed, number)):
             seed = options.seed + place * ROUNDS

@@ -17,16 +17,19 @@ IGNORED = re.findall(r"\w+", re.findall(r"^ignore = \[(.*)\]$", SETTINGS, re.MUL
 
 SCRIPTS = [f"bench/{name}" for name in ("c_recorders", "commands", "recorders", "run", "steps", "texts")]
 RUN_BY_HAND = ["tests/run", "tests/quick", *SCRIPTS]
-MODULES = ["tests/support", *(f"bench/{path.name}" for path in sorted((ROOT / "bench").glob("*.py")))]
-COMMANDS = {
-    "ruff": ["ruff", "check", "--no-cache", "tests", "bench", *RUN_BY_HAND],
+MODULES = [str(path.relative_to(ROOT)) for path in sorted((ROOT / "bench").glob("*.py"))]
+MYPY = ["mypy", "--no-incremental", "--cache-dir", "/dev/null"]
+COMMANDS = [
+    ["ruff", "check", "--no-cache", "tests", "bench", *RUN_BY_HAND],
     # E203 refuses the space before a colon in `words[at : at + 8]`.
-    "flake8": [
+    [
         *("flake8", "--isolated", f"--max-line-length={LIMIT}", f"--extend-ignore={','.join([*IGNORED, 'E203'])}"),
         *("tests", "bench", *RUN_BY_HAND),
     ],
-    "mypy": ["mypy", "--no-incremental", "--cache-dir", "/dev/null", *MODULES, *SCRIPTS],
-}
+    # Each by itself: there is a script `run` in both.
+    [*MYPY, "tests/support", "tests/parts", "tests/run", "tests/quick"],
+    [*MYPY, *MODULES, *SCRIPTS],
+]
 MOST_SECONDS = 300
 MOST_SHOWN = 3000
 
@@ -44,9 +47,9 @@ def long_lines() -> str | None:
 
 def cases() -> Iterator[Case]:
     yield "the limit of lines", long_lines()
-    for tool, words in COMMANDS.items():
-        if shutil.which(tool) is None:
-            print(f"left out: {tool} is not installed", flush=True)
+    for words in COMMANDS:
+        if shutil.which(words[0]) is None:
+            print(f"left out: {words[0]} is not installed", flush=True)
             continue
         done = subprocess.run(words, cwd=ROOT, capture_output=True, text=True, timeout=MOST_SECONDS)
-        yield tool, None if done.returncode == 0 else (done.stdout + done.stderr)[-MOST_SHOWN:]
+        yield f"{words[0]} of {words[-1]}", None if done.returncode == 0 else (done.stdout + done.stderr)[-MOST_SHOWN:]

@@ -14,6 +14,7 @@ from typing import Any
 
 from support.plain_reader import GREATEST
 from support.plain_tally import Histogram, Spec
+from support.program import Case
 
 MOST_WORKERS = 16
 MOST_UNITS = 2**32 - 1
@@ -176,8 +177,8 @@ def text_of(chance: random.Random, script: Script) -> bytes:
 
 
 def tried(
-    seeds: Collection[int], wrong_of: Callable[[int, pathlib.Path], str | None]
-) -> Iterator[tuple[int, str | None]]:
+    seeds: Collection[str], wrong_of: Callable[[str, pathlib.Path], str | None]
+) -> Iterator[Case]:
     """Each seed with what is wrong with it, or None: tried side by side, in one folder that is gone after the last."""
     with tempfile.TemporaryDirectory() as scratch, concurrent.futures.ThreadPoolExecutor(os.cpu_count()) as pool:
         folder = pathlib.Path(scratch)

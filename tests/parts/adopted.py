@@ -19,6 +19,8 @@ import random
 import tempfile
 
 from parts.schedules import FOLDER, replayed
+from parts.threads import SPECS as NEW
+from parts.threads import pairs
 from support import forge, forge_adoption, plain_adoption, plain_tally, seeded_schedules, worked_schedules
 from support.plain_reader import KINDS, MOST_BYTES, MOST_UNITS, words_of
 from support.program import answer, built
@@ -30,10 +32,6 @@ VERSION = 2
 TOGETHER = 100
 # There are so many images of each of the two kinds of forged ones for each 6 of --images.
 ENOUGH_IMAGES = 1000
-NEW = {
-    "boolean": ("boolean",), "custom": ("custom", 10, 100, 1000), "linear": ("linear", 1, 100, 20),
-    "sparse": ("sparse",),
-}
 FAULTS = ("OldVersion", "Corrupt", "Damaged", "NoUnits", "Image Deleted", None)
 FULL = 2
 
@@ -75,10 +73,6 @@ class Histogram(plain_tally.Histogram):
         return amount, units
 
 
-def pairs(numbers):
-    return list(zip(numbers[::2], numbers[1::2]))
-
-
 class Going:
     """A segment that continues with the words of an image, as the lines of `trials adopt` say it does."""
 
@@ -112,7 +106,7 @@ class Going:
 
     def delta(self, name, amount, *units):
         wanted = self.histograms[name].delta()
-        came = int(amount), pairs(list(map(int, units)))
+        came = int(amount), pairs(units)
         self.require(came == wanted, f"a delta of {name} took {came}, wanted {wanted}")
 
     def sample(self, name, value, count):
@@ -121,7 +115,7 @@ class Going:
         self.left -= int(count)
 
     def batch(self, name, amount, *items):
-        counted = pairs(list(map(int, items)))
+        counted = pairs(items)
         self.histograms[name].count(counted)
         self.histograms[name].sum += int(amount)
         self.left -= sum(count for _, count in counted)
@@ -133,16 +127,12 @@ class Going:
             self.require(name in NEW and why == "Full", f"hist of {name} is refused by {why}")
             self.met.append(name)
         if call == "batch":
-            items, counted = pairs(list(map(int, more[1:]))), int(more[0])
+            items, counted = pairs(more[1:]), int(more[0])
             self.histograms[name].count(items[:counted])
             self.left -= sum(count for _, count in items[:counted])
-        asked = (
-            sum(count for _, count in pairs(list(map(int, more[1:]))))
-            if call == "batch"
-            else int(more[0])
-            if more
-            else 0
-        )
+            asked = sum(count for _, count in items)
+        else:
+            asked = int(more[0]) if more else 0
         self.require(
             (why == "NoUnits") <= (asked > self.left), f"{call} of {name} has no units, and there are {self.left}"
         )

@@ -6,6 +6,7 @@ import os
 import pathlib
 import signal
 import subprocess
+import sys
 from collections.abc import Iterator
 from typing import Any
 
@@ -17,7 +18,7 @@ NOT_ALLOWED = "no program may read another's memory here"
 
 def can_read() -> bool:
     """Whether the memory of a child may be read here."""
-    with subprocess.Popen(["sleep", "60"]) as running:
+    with subprocess.Popen([sys.executable, "-c", "import time; time.sleep(60)"]) as running:
         try:
             stop(running)
             write(running, os.devnull)

@@ -4,15 +4,23 @@ threads that come and go; the examples, whatever they find; and the programs tha
 The programs are in `tests/c`. Each prints a line for each group of its checks.
 """
 
+from __future__ import annotations
+
+import argparse
+import functools
 import pathlib
 import re
 import tempfile
+from collections.abc import Callable, Iterator, Sequence
+from typing import Optional
 
 from support import compiling, native, services
-from support.program import ROOT, Answer, answer, difference
+from support.program import ROOT, Answer, Case, Path, answer, difference
 
 PROGRAM = "persist_report"
 NO_EXCEPTIONS = "-fno-exceptions"
+# Says what is wrong, or None.
+Test = Callable[[], Optional[str]]
 # A source, more flags, and whether it is given a folder to work in.
 CHECKS: tuple[tuple[str, list[str], bool], ...] = (
     ("every_call.c", [], False),
@@ -40,7 +48,9 @@ RECORDED = (
 )
 
 
-def checked(installed, name, flags, folder):
+def checked(
+    installed: native.Installed, name: str, flags: Sequence[str], folder: pathlib.Path | None
+) -> Iterator[Case]:
     """The cases of one program."""
     title = " ".join([name, *flags])
     try:
@@ -52,7 +62,7 @@ def checked(installed, name, flags, folder):
     yield from native.checks_of(title, words, {"ASAN_OPTIONS": "detect_leaks=1"})
 
 
-def exported(installed):
+def exported(installed: native.Installed) -> Iterator[Case]:
     """Each function that the headers declare is in the archive, by its name."""
     text = "".join((native.LIBRARY / name).read_text() for name in ("povundiri.h", "povundiri_file.h"))
     declared = set(re.findall(r"^(?:inline )?[a-z][\w ]*[ *](povundiri_\w+)\(", text, re.MULTILINE))
@@ -65,7 +75,7 @@ def exported(installed):
     yield "each function is in the archive", wrong
 
 
-def text_of_statuses(program):
+def text_of_statuses(program: pathlib.Path) -> Iterator[Case]:
     """Each status has a name that no other has. Where one has two words, `persist_report` explains the last."""
     header, names = ((native.LIBRARY / name).read_text() for name in ("povundiri.h", "povundiri.c"))
     listed = dict(re.findall(r"^    \{(POVUNDIRI_\w+), \"([\w ]+)\"\},$", names, re.MULTILINE))
@@ -84,14 +94,16 @@ def text_of_statuses(program):
     yield "names of two words are explained", None if words and not unknown else f"not explained are {unknown}"
 
 
-def report_in(program, file):
+def report_in(program: Path, file: pathlib.Path) -> Answer:
     """The report of the segment that stands at byte 8 of a file, or what was said in its place."""
     image = file.with_suffix(".img")
     found = answer(program, ["extract", file, image])
     return answer(program, ["report", image]) if found == Answer(b"8\n") else found
 
 
-def recorded_twice(installed, program, source, home):
+def recorded_twice(
+    installed: native.Installed, program: pathlib.Path, source: pathlib.Path, home: pathlib.Path
+) -> str | None:
     """A program that records a thousand samples into latency.seg, run twice: the second time it continues with what
     stands there."""
     built = installed.program(source)
@@ -103,7 +115,7 @@ def recorded_twice(installed, program, source, home):
     return difference(Answer(RECORDED.encode()), report_in(program, home / "latency.seg"))
 
 
-def shown_programs(folder):
+def shown_programs(folder: pathlib.Path) -> Iterator[tuple[str, pathlib.Path]]:
     """The programs that the pages show, as files: blocks that begin with an include."""
     for page in PAGES:
         blocks = re.findall(r"(?:^(?: {4}.*)?\n)+", (ROOT / page).read_text(), re.MULTILINE)
@@ -115,7 +127,7 @@ def shown_programs(folder):
             yield f"program {number + 1} of {page}", source
 
 
-def examples(installed, program, folder):
+def examples(installed: native.Installed, program: pathlib.Path, folder: pathlib.Path) -> Iterator[tuple[str, Test]]:
     """The example in C, and what the pages show."""
     record = EXAMPLES / "c" / "record.c"
     yield "record.c", lambda: recorded_twice(installed, program, record, folder / "record")
@@ -123,17 +135,17 @@ def examples(installed, program, folder):
     same = any(record.read_text().endswith(source.read_text()) for source in shown.values())
     yield "record.c is shown", lambda: None if same else "no page shows it as it stands"
     for name, source in shown.items():
-        yield name, lambda source=source: recorded_twice(installed, program, source, source.with_suffix(""))
+        yield name, functools.partial(recorded_twice, installed, program, source, source.with_suffix(""))
 
 
-def wrong_of(test):
+def wrong_of(test: Test) -> str | None:
     try:
         return test()
     except native.Failed as why:
         return str(why)
 
 
-def cases(program, options):
+def cases(program: pathlib.Path, options: argparse.Namespace) -> Iterator[Case]:
     with tempfile.TemporaryDirectory() as scratch:
         folder = pathlib.Path(scratch)
         try:

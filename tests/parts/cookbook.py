@@ -5,14 +5,18 @@ one after the other in a new folder, which has the examples. What they print, on
 `[..]` stands for any lines. Where there is no `sqlite3`, the commands that ask for it are left out, and a line says so.
 """
 
+from __future__ import annotations
+
+import argparse
 import os
 import pathlib
 import re
 import shutil
 import subprocess
 import tempfile
+from collections.abc import Iterable, Iterator, Mapping, Sequence
 
-from support.program import ROOT, built
+from support.program import ROOT, Case, built
 
 PROGRAM = "persist_report"
 STEPPED = "stepped"
@@ -26,7 +30,7 @@ SECONDS = 120
 LEAST_TASKS = 12
 
 
-def blocks():
+def blocks() -> Iterator[tuple[str, str, list[str]]]:
     """Each task's title, and the text before a block of it with the lines of the block."""
     for task in re.split(r"^## ", PAGE.read_text(), flags=re.MULTILINE)[1:]:
         title, _, rest = task.partition("\n")
@@ -35,9 +39,9 @@ def blocks():
             yield title, before, [line[len(INDENT):] for line in block.splitlines()]
 
 
-def commands(block):
+def commands(block: Iterable[str]) -> list[tuple[str, list[str]]]:
     """Each command of a block, with the lines that it has to print."""
-    found = []
+    found: list[tuple[str, list[str]]] = []
     for line in block:
         if line.startswith(PROMPT):
             found.append((line[len(PROMPT):], []))
@@ -48,12 +52,12 @@ def commands(block):
     return found
 
 
-def pattern(lines):
+def pattern(lines: Iterable[str]) -> str:
     """What matches lines, where some stand for any lines."""
     return "".join(r"(?:.*\n)*" if line == ANY_LINES else f"{re.escape(line)}\n" for line in lines)
 
 
-def wrong_command(command, wanted, folder, setting):
+def wrong_command(command: str, wanted: Sequence[str], folder: pathlib.Path, setting: Mapping[str, str]) -> str | None:
     """What is wrong with what a command prints, or None."""
     came = subprocess.run(
         ["bash", "-c", command], cwd=folder, env=setting, stdout=subprocess.PIPE, stderr=subprocess.STDOUT,
@@ -63,7 +67,7 @@ def wrong_command(command, wanted, folder, setting):
     return None if re.fullmatch(pattern(wanted), text) else f"wanted {wanted}, came {text[:1000]!r}"
 
 
-def wrong_code(before, block):
+def wrong_code(before: str, block: Iterable[str]) -> str | None:
     """What is wrong with a block of code that stands in a file, or None."""
     named = re.search(r"From\s`([^`]+)`", before)
     if named is None:
@@ -75,7 +79,7 @@ def wrong_code(before, block):
     return None
 
 
-def cases(program, _options):
+def cases(program: pathlib.Path, _options: argparse.Namespace) -> Iterator[Case]:
     folders = [str(path.parent) for path in (program, built(STEPPED))]
     setting = {**os.environ, "PATH": os.pathsep.join([*folders, os.environ["PATH"]]), "LC_ALL": "C.UTF-8"}
     has_engine = shutil.which(ENGINE) is not None

@@ -7,13 +7,18 @@ calls to the system come to the program, which has each of them fail, or is kill
 any bytes for a minute, where clang has it.
 """
 
+from __future__ import annotations
+
+import argparse
 import os
 import pathlib
 import shutil
 import subprocess
 import tempfile
+from collections.abc import Iterable, Iterator
 
 from support import native
+from support.program import Case, Path
 
 PROGRAM = None
 MOST_SECONDS = 300
@@ -25,7 +30,7 @@ STOPPED = (
 )
 THREAD_SANITIZER = ["-fsanitize=thread"]
 # A source, how it is watched, and the calls to the system that come to it.
-CHECKS = (
+CHECKS: tuple[tuple[str, list[str], tuple[str, ...]], ...] = (
     ("mapped_file.c", native.SANITIZED, ()),
     ("file_locks.c", native.SANITIZED, INTERRUPTED),
     ("file_forks.c", native.SANITIZED, ()),
@@ -39,7 +44,9 @@ FUZZER_WORDS = ["-max_len=1024", "-len_control=0"]
 MEMORY = "/dev/shm"
 
 
-def checked(installed, name, flags, replaced):
+def checked(
+    installed: native.Installed, name: str, flags: Iterable[str], replaced: Iterable[str]
+) -> Iterator[Case]:
     """The cases of one program."""
     try:
         program = installed.with_file_layer(native.PROGRAMS / name, native.compiler(".c"), flags, replaced)
@@ -51,7 +58,7 @@ def checked(installed, name, flags, replaced):
         yield from native.checks_of(name, [program, folder], settings)
 
 
-def has_fuzzer(folder):
+def has_fuzzer(folder: pathlib.Path) -> bool:
     """Whether clang is there, with its runtime for fuzzing."""
     if shutil.which(FUZZER[0]) is None:
         return False
@@ -63,11 +70,11 @@ def has_fuzzer(folder):
     return subprocess.run([str(word) for word in words], capture_output=True).returncode == 0
 
 
-def fuzzed(installed, options):
+def fuzzed(installed: native.Installed, options: argparse.Namespace) -> str | None:
     """What the fuzzer found, or None."""
     program = installed.with_file_layer(native.PROGRAMS / "fuzz_file.c", FUZZER, FUZZER_FLAGS)
     with tempfile.TemporaryDirectory(dir=MEMORY if os.access(MEMORY, os.W_OK) else None) as folder:
-        words = [
+        words: list[Path] = [
             program, f"-max_total_time={FUZZ_SECONDS}", *FUZZER_WORDS, f"-seed={options.seed}",
             f"-artifact_prefix={folder}/",
         ]
@@ -76,7 +83,7 @@ def fuzzed(installed, options):
     return None if done.returncode == 0 else f"status {done.returncode}: {done.stderr[-3000:]}"
 
 
-def cases(program, options):
+def cases(program: None, options: argparse.Namespace) -> Iterator[Case]:
     with tempfile.TemporaryDirectory() as scratch:
         folder = pathlib.Path(scratch)
         try:

@@ -12,7 +12,6 @@ was there before.
 from __future__ import annotations
 
 import argparse
-import collections
 import pathlib
 import random
 import subprocess
@@ -20,7 +19,6 @@ import time
 from collections.abc import Iterator
 from typing import Optional
 
-from parts.kills import LIVES, SHAPES
 from support import bounds, memory_dump, native
 from support.program import Case, answer, untried
 
@@ -34,15 +32,13 @@ MOST_SECONDS = 60
 Left = tuple[Optional[str], Optional[bounds.Units], Optional[bytes]]
 
 
-class Chain:
-    """Runs of the program, each of which continues with the image that was found in the memory of the one before."""
+class Chain(bounds.Runs):
+    """Runs, each of which continues with the image that was found in the memory of the one before."""
 
     def __init__(
         self, killed: pathlib.Path, program: pathlib.Path, folder: pathlib.Path, chance: random.Random, version: int
     ) -> None:
-        self.killed, self.program, self.folder, self.chance, self.version = killed, program, folder, chance, version
-        self.shape = chance.choice(SHAPES)
-        self.before: bounds.Units = collections.Counter()
+        super().__init__(killed, program, chance, version)
         self.image, self.tally, self.dump, self.found = (folder / name for name in ("image", "tally", "dump", "found"))
         self.image.unlink(missing_ok=True)
 
@@ -80,7 +76,7 @@ class Chain:
         """Stops a process several times: what is wrong after one of them; or None, and then what the last one left."""
         self.await_first(running)
         for _ in range(STOPS):
-            time.sleep(self.chance.uniform(0, self.chance.choice(LIVES)))
+            self.live()
             memory_dump.stop(running)
             memory_dump.write(running, self.dump)
             wrong, units, image = self.wrong()
@@ -91,9 +87,8 @@ class Chain:
 
     def run(self) -> str | None:
         """What is wrong with one run, or None."""
-        self.tally.write_bytes(bytes(bounds.BYTES))
-        words = [self.killed, "heap", self.image, self.tally, self.chance.getrandbits(31), self.version, *self.shape]
-        with subprocess.Popen([str(word) for word in words], stdout=subprocess.PIPE) as running:
+        words = self.words("heap", self.image, self.tally)
+        with subprocess.Popen(words, stdout=subprocess.PIPE) as running:
             assert running.stdout is not None
             try:
                 running.stdout.read(7)

@@ -12,7 +12,6 @@ import collections
 import pathlib
 import random
 import subprocess
-import time
 from collections.abc import Iterator
 
 from support import bounds, native
@@ -20,20 +19,15 @@ from support.program import Case, answer
 
 PROGRAM = "persist_report"
 CHAIN = 20
-# How long a program lives at most, in seconds.
-LIVES = (0.001, 0.005, 0.02, 0.06)
-SHAPES = ((65_536, 4096), (8192, 1024), (4096, 512), (2048, 512))
 
 
-class Chain:
-    """Runs of the program in one file, each of which is killed."""
+class Chain(bounds.Runs):
+    """Runs in one file, each of which is killed."""
 
     def __init__(
         self, killed: pathlib.Path, program: pathlib.Path, folder: pathlib.Path, chance: random.Random, version: int
     ) -> None:
-        self.killed, self.program, self.folder, self.chance, self.version = killed, program, folder, chance, version
-        self.shape = chance.choice(SHAPES)
-        self.before: bounds.Units = collections.Counter()
+        super().__init__(killed, program, chance, version)
         self.is_made = False
         self.met: collections.Counter[str] = collections.Counter()
         self.file, self.tally, self.image = (folder / name for name in ("file", "tally", "image"))
@@ -41,13 +35,12 @@ class Chain:
 
     def kill(self) -> str:
         """Runs it and kills it: what it said on its error stream, or nothing."""
-        self.tally.write_bytes(bytes(bounds.BYTES))
-        words = [self.killed, "file", self.file, self.tally, self.chance.getrandbits(31), self.version, *self.shape]
-        with subprocess.Popen([str(word) for word in words], stdout=subprocess.PIPE, stderr=subprocess.PIPE) as running:
+        words = self.words("file", self.file, self.tally)
+        with subprocess.Popen(words, stdout=subprocess.PIPE, stderr=subprocess.PIPE) as running:
             assert running.stdout is not None and running.stderr is not None
             try:
                 running.stdout.read(7)
-                time.sleep(self.chance.uniform(0, self.chance.choice(LIVES)))
+                self.live()
             finally:
                 running.kill()
             return running.stderr.read().decode()

@@ -1,9 +1,14 @@
 """Worked examples of images: what is stored in the words of one, or where its bytes are cut, and what then has to be
 answered."""
 
-import struct
+from __future__ import annotations
 
-from support.program import EXAMPLE, Answer, answer, difference, fault
+import argparse
+import pathlib
+import struct
+from collections.abc import Iterable, Iterator, Mapping
+
+from support.program import EXAMPLE, Answer, Case, answer, difference, fault
 
 PROGRAM = "persist_report"
 COOKIE, VERSION, SIZE, PAGE, STATE, FLAGS, FREE, TAIL = 0, 1, 2, 3, 5, 6, 7, 8
@@ -100,7 +105,7 @@ BAD_HEADERS = [
 ]
 
 # What is stored in the words of a segment that has A without samples, and the report.
-LISTS = [
+LISTS: list[tuple[dict[int, int], bytes]] = [
     ({}, b"A,total,0,0\n"),
     ({TAIL: 12}, b"A,total,0,0\n"),
     ({19: 16}, b"A,total,0,0\n!stopped,Loop\n"),
@@ -114,7 +119,7 @@ LISTS = [
 BAD_SAMPLES = [{38: 2**32}, {37: 2**31}, {39: 3}, {36: 40}]
 
 
-def stored_in(words, *changes):
+def stored_in(words: Iterable[int], *changes: Mapping[int, int]) -> bytes:
     """The bytes of words in which other words are stored."""
     words = list(words)
     for stored in changes:
@@ -123,15 +128,15 @@ def stored_in(words, *changes):
     return struct.pack(f"<{len(words)}Q", *words)
 
 
-def example():
+def example() -> tuple[int, ...]:
     return struct.unpack("<128Q", EXAMPLE.read_bytes())
 
 
-def told(stored):
+def told(stored: Mapping[int, int]) -> str:
     return " ".join(f"[{at}] = {word}" for at, word in stored.items()) or "as it is"
 
 
-def images():
+def images() -> Iterator[tuple[str, bytes, Answer]]:
     """The images that are changed, each with its name and what has to be answered."""
     for name, (stored, wanted) in VERSION_2.items():
         yield name, stored_in(example(), stored), wanted
@@ -151,7 +156,7 @@ def images():
     yield "a header alone", stored_in(BLANK[:16]), fault("Image BadSize", 3)
 
 
-def cuts():
+def cuts() -> Iterator[tuple[str, bytes, Answer]]:
     """The example cut at each length, and what has to be answered."""
     data = EXAMPLE.read_bytes()
     for length in range(len(data)):
@@ -159,6 +164,6 @@ def cuts():
         yield f"cut at {length}", data[:length], fault(wrong, 3)
 
 
-def cases(program, _options):
+def cases(program: pathlib.Path, _options: argparse.Namespace) -> Iterator[Case]:
     for name, data, wanted in (*images(), *cuts()):
         yield name, difference(wanted, answer(program, ["report"], data))

@@ -1,27 +1,37 @@
-"""Programs that record bursts of samples: built, and run by turns. Each takes FORM SHARING THREADS BURSTS (record.cpp) and prints picoseconds."""
+"""Programs that record bursts of samples: built, and run by turns. Each takes FORM SHARING THREADS BURSTS (record.cpp)
+and prints picoseconds."""
 
+from __future__ import annotations
+
+import argparse
 import pathlib
 import subprocess
+from collections.abc import Sequence
+from typing import Union
 
 HERE = pathlib.Path(__file__).resolve().parent
 RUNS = [(form, sharing, threads) for form in ("packed", "mounted")
         for sharing, threads in (("shared", 1), ("shared", 2), ("shared", 4), ("own", 4))]
 MOST_THREADS = max(threads for _, _, threads in RUNS)
 
+Path = Union[str, pathlib.Path]
+# The first words of a command line.
+Words = list[Path]
 
-def compiled(folder, name, *words):
+
+def compiled(folder: Path, name: str, *words: str) -> Words:
     """The program of a source here, which lies in the folder then."""
     program = pathlib.Path(folder) / name
     subprocess.run(["c++", "-std=c++17", "-O2", "-pthread", "-o", program, HERE / f"{name}.cpp", *words], check=True)
     return [program]
 
 
-def nanoseconds(program, run, bursts):
+def nanoseconds(program: Words, run: Sequence[object], bursts: int) -> float:
     words = [*program, *map(str, run), str(bursts)]
     return int(subprocess.run(words, check=True, capture_output=True, text=True).stdout.splitlines()[-1]) / 1000
 
 
-def least_by_turns(programs, run, options):
+def least_by_turns(programs: Sequence[Words], run: Sequence[object], options: argparse.Namespace) -> list[float]:
     """The least nanoseconds a sample of each program."""
     least = [float("inf")] * len(programs)
     for _ in range(options.turns):

@@ -1,20 +1,32 @@
 #!/usr/bin/env python3
-"""Runs the merge gate 'rt ci' and reports what it takes, crate by crate: for proofs, for tests and for edits.
+"""Runs the merge gate and reports what it takes, crate by crate: for proofs, for tests and for edits.
 
-    bench/gate.py
+    bench/gate.py [--anew]
 
-It prints what the gate prints, and then a table: minutes of processor time (user and system), and the most memory that
-one check had. Behind it stand the ten dearest edits; the first of a crate pays for a check of all of it. The processes of the
-gate are looked at twice a second; what ended between two looks is reported as the rest. The status is that of the gate. Run it on a
-clean clone, on a machine that does nothing else.
+The steps are those of .ci/run: 'rt ci', and then tests/run. It prints what they print, and then what docs/TESTING.md
+has at its end: the date and the machine, minutes of processor time (user and system), and a table with a line for each
+crate, in which the last column is the most memory that its checks had at a time. The first edit of a crate pays for a
+check of all of it.
+
+The processes of 'rt ci' are looked at twice a second; what ended between two looks is reported as being in no line of
+the table. With --anew, 'rt ci' proves what it has proved on this machine before. The status is 1 where a step failed.
+Run it on a clean clone, on a machine that does nothing else.
 """
 
+from __future__ import annotations
+
 import collections
+import datetime
+import os
 import pathlib
+import platform
 import resource
 import subprocess
 import sys
+import tempfile
+import textwrap
 import time
+from collections.abc import Iterator, Sequence
 
 ROOT = pathlib.Path(__file__).resolve().parent.parent
 PARTS = ["proofs", "tests", "edits"]
@@ -22,21 +34,26 @@ SECONDS_BETWEEN = 0.5
 TICKS = 100
 GIBIBYTE = 2**30
 
-# A crate and a part of the gate; the number of a process, and when it began.
+MARKS = ROOT / "tests" / "support" / "marks.py"
+WIDTH = 120
+MOST_EDITS = 10
+
+# A crate and a part of the gate; the number of a process, and when it began; a check: its crate, part and folder.
 Task = tuple[str, str]
 Process = tuple[int, int]
+Check = tuple[str, str, pathlib.Path]
 
 
 class Costs:
     """What the processes of the gate have taken so far: seconds by process, and the most bytes at one look."""
 
-    def __init__(self):
+    def __init__(self) -> None:
         self.seconds: dict[Task, dict[Process, float]] = collections.defaultdict(dict)
-        self.rooms: dict[Task, dict[str, dict[Process, float]]] = collections.defaultdict(dict)
+        self.rooms: dict[Task, dict[pathlib.Path, dict[Process, float]]] = collections.defaultdict(dict)
         self.most: collections.Counter[Task] = collections.Counter()
         self.most_together = 0
 
-    def look(self, gate):
+    def look(self, gate: int) -> None:
         """Looks once at all processes that the gate has started."""
         tasks = {pid: task for pid, task in tasks_below(gate) if task is not None}
         held: collections.Counter[Task] = collections.Counter()
@@ -49,16 +66,16 @@ class Costs:
             self.seconds[crate, part][pid, started] = seconds
             self.rooms[crate, part].setdefault(room, {})[pid, started] = seconds
             held[crate, part] += size
-        for task, size in held.items():
-            self.most[task] = max(self.most[task], size)
+        for one, size in held.items():
+            self.most[one] = max(self.most[one], size)
         self.most_together = max(self.most_together, sum(held.values()))
 
-    def minutes(self, task):
+    def minutes(self, task: Task) -> float:
         return sum(self.seconds[task].values()) / 60
 
-    def edits(self):
-        """The seconds of each edit by its crate and name: a crate's edits are tried in the order of their names, each in a room of
-        its own."""
+    def edits(self) -> Iterator[tuple[float, str]]:
+        """The seconds of each edit by its crate and name: a crate's edits are tried in the order of their names, each
+        in a room of its own."""
         for crate, part in list(self.rooms):
             names = sorted(path.stem for path in ROOT.glob(f"crates/{crate}/must-fail/*.edit"))
             if part == "edits":
@@ -66,9 +83,9 @@ class Costs:
                     yield sum(room.values()), f"{crate}/{name}"
 
 
-def children():
+def children() -> dict[int, list[int]]:
     """The processes of the system by the one that started them."""
-    found = collections.defaultdict(list)
+    found: dict[int, list[int]] = collections.defaultdict(list)
     for path in pathlib.Path("/proc").glob("[0-9]*/stat"):
         try:
             fields = path.read_text().rpartition(")")[2].split()
@@ -78,9 +95,10 @@ def children():
     return found
 
 
-def tasks_below(gate):
+def tasks_below(gate: int) -> Iterator[tuple[int, Check | None]]:
     """Each process below the gate, with its crate and its part of the gate, or None if it is no check."""
-    below, left = children(), [(gate, None)]
+    below = children()
+    left: list[tuple[int, Check | None]] = [(gate, None)]
     while left:
         pid, task = left.pop()
         task = task_of(pid) or task
@@ -88,8 +106,9 @@ def tasks_below(gate):
         left += [(child, task) for child in below[pid]]
 
 
-def task_of(pid):
-    """The crate that a process checks, for which part, and in which folder: an edit is checked on a copy, outside the repository."""
+def task_of(pid: int) -> Check | None:
+    """The crate that a process checks, for which part, and in which folder: an edit is checked on a copy, outside the
+    repository."""
     process = pathlib.Path("/proc") / str(pid)
     try:
         words = process.joinpath("cmdline").read_bytes().decode(errors="replace").split("\0")
@@ -102,46 +121,80 @@ def task_of(pid):
     return words[words.index("--crate-name") + 1], part, folder
 
 
-def taken_by(pid):
+def taken_by(pid: int) -> tuple[float, int, int]:
     """A process's seconds of processor time, its bytes, and when it was started."""
     fields = pathlib.Path(f"/proc/{pid}/stat").read_text().rpartition(")")[2].split()
     user, system, started, pages = (int(fields[at]) for at in (11, 12, 19, 21))
     return (user + system) / TICKS, pages * resource.getpagesize(), started
 
 
-def show(costs):
-    """Prints the table, a line for each crate, the dearest first."""
-    crates: collections.Counter[str] = collections.Counter()
+def machine() -> str:
+    """The processor, how many of them there are, and the memory."""
+    about = pathlib.Path("/proc/cpuinfo").read_text().splitlines()
+    models = (line.partition(": ")[2] for line in about if line.startswith("model name"))
+    memory = os.sysconf("SC_PHYS_PAGES") * resource.getpagesize() / GIBIBYTE
+    return f"{next(models, platform.machine())}, {os.cpu_count()} processors, {memory:.0f} GiB"
+
+
+def table(costs: Costs) -> Iterator[str]:
+    """A line for each crate, the dearest first."""
+    crates: dict[str, float] = collections.defaultdict(float)
     for crate, part in list(costs.seconds):
         crates[crate] += costs.minutes((crate, part))
-    print("\n| Crate | proofs, min | tests, min | edits, min | together | most GiB |")
-    print("|---|---|---|---|---|---|")
-    for crate, minutes in crates.most_common():
+    yield f"| Crate | {' | '.join(PARTS)} | all, min | most GiB |"
+    yield "|---|" + "--:|" * (len(PARTS) + 2)
+    for crate, minutes in sorted(crates.items(), key=lambda one: -one[1]):
         parts = " | ".join(f"{costs.minutes((crate, part)):.1f}" for part in PARTS)
         most = max(costs.most[crate, part] for part in PARTS) / GIBIBYTE
-        print(f"| `{crate}` | {parts} | {minutes:.1f} | {most:.1f} |")
-    by_part = [sum(costs.minutes((crate, part)) for crate in crates) for part in PARTS]
-    sums = " | ".join(f"{minutes:.1f}" for minutes in by_part)
-    print(f"| all | {sums} | {sum(by_part):.1f} | {costs.most_together / GIBIBYTE:.1f} |")
-    print("\nThe dearest edits, in seconds:")
-    for seconds, edit in sorted(costs.edits(), reverse=True)[:10]:
-        print(f"{seconds:6.0f} {edit}")
-    return sum(by_part)
+        yield f"| `{crate}` | {parts} | {minutes:.1f} | {most:.1f} |"
+    sums = " | ".join(f"{sum(costs.minutes((crate, part)) for crate in crates):.1f}" for part in PARTS)
+    yield f"| all | {sums} | {sum(crates.values()):.1f} | {costs.most_together / GIBIBYTE:.1f} |"
 
 
-def main():
-    costs, start = Costs(), time.monotonic()
-    gate = subprocess.Popen(["rt", "ci"], cwd=ROOT, stdin=subprocess.DEVNULL)
-    while gate.poll() is None:
-        costs.look(gate.pid)
-        time.sleep(SECONDS_BETWEEN)
+def processor_minutes() -> float:
+    """What the processes that have ended have taken."""
     whole = resource.getrusage(resource.RUSAGE_CHILDREN)
-    minutes = (whole.ru_utime + whole.ru_stime) / 60
-    rest = minutes - show(costs)
+    return (whole.ru_utime + whole.ru_stime) / 60
+
+
+def watched(words: Sequence[str], costs: Costs) -> int:
+    """The status of a command whose processes are looked at."""
+    running = subprocess.Popen(words, cwd=ROOT, stdin=subprocess.DEVNULL)
+    while running.poll() is None:
+        costs.look(running.pid)
+        time.sleep(SECONDS_BETWEEN)
+    return running.returncode
+
+
+def taken(start: float, before: float) -> str:
+    """What was taken since a moment, at which that much had been."""
     by_clock = (time.monotonic() - start) / 60
-    print(f"\n{minutes:.1f} minutes of processor time, {rest:.1f} of them the rest; {by_clock:.1f} minutes by the clock")
-    return gate.returncode
+    return f"{processor_minutes() - before:.1f} minutes of processor time, {by_clock:.1f} by the clock"
+
+
+def main(words: Sequence[str]) -> int:
+    if words not in ([], ["--anew"]):
+        sys.exit(__doc__)
+    costs, start = Costs(), time.monotonic()
+    with tempfile.NamedTemporaryFile() as sums:
+        subprocess.run([sys.executable, MARKS, "note", sums.name], check=True)
+        before = processor_minutes()
+        failed = watched(["rt", "ci", *words], costs)
+        proved, in_lines = taken(start, before), sum(sum(ones.values()) for ones in costs.seconds.values()) / 60
+        rest = processor_minutes() - before - in_lines
+        tests = "tests/run was not begun"
+        if not failed:
+            subprocess.run([sys.executable, MARKS, "keep", sums.name], check=True)
+            start, before = time.monotonic(), processor_minutes()
+            failed = subprocess.run(["tests/run"], cwd=ROOT).returncode
+            tests = f"`tests/run` took {taken(start, before)}"
+    today = datetime.date.today()
+    head = f"{today.day} {today:%B %Y}, {machine()}: `rt ci` took {proved}; {rest:.1f} minutes are in no line. {tests}."
+    dearest = ", ".join(f"`{edit}` {seconds:.0f}" for seconds, edit in sorted(costs.edits(), reverse=True)[:MOST_EDITS])
+    print("\n" + "\n".join([*textwrap.wrap(head, WIDTH, break_on_hyphens=False), "", *table(costs)]))
+    print("\n" + textwrap.fill(f"The dearest edits, in seconds: {dearest or 'none'}.", WIDTH, break_on_hyphens=False))
+    return 1 if failed else 0
 
 
 if __name__ == "__main__":
-    sys.exit(main())
+    sys.exit(main(sys.argv[1:]))

@@ -4,11 +4,13 @@ A family is a function of a number of words; it gives an `Image`. LAWFUL has tho
 those that somebody made to keep a reader busy.
 """
 
+from __future__ import annotations
+
 import dataclasses
 import pathlib
 import random
 import sys
-from collections.abc import Callable, Iterable
+from collections.abc import Callable, Iterable, Iterator, Mapping
 
 sys.path.insert(0, str(pathlib.Path(__file__).resolve().parents[1] / "tests"))
 from support import layout
@@ -44,7 +46,7 @@ class Image:
 class Segment(layout.Words):
     """The words of a segment, claimed from the front, and its list."""
 
-    def __init__(self, size):
+    def __init__(self, size: int) -> None:
         super().__init__(size, min(layout.PAGE, size))
 
     def first_block(self, size: int, tag: int) -> int:
@@ -53,7 +55,7 @@ class Segment(layout.Words):
         assert at is not None, "no room for a block"
         return at
 
-    def publish_all(self, references, is_scattered):
+    def publish_all(self, references: Iterable[int], is_scattered: bool) -> list[int]:
         """Publishes blocks as they come, or in no order; returns them in the order of the list."""
         listed = list(references)
         if is_scattered:
@@ -63,9 +65,9 @@ class Segment(layout.Words):
         return listed
 
 
-def adoptable(data):
-    """The bytes of a valid image as one of version 2, which may be adopted: a single word that is disabled, and in which nothing was
-    packed, has another form there."""
+def adoptable(data: bytes) -> bytes:
+    """The bytes of a valid image as one of version 2, which may be adopted: a single word that is disabled, and in
+    which nothing was packed, has another form there."""
     words = layout.words_of(data)
     words[1] = 2
     for at, word in enumerate(words):
@@ -74,28 +76,28 @@ def adoptable(data):
     return layout.data_of(words)
 
 
-def names_of(count, length=8):
+def names_of(count: int, length: int = 8) -> list[str]:
     """Distinct names of at most eight bytes, or of just `length` if that is more, in no order."""
     numbers = random.Random(1).sample(range(16**7), count)
     return [f"h{number:x}".ljust(length if length > 8 else 0, "x") for number in numbers]
 
 
-def words_of(name):
+def words_of(name: str) -> list[int]:
     data = name.encode()
     return [int.from_bytes(data[i : i + 8], "little") for i in range(0, len(data), 8)]
 
 
-def linear_boundaries(least, most, n):
+def linear_boundaries(least: int, most: int, n: int) -> list[int]:
     inner = [(2 * (least * (n - 1 - i) + most * (i - 1)) + (n - 2)) // (2 * (n - 2)) for i in range(1, n)]
     return [0, *inner, GREATEST]
 
 
-def in_order(by_name):
+def in_order(by_name: Mapping[str, str]) -> Callable[[], Iterator[bytes]]:
     """The pieces of a report, from the text of each name."""
     return lambda: (by_name[name].encode() for name in sorted(by_name))
 
 
-def boolean_histograms(size, names, is_scattered=False):
+def boolean_histograms(size: int, names: Iterable[str], is_scattered: bool = False) -> Image:
     """As many boolean histograms as fit, each with a packed bucket."""
     segment = Segment(size)
     by_name, references = {}, []
@@ -114,22 +116,22 @@ def boolean_histograms(size, names, is_scattered=False):
     return Image(segment.bytes(), in_order(by_name), 3 * len(by_name), f"{len(by_name):,} histograms")
 
 
-def boolean(size):
+def boolean(size: int) -> Image:
     """Boolean histograms of 16 words, each with a packed bucket, whose names stand in no order."""
     return boolean_histograms(size, names_of(size // 16))
 
 
-def alike_names(count):
+def alike_names(count: int) -> list[str]:
     """Distinct names that differ in the last eight of their 128 bytes alone."""
     return [f"{'n' * 120}{number:08}" for number in random.Random(9).sample(range(10**8), count)]
 
 
-def alike(size):
+def alike(size: int) -> Image:
     """Boolean histograms of 31 words, whose names differ in the last eight of their 128 bytes alone."""
     return boolean_histograms(size, alike_names(size // 31))
 
 
-def sparse_samples(size, is_scattered):
+def sparse_samples(size: int, is_scattered: bool) -> Image:
     """One sparse histogram and as many samples as fit, whose values stand in no order."""
     segment = Segment(size)
     chance = random.Random(2)
@@ -152,12 +154,12 @@ def sparse_samples(size, is_scattered):
     return Image(segment.bytes(), lambda: [text.encode()], 0, f"{len(lines):,} samples")
 
 
-def sparse(size):
+def sparse(size: int) -> Image:
     """One sparse histogram and as many samples as fit, whose values stand in no order."""
     return sparse_samples(size, is_scattered=False)
 
 
-def linear_histograms(size, spec, name_length, most_count):
+def linear_histograms(size: int, spec: tuple[int, int, int], name_length: int, most_count: int) -> Image:
     """As many linear histograms as fit, with all counts used and names in no order."""
     n = spec[2]
     boundaries = linear_boundaries(*spec)
@@ -182,17 +184,17 @@ def linear_histograms(size, spec, name_length, most_count):
     return Image(segment.bytes(), in_order(by_name), n * len(by_name), f"{len(by_name):,} histograms")
 
 
-def linear(size):
+def linear(size: int) -> Image:
     """Linear histograms of 30 buckets, each with its own block of counts, all of them used."""
-    return linear_histograms(size, [1, 10_000, 30], 8, 16_000)
+    return linear_histograms(size, (1, 10_000, 30), 8, 16_000)
 
 
-def largest(size):
+def largest(size: int) -> Image:
     """Linear histograms of 1,000 buckets with names of 128 bytes and all counts used: the longest of these reports."""
-    return linear_histograms(size, [1_000_000_000, GREATEST - 1, MOST_BUCKETS], 128, 10_000)
+    return linear_histograms(size, (1_000_000_000, GREATEST - 1, MOST_BUCKETS), 128, 10_000)
 
 
-def distinct_limits(count):
+def distinct_limits(count: int) -> list[int]:
     """Distinct maxima of linear specs whose four bytes are a valid name, in no order."""
     lawful = [byte for byte in range(0x23, 0x7F) if byte != ord(",")]
     numbers = random.Random(4).sample(range(len(lawful) ** 4), count)
@@ -201,13 +203,13 @@ def distinct_limits(count):
     return [int.from_bytes(bytes(lawful[number // place % side] for place in places), "little") for number in numbers]
 
 
-def overlapping_records(size, last_mark):
+def overlapping_records(size: int, last_mark: int) -> tuple[bytes, list[str], list[int]]:
     """Records of 16 words that begin every nine words, each with 1,000 buckets, all with one block of counts.
 
     The single word of each is the size of the next, 16 packed units of bucket 0; its single mark is the next one's
     cookie, which the count of bucket 0 allows; its sum is the next one's type, its sum mark the next one's next and
     its redundant count the next one's kind; the length of its name is the next one's minimum, 4; and its name is
-    the next one's maximum. Answers the bytes, the names and the references.
+    the next one's maximum. Returns the bytes, the names and the references.
     """
     stride, overlap = 9, 16
     segment = Segment(size)
@@ -215,7 +217,7 @@ def overlapping_records(size, last_mark):
     segment.words[counts_at + 4] = BLOCK_COOKIE
     segment.words[counts_at + 4 + 2 * MOST_BUCKETS - 1] = last_mark
     limits = distinct_limits(size // stride)
-    names: list[bytes] = []
+    names: list[str] = []
     references: list[int] = []
     while segment.free < size:
         fitting = (segment.room() - overlap) // stride + 1
@@ -232,25 +234,27 @@ def overlapping_records(size, last_mark):
     return segment.bytes(), names, references
 
 
-def shared(size):
+def shared(size: int) -> Image:
     """Records of 16 words that begin every nine words, each with 1,000 buckets, all with one block of counts."""
     data, names, _ = overlapping_records(size, 0)
     units = BLOCK_COOKIE + 16
     by_name = {name: f"{name},linear,0,4,{units}\n{name},total,{units},1\n" for name in names}
     redundant = "".join(f"!redundant,{name},{LINEAR}\n" for name in sorted(names)).encode()
-    return Image(data, lambda: [*in_order(by_name)(), redundant], MOST_BUCKETS * len(names), f"{len(names):,} histograms")
+    return Image(
+        data, lambda: [*in_order(by_name)(), redundant], MOST_BUCKETS * len(names), f"{len(names):,} histograms"
+    )
 
 
-def refused(size):
+def refused(size: int) -> Image:
     """Records as those of `shared`, each bad by the mark of its last bucket, which is looked at last."""
     data, _, references = overlapping_records(size, 1)
     report = lambda: ["".join(f"!bad,{at},BadMark\n" for at in references).encode()]
     return Image(data, report, 0, f"{len(references):,} bad records")
 
 
-def lines(size):
+def lines(size: int) -> Image:
     """Linear histograms of 1,000 buckets with names of 128 bytes, and one block of counts, all of them used."""
-    spec = [1_000_000_000, GREATEST - 1, MOST_BUCKETS]
+    spec = (1_000_000_000, GREATEST - 1, MOST_BUCKETS)
     boundaries = linear_boundaries(*spec)
     count = 4_000_000_000
     units = count * MOST_BUCKETS
@@ -272,7 +276,7 @@ def lines(size):
     return Image(segment.bytes(), report, MOST_BUCKETS * len(taken), f"{len(taken):,} histograms")
 
 
-def custom(size):
+def custom(size: int) -> Image:
     """Custom histograms of 999 ranges, each with a packed bucket; every other one has its last range out of order."""
     segment = Segment(size)
     chance = random.Random(6)
@@ -295,7 +299,7 @@ def custom(size):
     return Image(segment.bytes(), report, MOST_BUCKETS * len(by_name), f"{len(by_name) + len(bad):,} records")
 
 
-def overlapping_blocks(size, tag):
+def overlapping_blocks(size: int, tag: int) -> tuple[bytes, list[int]]:
     """Blocks of five words that begin every four words, on one list that goes through them in no order."""
     segment = Segment(size)
     references: list[int] = []
@@ -312,30 +316,30 @@ def overlapping_blocks(size, tag):
     return segment.bytes(), listed
 
 
-def scattered(size):
+def scattered(size: int) -> Image:
     """A list as long as fits, of blocks of another type, so that each step of a walk has to wait for memory."""
     data, references = overlapping_blocks(size, PURGED)
     return Image(data, lambda: [], 0, f"{len(references):,} blocks")
 
 
-def scattered_faults(size):
+def scattered_faults(size: int) -> Image:
     """The same of histogram records that are all too small."""
     data, references = overlapping_blocks(size, HISTOGRAM)
     report = lambda: ["".join(f"!bad,{at},BadKind\n" for at in references).encode()]
     return Image(data, report, 0, f"{len(references):,} bad records")
 
 
-def scattered_samples(size):
+def scattered_samples(size: int) -> Image:
     """The samples of `sparse`, on a list that goes through them in no order."""
     return sparse_samples(size, is_scattered=True)
 
 
-def scattered_alike(size):
+def scattered_alike(size: int) -> Image:
     """The histograms of `alike`, on a list that goes through them in no order."""
     return boolean_histograms(size, alike_names(size // 31), is_scattered=True)
 
 
-def samples(size):
+def samples(size: int) -> Image:
     """Samples that begin every five words, so that the size of each is the value of the one before it.
 
     The cookie of each is the count of the one before it, and its type the mark. There are not as many sizes as
@@ -354,7 +358,9 @@ def samples(size):
             following = at + stride
             rest = segment.page - following % segment.page
             value = chance.randrange(smallest, rest + 1) if rest >= smallest else 1
-            segment.store(at, segment.words[at] or smallest, BLOCK_COOKIE, SAMPLE, QUEUE, record, value, BLOCK_COOKIE, SAMPLE)
+            segment.store(
+                at, segment.words[at] or smallest, BLOCK_COOKIE, SAMPLE, QUEUE, record, value, BLOCK_COOKIE, SAMPLE
+            )
             segment.publish(at)
             segment.free += stride
             values.add(value)
@@ -385,5 +391,7 @@ FORGED = {
     "scattered_alike": scattered_alike,
     "samples": samples,
 }
-FAMILIES = {name: (make, [MIB, 8 * MIB]) for name, make in {**LAWFUL, **FORGED}.items()}
+FAMILIES: dict[str, tuple[Callable[[int], Image], list[int]]] = {
+    name: (make, [MIB, 8 * MIB]) for name, make in {**LAWFUL, **FORGED}.items()
+}
 FAMILIES["lines"] = (lines, [MIB // 8, MIB])

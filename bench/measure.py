@@ -1,5 +1,7 @@
 """Runs of a program over an image: what it returns, what memory it takes, and how long it needs."""
 
+from __future__ import annotations
+
 import dataclasses
 import pathlib
 import subprocess
@@ -7,6 +9,9 @@ import sys
 import threading
 import time
 import zlib
+from collections.abc import Iterable, Sequence
+
+from images import Image
 
 HERE = pathlib.Path(__file__).resolve().parent
 PIECE = 2**20
@@ -23,16 +28,16 @@ class Answer:
     status: int
     peak: float
 
-    def is_report(self, image):
+    def is_report(self, image: Image) -> bool:
         """Whether this is the report of the image and nothing else."""
         return (self.length, self.checksum, self.error, self.status) == (*summary(image.report()), "", 0)
 
-    def is_refused(self):
+    def is_refused(self) -> bool:
         """Whether this says that there was no memory, and nothing else."""
         return (self.length, self.error, self.status) == (0, "persist_report: NoMemory\n", 5)
 
 
-def summary(pieces):
+def summary(pieces: Iterable[bytes]) -> tuple[int, int]:
     """The length and the checksum of bytes that come in pieces."""
     length = checksum = 0
     for piece in pieces:
@@ -41,9 +46,9 @@ def summary(pieces):
     return length, checksum
 
 
-def answered(program, path, gibibytes):
+def answered(program: pathlib.Path, path: pathlib.Path, gibibytes: float) -> Answer:
     """What the program returns to 'report PATH' with so much memory."""
-    command = [sys.executable, HERE / "peak.py", str(gibibytes), program, "report", path]
+    command: list[str | pathlib.Path] = [sys.executable, HERE / "peak.py", str(gibibytes), program, "report", path]
     with subprocess.Popen(command, stdout=subprocess.PIPE, stderr=subprocess.PIPE) as running:
         assert running.stdout is not None and running.stderr is not None
         output, error = running.stdout, running.stderr
@@ -57,13 +62,13 @@ def answered(program, path, gibibytes):
     return Answer(length, checksum, "".join(before), status, kibibytes / 1024)
 
 
-def seconds_of(program, path):
+def seconds_of(program: pathlib.Path, path: pathlib.Path) -> float:
     start = time.perf_counter()
     subprocess.run([program, "report", path], stdout=subprocess.DEVNULL, check=True)
     return time.perf_counter() - start
 
 
-def best_by_turns(runs, most_seconds):
+def best_by_turns(runs: Sequence[tuple[pathlib.Path, pathlib.Path]], most_seconds: float) -> list[float]:
     """The best time of each of some runs, which are pairs of program and image, by turns: three of them at least."""
     best = [float("inf")] * len(runs)
     turns, end = 0, time.perf_counter() + most_seconds

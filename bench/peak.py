@@ -8,21 +8,24 @@ status (of a signal, the number with a minus; after ten minutes it is killed) an
 KiB. It is a program of its own since a command seems to have had at least the memory of the process that started it.
 """
 
+from __future__ import annotations
+
 import resource
 import signal
 import subprocess
 import sys
+from collections.abc import Sequence
 
 MOST_SECONDS = 600
 
 
-def main(arguments):
+def main(arguments: Sequence[str]) -> int:
     if len(arguments) < 2:
         print(__doc__, file=sys.stderr)
         return 2
     limit = int(float(arguments[0]) * 2**30)
 
-    def limited():
+    def limited() -> None:
         resource.setrlimit(resource.RLIMIT_AS, (limit, limit))
 
     try:

@@ -104,58 +104,24 @@ int test_unlink(const char *path) {
 
 /* ---- Memory ---- */
 
-/* Which allocation of those that come is refused, from 1 on; 0 for none. Those of the library come by the three functions below. */
+/* Which allocation of those that come is refused, from 1 on; 0 for none. Those of the library come by heap.h. */
 static int allocations, refused_at;
 
-static int is_allocation_refused(void) {
+static bool is_refused(void) {
     allocations += 1;
     return allocations == refused_at;
 }
 
+#include "heap.h"
+
 void *test_malloc(size_t size);
 void *test_malloc(size_t size) {
-    return is_allocation_refused() ? NULL : malloc(size);
+    return is_refused() ? NULL : malloc(size);
 }
 
 void *test_calloc(size_t count, size_t size);
 void *test_calloc(size_t count, size_t size) {
-    return is_allocation_refused() ? NULL : calloc(count, size);
-}
-
-/* What the library's heap answers. */
-struct tried {
-    bool ok;
-    void *at;
-};
-
-struct tried rattle_alloc(size_t size, size_t align);
-struct tried rattle_realloc(void *at, size_t kept, size_t size, size_t align);
-void rattle_dealloc(void *at);
-
-struct tried rattle_alloc(size_t size, size_t align) {
-    struct tried answer = {false, (void *)16};
-    (void)align;
-    if (is_allocation_refused()) return answer;
-    answer.at = malloc(size != 0 ? size : 1);
-    answer.ok = answer.at != NULL;
-    return answer;
-}
-
-struct tried rattle_realloc(void *at, size_t kept, size_t size, size_t align) {
-    struct tried answer = {false, at};
-    void *moved;
-    (void)kept;
-    (void)align;
-    if (is_allocation_refused()) return answer;
-    moved = realloc(at, size != 0 ? size : 1);
-    if (moved == NULL) return answer;
-    answer.ok = true;
-    answer.at = moved;
-    return answer;
-}
-
-void rattle_dealloc(void *at) {
-    free(at);
+    return is_refused() ? NULL : calloc(count, size);
 }
 
 /* ---- Files that were set aside ---- */
@@ -617,15 +583,15 @@ static void refused_memory(void) {
     for (start = 0; start < STARTS; start += 1) HOLDS(refuse_each_allocation((enum start)start) >= 4);
 }
 
-/* Kills at any moment of the making of a large segment. */
+/* Kills at any moment of the making of a large segment; more often where a busy machine ends it before the kills come. */
 static void kills_amid_making(void) {
     const struct povundiri_shape large = {1048576, 65536, 7, 8, 2};
     int i, killed = 0;
-    for (i = 0; i < 60; i += 1) {
+    for (i = 0; i < 60 || (killed <= 10 && i < 600); i += 1) {
         struct povundiri_file file = {0};
         struct povundiri_handle segment = {0};
         struct povundiri_opened opened;
-        const struct timespec wait = {0, 400000 * (long)i};
+        const struct timespec wait = {0, 400000 * (long)(i % 60)};
         pid_t child;
         unlink(path_of("making"));
         child = fork();

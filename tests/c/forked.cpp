@@ -279,39 +279,35 @@ void fill(Segment& segment, const char* name) {
     std::exit(failed_here != 0);
 }
 
+// Counts by a recorder of a segment in this file, and ends the process.
+[[noreturn]] void end_with(Segment& segment, Recorder& recorder, const char* name) {
+    fill(segment, name);
+    DONE(segment.try_recorder(recorder));
+    count(recorder);
+    exit_here();
+}
+
 // Statics end in the order in which they were not begun, and thread_locals before them.
 void statics_in_any_order() {
     const auto segment_first = [] {
         static Segment segment;
         static Recorder recorder;
-        fill(segment, "segment_first.seg");
-        DONE(segment.try_recorder(recorder));
-        count(recorder);
-        exit_here();
+        end_with(segment, recorder, "segment_first.seg");
     };
     const auto recorder_first = [] {
         static Recorder recorder;
         static Segment segment;
-        fill(segment, "recorder_first.seg");
-        DONE(segment.try_recorder(recorder));
-        count(recorder);
-        exit_here();
+        end_with(segment, recorder, "recorder_first.seg");
     };
     const auto local_segment = [] {
         static Recorder recorder;
         thread_local Segment segment;
-        fill(segment, "local_segment.seg");
-        DONE(segment.try_recorder(recorder));
-        count(recorder);
-        exit_here();
+        end_with(segment, recorder, "local_segment.seg");
     };
     const auto local_recorder = [] {
         static Segment segment;
         thread_local Recorder recorder;
-        fill(segment, "local_recorder.seg");
-        DONE(segment.try_recorder(recorder));
-        count(recorder);
-        exit_here();
+        end_with(segment, recorder, "local_recorder.seg");
     };
     HOLDS(status_of_child(segment_first) == 0);
     leaves("segment_first.seg");

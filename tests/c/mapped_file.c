@@ -160,20 +160,27 @@ static void one_zero(void) {
     HOLDS(open_and_count("one_zero", POVUNDIRI_ADOPT_OR_FAIL, 1, &opened) == POVUNDIRI_SYSTEM && opened.fault == EEXIST);
 }
 
+/* Opens a segment's file that was cut off at a length, which stays as it was; the status. */
+static uint32_t status_where_cut(off_t at) {
+    struct povundiri_opened opened;
+    size_t length;
+    unsigned char *before;
+    uint32_t status;
+    make_segment("cut", 5);
+    HOLDS(truncate(path_of("cut"), at) == 0);
+    before = bytes_at(path_of("cut"), &length);
+    status = open_and_count("cut", POVUNDIRI_ADOPT_OR_FAIL, 1, &opened);
+    HOLDS(length == (size_t)at && has_bytes(path_of("cut"), before, length));
+    free(before);
+    return status;
+}
+
 /* A segment's file of which the end is missing keeps its length, and adopt says BadSize; one that has all words of its own grows. */
 static void cut_files(void) {
     static const off_t cut[] = {136, 137, 1000, 4096, 8192, 8199};
     struct povundiri_opened opened;
-    size_t i, length;
-    for (i = 0; i < sizeof cut / sizeof cut[0]; i += 1) {
-        unsigned char *before;
-        make_segment("cut", 5);
-        HOLDS(truncate(path_of("cut"), cut[i]) == 0);
-        before = bytes_at(path_of("cut"), &length);
-        ANSWERS(IMAGE_BAD_SIZE, open_and_count("cut", POVUNDIRI_ADOPT_OR_FAIL, 1, &opened));
-        HOLDS(length == (size_t)cut[i] && has_bytes(path_of("cut"), before, length));
-        free(before);
-    }
+    size_t i;
+    for (i = 0; i < sizeof cut / sizeof cut[0]; i += 1) ANSWERS(IMAGE_BAD_SIZE, status_where_cut(cut[i]));
     make_segment("cut", 5);
     HOLDS(truncate(path_of("cut"), 8200) == 0);
     DONE(open_and_count("cut", POVUNDIRI_ADOPT_OR_FAIL, 1, &opened));
@@ -184,16 +191,8 @@ static void cut_files(void) {
 static void cut_headers(void) {
     static const off_t cut[] = {129, 133, 135};
     struct povundiri_opened opened;
-    size_t i, length;
-    for (i = 0; i < sizeof cut / sizeof cut[0]; i += 1) {
-        unsigned char *before;
-        make_segment("cut", 5);
-        HOLDS(truncate(path_of("cut"), cut[i]) == 0);
-        before = bytes_at(path_of("cut"), &length);
-        ANSWERS(IMAGE_TOO_SHORT, open_and_count("cut", POVUNDIRI_ADOPT_OR_FAIL, 1, &opened));
-        HOLDS(length == (size_t)cut[i] && has_bytes(path_of("cut"), before, length));
-        free(before);
-    }
+    size_t i;
+    for (i = 0; i < sizeof cut / sizeof cut[0]; i += 1) ANSWERS(IMAGE_TOO_SHORT, status_where_cut(cut[i]));
     make_segment("cut", 5);
     HOLDS(truncate(path_of("cut"), 128) == 0);
     DONE(open_and_count("cut", POVUNDIRI_ADOPT_OR_FAIL, 1, &opened));

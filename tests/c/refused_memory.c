@@ -1,5 +1,5 @@
 /* Each allocation of each call is refused alone: the call says so, and made once more it returns as if nothing had been. Of an add and of a batch
- * to a sparse histogram, which grow an index, the call is done all the same. In the end all blocks were given back. The library's heap is replaced by the three functions below. */
+ * to a sparse histogram, which grow an index, the call is done all the same. In the end all blocks were given back. The library's heap is that of heap.h. */
 #include <stdlib.h>
 
 #include "checks.h"
@@ -7,14 +7,7 @@
 enum { WORDS = 1024, PAGE = 256 };
 
 static size_t until_refused = SIZE_MAX;
-static long blocks;
 static int refused;
-
-/* What the library's heap answers. */
-struct tried {
-    bool ok;
-    void *at;
-};
 
 static bool is_refused(void) {
     if (until_refused == SIZE_MAX || until_refused-- > 0) return false;
@@ -23,37 +16,7 @@ static bool is_refused(void) {
     return true;
 }
 
-struct tried rattle_alloc(size_t size, size_t align);
-struct tried rattle_realloc(void *at, size_t kept, size_t size, size_t align);
-void rattle_dealloc(void *at);
-
-struct tried rattle_alloc(size_t size, size_t align) {
-    struct tried answer = {false, (void *)16};
-    (void)align;
-    if (is_refused()) return answer;
-    answer.at = malloc(size != 0 ? size : 1);
-    answer.ok = answer.at != NULL;
-    blocks += answer.ok;
-    return answer;
-}
-
-struct tried rattle_realloc(void *at, size_t kept, size_t size, size_t align) {
-    struct tried answer = {false, at};
-    void *moved;
-    (void)kept;
-    (void)align;
-    if (is_refused()) return answer;
-    moved = realloc(at, size != 0 ? size : 1);
-    if (moved == NULL) return answer;
-    answer.ok = true;
-    answer.at = moved;
-    return answer;
-}
-
-void rattle_dealloc(void *at) {
-    blocks -= 1;
-    free(at);
-}
+#include "heap.h"
 
 static bool is_no_memory(uint32_t status) {
     return status == POVUNDIRI_NO_MEMORY || status == POVUNDIRI_REFUSED_NO_MEMORY || status == POVUNDIRI_OPEN_NO_MEMORY ||

@@ -1,13 +1,14 @@
 """Images are adopted, recorded into and read again, by `trials adopt`.
 
-Of each image a plain reckoning (plain_adoption.py) says whether it may be adopted, or by which fault it may not. A segment that continues
-with one reads as the plain reader reads the image, and in addition what was recorded: in each of its histograms and in new ones of all
-kinds. So no record is bad then. The first delta of a histogram takes what no delta had taken yet, and the units that are left are those
-that the image had not used, but for what was recorded.
+Of each image a plain reckoning (plain_adoption.py) says whether it may be adopted, or by which fault it may not. A
+segment that continues with one reads as the plain reader reads the image, and in addition what was recorded: in each of
+its histograms and in new ones of all kinds. So no record is bad then. The first delta of a histogram takes what no
+delta had taken yet, and the units that are left are those that the image had not used, but for what was recorded.
 
-The images are those of schedules of version 2 where they stop: known ones, worked examples at every event, and others that come of a
-seed. Each of them is adopted, but for those that were found corrupt. Then come forged images: those of forge.py in version 2, and those of
-forge_adoption.py, which may be adopted but for a reason or two. Each fault and each reason has to come into play.
+The images are those of schedules of version 2 where they stop: known ones, worked examples at every event, and others
+that come of a seed. Each of them is adopted, but for those that were found corrupt. Then come forged images: those of
+forge.py in version 2, and those of forge_adoption.py, which may be adopted but for a reason or two. Each fault and each
+reason has to come into play.
 """
 
 import collections
@@ -18,6 +19,8 @@ import random
 import tempfile
 
 from parts.schedules import FOLDER, replayed
+from parts.threads import SPECS as NEW
+from parts.threads import pairs
 from support import forge, forge_adoption, plain_adoption, plain_tally, seeded_schedules, worked_schedules
 from support.plain_reader import KINDS, MOST_BYTES, MOST_UNITS, words_of
 from support.program import answer, built
@@ -29,7 +32,6 @@ VERSION = 2
 TOGETHER = 100
 # There are so many images of each of the two kinds of forged ones for each 6 of --images.
 ENOUGH_IMAGES = 1000
-NEW = {"boolean": ("boolean",), "custom": ("custom", 10, 100, 1000), "linear": ("linear", 1, 100, 20), "sparse": ("sparse",)}
 FAULTS = ("OldVersion", "Corrupt", "Damaged", "NoUnits", "Image Deleted", None)
 FULL = 2
 
@@ -60,15 +62,15 @@ class Histogram(plain_tally.Histogram):
 
     def delta(self):
         """What a delta takes: an amount, and units by their keys in order."""
-        units = [(key, self.counts[key] - self.taken[key]) for key in sorted(self.counts) if self.counts[key] > self.taken[key]]
+        units = [
+            (key, self.counts[key] - self.taken[key])
+            for key in sorted(self.counts)
+            if self.counts[key] > self.taken[key]
+        ]
         amount = self.sum - self.taken_sum
         self.taken.update(dict(units))
         self.taken_sum = self.sum
         return amount, units
-
-
-def pairs(numbers):
-    return list(zip(numbers[::2], numbers[1::2]))
 
 
 class Going:
@@ -89,7 +91,10 @@ class Going:
 
     def meet(self, line):
         what, *fields = line.split(",")
-        {"units": self.units, "left": self.units, "hist": self.hist, "delta": self.delta, "sample": self.sample, "batch": self.batch, "refused": self.refused}[what](*fields)
+        {
+            "units": self.units, "left": self.units, "hist": self.hist, "delta": self.delta, "sample": self.sample,
+            "batch": self.batch, "refused": self.refused,
+        }[what](*fields)
 
     def units(self, number):
         self.require(int(number) == self.left, f"{number} units are left, wanted {self.left}")
@@ -101,7 +106,7 @@ class Going:
 
     def delta(self, name, amount, *units):
         wanted = self.histograms[name].delta()
-        came = int(amount), pairs(list(map(int, units)))
+        came = int(amount), pairs(units)
         self.require(came == wanted, f"a delta of {name} took {came}, wanted {wanted}")
 
     def sample(self, name, value, count):
@@ -110,7 +115,7 @@ class Going:
         self.left -= int(count)
 
     def batch(self, name, amount, *items):
-        counted = pairs(list(map(int, items)))
+        counted = pairs(items)
         self.histograms[name].count(counted)
         self.histograms[name].sum += int(amount)
         self.left -= sum(count for _, count in counted)
@@ -122,17 +127,29 @@ class Going:
             self.require(name in NEW and why == "Full", f"hist of {name} is refused by {why}")
             self.met.append(name)
         if call == "batch":
-            items, counted = pairs(list(map(int, more[1:]))), int(more[0])
+            items, counted = pairs(more[1:]), int(more[0])
             self.histograms[name].count(items[:counted])
             self.left -= sum(count for _, count in items[:counted])
-        asked = sum(count for _, count in pairs(list(map(int, more[1:])))) if call == "batch" else int(more[0]) if more else 0
-        self.require((why == "NoUnits") <= (asked > self.left), f"{call} of {name} has no units, and there are {self.left}")
+            asked = sum(count for _, count in items)
+        else:
+            asked = int(more[0]) if more else 0
+        self.require(
+            (why == "NoUnits") <= (asked > self.left), f"{call} of {name} has no units, and there are {self.left}"
+        )
         self.is_full = self.is_full or why == "Full"
 
     def report(self):
         flags = b"!flag,full\n" * self.is_full
-        differing = [(name, one.redundant) for name, one in sorted(self.histograms.items()) if one.redundant != sum(one.counts.values())]
-        return plain_tally.report(self.histograms) + flags + "".join(f"!redundant,{name},{number}\n" for name, number in differing).encode()
+        differing = [
+            (name, one.redundant)
+            for name, one in sorted(self.histograms.items())
+            if one.redundant != sum(one.counts.values())
+        ]
+        return (
+            plain_tally.report(self.histograms)
+            + flags
+            + "".join(f"!redundant,{name},{number}\n" for name, number in differing).encode()
+        )
 
 
 def wrong_going(words, lines):
@@ -171,7 +188,10 @@ def adopted(program, folder, images):
         else:
             every[-1].append(line)
     if came.status != 0 or came.error or len(every) != len(images):
-        raise ValueError(f"status {came.status}, {came.error[:200]!r}, {len(every)} images of {len(images)}, the last lines {lines[-3:]}")
+        raise ValueError(
+            f"status {came.status}, {came.error[:200]!r}, {len(every)} images of {len(images)}, "
+            f"the last lines {lines[-3:]}"
+        )
     return every
 
 
@@ -192,7 +212,10 @@ def wrongs_of(program, images, seen):
 
 def stops(stepped, path, name, events):
     """The images of the schedule in a file where it stops."""
-    return [(f"{name} after {event} events", answer(stepped, [path, "--stop", str(event), "--image"]).output) for event in events]
+    return [
+        (f"{name} after {event} events", answer(stepped, [path, "--stop", str(event), "--image"]).output)
+        for event in events
+    ]
 
 
 def worked_stops(stepped, folder, number, name, schedule):
@@ -208,7 +231,9 @@ def seeded_stops(stepped, folder, seed, number_of_stops):
     path = folder / f"{seed}.csv"
     _, came = seeded_schedules.schedule_of(chance, lambda text: replayed(stepped, path, text), [VERSION])
     last = came.output.count(b",step,")
-    events = range(last + 1) if number_of_stops == 0 else [last, *chance.choices(range(last + 1), k=number_of_stops - 1)]
+    events = (
+        range(last + 1) if number_of_stops == 0 else [last, *chance.choices(range(last + 1), k=number_of_stops - 1)]
+    )
     return stops(stepped, path, f"schedule {seed}", events)
 
 
@@ -254,11 +279,16 @@ def forged_images(seed, count):
 
 def adoptable_images(seed, count):
     """Forged images that may be adopted but for a reason or two, each with a name."""
-    return [(f"adoptable image {number} of seed {seed}", forge_adoption.image_of(random.Random(f"{seed} {number}"))) for number in range(count)]
+    return [
+        (f"adoptable image {number} of seed {seed}", forge_adoption.image_of(random.Random(f"{seed} {number}")))
+        for number in range(count)
+    ]
 
 
 def never_seen(seen):
-    never = [str(fault) for fault in FAULTS if not seen[fault]] + [damage for damage in plain_adoption.DAMAGES if not seen[damage]]
+    never = [str(fault) for fault in FAULTS if not seen[fault]] + [
+        damage for damage in plain_adoption.DAMAGES if not seen[damage]
+    ]
     return f"wanted each fault and each reason, came none of: {'; '.join(never)}" if never else None
 
 

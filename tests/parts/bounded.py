@@ -1,5 +1,6 @@
-"""Images that are made to cost much: each is adopted, or refused, in at most ten times its bytes, and refused a bounded report in as much, by a
-C program that counts what the library has from its heap. And `report`, which costs as much as it says, under a limit of memory, as README.md has it.
+"""Images that are made to cost much: each is adopted, or refused, in at most ten times its bytes, and refused a bounded
+report in as much, by a C program that counts what the library has from its heap. And `report`, which costs as much as
+it says, under a limit of memory, as README.md has it.
 """
 
 import pathlib
@@ -29,7 +30,10 @@ SCRIPT = f"segment,{SIZE},{PAGE},7\n".encode()
 
 def linear(at, counts, name, size=RECORD_WORDS):
     """A linear histogram of 1,000 buckets that nobody counted in, with a name of eight bytes."""
-    return at, size, HISTOGRAM, [LINEAR, 65, 65 + BUCKETS, BUCKETS, counts, 0, 0, 0, 0, 0, len(name), int.from_bytes(name, "little")]
+    return (
+        at, size, HISTOGRAM,
+        [LINEAR, 65, 65 + BUCKETS, BUCKETS, counts, 0, 0, 0, 0, 0, len(name), int.from_bytes(name, "little")],
+    )
 
 
 def names(references):
@@ -46,12 +50,17 @@ def one_block():
     """As many histograms as fit, all of which name one block of counts."""
     references = range(PAGE, SIZE, RECORD_WORDS)
     counts = (FIRST, COUNTS_WORDS, COUNTS, [])
-    return layout.image_of(SIZE, VERSION, [linear(at, FIRST, name) for at, name in zip(references, names(references))], [counts])
+    return layout.image_of(
+        SIZE, VERSION, [linear(at, FIRST, name) for at, name in zip(references, names(references))], [counts]
+    )
 
 
 def overlapping():
-    """More than 98,000 records, each of which shares six words with the next one, and all of which name one block of counts."""
-    references = [at for page in range(PAGE, SIZE, PAGE) for at in range(page, page + PAGE - RECORD_WORDS, OVERLAPPING_WORDS)]
+    """More than 98,000 records, each of which shares six words with the next one, and all of which name one block of
+    counts."""
+    references = [
+        at for page in range(PAGE, SIZE, PAGE) for at in range(page, page + PAGE - RECORD_WORDS, OVERLAPPING_WORDS)
+    ]
     counts = (FIRST, COUNTS_WORDS, COUNTS, [])
     assert len(references) > 98_000
     return layout.image_of(SIZE, VERSION, [linear(at, FIRST, b"A") for at in references], [counts])
@@ -61,7 +70,9 @@ def values():
     """A sparse histogram and as many samples as fit, each of a value of its own."""
     references = range(FIRST + RECORD_WORDS, SIZE, 8)
     record = (FIRST, RECORD_WORDS, HISTOGRAM, [SPARSE, 0, 0, 0, 0, 0, 0, 0, 0, 0, 1, ord("S")])
-    return layout.image_of(SIZE, VERSION, [record, *((at, 8, SAMPLE, [FIRST, number, 1, 0]) for number, at in enumerate(references))])
+    return layout.image_of(
+        SIZE, VERSION, [record, *((at, 8, SAMPLE, [FIRST, number, 1, 0]) for number, at in enumerate(references))]
+    )
 
 
 # Each image, and what is returned when it is adopted.

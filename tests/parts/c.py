@@ -1,23 +1,29 @@
-"""The interface for C and C++: every call of the headers, and each of its statuses, under the sanitizers; forks, and threads that come and go;
-the examples, whatever they find; and the programs that the pages show.
+"""The interface for C and C++: every call of the headers, and each of its statuses, under the sanitizers; forks, and
+threads that come and go; the examples, whatever they find; and the programs that the pages show.
 
 The programs are in `tests/c`. Each prints a line for each group of its checks.
 """
 
+from __future__ import annotations
+
+import argparse
+import functools
 import os
 import pathlib
 import re
-import subprocess
 import tempfile
+from collections.abc import Callable, Iterator, Sequence
+from typing import Optional
 
 from support import compiling, native, services
-from support.program import ROOT, Answer, answer, difference
+from support.program import ROOT, Answer, Case, Path, answer, difference
 
 PROGRAM = "persist_report"
 NO_EXCEPTIONS = "-fno-exceptions"
-MOST_SECONDS = 300
+# Says what is wrong, or None.
+Test = Callable[[], Optional[str]]
 # A source, more flags, and whether it is given a folder to work in.
-CHECKS = (
+CHECKS: tuple[tuple[str, list[str], bool], ...] = (
     ("every_call.c", [], False),
     ("every_call.cpp", [], False),
     ("every_call.cpp", [NO_EXCEPTIONS], False),
@@ -33,44 +39,55 @@ CHECKS = (
 
 EXAMPLES = ROOT / "examples"
 PAGES = ("README.md", "docs/C.md")
-# What examples/c/record.c and each program of a page record when they are run twice: where each bucket begins and the last one ends, and
-# the units of each.
+# What examples/c/record.c and each program of a page record when they are run twice: where each bucket begins and the
+# last one ends, and the units of each.
 ENDS = (0, 1, 126, 251, 376, 501, 625, 750, 875, 1000)
 UNITS = (2, 250, 250, 250, 250, 248, 250, 250, 250)
-RECORDED = "".join(f"latency,linear,{low},{high},{units}\n" for low, high, units in zip(ENDS, ENDS[1:], UNITS)) + "latency,total,2000,999000\n"
+RECORDED = (
+    "".join(f"latency,linear,{low},{high},{units}\n" for low, high, units in zip(ENDS, ENDS[1:], UNITS))
+    + "latency,total,2000,999000\n"
+)
 
 
-def checked(installed, name, flags, folder):
+def checked(
+    installed: native.Installed, name: str, flags: Sequence[str], folder: pathlib.Path | None
+) -> Iterator[Case]:
     """The cases of one program."""
     title = " ".join([name, *flags])
     try:
         program = installed.program(native.PROGRAMS / name, *native.SANITIZED, *flags)
-        words = [program] if folder is None else [program, folder]
-        done = subprocess.run(words, capture_output=True, text=True, timeout=MOST_SECONDS, env={"ASAN_OPTIONS": "detect_leaks=1"})
     except native.Failed as why:
         yield title, str(why)
         return
-    for group, wrong in native.groups(done.stdout):
-        yield f"{title}, {group}", wrong
-    yield f"{title}, its end", None if done.returncode == 0 else f"status {done.returncode}: {done.stderr[-1500:]}"
+    words = [program] if folder is None else [program, folder]
+    yield from native.checks_of(title, words, {"ASAN_OPTIONS": "detect_leaks=1"})
 
 
-def exported(installed):
+def exported(installed: native.Installed) -> Iterator[Case]:
     """Each function that the headers declare is in the archive, by its name."""
     text = "".join((native.LIBRARY / name).read_text() for name in ("povundiri.h", "povundiri_file.h"))
     declared = set(re.findall(r"^(?:inline )?[a-z][\w ]*[ *](povundiri_\w+)\(", text, re.MULTILINE))
-    defined = set(re.findall(r" T (povundiri_\w+)$", native.run(["nm", "-g", installed.prefix / "lib" / "libpovundiri.a"]), re.MULTILINE))
-    yield "each function is in the archive", None if declared and declared <= defined else f"missing are {sorted(declared - defined)}"
+    defined = set(
+        re.findall(
+            r" T (povundiri_\w+)$", native.run(["nm", "-g", installed.prefix / "lib" / "libpovundiri.a"]), re.MULTILINE
+        )
+    )
+    wrong = None if declared and declared <= defined else f"missing are {sorted(declared - defined)}"
+    yield "each function is in the archive", wrong
 
 
-def text_of_statuses(program):
+def text_of_statuses(program: pathlib.Path) -> Iterator[Case]:
     """Each status has a name that no other has. Where one has two words, `persist_report` explains the last."""
     header, names = ((native.LIBRARY / name).read_text() for name in ("povundiri.h", "povundiri.c"))
     listed = dict(re.findall(r"^    \{(POVUNDIRI_\w+), \"([\w ]+)\"\},$", names, re.MULTILINE))
     statuses = re.findall(r"^    (POVUNDIRI_\w+) = \d+", header.split("enum povundiri_status")[1], re.MULTILINE)
-    yield "each status has a name", None if statuses and statuses == [*listed] else f"they differ: {sorted(set(statuses) ^ set(listed))}"
-    classes = re.findall(r"^    \w+ = (POVUNDIRI_\w+),?", (native.LIBRARY / "povundiri_status.hpp").read_text(), re.MULTILINE)
-    yield "each status is one of povundiri::Status", None if classes == statuses else f"they differ: {sorted(set(statuses) ^ set(classes))}"
+    wrong = None if statuses and statuses == [*listed] else f"they differ: {sorted(set(statuses) ^ set(listed))}"
+    yield "each status has a name", wrong
+    classes = re.findall(
+        r"^    \w+ = (POVUNDIRI_\w+),?", (native.LIBRARY / "povundiri_status.hpp").read_text(), re.MULTILINE
+    )
+    wrong = None if classes == statuses else f"they differ: {sorted(set(statuses) ^ set(classes))}"
+    yield "each status is one of povundiri::Status", wrong
     shared = sorted(name for name in listed.values() if [*listed.values()].count(name) > 1)
     yield "no two statuses have one name", f"shared are {shared}" if shared else None
     words = sorted({name.split()[-1] for name in listed.values() if " " in name})
@@ -78,15 +95,18 @@ def text_of_statuses(program):
     yield "names of two words are explained", None if words and not unknown else f"not explained are {unknown}"
 
 
-def report_in(program, file):
+def report_in(program: Path, file: pathlib.Path) -> Answer:
     """The report of the segment that stands at byte 8 of a file, or what was said in its place."""
     image = file.with_suffix(".img")
     found = answer(program, ["extract", file, image])
     return answer(program, ["report", image]) if found == Answer(b"8\n") else found
 
 
-def recorded_twice(installed, program, source, home):
-    """A program that records a thousand samples into latency.seg, run twice: the second time it continues with what stands there."""
+def recorded_twice(
+    installed: native.Installed, program: pathlib.Path, source: pathlib.Path, home: pathlib.Path
+) -> str | None:
+    """A program that records a thousand samples into latency.seg, run twice: the second time it continues with what
+    stands there."""
     built = installed.program(source)
     home.mkdir()
     for _ in range(2):
@@ -96,7 +116,7 @@ def recorded_twice(installed, program, source, home):
     return difference(Answer(RECORDED.encode()), report_in(program, home / "latency.seg"))
 
 
-def shown_programs(folder):
+def shown_programs(folder: pathlib.Path) -> Iterator[tuple[str, pathlib.Path]]:
     """The programs that the pages show, as files: blocks that begin with an include."""
     for page in PAGES:
         blocks = re.findall(r"(?:^(?: {4}.*)?\n)+", (ROOT / page).read_text(), re.MULTILINE)
@@ -108,7 +128,7 @@ def shown_programs(folder):
             yield f"program {number + 1} of {page}", source
 
 
-def examples(installed, program, folder):
+def examples(installed: native.Installed, program: pathlib.Path, folder: pathlib.Path) -> Iterator[tuple[str, Test]]:
     """The example in C, and what the pages show."""
     record = EXAMPLES / "c" / "record.c"
     yield "record.c", lambda: recorded_twice(installed, program, record, folder / "record")
@@ -116,17 +136,25 @@ def examples(installed, program, folder):
     same = any(record.read_text().endswith(source.read_text()) for source in shown.values())
     yield "record.c is shown", lambda: None if same else "no page shows it as it stands"
     for name, source in shown.items():
-        yield name, lambda source=source: recorded_twice(installed, program, source, source.with_suffix(""))
+        yield name, functools.partial(recorded_twice, installed, program, source, source.with_suffix(""))
     in_readme = next((source for name, source in shown.items() if name.endswith("README.md")), None)
-    yield "the commands of README.md", lambda: wrong_after_program(installed, program, in_readme, folder / "readme")
+    if in_readme is None:
+        yield "the commands of README.md", lambda: "README.md has no program"
+    else:
+        home = folder / "readme"
+        yield "the commands of README.md", functools.partial(wrong_after_program, installed, program, in_readme, home)
 
 
-def wrong_after_program(installed, program, source, home):
-    """What is wrong with the commands that README.md has after its program, or None: they are run as they are, with the library in ~/local."""
+def wrong_after_program(
+    installed: native.Installed, program: pathlib.Path, source: pathlib.Path, home: pathlib.Path
+) -> str | None:
+    """What is wrong with the commands that README.md has after its program, or None: they are run as they are, with the
+    library in ~/local."""
     home.mkdir()
     (home / "local").symlink_to(installed.prefix)
     (home / "latency.cpp").write_text(source.read_text())
-    commands = next(block for block in re.findall(r"(?:^ {4}.*\n)+", (ROOT / "README.md").read_text(), re.MULTILINE) if "$(pkg-config" in block)
+    blocks = re.findall(r"(?:^ {4}.*\n)+", (ROOT / "README.md").read_text(), re.MULTILINE)
+    commands = next(block for block in blocks if "$(pkg-config" in block)
     setting = {**os.environ, "HOME": str(home), "PATH": os.pathsep.join([str(program.parent), os.environ["PATH"]])}
     came = answer("bash", ["-e", "-c", commands], cwd=home, env=setting)
     if came.error or came.status != 0:
@@ -134,14 +162,14 @@ def wrong_after_program(installed, program, source, home):
     return difference(Answer(RECORDED.encode()), answer(program, ["report", home / "latency.img"]))
 
 
-def wrong_of(test):
+def wrong_of(test: Test) -> str | None:
     try:
         return test()
     except native.Failed as why:
         return str(why)
 
 
-def cases(program, options):
+def cases(program: pathlib.Path, options: argparse.Namespace) -> Iterator[Case]:
     with tempfile.TemporaryDirectory() as scratch:
         folder = pathlib.Path(scratch)
         try:

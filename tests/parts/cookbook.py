@@ -1,21 +1,25 @@
 """The tasks of docs/COOKBOOK.md: each command there is run, and prints what is below it. And the commands of README.md.
 
-A block of the page is code, and the text before it names the file that has it, or commands, each after a `$`. They run one after the
-other in a new folder, which has the examples. What they print, on both streams, is compared line by line; `[..]` stands for any lines. Where
-there is no `sqlite3`, the commands that ask for it are left out, and a line says so.
+A block of the page is code, and the text before it names the file that has it, or commands, each after a `$`. They run
+one after the other in a new folder, which has the examples. What they print, on both streams, is compared line by line;
+`[..]` stands for any lines. Where there is no `sqlite3`, the commands that ask for it are left out, and a line says so.
 
-Each command of README.md that begins with the program succeeds, and prints the lines that are indented below it. The part `c` runs those
-after its program in C++, and `shown_steps` those of `stepped`.
+Each command of README.md that begins with the program succeeds, and prints the lines that are indented below it. The
+part `c` runs those after its program in C++, and `shown_steps` those of `stepped`.
 """
 
+from __future__ import annotations
+
+import argparse
 import os
 import pathlib
 import re
 import shutil
 import subprocess
 import tempfile
+from collections.abc import Iterable, Iterator, Mapping, Sequence
 
-from support.program import ROOT, built
+from support.program import ROOT, Case, built
 
 PROGRAM = "persist_report"
 STEPPED = "stepped"
@@ -31,7 +35,7 @@ LEAST_TASKS = 12
 LEAST_IN_README = 6
 
 
-def blocks():
+def blocks() -> Iterator[tuple[str, str, list[str]]]:
     """Each task's title, and the text before a block of it with the lines of the block."""
     for task in re.split(r"^## ", PAGE.read_text(), flags=re.MULTILINE)[1:]:
         title, _, rest = task.partition("\n")
@@ -40,9 +44,9 @@ def blocks():
             yield title, before, [line[len(INDENT):] for line in block.splitlines()]
 
 
-def commands(block):
+def commands(block: Iterable[str]) -> list[tuple[str, list[str]]]:
     """Each command of a block, with the lines that it has to print."""
-    found = []
+    found: list[tuple[str, list[str]]] = []
     for line in block:
         if line.startswith(PROMPT):
             found.append((line[len(PROMPT):], []))
@@ -53,19 +57,22 @@ def commands(block):
     return found
 
 
-def pattern(lines):
+def pattern(lines: Iterable[str]) -> str:
     """What matches lines, where some stand for any lines."""
     return "".join(r"(?:.*\n)*" if line == ANY_LINES else f"{re.escape(line)}\n" for line in lines)
 
 
-def wrong_command(command, wanted, folder, setting):
+def wrong_command(command: str, wanted: Sequence[str], folder: pathlib.Path, setting: Mapping[str, str]) -> str | None:
     """What is wrong with what a command prints, or None."""
-    came = subprocess.run(["bash", "-c", command], cwd=folder, env=setting, stdout=subprocess.PIPE, stderr=subprocess.STDOUT, timeout=SECONDS)
+    came = subprocess.run(
+        ["bash", "-c", command], cwd=folder, env=setting, stdout=subprocess.PIPE, stderr=subprocess.STDOUT,
+        timeout=SECONDS,
+    )
     text = came.stdout.decode()
     return None if re.fullmatch(pattern(wanted), text) else f"wanted {wanted}, came {text[:1000]!r}"
 
 
-def wrong_code(before, block):
+def wrong_code(before: str, block: Iterable[str]) -> str | None:
     """What is wrong with a block of code that stands in a file, or None."""
     named = re.search(r"From\s`([^`]+)`", before)
     if named is None:
@@ -77,7 +84,7 @@ def wrong_code(before, block):
     return None
 
 
-def readme_commands():
+def readme_commands() -> Iterator[tuple[str, list[str]]]:
     """Each command of README.md, with the lines below it that are indented further."""
     for block in re.findall(rf"(?:^{INDENT}.*\n)+", README.read_text(), re.MULTILINE):
         if "pkg-config" not in block:
@@ -85,7 +92,9 @@ def readme_commands():
             yield from ((command, [line.strip() for line in shown.splitlines()]) for command, shown in found)
 
 
-def wrong_in_readme(command, shown, folder, setting):
+def wrong_in_readme(
+    command: str, shown: list[str], folder: pathlib.Path, setting: Mapping[str, str]
+) -> str | None:
     """What is wrong with a command of README.md, or None."""
     came = subprocess.run(["bash", "-c", command], cwd=folder, env=setting, capture_output=True, timeout=SECONDS)
     if came.returncode != 0:
@@ -95,7 +104,7 @@ def wrong_in_readme(command, shown, folder, setting):
     return f"not printed, or not in this order: {missing}" if missing else None
 
 
-def cases(program, _options):
+def cases(program: pathlib.Path, _options: argparse.Namespace) -> Iterator[Case]:
     folders = [str(path.parent) for path in (program, built(STEPPED))]
     setting = {**os.environ, "PATH": os.pathsep.join([*folders, os.environ["PATH"]]), "LC_ALL": "C.UTF-8"}
     has_engine = shutil.which(ENGINE) is not None

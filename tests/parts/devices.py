@@ -47,7 +47,8 @@ Commands:
   run      Run a script: write the image to OUT and its report to standard output
   resume   Continue from image BASE: run a script and write the new image to OUT and its report to standard output
   merge    Add two images into a new one; counts that a delta has already taken are left out
-  extract  Find a segment in any file, such as a mapped file or a core dump, and write its image to OUT; prints its offset
+  extract  Find a segment in any file, such as a mapped file or a core dump, and write its image to OUT; prints its \
+offset
   explain  Say what a fault means and what to do
   help     Print this message or the help of the given subcommand(s)
 
@@ -225,7 +226,9 @@ def images(program):
         "Image BadCookie": bytes(MOST_BYTES),
         "TooLong": bytes(MOST_BYTES + 1),
     }
-    stored = [(text, example[: 8 * at] + struct.pack("<Q", word) + example[8 * at + 8 :]) for at, word, text in HEADER_FAULTS]
+    stored = [
+        (text, example[: 8 * at] + struct.pack("<Q", word) + example[8 * at + 8 :]) for at, word, text in HEADER_FAULTS
+    ]
     for text, data in [*faults.items(), *stored]:
         yield text, difference(fault(text, 3), answer(program, ["report"], data))
 
@@ -249,7 +252,9 @@ def files(program, folder):
 
 def answer_to_pieces(program, data):
     """The answer to an image that comes through a pipe in two pieces, of which the first ends within a word."""
-    running = subprocess.Popen([program, "report"], stdin=subprocess.PIPE, stdout=subprocess.PIPE, stderr=subprocess.PIPE)
+    running = subprocess.Popen(
+        [program, "report"], stdin=subprocess.PIPE, stdout=subprocess.PIPE, stderr=subprocess.PIPE
+    )
     running.stdin.write(data[:7])
     running.stdin.flush()
     output, error = running.communicate(data[7:])
@@ -290,7 +295,10 @@ def outputs(program, folder):
     """Outputs that cannot be written: what is asked for, and each is a fault of the device."""
     example = EXAMPLE.read_bytes()
     asked = [["report"], ["report", EXAMPLE], ["--help"], ["report", "--help"], ["run", "--help"], ["--version"]]
-    for name, output in (("a full device", os.open("/dev/full", os.O_WRONLY)), ("a closed pipe", pipe_without_reader())):
+    for name, output in (
+        ("a full device", os.open("/dev/full", os.O_WRONLY)),
+        ("a closed pipe", pipe_without_reader()),
+    ):
         for words in asked:
             came = answer(program, words, example, stdout=output)
             yield f"{words} on {name}", difference(WRITE_FAULT, came)
@@ -301,11 +309,14 @@ def outputs(program, folder):
     yield "a file that ends in the middle", difference(wanted, answer_to_short_file(program, folder / "short", 20))
     with open("/dev/full", "wb") as full:
         for words, status in ((["report", folder], 4), ([], 2)):
-            yield f"{words} with a full error stream", difference(Answer(status=status), answer(program, words, stderr=full))
+            yield f"{words} with a full error stream", difference(
+                Answer(status=status), answer(program, words, stderr=full)
+            )
 
 
 def inputs_of_commands(program, folder):
-    """Inputs of `run`, `merge` and `resume`: all files are opened in the order of the arguments, and last OUT, which stays unchanged."""
+    """Inputs of `run`, `merge` and `resume`: all files are opened in the order of the arguments, and last OUT, which
+    stays unchanged."""
     out, base = folder / "out", base_of(program, folder)
     no_words = folder / "no-words"
     no_words.write_bytes(b"1234567")
@@ -336,7 +347,10 @@ def inputs_of_commands(program, folder):
         "no folder to go on": (["resume", no_words, SCRIPT, folder / "missing" / "out"], WRITE_FAULT),
         "a base to go on with that cannot be read": (["resume", "/proc/self/mem", no_words, out], READ_FAULT),
         "a base to go on with that is no image": (["resume", no_words, "/proc/self/mem", out], fault("NotWords", 3)),
-        "a base to go on with that is no segment's": (["resume", EXAMPLE, "/proc/self/mem", out], fault("Adopt OldVersion", 3)),
+        "a base to go on with that is no segment's": (
+            ["resume", EXAMPLE, "/proc/self/mem", out],
+            fault("Adopt OldVersion", 3),
+        ),
         "a base to go on with without an end": (["resume", "/dev/zero", no_words, out], fault("TooLong", 3)),
         "a script to go on with that cannot be read": (["resume", base, "/proc/self/mem", out], READ_FAULT),
         "a script to go on with without an end": (["resume", base, "/dev/zero", out], fault("TooLong", 3)),
@@ -369,7 +383,9 @@ def base_of(program, folder):
 def images_of(program, folder):
     """The images that `run`, `merge` and `resume` make of the examples."""
     paths = [folder / name for name in ("run-image", "merge-image", "resume-image")]
-    for path, words in zip(paths, (["run", SCRIPT], ["merge", EXAMPLE, EXAMPLE], ["resume", base_of(program, folder), SCRIPT])):
+    for path, words in zip(
+        paths, (["run", SCRIPT], ["merge", EXAMPLE, EXAMPLE], ["resume", base_of(program, folder), SCRIPT])
+    ):
         answer(program, [*words, path])
         yield path.read_bytes()
         path.unlink()
@@ -395,7 +411,9 @@ def inputs_as_outputs(program, folder):
         "resume x x x": (["resume", "x", "x", "x"], run_image, None, fault("BadLine 1", 3), run_image),
         "resume x y x, no image in x": (["resume", "x", "y", "x"], bad, script, fault("NotWords", 3), bad),
         "resume x y x, no script in y": (["resume", "x", "y", "x"], run_image, bad, fault("BadLine 1", 3), run_image),
-        "resume y x x, an old image in y": (["resume", "y", "x", "x"], script, example, fault("Adopt OldVersion", 3), script),
+        "resume y x x, an old image in y": (
+            ["resume", "y", "x", "x"], script, example, fault("Adopt OldVersion", 3), script,
+        ),
     }
     for name, (words, x, y, wanted, left) in cases_of.items():
         room = folder / "room"
@@ -426,7 +444,8 @@ def links(program, folder):
                 place.write_bytes(stood)
             wrong = difference(REPORT, answer(program, ["run", SCRIPT, name], cwd=room))
             wrong = wrong or (None if (room / name).is_symlink() else "the link is gone")
-            yield f"a link {name} to {stood}", wrong or (None if content(place) == run_image else "no image behind the link")
+            wrong = wrong or (None if content(place) == run_image else "no image behind the link")
+            yield f"a link {name} to {stood}", wrong
     (room / "round").symlink_to("round")
     yield "a link to itself", difference(WRITE_FAULT, answer(program, ["run", SCRIPT, room / "round"]))
     (room / "null").symlink_to("/dev/null")
@@ -455,7 +474,8 @@ def wrong_mode(path, mode):
 
 
 def guarded(program, folder):
-    """A folder and a file that may not be written: no input is read. A user who may write anything becomes another first."""
+    """A folder and a file that may not be written: no input is read. A user who may write anything becomes another
+    first."""
     room, own = folder / "guarded", folder / "program"
     shutil.copy(program, own)
     room.mkdir()
@@ -467,7 +487,8 @@ def guarded(program, folder):
         room.chmod(mode_of_folder)
         came = answer(own, ["run", "/", room / "out"], cwd="/", **another)
         room.chmod(0o777)
-        yield f"{name} that may not be written", difference(WRITE_FAULT, came) or wrong_folder(room, {room / "out"}, room / "out", STOOD)
+        wrong = difference(WRITE_FAULT, came) or wrong_folder(room, {room / "out"}, room / "out", STOOD)
+        yield f"{name} that may not be written", wrong
 
 
 def open_files(program, folder):
@@ -475,9 +496,16 @@ def open_files(program, folder):
     run_image, merged, resumed = images_of(program, folder)
     merge, resume = ["merge", EXAMPLE, EXAMPLE], ["resume", base_of(program, folder), SCRIPT]
     yield "a pipe as standard output", difference(Answer(merged), answer(program, [*merge, "/dev/stdout"]))
-    yield "the image and the report on a pipe", difference(Answer(run_image + REPORT.output), answer(program, ["run", SCRIPT, "/dev/stdout"]))
-    yield "the new image and the report on a pipe", difference(Answer(resumed + RESUMED.output), answer(program, [*resume, "/dev/stdout"]))
-    for words, data in ((["resume", "/dev/stdin", SCRIPT], run_image), (["resume", base_of(program, folder), "/dev/stdin"], SCRIPT.read_bytes())):
+    yield "the image and the report on a pipe", difference(
+        Answer(run_image + REPORT.output), answer(program, ["run", SCRIPT, "/dev/stdout"])
+    )
+    yield "the new image and the report on a pipe", difference(
+        Answer(resumed + RESUMED.output), answer(program, [*resume, "/dev/stdout"])
+    )
+    for words, data in (
+        (["resume", "/dev/stdin", SCRIPT], run_image),
+        (["resume", base_of(program, folder), "/dev/stdin"], SCRIPT.read_bytes()),
+    ):
         yield f"{words} with standard input", difference(RESUMED, answer(program, [*words, folder / "lent"], data))
     for name in ("/dev/stdout", "/dev/fd/1", "/proc/self/fd/1"):
         for file in (open(folder / "lent", "w+b"), tempfile.TemporaryFile()):
@@ -512,8 +540,8 @@ def answer_to_short_out(program, words, most):
 
 
 def outputs_of_commands(program, folder):
-    """Outputs of `run`, `merge` and `resume` that cannot be written: OUT stays unchanged, and no report is begun after a fault of the
-    image."""
+    """Outputs of `run`, `merge` and `resume` that cannot be written: OUT stays unchanged, and no report is begun after
+    a fault of the image."""
     out = folder / "out"
     run, merge, resume = ["run", SCRIPT], ["merge", EXAMPLE, EXAMPLE], ["resume", base_of(program, folder), SCRIPT]
     for words, image, right in zip((run, merge, resume), images_of(program, folder), (REPORT, Answer(), RESUMED)):
@@ -522,9 +550,14 @@ def outputs_of_commands(program, folder):
             for stood in (STOOD, None):
                 wrong = wrong_short_out(program, [*words, out], most, stood, WRITE_FAULT, stood)
                 yield f"{words[0]} into a file of {most} bytes", wrong
-        yield f"{words[0]} into a file of 1024 bytes", wrong_short_out(program, [*words, out], 1024, STOOD, right, image)
+        yield f"{words[0]} into a file of 1024 bytes", wrong_short_out(
+            program, [*words, out], 1024, STOOD, right, image
+        )
     yield "run into a closed pipe", difference(WRITE_FAULT, answer_behind_closed_pipe(program, folder))
-    for name, output in (("a full device", os.open("/dev/full", os.O_WRONLY)), ("a closed pipe", pipe_without_reader())):
+    for name, output in (
+        ("a full device", os.open("/dev/full", os.O_WRONLY)),
+        ("a closed pipe", pipe_without_reader()),
+    ):
         for words, stood in itertools.product((run, resume), (STOOD, None)):
             beside = prepared(out, stood)
             wrong = difference(WRITE_FAULT, answer(program, [*words, out], stdout=output))
@@ -551,7 +584,10 @@ def wrong_short_out(program, words, most, stood, wanted, left):
 
 def words(program):
     """Help, the version, and command lines that ask for nothing that the program does."""
-    shown = {("--version",): b"persist_report 0.1.0\n", ("--help",): HELP, ("help",): HELP, ("report", "--help"): REPORT_HELP}
+    shown = {
+        ("--version",): b"persist_report 0.1.0\n", ("--help",): HELP, ("help",): HELP,
+        ("report", "--help"): REPORT_HELP,
+    }
     shown |= {("export", "--help"): EXPORT_HELP, ("show", "--help"): SHOW_HELP, ("help", "show"): SHOW_HELP}
     shown |= {("extract", "--help"): EXTRACT_HELP}
     shown |= {("run", "--help"): RUN_HELP, ("merge", "--help"): MERGE_HELP, ("help", "merge"): MERGE_HELP}
@@ -574,7 +610,9 @@ def cases(program, options):
         yield from files(program, folder)
         yield from inputs(program, folder)
         yield from outputs(program, folder)
-        for part in (inputs_of_commands, inputs_as_outputs, outputs_of_commands, links, permissions, guarded, open_files):
+        for part in (
+            inputs_of_commands, inputs_as_outputs, outputs_of_commands, links, permissions, guarded, open_files,
+        ):
             yield from part(program, folder)
         yield from words(program)
         room = folder / "explained"

@@ -1,21 +1,27 @@
-"""Documents that are made of the sources are what these say now, links lead to files that are there, README.md is short, the crates that
-read do not depend on the machine, and the Python of tests/ and bench/ is clean. No program is run."""
+"""Documents that are made of the sources are what these say now, links lead to files that are there, README.md is
+short, the crates that read do not depend on the machine, and the Python of tests/ and bench/ is clean. No program is
+run."""
+
+from __future__ import annotations
+
+import argparse
+from collections.abc import Iterator
 
 from support import definitions, faults, layers, linted, links, proved
-from support.program import ROOT
+from support.program import ROOT, Case
 
 PROGRAM = None
 MOST_LINES = 150
 
 
-def too_long():
+def too_long() -> str | None:
     """How long README.md is, if it is longer than a user reads, or None."""
     lines = len((ROOT / "README.md").read_text().splitlines())
     return None if lines <= MOST_LINES else f"{lines} lines, and at most {MOST_LINES} are wanted"
 
 
-def cases(_program, _options):
-    yield "docs/DEFINITIONS.md, which tests/support/definitions.py --write makes anew, as it does docs/definitions", definitions.difference()
+def cases(_program: None, _options: argparse.Namespace) -> Iterator[Case]:
+    yield "docs/DEFINITIONS.md, which tests/support/definitions.py --write makes anew", definitions.difference()
     yield "docs/FAULTS.md, which tests/support/faults.py --write makes anew", faults.difference()
     yield "what tests/support/proved.py refuses of a made-up file", proved.self_check()
     yield "docs/proved, which tests/support/proved.py --write makes anew", proved.difference()

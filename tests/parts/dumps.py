@@ -1,19 +1,26 @@
-"""Four threads of a C++ program record into a segment in the heap. It is stopped at random moments, and its memory is read out.
+"""Four threads of a C++ program record into a segment in the heap. It is stopped at random moments, and its memory is
+read out.
 
-`extract` finds the segment in that, `report` shows no bad record and no stop, and each bucket has at most what was begun and at least
-what had ended. The image of the last stop is adopted by the next run, which continues in its own heap.
+`extract` finds the segment in that, `report` shows no bad record and no stop, and each bucket has at most what was
+begun and at least what had ended. The image of the last stop is adopted by the next run, which continues in its own
+heap.
 
-In the memory stand other segments too: what the segment was made of, and the image that was adopted. These have what was there before.
+In the memory stand other segments too: what the segment was made of, and the image that was adopted. These have what
+was there before.
 """
 
-import collections
+from __future__ import annotations
+
+import argparse
+import pathlib
 import random
 import subprocess
 import time
+from collections.abc import Iterator
+from typing import Optional
 
-from parts.kills import LIVES, SHAPES
 from support import bounds, memory_dump, native
-from support.program import answer
+from support.program import Case, answer, untried
 
 PROGRAM = "persist_report"
 CHAINS = 8
@@ -21,18 +28,21 @@ RUNS = 5
 STOPS = 2
 MOST_SECONDS = 60
 
+# What is wrong with what a memory has, and nothing more; or None, and the units and the image of what was found there.
+Left = tuple[Optional[str], Optional[bounds.Units], Optional[bytes]]
 
-class Chain:
-    """Runs of the program, each of which continues with the image that was found in the memory of the one before."""
 
-    def __init__(self, killed, program, folder, chance, version):
-        self.killed, self.program, self.folder, self.chance, self.version = killed, program, folder, chance, version
-        self.shape = chance.choice(SHAPES)
-        self.before = collections.Counter()
+class Chain(bounds.Runs):
+    """Runs, each of which continues with the image that was found in the memory of the one before."""
+
+    def __init__(
+        self, killed: pathlib.Path, program: pathlib.Path, folder: pathlib.Path, chance: random.Random, version: int
+    ) -> None:
+        super().__init__(killed, program, chance, version)
         self.image, self.tally, self.dump, self.found = (folder / name for name in ("image", "tally", "dump", "found"))
         self.image.unlink(missing_ok=True)
 
-    def readings(self):
+    def readings(self) -> Iterator[tuple[bounds.Units, list[str], bytes]]:
         """What is read of each segment that is found in the memory, and its image."""
         nth = 1
         while True:
@@ -43,7 +53,7 @@ class Chain:
                 yield *bounds.units_of(report.output), self.found.read_bytes()
             nth += 1
 
-    def wrong(self):
+    def wrong(self) -> Left:
         """What is wrong with what the memory has; or None, and then the units and the image of what was found there."""
         data = self.tally.read_bytes()
         wrong = "no segment stands in the memory"
@@ -54,7 +64,7 @@ class Chain:
             wrong = f"{wrong}; of one: {this}"
         return wrong, None, None
 
-    def await_first(self, running):
+    def await_first(self, running: memory_dump.Process) -> None:
         """Waits until the process has begun to count."""
         ends = time.monotonic() + MOST_SECONDS
         while not any(self.tally.read_bytes()):
@@ -62,11 +72,11 @@ class Chain:
                 raise ChildProcessError(f"it began to count nothing; its status is {running.returncode}")
             time.sleep(0.001)
 
-    def stops(self, running):
+    def stops(self, running: memory_dump.Process) -> Left:
         """Stops a process several times: what is wrong after one of them; or None, and then what the last one left."""
         self.await_first(running)
         for _ in range(STOPS):
-            time.sleep(self.chance.uniform(0, self.chance.choice(LIVES)))
+            self.live()
             memory_dump.stop(running)
             memory_dump.write(running, self.dump)
             wrong, units, image = self.wrong()
@@ -75,11 +85,11 @@ class Chain:
             memory_dump.go_on(running)
         return None, units, image
 
-    def run(self):
+    def run(self) -> str | None:
         """What is wrong with one run, or None."""
-        self.tally.write_bytes(bytes(bounds.BYTES))
-        words = [self.killed, "heap", self.image, self.tally, self.chance.getrandbits(31), self.version, *self.shape]
-        with subprocess.Popen([str(word) for word in words], stdout=subprocess.PIPE) as running:
+        words = self.words("heap", self.image, self.tally)
+        with subprocess.Popen(words, stdout=subprocess.PIPE) as running:
+            assert running.stdout is not None
             try:
                 running.stdout.read(7)
                 wrong, units, image = self.stops(running)
@@ -88,18 +98,24 @@ class Chain:
             finally:
                 running.kill()
         if wrong is None and self.version == 2:
+            assert units is not None and image is not None
             self.before = units
             self.image.write_bytes(image)
         return wrong
 
 
-def stopped(killed, folder, program, options):
+def stopped(
+    killed: pathlib.Path, folder: pathlib.Path, program: pathlib.Path, options: argparse.Namespace
+) -> Iterator[Case]:
     for number in range(CHAINS):
         version = 1 if number % 4 == 3 else 2
         chain = Chain(killed, program, folder, random.Random(f"{options.seed} dump {number}"), version)
         for run in range(RUNS):
-            yield f"chain {number} of seed {options.seed}, version {version}, run {run}, {chain.shape[0]} words", chain.run()
+            name = f"chain {number} of seed {options.seed}, version {version}, run {run}, {chain.shape[0]} words"
+            yield name, chain.run()
 
 
-def cases(program, options):
+def cases(program: pathlib.Path, options: argparse.Namespace) -> Iterator[Case]:
+    if not memory_dump.can_read():
+        return iter([untried(memory_dump.NOT_ALLOWED, options)])
     return native.cases_of("killed.cpp", lambda killed, folder: stopped(killed, folder, program, options))

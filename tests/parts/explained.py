@@ -17,14 +17,16 @@ BAD_RECORDS = {
     "hist,B,liner": "field 2 behind `hist` is `liner`; kinds are boolean, linear, custom, sparse",
     "hits,B,boolean": "`hits` stands first; records begin with segment, hist, add, delta",
     "hist,B,linear,1,x,3": "field 4 behind `hist` is `x`; a number from 0 to 4294967295 may stand there",
-    "hist,B,linear,1,4294967296,3": "field 4 behind `hist` is `4294967296`; a number from 0 to 4294967295 may stand there",
+    "hist,B,linear,1,4294967296,3": "field 4 behind `hist` is `4294967296`; "
+    "a number from 0 to 4294967295 may stand there",
     "hist,B,custom,1,2,-3": "field 5 behind `hist` is `-3`; a number from 0 to 4294967295 may stand there",
     "hist,B,custom": "2 fields stand behind `hist`; its form is hist,NAME,custom,VALUE,.. with one value or more",
     "hist,B,linear,1,2": "4 fields stand behind `hist`; its form is hist,NAME,linear,MIN,MAX,BUCKETS",
     "hist,B,boolean,1": "3 fields stand behind `hist`; its form is hist,NAME,boolean or hist,NAME,sparse",
     "hist,B": "1 fields stand behind `hist`; its form is hist,NAME,KIND and what the kind needs",
     "add,A,1": "2 fields stand behind `add`; its form is add,NAME,VALUE,COUNT",
-    "add,A,2147483648,1": "field 2 behind `add` is `2147483648`; a number from -2147483648 to 2147483647 may stand there",
+    "add,A,2147483648,1": "field 2 behind `add` is `2147483648`; "
+    "a number from -2147483648 to 2147483647 may stand there",
     "add,A,1,": "field 3 behind `add` is ``; a number from 0 to 4294967295 may stand there",
     "add,B,1,1": "field 1 behind `add` is `B`; no `hist` record before it has this name",
     "delta,B": "field 1 behind `delta` is `B`; no `hist` record before it has this name",
@@ -62,14 +64,18 @@ REFUSED = {
 WORDS = [
     (0, 0x21, "BadCookie", "word 0 is 0x21; it has to be 0x408305dc; is this a Povundiri image?"),
     (1, 3, "BadVersion", "word 1 is 3; it has to be 1 or 2"),
-    (2, 0, "BadSize", "word 2 is 0; it has to be the number of the words that there are, in whole pages and at most 1048576"),
+    (
+        2, 0, "BadSize",
+        "word 2 is 0; it has to be the number of the words that there are, in whole pages and at most 1048576",
+    ),
     (3, 2**64 - 1, "BadPage", "word 3 is 18446744073709551615; it has to be a multiple of 16 from 64 to 65536"),
     (5, 0, "NotReady", "word 5 is 0; it has to be 1"),
     (5, 2, "Deleted", "word 5 is 2; it has to be 1; the segment was deleted"),
     (7, 15, "BadFree", "word 7 is 15; it has to be from 16 to the number of words"),
     (12, 5, "BadQueue", "word 12 is 5; it has to be 4, and the two behind it 1 and 0"),
 ]
-# What is stored at words of the image of the example's script, why it may not be recorded into again, and what is said of it.
+# What is stored at words of the image of the example's script, why it may not be recorded into again, and what is said
+# of it.
 DAMAGES = [
     ({1: 1}, "OldVersion", ", word 1 is 1; it has to be 2"),
     ({6: 1}, "Corrupt", ", word 6 is 1; it has to be even"),
@@ -123,23 +129,32 @@ def scripts(program, folder):
         script.write_bytes(f"{SEGMENT}\nhist,A,sparse\n{bad}\n".encode())
         later = bad.count("\n")
         yield f"{bad!r}", both(program, words, f"Refused {3 + later} {why}", 3, [f'"{script}", line {4 + later}'])
-    yield "a script without an end", both(program, ["run", "/dev/zero", out], "TooLong", 3, ['"/dev/zero": 16777217 bytes were read'])
-    yield "a script that is lawful", difference(answer(program, ["run", SCRIPT, out]), answer(program, ["run", SCRIPT, out, "--explain"]))
+    yield "a script without an end", both(
+        program, ["run", "/dev/zero", out], "TooLong", 3, ['"/dev/zero": 16777217 bytes were read']
+    )
+    yield "a script that is lawful", difference(
+        answer(program, ["run", SCRIPT, out]), answer(program, ["run", SCRIPT, out, "--explain"])
+    )
 
 
 def lines_of_random_scripts(program, folder):
-    """Scripts with empty lines, fields in quotes and ends of lines of all sorts: the line of the record is that of a plain count."""
+    """Scripts with empty lines, fields in quotes and ends of lines of all sorts: the line of the record is that of a
+    plain count."""
     chance, script = random.Random(7), folder / "script.csv"
     for number in range(40):
         text, records = SEGMENT, 1
         for _ in range(chance.randrange(1, 30)):
             text += chance.choice(["\n", "\r\n", "\n\n\r", ""])
-            text += chance.choice(['hist,"A\nB\n",sparse', "hist,C,boolean", '"hist",D,sparse', 'hist,"""\r\n",boolean'])
+            text += chance.choice(
+                ['hist,"A\nB\n",sparse', "hist,C,boolean", '"hist",D,sparse', 'hist,"""\r\n",boolean']
+            )
             text, records = text + chance.choice(["\n", "\r\n", "\r\n\n"]), records + 1
         line = text.count("\n") + 1
         script.write_bytes(f"{text}hits".encode())
         said = f'"{script}", line {line}: `hits` stands first; records begin with segment, hist, add, delta'
-        yield f"random script {number}", both(program, ["run", script, folder / "out"], f"BadLine {records + 1}", 3, [said])
+        yield f"random script {number}", both(
+            program, ["run", script, folder / "out"], f"BadLine {records + 1}", 3, [said]
+        )
 
 
 def images(program, folder):
@@ -149,17 +164,29 @@ def images(program, folder):
         yield f"{name} of a file", both(program, ["report", image], f"Image {name}", 3, [f'"{image}", {said}'])
         both_inputs = {"BASE": ["merge", image, EXAMPLE], "DEAD": ["merge", EXAMPLE, image]}
         for role, words in both_inputs.items():
-            yield f"{name} of {role}", both(program, [*words, folder / "out"], f"Image {name}", 3, [f'"{image}", {said}'])
-        yield f"{name} of standard input", both(program, ["report"], f"Image {name}", 3, [f"standard input, {said}"], data=image.read_bytes())
+            yield f"{name} of {role}", both(
+                program, [*words, folder / "out"], f"Image {name}", 3, [f'"{image}", {said}']
+            )
+        yield f"{name} of standard input", both(
+            program, ["report"], f"Image {name}", 3, [f"standard input, {said}"], data=image.read_bytes()
+        )
     image.write_bytes(example[:64])
-    yield "an image that is cut short", both(program, ["report", image], "Image TooShort", 3, [f'"{image}" has 64 bytes; an image has 128 or more'])
+    yield "an image that is cut short", both(
+        program, ["report", image], "Image TooShort", 3, [f'"{image}" has 64 bytes; an image has 128 or more']
+    )
     image.write_bytes(b"")
     for words in (["merge", image, EXAMPLE], ["merge", EXAMPLE, image]):
-        wrong = both(program, [*words, folder / "out"], "Image TooShort", 3, [f'"{image}" has 0 bytes; an image has 128 or more'])
+        wrong = both(
+            program, [*words, folder / "out"], "Image TooShort", 3, [f'"{image}" has 0 bytes; an image has 128 or more']
+        )
         yield "an image without bytes", wrong
     image.write_bytes(example[:-1])
-    yield "no words", both(program, ["report", image], "NotWords", 3, [f'"{image}": {len(example) - 1} bytes were read'])
-    yield "an image without an end", both(program, ["report", "/dev/zero"], "TooLong", 3, ['"/dev/zero": 8388609 bytes were read'])
+    yield "no words", both(
+        program, ["report", image], "NotWords", 3, [f'"{image}": {len(example) - 1} bytes were read']
+    )
+    yield "an image without an end", both(
+        program, ["report", "/dev/zero"], "TooLong", 3, ['"/dev/zero": 8388609 bytes were read']
+    )
 
 
 def merges(program, folder):
@@ -167,7 +194,10 @@ def merges(program, folder):
     images, specs = [], ["linear,1,100,10", f"custom,{','.join(map(str, range(1, 21)))}"]
     for number, spec in enumerate(specs):
         script, image = folder / "script.csv", folder / f"{number}.img"
-        script.write_bytes(f"segment,512,128,7\nhist,load,{spec}\nhist,N{number},sparse\nadd,load,5,1\nadd,load,50,1\nadd,N{number},1,1\n".encode())
+        script.write_bytes(
+            f"segment,512,128,7\nhist,load,{spec}\nhist,N{number},sparse\n"
+            f"add,load,5,1\nadd,load,50,1\nadd,N{number},1,1\n".encode()
+        )
         answer(program, ["run", script, image])
         images.append(image)
     words = ["merge", *images, folder / "out"]
@@ -204,12 +234,16 @@ def bases(program, folder):
         yield f"{name} of {stored}", both(program, words, f"Adopt {name}", 3, [f'"{image}"{said}'])
     for at, word, name, said in WORDS:
         image.write_bytes(with_words(right, {at: word}))
-        yield f"{name} of an image that is recorded into", both(program, words, f"Adopt Image {name}", 3, [f'"{image}", {said}'])
+        yield f"{name} of an image that is recorded into", both(
+            program, words, f"Adopt Image {name}", 3, [f'"{image}", {said}']
+        )
     image.write_bytes(right[:64])
     wrong = both(program, words, "Adopt Image TooShort", 3, [f'"{image}" has 64 bytes; an image has 128 or more'])
     yield "an image that is recorded into and cut short", wrong
     image.write_bytes(right[:-1])
-    yield "no words to record into", both(program, words, "NotWords", 3, [f'"{image}": {len(right) - 1} bytes were read'])
+    yield "no words to record into", both(
+        program, words, "NotWords", 3, [f'"{image}": {len(right) - 1} bytes were read']
+    )
     words[1] = "/dev/zero"
     yield "no end to record into", both(program, words, "TooLong", 3, ['"/dev/zero": 8388609 bytes were read'])
 
@@ -232,7 +266,9 @@ def scripts_on(program, folder):
     said = f'"{script}", line 2: `hits` stands first; records begin with segment, hist, add, delta'
     yield "a bad record on an image", both(program, words, "BadLine 2", 3, [said])
     words[2] = "/dev/zero"
-    yield "a script without an end on an image", both(program, words, "TooLong", 3, ['"/dev/zero": 16777217 bytes were read'])
+    yield "a script without an end on an image", both(
+        program, words, "TooLong", 3, ['"/dev/zero": 16777217 bytes were read']
+    )
     words[2] = SCRIPT
     yield "a script on an image", difference(answer(program, words), answer(program, [*words, "--explain"]))
 
@@ -255,16 +291,26 @@ def devices(program, folder):
         "a dead that cannot be read": (["merge", EXAMPLE, folder, out], f'"{folder}": Is a directory (os error 21)'),
         "a missing base to go on with": (["resume", "missing", SCRIPT, out], f'"missing": {missing}'),
         "a missing script to go on with": (["resume", EXAMPLE, "missing", out], f'"missing": {missing}'),
-        "a base to go on with that cannot be read": (["resume", folder, SCRIPT, out], f'"{folder}": Is a directory (os error 21)'),
-        "a script to go on with that cannot be read": (["resume", base, folder, out], f'"{folder}": Is a directory (os error 21)'),
+        "a base to go on with that cannot be read": (
+            ["resume", folder, SCRIPT, out],
+            f'"{folder}": Is a directory (os error 21)',
+        ),
+        "a script to go on with that cannot be read": (
+            ["resume", base, folder, out],
+            f'"{folder}": Is a directory (os error 21)',
+        ),
     }
     for name, (words, said) in reads.items():
         yield name, both(program, words, "Read", 4, [said], cwd=folder)
     nowhere = folder / "missing" / "out"
     for words in (["run", SCRIPT], ["merge", EXAMPLE, EXAMPLE], ["resume", base, SCRIPT]):
         yield f"{words[0]} into no folder", both(program, [*words, nowhere], "Write", 4, [f'"{nowhere}": {missing}'])
-        yield f"{words[0]} into a folder", both(program, [*words, folder], "Write", 4, [f'"{folder}": Is a directory (os error 21)'])
-        yield f"{words[0]} into a full device", both(program, [*words, "/dev/full"], "Write", 4, ['"/dev/full": No space left on device (os error 28)'])
+        yield f"{words[0]} into a folder", both(
+            program, [*words, folder], "Write", 4, [f'"{folder}": Is a directory (os error 21)']
+        )
+        yield f"{words[0]} into a full device", both(
+            program, [*words, "/dev/full"], "Write", 4, ['"/dev/full": No space left on device (os error 28)']
+        )
     full = os.open("/dev/full", os.O_WRONLY)
     for words in (["report", EXAMPLE], ["run", SCRIPT, out], ["resume", base, SCRIPT, out]):
         said = ["standard output: No space left on device (os error 28)"]
@@ -284,7 +330,9 @@ def wants(program, folder, options):
     growths = (tracer.MAP, tracer.BREAK, tracer.REMAP)
     for place in itertools.count():
         made = tracer.Fault(growths, at=place, lasting=True, error=errno.ENOMEM)
-        came = tracer.answer(program, words, made, env={**os.environ, "MALLOC_MMAP_THRESHOLD_": "0", "MALLOC_TOP_PAD_": "0"})
+        came = tracer.answer(
+            program, words, made, env={**os.environ, "MALLOC_MMAP_THRESHOLD_": "0", "MALLOC_TOP_PAD_": "0"}
+        )
         if came in wanted or made.met <= place:
             break
     # Where there is no memory for the lines either, the line stands alone.
@@ -310,7 +358,9 @@ def told(program, folder):
     """A terminal, and the command `explain`."""
     wanted = explained("Read", 4, ['"/missing": No such file or directory (os error 2)'])
     yield "a terminal", difference(wanted, on_terminal(program, ["report", "/missing"]))
-    yield "a terminal that has nothing to tell", difference(answer(program, ["report", EXAMPLE]), on_terminal(program, ["report", EXAMPLE]))
+    yield "a terminal that has nothing to tell", difference(
+        answer(program, ["report", EXAMPLE]), on_terminal(program, ["report", EXAMPLE])
+    )
     every = b""
     for name, meaning, remedy in faults.texts():
         text = f"{name}: {meaning}\n  {remedy}\n".encode()

@@ -1,6 +1,8 @@
-"""`export`: known and forged images beside a plain renderer; each text is read back by the parser of Python's Prometheus client.
+"""`export`: known and forged images beside a plain renderer; each text is read back by the parser of Python's
+Prometheus client.
 
-The parser is that of Debian's python3-prometheus-client. Where it is not installed nothing is read back, and the part says so.
+The parser is that of Debian's python3-prometheus-client. Where it is not installed nothing is read back, and the part
+says so.
 """
 
 import pathlib
@@ -59,7 +61,7 @@ NO_PREFIXES = ["", "9a", "a-b", "a b", "a.b", "\u00e9", "a{"]
 def parser():
     """The parser, or None if it is not installed."""
     try:
-        from prometheus_client.parser import text_string_to_metric_families
+        from prometheus_client.parser import text_string_to_metric_families  # type: ignore[import]
     except ImportError:
         if DEBIAN in sys.path or not pathlib.Path(DEBIAN, "prometheus_client").is_dir():
             return None
@@ -73,11 +75,15 @@ def complaint(parse, text, families, prefix=plain_export.PREFIX):
     wanted = {}
     for family, samples in families.items():
         kind = plain_export.FAMILIES[family][0]
-        wanted.update({(kind, f"{prefix}_{name}", *sorted(labels.items())): float(value) for name, labels, value in samples})
+        wanted.update(
+            {(kind, f"{prefix}_{name}", *sorted(labels.items())): float(value) for name, labels, value in samples}
+        )
     came = {}
     try:
         for family in parse(text.decode()):
-            came.update({(family.type, sample.name, *sorted(sample.labels.items())): sample.value for sample in family.samples})
+            came.update(
+                {(family.type, sample.name, *sorted(sample.labels.items())): sample.value for sample in family.samples}
+            )
     except ValueError as error:
         return f"the parser refuses it: {error}"
     wrong = sorted(wanted.items() ^ came.items(), key=str)
@@ -111,7 +117,8 @@ def worked(program, parse, folder):
     answer(program, ["run", script, image])
     came = answer(program, ["export", "--prefix", "x", image])
     missing = [line for line in SCRIPT_LINES if line not in came.output.split(b"\n")]
-    yield "escapes and signs", f"wanted {missing} among the lines, came {came}" if missing else beside(program, parse, image.read_bytes())
+    wrong = f"wanted {missing} among the lines, came {came}" if missing else beside(program, parse, image.read_bytes())
+    yield "escapes and signs", wrong
 
 
 def cases(program, options):

@@ -23,7 +23,10 @@ MIB = 2**20
 BLOCK = 65_536
 STOOD = b"what stood there before"
 # What is stored at a word of a header so that it is not valid.
-FAULTS = [(1, 0), (1, 3), (2, 0), (2, 63), (2, 65), (2, 2**63), (3, 0), (3, 48), (3, 72), (3, 131_072), (5, 0), (5, 2), (7, 15), (7, 65), (12, 5), (13, 2), (14, 1)]
+FAULTS = [
+    (1, 0), (1, 3), (2, 0), (2, 63), (2, 65), (2, 2**63), (3, 0), (3, 48), (3, 72), (3, 131_072), (5, 0), (5, 2),
+    (7, 15), (7, 65), (12, 5), (13, 2), (14, 1),
+]
 
 
 def size_at(data, at):
@@ -76,7 +79,14 @@ def noise(chance, size):
     """Bytes in which cookies stand now and then, and lengths of zeros."""
     parts = []
     while sum(map(len, parts)) < size:
-        parts.append(chance.choice([chance.randbytes(chance.randrange(1, 300_000)), bytes(8 * chance.randrange(1, 20_000)), COOKIE, COOKIE + chance.randbytes(120)]))
+        parts.append(
+            chance.choice(
+                [
+                    chance.randbytes(chance.randrange(1, 300_000)), bytes(8 * chance.randrange(1, 20_000)), COOKIE,
+                    COOKIE + chance.randbytes(120),
+                ]
+            )
+        )
     return b"".join(parts)
 
 
@@ -135,7 +145,9 @@ def at_blocks(chance):
         yield f"a segment behind {before} bytes", chance.randbytes(before) + blank(64)
     whole = blank(MOST_WORDS, 65_536)
     for before, less in ((0, 0), (BLOCK - 8, 0), (8, 8), (3 * MIB, 1)):
-        yield f"the greatest without {less} bytes, behind {before}", chance.randbytes(before) + whole[: len(whole) - less]
+        yield f"the greatest without {less} bytes, behind {before}", chance.randbytes(before) + whole[
+            : len(whole) - less
+        ]
     yield "the greatest, cut, with a small one in its words", whole[: 4 * MIB] + blank(128) + whole[5 * MIB : 6 * MIB]
 
 
@@ -156,16 +168,23 @@ def devices(program, folder):
     with open("/dev/full", "wb") as full:
         wrong = difference(WRITE_FAULT, answer(program, ["extract", file, out], stdout=full))
     yield "standard output has no room", wrong if wrong or content(out) == STOOD else "OUT is not as it was"
-    for words in ([], [file], [file, out, "more"], *([file, out, "--nth", number] for number in ("0", "-1", "", "two", str(2**64)))):
+    for words in (
+        [], [file], [file, out, "more"],
+        *([file, out, "--nth", number] for number in ("0", "-1", "", "two", str(2**64))),
+    ):
         came = answer(program, ["extract", *words])
-        yield f"extract {words[1:]}", None if came.status == 2 and not came.output else f"wanted status 2, came {came.status}"
+        wrong = None if came.status == 2 and not came.output else f"wanted status 2, came {came.status}"
+        yield f"extract {words[1:]}", wrong
 
 
 def memory(program, folder):
     """A long file is searched in the memory of an image and a block; and memory that is refused."""
     least = refused.least_pages(program)
     file, out = folder / "file", folder / "out"
-    for name, before, image, pages in (("a short image", 128 * MIB, blank(64), 256), ("the greatest", 32 * MIB, blank(MOST_WORDS, 65_536), 2_048 + 512)):
+    for name, before, image, pages in (
+        ("a short image", 128 * MIB, blank(64), 256),
+        ("the greatest", 32 * MIB, blank(MOST_WORDS, 65_536), 2_048 + 512),
+    ):
         with open(file, "wb") as long:
             long.seek(before)
             long.write(image)
@@ -173,9 +192,13 @@ def memory(program, folder):
         wrong = difference(Answer(f"{before}\n".encode()), came)
         yield f"{name} behind {before} bytes", wrong if wrong or content(out) == image else "OUT is not the image"
     file.write_bytes(bytes(8) + blank(64))
-    yield "memory that is refused", refused.wrong_of(program, ["extract", file, out], b"", least, 1, refused.EACH_BY_ITSELF, out)
+    yield "memory that is refused", refused.wrong_of(
+        program, ["extract", file, out], b"", least, 1, refused.EACH_BY_ITSELF, out
+    )
     file.write_bytes(bytes(8) + blank(MOST_WORDS, 65_536))
-    yield "memory that is refused for the greatest", refused.wrong_of(program, ["extract", file, out], b"", least, refused.STEP, {}, out)
+    yield "memory that is refused for the greatest", refused.wrong_of(
+        program, ["extract", file, out], b"", least, refused.STEP, {}, out
+    )
 
 
 def cases(program, options):
@@ -186,7 +209,9 @@ def cases(program, options):
         for name, data in at_blocks(random.Random(options.seed)):
             yield name, wrong_of(program, folder, data)
         for number in range(30):
-            yield f"file {number} of seed {options.seed}", wrong_of(program, folder, made(random.Random(f"{options.seed} extract {number}")))
+            yield f"file {number} of seed {options.seed}", wrong_of(
+                program, folder, made(random.Random(f"{options.seed} extract {number}"))
+            )
         (folder / "beside").mkdir()
         yield from devices(program, folder / "beside")
         yield from memory(program, folder / "beside")

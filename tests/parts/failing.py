@@ -1,6 +1,6 @@
-"""Each read, write, sync, lock, renaming, opening, allocation and start of a thread fails in turn: the right fault, no output where
-none was begun, and OUT and its folder as they were. And the program is killed at each call that makes a file: OUT is the
-old file or the whole new one.
+"""Each read, write, sync, lock, renaming, opening, allocation and start of a thread fails in turn: the right fault, no
+output where none was begun, and OUT and its folder as they were. And the program is killed at each call that makes a
+file: OUT is the old file or the whole new one.
 
 For this the program is traced (tracer.py).
 """
@@ -131,8 +131,8 @@ def wrong_where(command, wanted, what, before=(STOOD,), **fault):
 
 
 def wrong_where_some(command, faults, what, **fault):
-    """What is wrong where each such call fails in turn, and one of these faults is wanted and OUT unchanged, or the right
-    answer; or None. The last of the faults has to come."""
+    """What is wrong where each such call fails in turn, and one of these faults is wanted and OUT unchanged, or the
+    right answer; or None. The last of the faults has to come."""
     for stood in BEFORE:
         tried = 0
         for place, came, left in command.each(stood, **fault):
@@ -165,10 +165,18 @@ def wrong_locks(command):
     """The lock of OUT is taken where OUT stands, and tried again where another has it."""
     wrong = wrong_where(command, WRITE_FAULT, "lock", numbers=(tracer.LOCK,), error=errno.ENOLCK)
     never = tracer.Fault((tracer.LOCK,), at=0, lasting=True, error=errno.EWOULDBLOCK)
-    wrong = wrong or command.untouched(BUSY, *command.failing(never)) or (None if never.met > 1 else "the lock was not tried again")
+    wrong = (
+        wrong
+        or command.untouched(BUSY, *command.failing(never))
+        or (None if never.met > 1 else "the lock was not tried again")
+    )
     for error, stood in ((errno.EWOULDBLOCK, STOOD), (errno.EINTR, STOOD), (errno.ENOLCK, None)):
         once = tracer.Fault((tracer.LOCK,), at=0, error=error)
-        wrong = wrong or (None if command.is_done(*command.failing(once, stood)) else f"{errno.errorcode[error]} once is not the right answer")
+        wrong = wrong or (
+            None
+            if command.is_done(*command.failing(once, stood))
+            else f"{errno.errorcode[error]} once is not the right answer"
+        )
     return wrong
 
 
@@ -183,7 +191,9 @@ def wrong_renames(command):
 
 
 def wrong_openings(command):
-    return wrong_where_some(command, (READ_FAULT, WRITE_FAULT), "opening", numbers=(tracer.OPEN_AT,), error=errno.EACCES)
+    return wrong_where_some(
+        command, (READ_FAULT, WRITE_FAULT), "opening", numbers=(tracer.OPEN_AT,), error=errno.EACCES
+    )
 
 
 def wrong_random_bytes(command):
@@ -196,7 +206,9 @@ def wrong_clashes(command):
     for stood in BEFORE:
         refused, taken = (fatal_openings(command, stood, error) for error in (errno.EACCES, errno.EEXIST))
         if taken != refused[:-1]:
-            return f"the openings {refused} may not be refused, wanted that the last one finds another name, came {taken}"
+            return (
+                f"the openings {refused} may not be refused, wanted that the last one finds another name, came {taken}"
+            )
     return wrong_where_some(command, (READ_FAULT, WRITE_FAULT), "clash", numbers=(tracer.OPEN_AT,), error=errno.EEXIST)
 
 
@@ -220,7 +232,9 @@ def wrong_kill(command, came, left, stood):
 
 def wrong_kills(command):
     """The program is killed at each call by which it makes a file, and at its end."""
-    numbers = (tracer.OPEN_AT, tracer.WRITE, tracer.SYNC, tracer.CHANGE_MODE, *tracer.RENAMES, tracer.CLOSE, tracer.EXIT)
+    numbers = (
+        tracer.OPEN_AT, tracer.WRITE, tracer.SYNC, tracer.CHANGE_MODE, *tracer.RENAMES, tracer.CLOSE, tracer.EXIT,
+    )
     for stood in BEFORE:
         outs = set()
         for place, came, left in command.each(stood, numbers=numbers, kills=True):
@@ -282,7 +296,9 @@ def commands(program, folder):
     for workers in ("1", "3"):
         yield Command(program, f"run by {workers}", ["run", script, out, "--workers", workers], [script], out)
     for workers in ("1", "3"):
-        yield Command(program, f"resume by {workers}", ["resume", base, more, out, "--workers", workers], [base, more], out)
+        yield Command(
+            program, f"resume by {workers}", ["resume", base, more, out, "--workers", workers], [base, more], out
+        )
     yield Command(program, "merge", ["merge", EXAMPLE, dead, out], [EXAMPLE, dead], out)
 
 

@@ -1,27 +1,36 @@
-"""Segments in files: what is opened as one and what is refused, who has it, what children have of it, and what becomes of a file that is
-damaged or spent.
+"""Segments in files: what is opened as one and what is refused, who has it, what children have of it, and what becomes
+of a file that is damaged or spent.
 
-The programs are in `tests/c`. They are compiled with `c/povundiri_file.c`, so that the address sanitizer and the undefined-behaviour
-sanitizer see into it, and the thread sanitizer for threads that open files at once. Of some the calls to the system come to the program,
-which has each of them fail, or is killed there. Then libFuzzer opens files of any bytes for a minute, where clang has it.
+The programs are in `tests/c`. They are compiled with `c/povundiri_file.c`, so that the address sanitizer and the
+undefined-behaviour sanitizer see into it, and the thread sanitizer for threads that open files at once. Of some the
+calls to the system come to the program, which has each of them fail, or is killed there. Then libFuzzer opens files of
+any bytes for a minute, where clang has it.
 """
 
+from __future__ import annotations
+
+import argparse
 import os
 import pathlib
 import shutil
 import subprocess
 import tempfile
+from collections.abc import Iterable, Iterator
 
 from support import native
+from support.program import Case, Path
 
 PROGRAM = None
 MOST_SECONDS = 300
 FUZZ_SECONDS = 60
 INTERRUPTED = ("flock", "pread", "open", "posix_fallocate", "ftruncate")
-STOPPED = (*INTERRUPTED, "fstat", "fstatat", "mmap", "madvise", "munmap", "close", "renameat2", "link", "unlink", "malloc", "calloc")
+STOPPED = (
+    *INTERRUPTED, "fstat", "fstatat", "mmap", "madvise", "munmap", "close", "renameat2", "link", "unlink", "malloc",
+    "calloc",
+)
 THREAD_SANITIZER = ["-fsanitize=thread"]
 # A source, how it is watched, and the calls to the system that come to it.
-CHECKS = (
+CHECKS: tuple[tuple[str, list[str], tuple[str, ...]], ...] = (
     ("mapped_file.c", native.SANITIZED, ()),
     ("file_locks.c", native.SANITIZED, INTERRUPTED),
     ("file_forks.c", native.SANITIZED, ()),
@@ -35,42 +44,46 @@ FUZZER_WORDS = ["-max_len=1024", "-len_control=0"]
 MEMORY = "/dev/shm"
 
 
-def checked(installed, name, flags, replaced):
+def checked(
+    installed: native.Installed, name: str, flags: Iterable[str], replaced: Iterable[str]
+) -> Iterator[Case]:
     """The cases of one program."""
     try:
         program = installed.with_file_layer(native.PROGRAMS / name, native.compiler(".c"), flags, replaced)
-        with tempfile.TemporaryDirectory() as folder:
-            settings = {**os.environ, "ASAN_OPTIONS": "detect_leaks=1", "TSAN_OPTIONS": "halt_on_error=1"}
-            done = subprocess.run([program, folder], capture_output=True, text=True, timeout=MOST_SECONDS, env=settings)
-    except (native.Failed, subprocess.TimeoutExpired) as why:
+    except native.Failed as why:
         yield name, str(why)
         return
-    for group, wrong in native.groups(done.stdout):
-        yield f"{name}, {group}", wrong
-    yield f"{name}, its end", None if done.returncode == 0 else f"status {done.returncode}: {done.stderr[-1500:]}"
+    settings = {**os.environ, "ASAN_OPTIONS": "detect_leaks=1", "TSAN_OPTIONS": "halt_on_error=1"}
+    with tempfile.TemporaryDirectory() as folder:
+        yield from native.checks_of(name, [program, folder], settings)
 
 
-def has_fuzzer(folder):
+def has_fuzzer(folder: pathlib.Path) -> bool:
     """Whether clang is there, with its runtime for fuzzing."""
     if shutil.which(FUZZER[0]) is None:
         return False
     source = folder / "nothing.c"
-    source.write_text("int LLVMFuzzerTestOneInput(const unsigned char *data, unsigned long size) { return data == 0 && size == 1; }\n")
+    source.write_text(
+        "int LLVMFuzzerTestOneInput(const unsigned char *data, unsigned long size) { return data == 0 && size == 1; }\n"
+    )
     words = [*FUZZER, *FUZZER_FLAGS, "-o", folder / "nothing", source]
     return subprocess.run([str(word) for word in words], capture_output=True).returncode == 0
 
 
-def fuzzed(installed, options):
+def fuzzed(installed: native.Installed, options: argparse.Namespace) -> str | None:
     """What the fuzzer found, or None."""
     program = installed.with_file_layer(native.PROGRAMS / "fuzz_file.c", FUZZER, FUZZER_FLAGS)
     with tempfile.TemporaryDirectory(dir=MEMORY if os.access(MEMORY, os.W_OK) else None) as folder:
-        words = [program, f"-max_total_time={FUZZ_SECONDS}", *FUZZER_WORDS, f"-seed={options.seed}", f"-artifact_prefix={folder}/"]
+        words: list[Path] = [
+            program, f"-max_total_time={FUZZ_SECONDS}", *FUZZER_WORDS, f"-seed={options.seed}",
+            f"-artifact_prefix={folder}/",
+        ]
         settings = {**os.environ, "FUZZ_FOLDER": folder}
         done = subprocess.run(words, capture_output=True, text=True, timeout=MOST_SECONDS, env=settings, cwd=folder)
     return None if done.returncode == 0 else f"status {done.returncode}: {done.stderr[-3000:]}"
 
 
-def cases(program, options):
+def cases(program: None, options: argparse.Namespace) -> Iterator[Case]:
     with tempfile.TemporaryDirectory() as scratch:
         folder = pathlib.Path(scratch)
         try:

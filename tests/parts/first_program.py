@@ -1,20 +1,22 @@
 """The program of docs/USING.md, in a repository of its own: it is proved there, and prints what it has to.
 
-All of it is taken from the page: the commands that copy the libraries, and each file, which is a block after a line that names it. `rt ci`
-proves the program, builds it by both compilers, runs what each made, and compares what that prints with `stdout`. The libraries are not
-proved again, where a run of `rt ci` on this machine has proved the same files. Then the program is run twice in one folder: the second
-run continues in the image of the first.
+All of it is taken from the page: the commands that copy the libraries, and each file, which is a block after a line
+that names it. `rt ci` proves the program, builds it by both compilers, runs what each made, and compares what that
+prints with `stdout`. The libraries are not proved again, where a run of `rt ci` on this machine has proved the same
+files. Then the program is run twice in one folder: the second run continues in the image of the first.
 """
 
 from __future__ import annotations
 
+import argparse
 import os
 import pathlib
 import re
 import subprocess
 import tempfile
+from collections.abc import Iterator, Mapping
 
-from support.program import ROOT, Answer, answer, difference
+from support.program import ROOT, Answer, Case, answer, difference
 
 PROGRAM = None
 NAME = "first_program"
@@ -30,28 +32,28 @@ FILE = re.compile(rf"`({HOME}/[\w./]+)`")
 MOST_SHOWN = 3000
 
 
-def blocks():
+def blocks() -> Iterator[tuple[str, str]]:
     """Each block of the page, after its paragraph."""
     for before, block in BLOCK.findall(PAGE.read_text()):
         yield before, "".join(f"{line.removeprefix(INDENT)}\n" for line in block.splitlines())
 
 
-def files():
+def files() -> dict[pathlib.Path, str]:
     """What the page has of each file, by its path in the repository."""
     return {pathlib.Path(named[1]): block for before, block in blocks() if (named := FILE.match(before)) is not None}
 
 
-def commands():
+def commands() -> str | None:
     """The commands of the page that copy the libraries."""
     return next((block for _, block in blocks() if f">> {CRATES}" in block), None)
 
 
-def second_run():
+def second_run() -> str:
     """The lines that the page says are in what the second run prints."""
     return next((block for before, block in blocks() if before.startswith("Run it twice")), "")
 
 
-def wrong_counts(found):
+def wrong_counts(found: Mapping[pathlib.Path, str]) -> str | None:
     """What is wrong with the numbers that the page gives of the program, or None."""
     source = found.get(HOME / "src" / "main.rt", "")
     clauses = len(re.findall(r"^ *(?:requires|ensures) ", source, re.MULTILINE))
@@ -60,12 +62,14 @@ def wrong_counts(found):
     return None if numbers in " ".join(PAGE.read_text().split()) else f"it has {numbers}"
 
 
-def make_repository(folder, found):
+def make_repository(folder: pathlib.Path, found: Mapping[pathlib.Path, str]) -> str | None:
     """A repository with the program and the libraries: what is wrong with the commands, or None."""
     (folder / CLONE).symlink_to(ROOT)
     repository = folder / "repository"
     repository.mkdir()
-    done = subprocess.run(["bash", "-e", "-c", commands()], cwd=repository, env={**os.environ, "HOME": str(folder)}, capture_output=True, text=True)
+    setting = {**os.environ, "HOME": str(folder)}
+    words = ["bash", "-e", "-c", commands() or ""]
+    done = subprocess.run(words, cwd=repository, env=setting, capture_output=True, text=True)
     if done.returncode != 0 or done.stderr:
         return f"status {done.returncode}: {done.stderr}"
     for path, text in found.items():
@@ -74,7 +78,7 @@ def make_repository(folder, found):
     return None
 
 
-def wrong_gate(repository):
+def wrong_gate(repository: pathlib.Path) -> str | None:
     """What is wrong where the repository is put through the gate, or None."""
     came = subprocess.run(["rt", "ci"], cwd=repository, capture_output=True, text=True)
     if came.returncode != 0 or not came.stdout.endswith(" passed, 0 failed\n"):
@@ -82,7 +86,7 @@ def wrong_gate(repository):
     return None
 
 
-def wrong_runs(program, folder, first):
+def wrong_runs(program: pathlib.Path, folder: pathlib.Path, first: str) -> str | None:
     """What is wrong with two runs in one folder, or None: the second counts as much again, whatever the order of its threads."""
     folder.mkdir()
     if wrong := difference(Answer(first.encode()), answer(program, [], cwd=folder)):
@@ -95,15 +99,15 @@ def wrong_runs(program, folder, first):
     return difference(Answer("".join(f"{line}\n" for line in wanted).encode()), came)
 
 
-def doubled(line):
+def doubled(line: str) -> str:
     """A line of a report of twice as many samples."""
     name, kind, *numbers = line.split(",")
-    low, high = (numbers[0], numbers[1]) if kind != "total" else (None, None)
-    counts = [str(2 * int(number)) for number in (numbers if low is None else numbers[2:])]
-    return ",".join([name, kind, *([] if low is None else [low, high]), *counts])
+    bounds = [] if kind == "total" else numbers[:2]
+    counts = [str(2 * int(number)) for number in numbers[len(bounds):]]
+    return ",".join([name, kind, *bounds, *counts])
 
 
-def cases(_program, _options):
+def cases(_program: None, _options: argparse.Namespace) -> Iterator[Case]:
     found = files()
     yield "the files on the page", None if HOME / "src" / "main.rt" in found and HOME / "stdout" in found else f"it has {sorted(found)}"
     yield "the commands on the page", None if commands() is not None else f"none writes {CRATES}"

@@ -1,11 +1,11 @@
 """Each growth of memory is refused in turn, and memory is there again after it.
 
-Of the calls of the libraries, which `trials` makes, each allocation is refused (allocations.py): the call says so, and it, when it is made
-again, and all calls after it return what they always do. If an index of names or of samples cannot grow, the call returns what it always
-does. Calls that take no memory ask for none.
+Of the calls of the libraries, which `trials` makes, each allocation is refused (allocations.py): the call says so, and
+it, when it is made again, and all calls after it return what they always do. If an index of names or of samples cannot
+grow, the call returns what it always does. Calls that take no memory ask for none.
 
-The commands and `stepped` report `NoMemory`, with no output but what `stepped` had written before, and OUT unchanged. Of them each
-growth is refused for which the C library asks the system (tracer.py).
+The commands and `stepped` report `NoMemory`, with no output but what `stepped` had written before, and OUT unchanged.
+Of them each growth is refused for which the C library asks the system (tracer.py).
 """
 
 import collections
@@ -34,10 +34,16 @@ STEPPED_OUT_OF_MEMORY = b"stepped: NoMemory\n"
 # The calls that `trials` makes, those that take memory and those that take none.
 BEGINS = tuple(f"begin {kind}" for kind in ("Hist", "Add", "Batch", "Snapshot", "Delta"))
 OF_RECORDERS = ("hist", "delta", "snapshot", "records", "fresh_records")
-TAKING = ("blank", "ranges", "tally", "world", *BEGINS, "run_schedule", "create", *OF_RECORDERS, "add", "batch", "read", "report_of", "report", "merge", "adopt")
-TAKING_NONE = ("begin SetCorrupt", "step", "recorder", "units", "knows", "next_shared", "set_corrupt", "lend", "join", "close")
-# Those that also let an index of names or of samples grow: where that is refused, they go on without. The first `add` of a sparse histogram
-# that meets a sample takes as much as four samples need. The last `batch` is of five values more, and lets the list of samples grow twice.
+TAKING = (
+    "blank", "ranges", "tally", "world", *BEGINS, "run_schedule", "create", *OF_RECORDERS, "add", "batch", "read",
+    "report_of", "report", "merge", "adopt",
+)
+TAKING_NONE = (
+    "begin SetCorrupt", "step", "recorder", "units", "knows", "next_shared", "set_corrupt", "lend", "join", "close",
+)
+# Those that also let an index of names or of samples grow: where that is refused, they go on without. The first `add`
+# of a sparse histogram that meets a sample takes as much as four samples need. The last `batch` is of five values more,
+# and lets the list of samples grow twice.
 INDEXED = ("hist", "add", "batch", "merge")
 # How each says that memory was refused.
 NO_MEMORY = "NoMemory"
@@ -46,8 +52,9 @@ OTHER_WORDS = {"tally": "memory allocation failed"}
 # The units of a segment.
 UNITS = 2**32 - 1
 
-# What calls ask for (docs/PERFORMANCE.md): `delta` and `snapshot` 16 bytes for each key, of the sparse histogram for each of its samples,
-# which the calls before have made, and `records` and `fresh_records` 8 for each record that fits in the segment.
+# What calls ask for (docs/PERFORMANCE.md): `delta` and `snapshot` 16 bytes for each key, of the sparse histogram for
+# each of its samples, which the calls before have made, and `records` and `fresh_records` 8 for each record that fits
+# in the segment.
 SIZE = 1024
 FITTING = (SIZE - 16) // 5
 SAMPLES = 4
@@ -58,21 +65,23 @@ ASKED = {
     "records": [8 * FITTING],
     "fresh_records": [8 * FITTING] * 2,
 }
-# `merge` for all histograms 88 bytes each, then for each of them twice its name and 8 bytes for each of its keys, and then again for all
-# 32 bytes each, before the `hist` of each.
+# `merge` for all histograms 88 bytes each, then for each of them twice its name and 8 bytes for each of its keys, and
+# then again for all 32 bytes each, before the `hist` of each.
 MERGED = {"boolean": 3, "custom": 4, "sparse": 10, "A": 3, "B": 3, "C": 3, "D": 3, "a_name_that_is_longer": 3}
-# `hist` asks for so many bytes at most in all, but where a list or an index of its recorder grows: the list of what it knows, the index of
-# that, and the index of names. The first `hist` lets all three grow, and no more than two others one of them. What these ask for is
-# bounded, and not known to the byte: it is the library's that has lists and maps. So is what the index of samples asks for in the `add`
-# that first meets samples, and where its list of samples grows twice in a `batch`.
+# `hist` asks for so many bytes at most in all, but where a list or an index of its recorder grows: the list of what it
+# knows, the index of that, and the index of names. The first `hist` lets all three grow, and no more than two others
+# one of them. What these ask for is bounded, and not known to the byte: it is the library's that has lists and maps. So
+# is what the index of samples asks for in the `add` that first meets samples, and where its list of samples grows twice
+# in a `batch`.
 MOST_OF_HIST = 512
 MOST_OF_GROWTH = 2048
 GROWING_HISTS = 3
 MOST_OF_SAMPLES = {"add": 1536, "batch": 384}
-# `adopt` asks twice for the words of the table, 8 bytes for each word, for one more and for the cursor, and for nothing that is larger.
+# `adopt` asks twice for the words of the table, 8 bytes for each word, for one more and for the cursor, and for nothing
+# that is larger.
 TABLE = 8 * (SIZE + 2)
-# The histograms that are asked for first: boolean, custom, sparse and five more. Where one is asked for again, with the same spec, its
-# `hist` asks for nothing.
+# The histograms that are asked for first: boolean, custom, sparse and five more. Where one is asked for again, with the
+# same spec, its `hist` asks for nothing.
 FIRST_HISTS = 8
 
 
@@ -101,7 +110,10 @@ def wrong_sizes(asked):
         sizes[name_of(one.call)].append(one.size)
         if one.call == "hist":
             hists[one.place] += one.size
-    of_merge = [88 * len(MERGED), *(size for name, keys in MERGED.items() for size in (len(name), len(name), 8 * keys)), 32 * len(MERGED)]
+    of_merge = [
+        88 * len(MERGED), *(size for name, keys in MERGED.items() for size in (len(name), len(name), 8 * keys)),
+        32 * len(MERGED),
+    ]
     for name, right in {**ASKED, "merge": of_merge}.items():
         came = sizes[name][:len(right)] if name == "merge" else sizes[name]
         if came != right:
@@ -121,7 +133,8 @@ def wrong_hists(asked):
         return f"{len(asked)} hists ask for memory, wanted {FIRST_HISTS}"
     growing = [size for size in asked if size > MOST_OF_HIST]
     if len(growing) > GROWING_HISTS or max(asked) > MOST_OF_HIST + MOST_OF_GROWTH:
-        return f"hists ask for {asked} bytes, wanted {MOST_OF_HIST} at most but in {GROWING_HISTS}, and there {MOST_OF_GROWTH} more at most"
+        bounds = f"{MOST_OF_HIST} at most but in {GROWING_HISTS}, and there {MOST_OF_GROWTH} more at most"
+        return f"hists ask for {asked} bytes, wanted {bounds}"
     return None
 
 
@@ -152,8 +165,8 @@ def merges_of(lines):
 
 
 def stopped_merge(whole, reached):
-    """The lines of a merge that was refused when it had reached so many histograms, where these are the lines of a whole one: what it
-    added before stays, and of the one where it stopped nothing is added."""
+    """The lines of a merge that was refused when it had reached so many histograms, where these are the lines of a
+    whole one: what it added before stays, and of the one where it stopped nothing is added."""
     added = [re.fullmatch(r"added (\[.*\]) (\d+)", line).groups() for line in whole if line.startswith("added ")]
     if not reached:
         return [refused_line("merge"), f"{UNITS} units"]
@@ -180,8 +193,8 @@ def wrong_merge(lines, came):
 
 
 def wrong_allocation(program, refuser, plain, place, one):
-    """What is wrong where an allocation of a call is refused, or None. A call may do with another one in its place; then that is refused
-    too."""
+    """What is wrong where an allocation of a call is refused, or None. A call may do with another one in its place;
+    then that is refused too."""
     lines = plain.output.decode().splitlines()
     came, asked = refuser.answer(program, ["growths"], place)
     if came == plain and any(other.place == one.place for other in asked[place + 1:]):
@@ -242,7 +255,9 @@ def commands(program, stepped, folder):
 def command_cases(refused):
     """Each growth of the commands is refused; `refused` counts those of each."""
     with tempfile.TemporaryDirectory() as scratch:
-        for command, wrong_answer in commands(built(failing.PROGRAM), built("stepped"), pathlib.Path(scratch).resolve()):
+        for command, wrong_answer in commands(
+            built(failing.PROGRAM), built("stepped"), pathlib.Path(scratch).resolve()
+        ):
             name = f"the command {command.name}"
             wrong, refused[name] = wrong_command(command, wrong_answer)
             yield name, wrong

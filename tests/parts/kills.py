@@ -1,48 +1,51 @@
 """Four threads of a C++ program record into a mapped file until it is killed, at a random moment.
 
-`extract` and `report` then show no bad record and no stop, and each bucket has at most what was begun and at least what had ended.
-An image of version 2 is adopted by the next run in the same file, which continues recording and is killed again, twenty times over.
+`extract` and `report` then show no bad record and no stop, and each bucket has at most what was begun and at least what
+had ended. An image of version 2 is adopted by the next run in the same file, which continues recording and is killed
+again, twenty times over.
 """
 
+from __future__ import annotations
+
+import argparse
 import collections
+import pathlib
 import random
 import subprocess
-import time
+from collections.abc import Iterator
 
 from support import bounds, native
-from support.program import answer
+from support.program import Case, answer
 
 PROGRAM = "persist_report"
 CHAIN = 20
-# How long a program lives at most, in seconds.
-LIVES = (0.001, 0.005, 0.02, 0.06)
-SHAPES = ((65_536, 4096), (8192, 1024), (4096, 512), (2048, 512))
 
 
-class Chain:
-    """Runs of the program in one file, each of which is killed."""
+class Chain(bounds.Runs):
+    """Runs in one file, each of which is killed."""
 
-    def __init__(self, killed, program, folder, chance, version):
-        self.killed, self.program, self.folder, self.chance, self.version = killed, program, folder, chance, version
-        self.shape = chance.choice(SHAPES)
-        self.before, self.is_made = collections.Counter(), False
-        self.met = collections.Counter()
+    def __init__(
+        self, killed: pathlib.Path, program: pathlib.Path, folder: pathlib.Path, chance: random.Random, version: int
+    ) -> None:
+        super().__init__(killed, program, chance, version)
+        self.is_made = False
+        self.met: collections.Counter[str] = collections.Counter()
         self.file, self.tally, self.image = (folder / name for name in ("file", "tally", "image"))
         self.file.unlink(missing_ok=True)
 
-    def kill(self):
+    def kill(self) -> str:
         """Runs it and kills it: what it said on its error stream, or nothing."""
-        self.tally.write_bytes(bytes(bounds.BYTES))
-        words = [self.killed, "file", self.file, self.tally, self.chance.getrandbits(31), self.version, *self.shape]
-        with subprocess.Popen([str(word) for word in words], stdout=subprocess.PIPE, stderr=subprocess.PIPE) as running:
+        words = self.words("file", self.file, self.tally)
+        with subprocess.Popen(words, stdout=subprocess.PIPE, stderr=subprocess.PIPE) as running:
+            assert running.stdout is not None and running.stderr is not None
             try:
                 running.stdout.read(7)
-                time.sleep(self.chance.uniform(0, self.chance.choice(LIVES)))
+                self.live()
             finally:
                 running.kill()
             return running.stderr.read().decode()
 
-    def wrong(self):
+    def wrong(self) -> str | None:
         """What is wrong with what the killed program left, or None."""
         data = self.tally.read_bytes()
         found = answer(self.program, ["extract", self.file, self.image])
@@ -62,13 +65,13 @@ class Chain:
         self.before = units
         return wrong
 
-    def count(self, units, data, report):
+    def count(self, units: bounds.Units, data: bytes, report: bytes) -> None:
         begun, ended = bounds.numbers(data)
         self.met["in the midst of a call"] += begun != ended
         self.met["full"] += b"!flag,full\n" in report
         self.met["units"] += sum(units.values()) - sum(self.before.values())
 
-    def run(self, kills):
+    def run(self, kills: int) -> str | None:
         """What is wrong after one of so many kills, or None."""
         for number in range(kills):
             said = self.kill()
@@ -78,8 +81,9 @@ class Chain:
         return None
 
 
-def chains(kills):
-    """The version of each chain and how often its program is killed: of version 1 once, five such after each twenty of version 2."""
+def chains(kills: int) -> Iterator[tuple[int, int]]:
+    """The version of each chain and how often its program is killed: of version 1 once, five such after each twenty of
+    version 2."""
     while kills > 0:
         for version, length in ((2, CHAIN), *(((1, 1),) * 5)):
             length = min(length, kills)
@@ -88,17 +92,22 @@ def chains(kills):
                 yield version, length
 
 
-def killed_often(killed, folder, program, options):
-    met = collections.Counter()
+def killed_often(
+    killed: pathlib.Path, folder: pathlib.Path, program: pathlib.Path, options: argparse.Namespace
+) -> Iterator[Case]:
+    met: collections.Counter[str] = collections.Counter()
     for number, (version, length) in enumerate(chains(options.kills)):
         chain = Chain(killed, program, folder, random.Random(f"{options.seed} kill {number}"), version)
         yield f"chain {number} of seed {options.seed}, version {version}, {length} kills", chain.run(length)
         met += chain.met
-    print(f"kills: {options.kills}, of which {met['in the midst of a call']} in the midst of a call, {met['full']} in a full segment and "
-          f"{met['nothing was made']} before it was made; {met['units']} units", flush=True)
+    print(
+        f"kills: {options.kills}, of which {met['in the midst of a call']} in the midst of a call, {met['full']} in a "
+        f"full segment and {met['nothing was made']} before it was made; {met['units']} units",
+        flush=True,
+    )
     if options.kills >= 200:
         yield "each kind of kill", None if met["in the midst of a call"] and met["full"] else f"met were {dict(met)}"
 
 
-def cases(program, options):
+def cases(program: pathlib.Path, options: argparse.Namespace) -> Iterator[Case]:
     return native.cases_of("killed.cpp", lambda killed, folder: killed_often(killed, folder, program, options))

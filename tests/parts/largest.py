@@ -1,16 +1,20 @@
-"""Images of the greatest size that are full: of samples, of names, and of the smallest blocks, each with its report; and the
-longest scripts.
+"""Images of the greatest size that are full: of samples, of names, and of the smallest blocks, each with its report;
+and the longest scripts.
 
 A program that searches a list from its front, for each sample or each name, does not end in time.
 """
 
+from __future__ import annotations
+
+import argparse
 import pathlib
 import random
 import tempfile
+from collections.abc import Iterator
 
 from support import layout
 from support.layout import BOOLEAN, FIRST, GREATEST, HISTOGRAM, LEAST, PAGE, PURGED, SAMPLE, SPARSE
-from support.program import Answer, answer, difference, fault
+from support.program import Answer, Case, answer, difference, fault
 
 PROGRAM = "persist_report"
 SIZE = layout.MOST_WORDS
@@ -18,7 +22,7 @@ SAMPLES = 60_000
 MOST_SCRIPT = 16_777_216
 
 
-def samples(chance):
+def samples(chance: random.Random) -> tuple[bytes, bytes]:
     """One sparse histogram and its samples: first each value once, in no order, and then each once more."""
     values = [LEAST, GREATEST, -1, 0, 1, *chance.sample(range(2, GREATEST), SAMPLES // 2 - 5)]
     chance.shuffle(values)
@@ -34,7 +38,7 @@ def samples(chance):
     return layout.image_of(SIZE, 1, [record, *blocks]), "".join(lines).encode()
 
 
-def names(chance):
+def names(chance: random.Random) -> tuple[bytes, bytes]:
     """As many boolean histograms as fit, each with one unit, whose names stand in no order on a list in no order."""
     references = range(FIRST, SIZE, 16)
     taken = [f"h{number:07x}" for number in chance.sample(range(16**7), len(references))]
@@ -45,7 +49,7 @@ def names(chance):
     return layout.image_of(SIZE, 1, blocks), report.encode()
 
 
-def smallest(_chance):
+def smallest(_chance: random.Random) -> tuple[bytes, bytes]:
     """As many blocks of five words as fit, of a type that is passed over, on a list from the last to the first."""
     references = [at for page in range(0, SIZE, PAGE) for at in range(max(page, FIRST), page + PAGE - 4, 5)]
     return layout.image_of(SIZE, 1, [(at, 5, PURGED, []) for at in reversed(references)]), b""
@@ -54,7 +58,7 @@ def smallest(_chance):
 IMAGES = [samples, names, smallest]
 
 
-def scripts(program, folder):
+def scripts(program: pathlib.Path, folder: pathlib.Path) -> Iterator[Case]:
     """A script of the greatest length, and one that is a byte longer."""
     head, record = b"segment,128,64,7\nhist,A,boolean\n", b"add,A,1,1\n"
     count, rest = divmod(MOST_SCRIPT - len(head), len(record))
@@ -71,7 +75,7 @@ def scripts(program, folder):
     yield "a byte more", wrong or (None if out.read_bytes() == image else "OUT is not as it was")
 
 
-def cases(program, _options):
+def cases(program: pathlib.Path, _options: argparse.Namespace) -> Iterator[Case]:
     for make in IMAGES:
         image, report = make(random.Random(5))
         yield make.__name__, difference(Answer(report), answer(program, ["report"], image))

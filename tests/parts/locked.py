@@ -1,7 +1,9 @@
-"""The lock of OUT: no command replaces a file that another process has locked, and each has the lock of OUT from before it reads anything
-until the new file has OUT's name. What came to OUT meanwhile is not replaced either. Inputs are not locked.
+"""The lock of OUT: no command replaces a file that another process has locked, and each has the lock of OUT from before
+it reads anything until the new file has OUT's name. What came to OUT meanwhile is not replaced either. Inputs are not
+locked.
 
-Another process holds a lock where the test does: the lock belongs to what was opened, and the program opens files itself.
+Another process holds a lock where the test does: the lock belongs to what was opened, and the program opens files
+itself.
 """
 
 import contextlib
@@ -64,7 +66,11 @@ def renewed(folder):
 def touched(folder, wanted):
     """What is wrong where other files stand in a folder than were wanted, or None."""
     left = {path.name: path.read_bytes() for path in folder.iterdir() if not path.is_fifo()}
-    return None if left == wanted else f"these files stand there: {sorted(left)}, of {sorted(map(len, left.values()))} bytes"
+    return (
+        None
+        if left == wanted
+        else f"these files stand there: {sorted(left)}, of {sorted(map(len, left.values()))} bytes"
+    )
 
 
 def wrong_while_locked(program, folder, words, wanted):
@@ -77,14 +83,18 @@ def wrong_while_locked(program, folder, words, wanted):
             wrong = difference(BUSY, answer(program, words))
             took = time.monotonic() - began
             lines = explained("Busy", 4, [f'"{out}"'])
-            wrong = wrong or difference(lines, answer(program, [*words, "--explain"])) or touched(folder, {"out": STOOD})
+            wrong = (
+                wrong or difference(lines, answer(program, [*words, "--explain"])) or touched(folder, {"out": STOOD})
+            )
         if wrong is None and (took < 0.1 or out.stat().st_ino != before):
             wrong = f"it ended behind {took} seconds" if took < 0.1 else "OUT is another file"
         if wrong is not None:
             return wrong
     if wanted.status != 0:
         return f"status {wanted.status} with {wanted.error!r} where nothing is locked"
-    return difference(wanted, answer(program, words)) or (None if out.read_bytes() not in (b"", STOOD) else "OUT is not new")
+    return difference(wanted, answer(program, words)) or (
+        None if out.read_bytes() not in (b"", STOOD) else "OUT is not new"
+    )
 
 
 def wrong_behind_link(program, folder):
@@ -95,7 +105,9 @@ def wrong_behind_link(program, folder):
         came = answer(program, ["run", SCRIPT, link])
         other = answer(program, ["merge", EXAMPLE, EXAMPLE, "/dev/stdout"], stdout=stream)
     wrong = difference(BUSY, came) or difference(BUSY, other)
-    return wrong or (None if link.is_symlink() else "the link is gone") or touched(folder, {"out": STOOD, "link": STOOD})
+    return (
+        wrong or (None if link.is_symlink() else "the link is gone") or touched(folder, {"out": STOOD, "link": STOOD})
+    )
 
 
 def wrong_for_a_moment(program, folder):
@@ -109,7 +121,9 @@ def wrong_for_a_moment(program, folder):
         came = answer(program, ["run", SCRIPT, out])
         timer.join()
         if came != BUSY:
-            return difference(Answer(output=came.output), came) or (None if out.read_bytes() != STOOD else "OUT is not new")
+            return difference(Answer(output=came.output), came) or (
+                None if out.read_bytes() != STOOD else "OUT is not new"
+            )
     return f"{TRIES} times it was Busy"
 
 
@@ -118,7 +132,10 @@ def wrong_of_inputs(program, out):
     image = out.with_name("image")
     image.write_bytes(EXAMPLE.read_bytes())
     with locked(image):
-        for words in (["report", image], ["show", image], ["export", image], ["extract", image, out], ["merge", image, image, out]):
+        for words in (
+            ["report", image], ["show", image], ["export", image], ["extract", image, out],
+            ["merge", image, image, out],
+        ):
             came = answer(program, words)
             if came.status != 0:
                 return f"{words[0]}: status {came.status} with {came.error!r}"
@@ -126,13 +143,16 @@ def wrong_of_inputs(program, out):
 
 
 class Waiting:
-    """A command whose script comes by a pipe, as far as it gets before that: it has opened OUT, and made its new file."""
+    """A command whose script comes by a pipe, as far as it gets before that: it has opened OUT, and made its new
+    file."""
 
     def __init__(self, program, folder):
         self.folder = folder
         pipe = folder / "script"
         os.mkfifo(pipe)
-        self.command = subprocess.Popen([program, "run", pipe, folder / "out"], stdout=subprocess.PIPE, stderr=subprocess.PIPE)
+        self.command = subprocess.Popen(
+            [program, "run", pipe, folder / "out"], stdout=subprocess.PIPE, stderr=subprocess.PIPE
+        )
         self.script = open(pipe, "wb")
         end = time.monotonic() + MOST_SECONDS
         while not any(path.name.startswith(NEW) for path in folder.iterdir()) and time.monotonic() < end:
@@ -153,9 +173,15 @@ def wrong_meanwhile(program, folder):
     held, before = is_locked(out), out.read_bytes()
     came = waiting.answer()
     if not held or before != STOOD:
-        return "OUT was not locked while the script was waited for" if not held else "OUT was written before the script came"
+        return (
+            "OUT was not locked while the script was waited for"
+            if not held
+            else "OUT was written before the script came"
+        )
     wrong = difference(Answer(output=came.output), came)
-    return wrong or ("OUT is not new" if out.read_bytes() == STOOD else "OUT is locked still" if is_locked(out) else None)
+    return wrong or (
+        "OUT is not new" if out.read_bytes() == STOOD else "OUT is locked still" if is_locked(out) else None
+    )
 
 
 def wrong_newcomer(program, folder):
@@ -171,20 +197,27 @@ def wrong_newcomer(program, folder):
 def has_open(process, path):
     """Whether a process has a file open."""
     try:
-        return any(os.path.samefile(link.path, path) for link in os.scandir(f"/proc/{process}/fd") if stat.S_ISREG(os.stat(link.path).st_mode))
+        return any(
+            os.path.samefile(link.path, path)
+            for link in os.scandir(f"/proc/{process}/fd")
+            if stat.S_ISREG(os.stat(link.path).st_mode)
+        )
     except OSError:
         return False
 
 
 def wrong_other_file(program, folder):
-    """While the lock is tried, another file takes OUT's name, which is locked too, and the old one is free: the new one stays."""
+    """While the lock is tried, another file takes OUT's name, which is locked too, and the old one is free: the new one
+    stays."""
     for _ in range(TRIES):
         out = renewed(folder)
         other = folder / "other"
         other.write_bytes(STOOD * 2)
         with locked(other):
             with locked(out):
-                command = subprocess.Popen([program, "run", SCRIPT, out], stdout=subprocess.PIPE, stderr=subprocess.PIPE)
+                command = subprocess.Popen(
+                    [program, "run", SCRIPT, out], stdout=subprocess.PIPE, stderr=subprocess.PIPE
+                )
                 while command.poll() is None and not has_open(command.pid, out):
                     pass
                 os.rename(other, out)

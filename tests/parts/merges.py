@@ -1,14 +1,21 @@
 """Merges of two images that scripts made: the new image has what both had above their marks, by a plain reckoning.
 
-The images come of one worker or of many. Of one worker the marks are known by the script too: a delta takes all before it.
+The images come of one worker or of many. Of one worker the marks are known by the script too: a delta takes all before
+it.
 """
 
+from __future__ import annotations
+
+import argparse
 import collections
+import pathlib
 import random
+from collections.abc import Iterator
+from typing import Any
 
 from parts import scripts
 from support import plain_reader, plain_tally, seeded
-from support.program import Answer, answer, content, difference, fault
+from support.program import Answer, Case, answer, content, difference, fault
 
 PROGRAM = "persist_report"
 NOTHING = Answer()
@@ -19,7 +26,7 @@ class Stopped(Exception):
     """Why a merge stops; the text is that of its fault."""
 
 
-def read(image):
+def read(image: bytes) -> dict[bytes, plain_reader.ReadHistogram]:
     """The histograms of a valid image by their names, in the order of its list."""
     words = plain_reader.words_of(image, collections.Counter())
     references, stopped = plain_reader.walk(words, collections.Counter())
@@ -28,7 +35,7 @@ def read(image):
     return histograms
 
 
-def remainder(histogram):
+def remainder(histogram: plain_reader.ReadHistogram) -> tuple[dict[int, int], int]:
     """What a histogram's totals have above its marks, by key, and its sum above the sum mark."""
     above = {key: total - histogram["marks"][key] for key, (_, total) in histogram["buckets"].items()}
     return {key: count for key, count in above.items() if count > 0}, histogram["sum"] - histogram["sum mark"]
@@ -37,11 +44,11 @@ def remainder(histogram):
 class Merged:
     """A new segment into which images are merged."""
 
-    def __init__(self):
-        self.histograms = {}
-        self.specs = {}
+    def __init__(self) -> None:
+        self.histograms: dict[str, plain_tally.Histogram] = {}
+        self.specs: dict[str, Any] = {}
 
-    def take(self, image):
+    def take(self, image: bytes) -> None:
         """Adds what an image has above its marks; at a histogram whose spec is another one there it stops."""
         for name, histogram in read(image).items():
             shown = name.decode()
@@ -51,7 +58,7 @@ class Merged:
             self.histograms.setdefault(shown, new).take(*remainder(histogram))
 
 
-def wanted_of(base, dead):
+def wanted_of(base: bytes, dead: bytes) -> tuple[Answer, bytes | None]:
     """The answer of a merge, and the report of the image that it writes, or None."""
     merged = Merged()
     try:
@@ -62,7 +69,7 @@ def wanted_of(base, dead):
     return NOTHING, plain_tally.report(merged.histograms)
 
 
-def pair_of(chance):
+def pair_of(chance: random.Random) -> tuple[seeded.Script, seeded.Script]:
     """Two scripts of one shape with room to spare; mostly names that both have are of one spec."""
     base, dead = (seeded.script_of(chance, seeded.MOST_UNITS // 2) for _ in range(2))
     if chance.random() < 0.7:
@@ -70,19 +77,23 @@ def pair_of(chance):
         dead.hists = [(name, specs.get(name, spec)) for name, spec in dead.hists]
     both = {f"base {name}": one for name, one in base.histograms().items()}
     both |= {f"dead {name}": one for name, one in dead.histograms().items()}
-    calls = [(f"base {call[0]}", *call[1:]) for call in base.calls] + [(f"dead {call[0]}", *call[1:]) for call in dead.calls]
+    calls = [(f"base {call[0]}", *call[1:]) for call in base.calls] + [
+        (f"dead {call[0]}", *call[1:]) for call in dead.calls
+    ]
     base.size, base.page = dead.size, dead.page = seeded.shape_of(chance, both, calls)
     return base, dead
 
 
-def wrong_remainder(script, image):
+def wrong_remainder(script: seeded.Script, image: bytes) -> str | None:
     """What is wrong with the marks of an image that one worker made, or None."""
     wanted = {name: (dict(one.counts), one.sum) for name, one in script.remainders().items()}
     found = {name.decode(): remainder(one) for name, one in read(image).items()}
     return None if found == wanted else f"wanted the remainders {wanted}, came {found}"
 
 
-def image_of(program, chance, script, path):
+def image_of(
+    program: pathlib.Path, chance: random.Random, script: seeded.Script, path: pathlib.Path
+) -> tuple[bytes, str | None]:
     """Runs a script with some number of workers; the image, and what is wrong with it or None."""
     workers = chance.choice(scripts.WORKERS)
     text = path.with_suffix(".csv")
@@ -93,7 +104,7 @@ def image_of(program, chance, script, path):
     return image, wrong or (wrong_remainder(script, image) if workers == 1 else None)
 
 
-def wrong_of(program, seed, folder):
+def wrong_of(program: pathlib.Path, seed: str, folder: pathlib.Path) -> str | None:
     """What is wrong with the merge of the two scripts of a seed, or None."""
     chance = random.Random(seed)
     scripts_of_both = pair_of(chance)
@@ -107,13 +118,14 @@ def wrong_of(program, seed, folder):
     wanted, report = wanted_of(*images)
     wrong = difference(wanted, answer(program, ["merge", *paths]))
     made = content(paths[-1])
-    if wrong is None and report is None:
-        wrong = None if made is None else f"came {len(made)} bytes of an image beside the fault"
-    elif wrong is None:
-        wrong = scripts.wrong_image(scripts_of_both[0], made, report) or difference(Answer(report), answer(program, ["report", paths[-1]]))
-    return wrong
+    if wrong is not None or report is None:
+        return wrong or (None if made is None else f"came {len(made)} bytes of an image beside the fault")
+    if made is None:
+        return "no image was written"
+    wrong = scripts.wrong_image(scripts_of_both[0], made, report)
+    return wrong or difference(Answer(report), answer(program, ["report", paths[-1]]))
 
 
-def cases(program, options):
+def cases(program: pathlib.Path, options: argparse.Namespace) -> Iterator[Case]:
     seeds = [f"merge-{options.seed}-{number}" for number in range(options.merges)]
     yield from seeded.tried(seeds, lambda seed, folder: wrong_of(program, seed, folder))

@@ -1,4 +1,5 @@
-"""`show --html`: the pages of known and forged images say what the plain renderer of `show` says, and are well formed; names that need escapes."""
+"""`show --html`: the pages of known and forged images say what the plain renderer of `show` says, and are well formed;
+names that need escapes."""
 
 import fractions
 import html
@@ -15,16 +16,26 @@ PROGRAM = "persist_report"
 MOST_IMAGES = 1000
 WIDEST = 1000
 # Names with all signs that HTML gives a meaning, and some that look like parts of a page.
-NAMES = ["a<b>&'c'", "&amp;", "&#39;&lt", "</h2>", "<script>alert(1)</script>", "]]>", "<!--", "-->", "%41", "#h0", "\\", "a;b`c=d"]
+NAMES = [
+    "a<b>&'c'", "&amp;", "&#39;&lt", "</h2>", "<script>alert(1)</script>", "]]>", "<!--", "-->", "%41", "#h0", "\\",
+    "a;b`c=d",
+]
 HISTS = "".join(f"hist,{name},boolean\n" for name in NAMES)
 ADDS = "".join(f"add,{name},{at % 2},{at + 1}\n" for at, name in enumerate(NAMES))
 SCRIPT = f"segment,4096,64,7\n{HISTS}{ADDS}".encode()
-CHOICES = [([], {}), *(choice for choice in shows.CHOICES if "--width" not in choice[0][0] and "--ascii" not in choice[0])]
-USAGES = [["--html", "--width", "20"], ["--html", "--ascii"], ["--ascii", "--html"], ["--html=x"], ["--html", "--match", "a", "A"]]
+CHOICES = [
+    ([], {}),
+    *(choice for choice in shows.CHOICES if "--width" not in choice[0][0] and "--ascii" not in choice[0]),
+]
+USAGES = [
+    ["--html", "--width", "20"], ["--html", "--ascii"], ["--ascii", "--html"], ["--html=x"],
+    ["--html", "--match", "a", "A"],
+]
 
 
 def complaint(data, page, **options):
-    """Where a page is not well formed, or does not say what the plain renderer says of the image, in its order; None if all is well."""
+    """Where a page is not well formed, or does not say what the plain renderer says of the image, in its order; None if
+    all is well."""
     read, wrong = page_text.read(page)
     if wrong is not None:
         return wrong
@@ -74,7 +85,9 @@ def worked(program, folder):
     wanted = answer(program, ["show", "--html", EXAMPLE])
     yield "the example", complaint(EXAMPLE.read_bytes(), wanted.output)
     for words in (["-"], []):
-        yield f"the example, {words}", difference(wanted, answer(program, ["show", "--html", *words], EXAMPLE.read_bytes()))
+        yield f"the example, {words}", difference(
+            wanted, answer(program, ["show", "--html", *words], EXAMPLE.read_bytes())
+        )
     script, image = folder / "script", folder / "image"
     for name, text in [("escapes", SCRIPT), ("many values", shows.MANY_SCRIPT.encode()), ("kinds", shows.SCRIPT)]:
         script.write_bytes(text)

@@ -1,26 +1,33 @@
-"""Chains of scripts that are generated from a seed: the first is run, and each other one continues with the image before, with 1 and with 3
-workers. Each gives the report that a plain tally of all samples so far has, and an image that reads as that report too.
+"""Chains of scripts that are generated from a seed: the first is run, and each other one continues with the image
+before, with 1 and with 3 workers. Each gives the report that a plain tally of all samples so far has, and an image that
+reads as that report too.
 
-Where one worker has recorded all, the marks are known by the scripts: a delta takes all before it, also what earlier ones recorded.
-A script that gives a name another spec, or that takes more units than are left, is refused. The next one continues without it.
+Where one worker has recorded all, the marks are known by the scripts: a delta takes all before it, also what earlier
+ones recorded. A script that gives a name another spec, or that takes more units than are left, is refused. The next one
+continues without it.
 """
 
+from __future__ import annotations
+
+import argparse
+import pathlib
 import random
+from collections.abc import Iterable, Iterator, Sequence
 
 from parts import merges, scripts
 from support import plain_tally, seeded
-from support.program import Answer, answer, difference, fault
+from support.program import Answer, Case, Word, answer, difference, fault
 
 PROGRAM = "persist_report"
 WORKERS = (1, 3)
 LENGTH = 3
 
 
-def units_of(calls):
+def units_of(calls: Iterable[seeded.ScriptCall]) -> int:
     return sum(sample[1] for _, *sample in calls if sample)
 
 
-def with_too_much(chance, script, before):
+def with_too_much(chance: random.Random, script: seeded.Script, before: seeded.Script) -> None:
     """Has a script take one more unit than its segment has left by then, in its last record."""
     left = seeded.MOST_UNITS - units_of(before.calls) - units_of(script.calls)
     name = chance.choice(script.hists)[0]
@@ -31,9 +38,12 @@ def with_too_much(chance, script, before):
     script.calls.append((name, 1, left + 1))
 
 
-def chain_of(chance):
+def chain_of(chance: random.Random) -> list[seeded.Script]:
     """Scripts of one segment with room to spare. A name that more than one of them has is mostly of one spec."""
-    chain, specs, histograms, calls = [], {}, {}, []
+    chain: list[seeded.Script] = []
+    specs: dict[str, plain_tally.Spec] = {}
+    histograms: dict[str, plain_tally.Histogram] = {}
+    calls: list[seeded.ScriptCall] = []
     for number in range(LENGTH):
         script = seeded.script_of(chance, seeded.MOST_UNITS // LENGTH)
         if chance.random() < 0.9:
@@ -49,7 +59,7 @@ def chain_of(chance):
     return chain
 
 
-def refusal_of(script, before):
+def refusal_of(script: seeded.Script, before: seeded.Script) -> str | None:
     """Why a script is refused that continues after others, as the text of the fault; or None."""
     taken = units_of(before.calls)
     for number, (_, *sample) in enumerate(script.calls, 2 + len(script.hists)):
@@ -64,22 +74,23 @@ def refusal_of(script, before):
     return None
 
 
-def both_of(before, script):
+def both_of(before: seeded.Script, script: seeded.Script) -> seeded.Script:
     """What both scripts record, one after the other."""
     return seeded.Script(script.size, script.page, script.id, before.hists + script.hists, before.calls + script.calls)
 
 
-def wrong_step(program, words, wanted, out):
+def wrong_step(program: pathlib.Path, words: Sequence[Word], wanted: Answer, out: pathlib.Path) -> str | None:
     """What is wrong with an answer, or None; a fault makes no OUT."""
     wrong = difference(wanted, answer(program, [*words[:-2], out, *words[-2:]]))
     return wrong or ("OUT was made" if wanted.status and out.exists() else None)
 
 
-def wrong_of(program, seed, folder):
+def wrong_of(program: pathlib.Path, seed: str, folder: pathlib.Path) -> str | None:
     """What is wrong with the answers to the chain of a seed, or None."""
     chance = random.Random(seed)
     chain = chain_of(chance)
-    before, base, alone = seeded.Script(0, 0, 0, [], []), None, True
+    before, alone = seeded.Script(0, 0, 0, [], []), True
+    base: pathlib.Path | None = None
     for number, script in enumerate(chain):
         if number and chance.random() < 0.1:
             with_too_much(chance, script, before)
@@ -89,8 +100,9 @@ def wrong_of(program, seed, folder):
         report = plain_tally.report(both.histograms())
         outs = {workers: folder / f"{seed}-{number}-{workers}.img" for workers in WORKERS}
         for workers, out in outs.items():
-            words = ["run", text] if base is None else ["resume", base, text]
-            wrong = wrong_step(program, [*words, "--workers", str(workers)], Answer(report) if why is None else fault(why, 3), out)
+            words: list[Word] = ["run", text] if base is None else ["resume", base, text]
+            wanted = Answer(report) if why is None else fault(why, 3)
+            wrong = wrong_step(program, [*words, "--workers", str(workers)], wanted, out)
             if wrong is not None:
                 return f"script {number} with {workers} workers: {wrong}\n{text.read_bytes().decode()}"
         if why is None:
@@ -103,9 +115,9 @@ def wrong_of(program, seed, folder):
     return None
 
 
-def seeds(options):
+def seeds(options: argparse.Namespace) -> list[str]:
     return [f"resume-{options.seed}-{number}" for number in range(options.resumes)]
 
 
-def cases(program, options):
+def cases(program: pathlib.Path, options: argparse.Namespace) -> Iterator[Case]:
     yield from seeded.tried(seeds(options), lambda seed, folder: wrong_of(program, seed, folder))

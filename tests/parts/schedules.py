@@ -1,17 +1,17 @@
 """Schedules of the stepped world, replayed by the program `stepped`.
 
-Those in the folder cases/schedules have known answers: NNN.csv is a schedule, and NNN.out, NNN.err and NNN.status are what
-comes of it; NNN.report and NNN.words are what it shows after the events of NNN.stop. The answers are those of an
+Those in the folder cases/schedules have known answers: NNN.csv is a schedule, and NNN.out, NNN.err and NNN.status are
+what comes of it; NNN.report and NNN.words are what it shows after the events of NNN.stop. The answers are those of an
 independent implementation.
 
-Worked examples are stopped at every event. Others are generated from a seed and are stopped at events of the seed. Then the words are those
-that the lines lead to, the report is that of a plain reader and has no fault, and each bucket has no more units than were begun,
-and no fewer than calls that ended have counted. In version 1, units are added that are on their way from the single word to the
-counts.
+Worked examples are stopped at every event. Others are generated from a seed and are stopped at events of the seed. Then
+the words are those that the lines lead to, the report is that of a plain reader and has no fault, and each bucket has
+no more units than were begun, and no fewer than calls that ended have counted. In version 1, units are added that are
+on their way from the single word to the counts.
 
-A known schedule in version 2 is stopped every few events, and another continues with the image: its lines lead from the words of the image
-to its own, and its report is a plain tally of what the image counted and of the samples since. Images that nothing continues with
-have their faults.
+A known schedule in version 2 is stopped every few events, and another continues with the image: its lines lead from the
+words of the image to its own, and its report is a plain tally of what the image counted and of the samples since.
+Images that nothing continues with have their faults.
 """
 
 import collections
@@ -69,8 +69,8 @@ def wrong_known(program, case):
 
 
 def units_on_their_way(words, references, done):
-    """The units of each bucket that are on their way from the single word to the counts, in version 1 alone: from the event that
-    disables the word to the next of the same actor."""
+    """The units of each bucket that are on their way from the single word to the counts, in version 1 alone: from the
+    event that disables the word to the next of the same actor."""
     moving = collections.Counter()
     if done.schedule.version == 2:
         return moving
@@ -92,7 +92,9 @@ def wrong_units(words, done):
     histograms, bad = plain_reader.read_records(words, references, seen)
     if stopped or bad:
         return f"the list is stopped by {stopped}, and bad are {bad}"
-    read = {(name.decode(), low): units for name, one in histograms.items() for low, (_, units) in one["buckets"].items()}
+    read = {
+        (name.decode(), low): units for name, one in histograms.items() for low, (_, units) in one["buckets"].items()
+    }
     begun, ended, moving = done.begun(), done.ended(), units_on_their_way(words, references, done)
     for key in {*read, *begun, *ended, *moving}:
         units = read.get(key, 0) + moving[key]
@@ -151,7 +153,11 @@ def wrong_worked(program, number, schedule, known, folder):
 def first_records(words):
     """The reference of the first record of each name."""
     references, _ = plain_reader.walk(words, collections.Counter())
-    named = ((plain_reader.name_of(words, at, collections.Counter()), at) for at in reversed(references) if words[at + 2] == 1)
+    named = (
+        (plain_reader.name_of(words, at, collections.Counter()), at)
+        for at in reversed(references)
+        if words[at + 2] == 1
+    )
     return dict(named)
 
 
@@ -199,7 +205,8 @@ def wrong_lines(lines, image, last):
 
 
 def wrong_gone_on(program, events, folder):
-    """What is wrong where the known schedule stops after so many events, and another continues with its image, or None."""
+    """What is wrong where the known schedule stops after so many events, and another continues with its image, or
+    None."""
     image = folder / f"stopped-{events}.img"
     path = folder / f"goes-on-{events}.csv"
     stopped = answer(program, [STOPPED, "--stop", str(events), "--image"]).output
@@ -255,7 +262,8 @@ def fault(text, status):
 
 
 def lawful(folder):
-    """Command lines and devices beside a schedule without a fault: words, the stream that is written, and what comes."""
+    """Command lines and devices beside a schedule without a fault: words, the stream that is written, and what
+    comes."""
     path = folder / "lawful.csv"
     path.write_text("world,64,64,7,1,1\nset_corrupt,0\nstep,0,1\n")
     lines = b"2,0,begin\n3,0,step,6,0,1\n3,0,answer,flagged\n"

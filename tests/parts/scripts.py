@@ -1,19 +1,24 @@
-"""Scripts that are generated from a seed, run with 1, 2, 3 and 16 workers: each gives the report that a plain tally of the samples
-has, and an image that reads as that report too."""
+"""Scripts that are generated from a seed, run with 1, 2, 3 and 16 workers: each gives the report that a plain tally of
+the samples has, and an image that reads as that report too."""
 
+from __future__ import annotations
+
+import argparse
 import collections
+import pathlib
 import random
 import struct
+from collections.abc import Iterator
 
 from support import plain_reader, plain_tally, seeded
-from support.program import Answer, answer, difference
+from support.program import Answer, Case, answer, difference
 
 PROGRAM = "persist_report"
 WORKERS = (1, 2, 3, 16)
 WRITTEN_VERSION = 2
 
 
-def wrong_image(script, image, wanted):
+def wrong_image(script: seeded.Script, image: bytes, wanted: bytes) -> str | None:
     """What is wrong with the image of a script, or None."""
     head = struct.unpack("<5Q", image[:40])[1:]
     right = (WRITTEN_VERSION, script.size, script.page, script.id)
@@ -23,7 +28,7 @@ def wrong_image(script, image, wanted):
     return None if read == wanted else f"the image reads as {read[:500]!r}, wanted {wanted[:500]!r}"
 
 
-def wrong_of(program, seed, folder):
+def wrong_of(program: pathlib.Path, seed: str, folder: pathlib.Path) -> str | None:
     """What is wrong with the answers to the script of a seed, or None."""
     chance = random.Random(seed)
     script = seeded.script_of(chance)
@@ -43,10 +48,10 @@ def wrong_of(program, seed, folder):
     return None
 
 
-def seeds(options):
+def seeds(options: argparse.Namespace) -> list[str]:
     return [f"{options.seed}-{number}" for number in range(options.scripts)]
 
 
-def cases(program, options):
+def cases(program: pathlib.Path, options: argparse.Namespace) -> Iterator[Case]:
     tried = seeded.tried(seeds(options), lambda seed, folder: wrong_of(program, seed, folder))
     yield from ((f"script {seed}", wrong) for seed, wrong in tried)

@@ -1,8 +1,9 @@
 """The pictures that `stepped --show` makes of schedules, beside a plain picture maker.
 
-Each known schedule of cases/schedules is shown whole: its lines are known, and the plain picture is made of them, with plain calls that say
-which exchanges fail. The two stored schedules are shown whole and stopped at every event. README.md shows a part of the race for a name as
-the program draws it. What exchanges that fail wanted and found is also known by hand, of one at each place where there can be one.
+Each known schedule of cases/schedules is shown whole: its lines are known, and the plain picture is made of them, with
+plain calls that say which exchanges fail. The two stored schedules are shown whole and stopped at every event.
+README.md shows a part of the race for a name as the program draws it. What exchanges that fail wanted and found is also
+known by hand, of one at each place where there can be one.
 """
 
 import concurrent.futures
@@ -23,7 +24,9 @@ FULL = "/dev/full"
 SPARSE = "world,128,64,7,1,2\nhist,0,S,sparse\nstep,0,100\nadd,0,S,-5,2\nstep,0,100\ndelta,0,S\nstep,0,100\n"
 # What the picture of that has to say, by the layout of a sample's record.
 SAID = ["S.sample(-5).mark 0 -> 2", "S.sample(-5).count 0 -> 2", "S.redundant 0 -> 2", "free 16 -> 32", "tail 12 -> 16"]
-MOUNTED = "world,128,64,7,1,2\nhist,0,A,boolean\nstep,0,100\nadd,0,A,0,1\nstep,0,100\nadd,0,A,1,3\nstep,0,100\ndelta,0,A\nstep,0,100\n"
+MOUNTED = "world,128,64,7,1,2\n" + "".join(
+    f"{call}\nstep,0,100\n" for call in ("hist,0,A,boolean", "add,0,A,0,1", "add,0,A,1,3", "delta,0,A")
+)
 COUNTED = ["A.single 0 -> 1", "A.counts 0 -> 32", "A.count[1] 0 -> 3", "A.mark[1] 0 -> 3", "A.single_mark 0 -> 1"]
 
 # Exchanges that fail, in the order of their events. A packed word has its bucket times 2^32 and its units.
@@ -46,7 +49,10 @@ LATE = {
     "counts": (
         "world,128,64,7,2,2\nhist,0,A,boolean\nstep,0,100\nhist,1,A,boolean\nstep,1,100\nadd,0,A,0,1\nstep,0,100\n"
         "add,0,A,1,1\nadd,1,A,1,1\nstep,0,8\nstep,1,8\nstep,0,1\nstep,1,100\nstep,0,100\n",
-        ["A.single 0 -> 1", "free 32 -> 42", "free 42 -> 52", "A.counts 0 -> 32", "A.counts: wanted 0, found 32", "@42.type 2 -> 0"],
+        [
+            "A.single 0 -> 1", "free 32 -> 42", "free 42 -> 52", "A.counts 0 -> 32", "A.counts: wanted 0, found 32",
+            "@42.type 2 -> 0",
+        ],
     ),
     "single word": (
         "world,128,64,7,2,2\nhist,0,A,boolean\nstep,0,100\nhist,1,A,boolean\nstep,1,100\n"
@@ -87,7 +93,8 @@ def wrong_words(program, path, text, said):
 
 
 def wrong_late(program, path, text, said):
-    """What of these rows is missing in a picture, or stands in another order, or None. Every exchange that fails is one of them."""
+    """What of these rows is missing in a picture, or stands in another order, or None. Every exchange that fails is one
+    of them."""
     path.write_text(text)
     came = answer(program, [path, "--show"])
     rows = [line.split("\t")[1].strip() for line in came.output.decode().splitlines()]
@@ -116,7 +123,9 @@ def wrong_device(program):
 def cases(program, options):
     with tempfile.TemporaryDirectory() as scratch, concurrent.futures.ThreadPoolExecutor(os.cpu_count()) as pool:
         known = sorted(FOLDER.glob("*.csv"))
-        yield from zip((f"known {case.stem}" for case in known), pool.map(lambda case: wrong_known(program, case), known))
+        yield from zip(
+            (f"known {case.stem}" for case in known), pool.map(lambda case: wrong_known(program, case), known)
+        )
         for schedule in STORED:
             yield f"stops of {schedule.stem}", wrong_stored(program, pool, schedule)
         folder = pathlib.Path(scratch)

@@ -1,4 +1,5 @@
-"""`show`: known and forged images beside a plain renderer; names, parts of names, widths and signs; many sparse values."""
+"""`show`: known and forged images beside a plain renderer; names, parts of names, widths and signs; many sparse
+values."""
 
 import pathlib
 import random
@@ -43,16 +44,24 @@ add,~s,-5,7
 delta,page.load
 add,page.load,20,2
 """
-# A sparse histogram with 23 values: 1 and 2 have two units, and those from 3 to 23 have three, so that 1, 2 and 23 are left out.
-MANY_SCRIPT = "segment,1024,64,7\nhist,many,sparse\n" + "".join(f"add,many,{value},{2 if value < 3 else 3}\n" for value in range(1, 24))
+# A sparse histogram with 23 values: 1 and 2 have two units, and those from 3 to 23 have three, so that 1, 2 and 23 are
+# left out.
+MANY_SCRIPT = "segment,1024,64,7\nhist,many,sparse\n" + "".join(
+    f"add,many,{value},{2 if value < 3 else 3}\n" for value in range(1, 24)
+)
 # Its text, by hand.
-MANY_PERCENTS = [10.4, 14.9, 19.4, 23.9, 28.4, 32.8, 37.3, 41.8, 46.3, 50.7, 55.2, 59.7, 64.2, 68.7, 73.1, 77.6, 82.1, 86.6, 91.0, 95.5]
+MANY_PERCENTS = [
+    10.4, 14.9, 19.4, 23.9, 28.4, 32.8, 37.3, 41.8, 46.3, 50.7, 55.2, 59.7, 64.2, 68.7, 73.1, 77.6, 82.1, 86.6, 91.0,
+    95.5,
+]
 MANY_TEXT = (
     "many\n"
     "  sparse, units 67, sum 825, mean 12.3\n"
     "  50%: 12, 90%: 21, 99%: 23\n"
     "  not yet taken by deltas: units 67, sum 825\n"
-    + "".join(f"{value:>24} {'#' * 20}          3    4.5%{percent:>7}%\n" for value, percent in enumerate(MANY_PERCENTS, 3))
+    + "".join(
+        f"{value:>24} {'#' * 20}          3    4.5%{percent:>7}%\n" for value, percent in enumerate(MANY_PERCENTS, 3)
+    )
     + "  The values that are left out number 3, and have 7 units together.\n"
     "\n"
 ).encode()
@@ -69,7 +78,9 @@ CHOICES = [
     (["--ascii", "page.size"], {"names": ["page.size"], "is_ascii": True}),
     (["--all"], {"shows_all": True}),
 ]
-USAGES = [["--width", "19"], ["--width", "201"], ["--width", "x"], ["--match", "a", "A"], ["--all=x"], ["--no-such-option"]]
+USAGES = [
+    ["--width", "19"], ["--width", "201"], ["--width", "x"], ["--match", "a", "A"], ["--all=x"], ["--no-such-option"],
+]
 
 
 def beside(program, data, words=(), **options):
@@ -97,7 +108,8 @@ def worked(program, folder):
 
 
 def many_values(program, folder, chance):
-    """The bytes of an image with a sparse histogram of up to 60 values, of which many have as many units, and some have none."""
+    """The bytes of an image with a sparse histogram of up to 60 values, of which many have as many units, and some have
+    none."""
     values = chance.sample(range(-99, 100), chance.randint(15, 60))
     adds = "".join(f"add,many,{value},{chance.choice([1, 2, 2, 3, 70_000])}\n" for value in values)
     script, image = folder / "script", folder / "image"
@@ -112,7 +124,8 @@ def many_values(program, folder, chance):
 
 
 def sparse(program, folder, options):
-    """The worked example of many values, and others with more and with fewer than have lines; each also with all values."""
+    """The worked example of many values, and others with more and with fewer than have lines; each also with all
+    values."""
     script, image = folder / "script", folder / "image"
     script.write_text(MANY_SCRIPT)
     ran = answer(program, ["run", script, image])

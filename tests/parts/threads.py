@@ -5,49 +5,64 @@ The program prints the samples and batches that were accepted, what each delta a
 of the image.
 """
 
+from __future__ import annotations
+
+import argparse
 import collections
+import pathlib
+from collections.abc import Callable, Iterable, Iterator, Sequence
 
 from support import plain_tally
-from support.program import answer
+from support.program import Case, Word, answer
 
 PROGRAM = "trials"
 THREADS = (2, 3, 4, 8, 16)
 ROUNDS = 200
 RECORDS = 100
-SPECS = {"boolean": ("boolean",), "custom": ("custom", 10, 100, 1000), "linear": ("linear", 1, 100, 20), "sparse": ("sparse",)}
+# Keys or values with their units; a name, a value and its count; a name, what is added to the sum, and items.
+Pairs = list[tuple[int, int]]
+Sample = tuple[str, int, int]
+Batch = tuple[str, int, Pairs]
+
+SPECS: dict[str, plain_tally.Spec] = {
+    "boolean": ("boolean",), "custom": ("custom", 10, 100, 1000), "linear": ("linear", 1, 100, 20),
+    "sparse": ("sparse",),
+}
 
 
 class Round:
     """What one round printed."""
 
-    def __init__(self, lines):
-        self.samples = []
-        self.batches = []
-        self.deltas = collections.defaultdict(list)
-        self.snapshots = collections.defaultdict(list)
-        self.report = []
-        kinds = {"sample": self.sample, "batch": self.batch, "delta": self.delta, "snapshot": self.snapshot}
+    def __init__(self, lines: Sequence[str]) -> None:
+        self.samples: list[Sample] = []
+        self.batches: list[Batch] = []
+        self.deltas: dict[str, list[tuple[int, Pairs]]] = collections.defaultdict(list)
+        self.snapshots: dict[str, list[tuple[int, Pairs]]] = collections.defaultdict(list)
+        self.report: list[str] = []
+        kinds: dict[str, Callable[..., None]] = {
+            "sample": self.sample, "batch": self.batch, "delta": self.delta, "snapshot": self.snapshot,
+        }
         for place, line in enumerate(lines):
             kind, *fields = line.split(",")
             if kind == "report":
-                self.report = lines[place + 1:]
+                self.report = [*lines[place + 1:]]
                 break
             kinds[kind](*fields)
 
-    def sample(self, name, value, count):
+    def sample(self, name: str, value: str, count: str) -> None:
         self.samples.append((name, int(value), int(count)))
 
-    def batch(self, name, total, *items):
+    def batch(self, name: str, total: str, *items: str) -> None:
         self.batches.append((name, int(total), pairs(items)))
 
-    def delta(self, name, total, *units):
+    def delta(self, name: str, total: str, *units: str) -> None:
         self.deltas[name].append((int(total), pairs(units)))
 
-    def snapshot(self, name, total, redundant, *units):
+    def snapshot(self, name: str, total: str, redundant: str, *units: str) -> None:
         self.snapshots[name].append((int(redundant), pairs(units)))
 
 
-def pairs(fields):
+def pairs(fields: Iterable[str]) -> Pairs:
     """Keys or values with their units, in the order in which they were printed."""
     numbers = [int(field) for field in fields]
     if len(numbers) % 2:
@@ -55,7 +70,7 @@ def pairs(fields):
     return list(zip(numbers[::2], numbers[1::2]))
 
 
-def tally(samples, batches):
+def tally(samples: Iterable[Sample], batches: Iterable[Batch]) -> dict[str, plain_tally.Histogram]:
     """What they add up to: a sample adds its value as often as it has units, a batch its sum.
 
     All four histograms were made, whoever records into them.
@@ -70,8 +85,8 @@ def tally(samples, batches):
     return histograms
 
 
-def wrong_deltas(name, deltas, tallied):
-    taken = collections.Counter()
+def wrong_deltas(name: str, deltas: Sequence[tuple[int, Pairs]], tallied: plain_tally.Histogram) -> str | None:
+    taken: collections.Counter[int] = collections.Counter()
     for _, units in deltas:
         keys = [low for low, _ in units]
         if keys != sorted(set(keys)) or not all(count > 0 for _, count in units):
@@ -82,7 +97,7 @@ def wrong_deltas(name, deltas, tallied):
     return None
 
 
-def wrong_snapshots(name, snapshots, tallied):
+def wrong_snapshots(name: str, snapshots: Iterable[tuple[int, Pairs]], tallied: plain_tally.Histogram) -> str | None:
     for redundant, units in snapshots:
         keys = [low for low, _ in units]
         if keys != sorted(set(keys)) or (name != "sparse" and keys != tallied.boundaries[:-1]):
@@ -92,7 +107,7 @@ def wrong_snapshots(name, snapshots, tallied):
     return None
 
 
-def wrong_round(lines):
+def wrong_round(lines: Sequence[str]) -> str | None:
     """What is wrong with a round, or None."""
     done = Round(lines)
     histograms = tally(done.samples, done.batches)
@@ -107,18 +122,21 @@ def wrong_round(lines):
     return None
 
 
-def rounds(program, words):
+def rounds(program: pathlib.Path, words: Sequence[Word]) -> tuple[list[list[str]], str | None]:
     """The lines of each round of a run, or what it said in place of them."""
     came = answer(program, words)
     if came.status != 0 or came.error:
-        return None, f"status {came.status}, {came.error[:200]!r}"
+        return [], f"status {came.status}, {came.error[:200]!r}"
     lines = came.output.decode().splitlines()
     starts = [place for place, line in enumerate(lines) if line.startswith("round,")]
     return [lines[start + 1:end] for start, end in zip(starts, [*starts[1:], len(lines)])], None
 
 
-def recorded(program, threads, seed, number=ROUNDS, limit=None):
-    """What is wrong with so many rounds, or None. With a limit, the indexes of each recorder have at most so many entries."""
+def recorded(
+    program: pathlib.Path, threads: int, seed: int, number: int = ROUNDS, limit: int | None = None
+) -> str | None:
+    """What is wrong with so many rounds, or None. With a limit, the indexes of each recorder have at most so many
+    entries."""
     words = [threads, seed, number, *([] if limit is None else [limit])]
     every, wrong = rounds(program, ["record", *map(str, words)])
     if wrong is not None:
@@ -128,7 +146,7 @@ def recorded(program, threads, seed, number=ROUNDS, limit=None):
     return next(filter(None, map(wrong_round, every)), None)
 
 
-def shared(program):
+def shared(program: pathlib.Path) -> str | None:
     """Two threads that share a cursor are given each record once between them, each in the order of the list."""
     every, wrong = rounds(program, ["walk", "2", str(RECORDS), str(ROUNDS)])
     if wrong is not None:
@@ -145,7 +163,7 @@ def shared(program):
     return None if len(every) == ROUNDS else f"{len(every)} rounds"
 
 
-def cases(program, options):
+def cases(program: pathlib.Path, options: argparse.Namespace) -> Iterator[Case]:
     for threads in THREADS:
         yield f"{threads} threads, {ROUNDS} rounds", recorded(program, threads, options.seed)
     yield f"a shared cursor, {ROUNDS} rounds", shared(program)

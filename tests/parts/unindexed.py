@@ -1,31 +1,39 @@
-"""The rounds of threads of another part (threads.py), while the indexes of each recorder have a limit: each round returns what it always does.
+"""The rounds of threads of another part (threads.py), while the indexes of each recorder have a limit: each round
+returns what it always does.
 
-An index that is full stops at its place, and searches walk on from there. The limits are every small number of entries, none among them,
-so that an index stops at each of the first records that it meets, and some larger ones, at which one index is full and another is not.
+An index that is full stops at its place, and searches walk on from there. The limits are every small number of entries,
+none among them, so that an index stops at each of the first records that it meets, and some larger ones, at which one
+index is full and another is not.
 """
 
+from __future__ import annotations
+
+import argparse
+import pathlib
 import random
+from collections.abc import Iterator
 
 from parts import threads
+from support.program import Case
 
 PROGRAM = "trials"
 
 # The rounds of a run: one of each version.
 ROUNDS = 2
-# Every limit below this is tried with each number of threads, and so many others up to the last. A recorder meets 4 histograms, and up to
-# some hundred samples.
+# Every limit below this is tried with each number of threads, and so many others up to the last. A recorder meets 4
+# histograms, and up to some hundred samples.
 SMALL = 10
 OTHERS = 6
 LARGEST = 120
 
 
-def limits(seed, number):
+def limits(seed: int, number: int) -> list[int]:
     """The limits that are tried with a number of threads."""
     chance = random.Random(f"unindexed-{seed}-{number}")
     return [*range(SMALL), *(chance.randrange(SMALL, LARGEST) for _ in range(OTHERS))]
 
 
-def cases(program, options):
+def cases(program: pathlib.Path, options: argparse.Namespace) -> Iterator[Case]:
     for number in threads.THREADS:
         for place, limit in enumerate(limits(options.seed, number)):
             seed = options.seed + place * ROUNDS

@@ -1,13 +1,21 @@
-"""Worked examples of images: what is stored in the words of one, or where its bytes are cut, and what then has to be answered."""
+"""Worked examples of images: what is stored in the words of one, or where its bytes are cut, and what then has to be
+answered."""
 
+from __future__ import annotations
+
+import argparse
+import pathlib
 import struct
+from collections.abc import Iterable, Iterator, Mapping
 
-from support.program import EXAMPLE, Answer, answer, difference, fault
+from support.program import EXAMPLE, Answer, Case, answer, difference, fault
 
 PROGRAM = "persist_report"
 COOKIE, VERSION, SIZE, PAGE, STATE, FLAGS, FREE, TAIL = 0, 1, 2, 3, 5, 6, 7, 8
 QUEUE_COOKIE, QUEUE_NEXT = 13, 15
-KIND, BUCKETS, COUNTS_REFERENCE, SINGLE, SINGLE_MARK, SUM, REDUNDANT, NAME_LENGTH, NAME = 20, 23, 24, 25, 26, 27, 29, 30, 31
+KIND, BUCKETS, COUNTS_REFERENCE, SINGLE, SINGLE_MARK, SUM, REDUNDANT, NAME_LENGTH, NAME = (
+    20, 23, 24, 25, 26, 27, 29, 30, 31,
+)
 COUNTS = 36
 BLOCK_COOKIE = 0xC8799269
 FROZEN = DISABLED = 2**63
@@ -16,7 +24,10 @@ NOTHING_PACKED = DISABLED + 65_535
 # A new segment.
 BLANK = [0x408305DC, 1, 128, 64, 7, 1, 0, 16, 12, 0, 0, 0, 4, 1, 0, 12, *112 * [0]]
 # It has the boolean histogram A without samples.
-FRESH = {FREE: 32, TAIL: 16, QUEUE_NEXT: 16, 16: 16, 17: BLOCK_COOKIE, 18: 1, 19: 12, KIND: 2, 21: 1, 22: 2, BUCKETS: 3, NAME_LENGTH: 1, NAME: 65}
+FRESH = {
+    FREE: 32, TAIL: 16, QUEUE_NEXT: 16, 16: 16, 17: BLOCK_COOKIE, 18: 1, 19: 12, KIND: 2, 21: 1, 22: 2, BUCKETS: 3,
+    NAME_LENGTH: 1, NAME: 65,
+}
 # It has the sparse histogram S with two samples -5, by the block at 32, and one sample 7, by the block at 40.
 SPARSE = {
     **FRESH, FREE: 48, TAIL: 40, 19: 32, KIND: 4, 21: 0, 22: 0, BUCKETS: 0, SUM: -3, REDUNDANT: 3, NAME: 83,
@@ -94,7 +105,7 @@ BAD_HEADERS = [
 ]
 
 # What is stored in the words of a segment that has A without samples, and the report.
-LISTS = [
+LISTS: list[tuple[dict[int, int], bytes]] = [
     ({}, b"A,total,0,0\n"),
     ({TAIL: 12}, b"A,total,0,0\n"),
     ({19: 16}, b"A,total,0,0\n!stopped,Loop\n"),
@@ -108,7 +119,7 @@ LISTS = [
 BAD_SAMPLES = [{38: 2**32}, {37: 2**31}, {39: 3}, {36: 40}]
 
 
-def stored_in(words, *changes):
+def stored_in(words: Iterable[int], *changes: Mapping[int, int]) -> bytes:
     """The bytes of words in which other words are stored."""
     words = list(words)
     for stored in changes:
@@ -117,15 +128,15 @@ def stored_in(words, *changes):
     return struct.pack(f"<{len(words)}Q", *words)
 
 
-def example():
+def example() -> tuple[int, ...]:
     return struct.unpack("<128Q", EXAMPLE.read_bytes())
 
 
-def told(stored):
+def told(stored: Mapping[int, int]) -> str:
     return " ".join(f"[{at}] = {word}" for at, word in stored.items()) or "as it is"
 
 
-def images():
+def images() -> Iterator[tuple[str, bytes, Answer]]:
     """The images that are changed, each with its name and what has to be answered."""
     for name, (stored, wanted) in VERSION_2.items():
         yield name, stored_in(example(), stored), wanted
@@ -145,7 +156,7 @@ def images():
     yield "a header alone", stored_in(BLANK[:16]), fault("Image BadSize", 3)
 
 
-def cuts():
+def cuts() -> Iterator[tuple[str, bytes, Answer]]:
     """The example cut at each length, and what has to be answered."""
     data = EXAMPLE.read_bytes()
     for length in range(len(data)):
@@ -153,6 +164,6 @@ def cuts():
         yield f"cut at {length}", data[:length], fault(wrong, 3)
 
 
-def cases(program, _options):
+def cases(program: pathlib.Path, _options: argparse.Namespace) -> Iterator[Case]:
     for name, data, wanted in (*images(), *cuts()):
         yield name, difference(wanted, answer(program, ["report"], data))

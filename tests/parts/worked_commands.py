@@ -1,5 +1,5 @@
-"""Worked examples of `run`, `merge` and `resume`: scripts, and what is stored in the words of images, and what then has to be
-answered and written."""
+"""Worked examples of `run`, `merge` and `resume`: scripts, and what is stored in the words of images, and what then has
+to be answered and written."""
 
 import pathlib
 import struct
@@ -28,18 +28,29 @@ SCRIPTS = {
     "an unknown name": (SEGMENT + b"hist,A,boolean\nadd,B,1,1\n", fault("BadLine 3", 3)),
     "a count of 0": (SEGMENT + b"hist,A,boolean\nadd,A,1,0\n", fault("Refused 3 ZeroCount", 3)),
     "one unit too many": (SEGMENT + b"hist,A,boolean\nadd,A,1,4294967295\nadd,A,1,1\n", fault("Refused 4 NoUnits", 3)),
-    "all units": (SEGMENT + b"hist,A,boolean\nadd,A,1,4294967295\n", Answer(b"A,boolean,1,2,4294967295\nA,total,4294967295,4294967295\n")),
+    "all units": (
+        SEGMENT + b"hist,A,boolean\nadd,A,1,4294967295\n",
+        Answer(b"A,boolean,1,2,4294967295\nA,total,4294967295,4294967295\n"),
+    ),
     "too few buckets": (SEGMENT + b"hist,a!,linear,1,10,2\n", fault("Refused 2 BadSpec TooFew", 3)),
-    "a custom value that is too great": (SEGMENT + b"hist,A,custom,2147483647\n", fault("Refused 2 BadSpec BadRange", 3)),
+    "a custom value that is too great": (
+        SEGMENT + b"hist,A,custom,2147483647\n",
+        fault("Refused 2 BadSpec BadRange", 3),
+    ),
     "the custom value 0 alone": (SEGMENT + b"hist,A,custom,0\n", fault("Refused 2 BadSpec Empty", 3)),
     "an unlawful name": (SEGMENT + b"hist,!x,boolean\n", fault("Refused 2 BadName", 3)),
     "another spec": (SEGMENT + b"hist,A,boolean\nhist,A,linear,1,2,3\n", fault("Refused 3 OtherSpec", 3)),
     "a record longer than a page": (SEGMENT + b"hist,A,linear,1,100,31\n", fault("Refused 2 TooLarge", 3)),
-    "no room": (b"segment,64,64,7\nhist,A,boolean\nhist,B,boolean\nhist,C,boolean\nhist,D,boolean\n", fault("Refused 5 Full", 3)),
+    "no room": (
+        b"segment,64,64,7\nhist,A,boolean\nhist,B,boolean\nhist,C,boolean\nhist,D,boolean\n",
+        fault("Refused 5 Full", 3),
+    ),
 }
 
 # With one worker, whose second sample needs counts for which there is no room.
-NO_ROOM_FOR_COUNTS = b"segment,64,64,7\nhist,A,boolean\nhist,B,boolean\nhist,C,boolean\nadd,A,1,1\nadd,A,0,1\nadd,A,1,1\n"
+NO_ROOM_FOR_COUNTS = (
+    b"segment,64,64,7\nhist,A,boolean\nhist,B,boolean\nhist,C,boolean\nadd,A,1,1\nadd,A,0,1\nadd,A,1,1\n"
+)
 
 
 def with_words(data, stored):
@@ -85,26 +96,58 @@ MERGES = {
     "remainders": (image(TAKEN), image({}), REMAINDERS, REMAINDERS_REPORT),
     "remainders, DEAD of version 2": (image(TAKEN), image(IN_VERSION_2), REMAINDERS, REMAINDERS_REPORT),
     "remainders, BASE of version 2": (image({**IN_VERSION_2, **TAKEN}), image({}), REMAINDERS, REMAINDERS_REPORT),
-    "a remainder alone": (blank(), image(TAKEN), packed({VERSION: 2, SINGLE: 1, REDUNDANT: 1}), b"A,boolean,0,1,1\nA,total,1,0\n"),
+    "a remainder alone": (
+        blank(),
+        image(TAKEN),
+        packed({VERSION: 2, SINGLE: 1, REDUNDANT: 1}),
+        b"A,boolean,0,1,1\nA,total,1,0\n",
+    ),
     "no histograms": (blank(), blank(2), blank(2), b""),
-    "no remainder": (blank(2), packed({SINGLE: 2**32 + 2, SUM: 2, REDUNDANT: 2, **TAKEN}), packed({VERSION: 2}), b"A,total,0,0\n"),
+    "no remainder": (
+        blank(2), packed({SINGLE: 2**32 + 2, SUM: 2, REDUNDANT: 2, **TAKEN}), packed({VERSION: 2}), b"A,total,0,0\n",
+    ),
     "a mark above its total": (
         blank(),
         image({SINGLE_MARK: 65_535}),
         packed({VERSION: 2, SINGLE: 1, SUM: 2, REDUNDANT: 1}),
         b"A,boolean,0,1,1\nA,total,1,2\n",
     ),
-    "two items": (blank(), image({FIRST_COUNT: 2, SECOND_COUNT: 3, SUM: 3}), None, b"A,boolean,0,1,2\nA,boolean,1,2,3\nA,total,5,3\n"),
-    "the greatest sum": (blank(), packed({SUM: MOST_SUM}), packed({VERSION: 2, SUM: MOST_SUM}), b"A,total,0,9223372034707292160\n"),
-    "the least sum": (packed({SUM: -MOST_SUM}), blank(), packed({VERSION: 2, SUM: -MOST_SUM}), b"A,total,0,-9223372034707292160\n"),
-    "the least sum below its mark": (packed({SUM_MARK: MOST_SUM}), blank(), packed({VERSION: 2, SUM: -MOST_SUM}), b"A,total,0,-9223372034707292160\n"),
+    "two items": (
+        blank(),
+        image({FIRST_COUNT: 2, SECOND_COUNT: 3, SUM: 3}),
+        None,
+        b"A,boolean,0,1,2\nA,boolean,1,2,3\nA,total,5,3\n",
+    ),
+    "the greatest sum": (
+        blank(),
+        packed({SUM: MOST_SUM}),
+        packed({VERSION: 2, SUM: MOST_SUM}),
+        b"A,total,0,9223372034707292160\n",
+    ),
+    "the least sum": (
+        packed({SUM: -MOST_SUM}),
+        blank(),
+        packed({VERSION: 2, SUM: -MOST_SUM}),
+        b"A,total,0,-9223372034707292160\n",
+    ),
+    "the least sum below its mark": (
+        packed({SUM_MARK: MOST_SUM}),
+        blank(),
+        packed({VERSION: 2, SUM: -MOST_SUM}),
+        b"A,total,0,-9223372034707292160\n",
+    ),
     "a sum for the units that are left": (
         image({FIRST_COUNT: MOST_UNITS - 4, SECOND_COUNT: 0, SUM: 0}),
         packed({SUM: 4 * 2**31}),
         None,
         b"A,boolean,0,1,4294967291\nA,total,4294967291,8589934592\n",
     ),
-    "a sum that is one too great": (image({FIRST_COUNT: MOST_UNITS - 4, SECOND_COUNT: 0, SUM: 0}), packed({SUM: 4 * 2**31 + 1}), NO_UNITS, None),
+    "a sum that is one too great": (
+        image({FIRST_COUNT: MOST_UNITS - 4, SECOND_COUNT: 0, SUM: 0}),
+        packed({SUM: 4 * 2**31 + 1}),
+        NO_UNITS,
+        None,
+    ),
     "two greatest sums": (packed({SUM: MOST_SUM}), packed({SUM: MOST_SUM}), NO_UNITS, None),
     "past the units in DEAD": (blank(), image(MOST_COUNTS), NO_UNITS, None),
     "past the units in BASE": (image(MOST_COUNTS), blank(), NO_UNITS, None),
@@ -132,11 +175,24 @@ def adding(count):
 # BASE, the script, and what comes; and the words of the image that are others than those of BASE, if they are known.
 RESUMES = {
     "one sample more": (image(IN_VERSION_2), ONE_MORE, Answer(ONE_MORE_REPORT), {FIRST_COUNT: 2, REDUNDANT: 4}),
-    "three samples more": (image(IN_VERSION_2), THREE_SAMPLES, Answer(b"A,boolean,0,1,2\nA,boolean,1,2,4\nA,total,6,4\n"), THREE_MORE),
+    "three samples more": (
+        image(IN_VERSION_2),
+        THREE_SAMPLES,
+        Answer(b"A,boolean,0,1,2\nA,boolean,1,2,4\nA,total,6,4\n"),
+        THREE_MORE,
+    ),
     "nothing more": (image(IN_VERSION_2), SEGMENT, Answer(THREE_REPORT), {}),
-    "a delta of all": (image(IN_VERSION_2), SEGMENT + b"hist,A,boolean\ndelta,A\n", Answer(THREE_REPORT), {SINGLE_MARK: 2, SUM_MARK: 2, 39: 1}),
+    "a delta of all": (
+        image(IN_VERSION_2),
+        SEGMENT + b"hist,A,boolean\ndelta,A\n",
+        Answer(THREE_REPORT),
+        {SINGLE_MARK: 2, SUM_MARK: 2, 39: 1},
+    ),
     "a tail left behind": (image({**IN_VERSION_2, 8: 12}), ONE_MORE, Answer(ONE_MORE_REPORT), None),
-    "a full flag": (image({**IN_VERSION_2, 6: 2}), ONE_MORE, Answer(ONE_MORE_REPORT + b"!flag,full\n"), {FIRST_COUNT: 2, REDUNDANT: 4}),
+    "a full flag": (
+        image({**IN_VERSION_2, 6: 2}), ONE_MORE, Answer(ONE_MORE_REPORT + b"!flag,full\n"),
+        {FIRST_COUNT: 2, REDUNDANT: 4},
+    ),
     "a stop": (image(STOPPED), ONE_MORE, Answer(THREE_REPORT), {FIRST_COUNT: 1, REDUNDANT: 3}),
     "all units that are left": (
         image(IN_VERSION_2),
@@ -145,11 +201,18 @@ RESUMES = {
         {SECOND_COUNT: MOST_UNITS - 3, SUM: MOST_UNITS - 1, REDUNDANT: MOST_UNITS},
     ),
     "one unit more than are left": (image(IN_VERSION_2), adding(MOST_UNITS - 2), fault("Refused 3 NoUnits", 3), None),
-    "all units that a sum has left": (TAKEN_BACK, adding(2**31 - 1), Answer(b"A,boolean,1,2,2147483647\nA,total,2147483647,4294967295\n"), None),
+    "all units that a sum has left": (
+        TAKEN_BACK, adding(2**31 - 1), Answer(b"A,boolean,1,2,2147483647\nA,total,2147483647,4294967295\n"), None,
+    ),
     "one unit more than a sum has left": (TAKEN_BACK, adding(2**31), fault("Refused 3 NoUnits", 3), None),
     "another id": (image(IN_VERSION_2), b"segment,128,64,8\n", fault("BadLine 1", 3), None),
     "another page, and a later fault": (image(IN_VERSION_2), b"segment,128,128,7\nhits\n", fault("BadLine 1", 3), None),
-    "another size, and units that are too many": (image(IN_VERSION_2), b"segment,192,64,7\n" + adding(MOST_UNITS)[17:], fault("BadLine 1", 3), None),
+    "another size, and units that are too many": (
+        image(IN_VERSION_2),
+        b"segment,192,64,7\n" + adding(MOST_UNITS)[17:],
+        fault("BadLine 1", 3),
+        None,
+    ),
     "another spec": (image(IN_VERSION_2), SEGMENT + b"hist,A,linear,1,2,3\n", fault("Refused 2 OtherSpec", 3), None),
 }
 
@@ -159,7 +222,9 @@ def shared_counts():
     record = {0: 16, 1: 0xC8799269, 2: 1, 4: 2, 5: 1, 6: 2, 7: 3, 8: 48, 9: TOP, 14: 1}
     records = {start + at: word for start in (16, 32) for at, word in record.items()}
     counts = {48: 10, 49: 0xC8799269, 50: 2, 52: 1}
-    return with_words(blank(2), {**records, **counts, 15: 16, 19: 32, 35: 12, 31: ord("A"), 47: ord("B"), FREE: 58, 8: 32})
+    return with_words(
+        blank(2), {**records, **counts, 15: 16, 19: 32, 35: 12, 31: ord("A"), 47: ord("B"), FREE: 58, 8: 32}
+    )
 
 
 # What is stored in the words of an image in version 2, and why it may then not be recorded into again.
@@ -167,7 +232,9 @@ NOT_ADOPTED = {
     "Image Deleted": [{5: 2}, {5: 2, 6: 1}],
     "OldVersion": [{VERSION: 1, SINGLE: TOP + 1, FIRST_COUNT: 1, SECOND_COUNT: 2}, {VERSION: 1, 6: 1}],
     "Corrupt": [{6: 1}, {6: 3}, {6: 1, 42: 1}],
-    "Damaged": [{42: 1}, {FREE: 60}, {8: 13}, {SINGLE: 0}, {31: 321}, {40: 1}, {42: 1, FIRST_COUNT: MOST_UNITS, 38: MOST_UNITS}],
+    "Damaged": [
+        {42: 1}, {FREE: 60}, {8: 13}, {SINGLE: 0}, {31: 321}, {40: 1}, {42: 1, FIRST_COUNT: MOST_UNITS, 38: MOST_UNITS},
+    ],
     "NoUnits": [{FIRST_COUNT: MOST_UNITS, 38: MOST_UNITS}],
 }
 
@@ -192,7 +259,8 @@ def runs(program, folder):
     yield "run, no room for counts", wrong_fault(program, ["run", script, out], fault("Refused 6 Full", 3), out)
     script.write_bytes(THREE_SAMPLES)
     answer(program, ["run", script, out])
-    yield "run, three samples, the image", None if out.read_bytes() == image(IN_VERSION_2) else "other words were written"
+    wrong = None if out.read_bytes() == image(IN_VERSION_2) else "other words were written"
+    yield "run, three samples, the image", wrong
 
 
 def wrong_merge(program, folder, wanted, report):
@@ -223,7 +291,9 @@ def wrong_resume(program, words, base, wanted, stored):
     out = words[-1]
     if wanted.status:
         return wrong_fault(program, words, wanted, out)
-    wrong = difference(wanted, answer(program, words)) or difference(Answer(wanted.output), answer(program, ["report", out]))
+    wrong = difference(wanted, answer(program, words)) or difference(
+        Answer(wanted.output), answer(program, ["report", out])
+    )
     if wrong is None and stored is not None and out.read_bytes() != with_words(base, stored):
         wrong = "other words were written"
     return wrong
@@ -235,16 +305,22 @@ def resumes(program, folder):
         paths[0].write_bytes(base)
         paths[1].write_bytes(script)
         for workers in ("1", "2", "16"):
-            yield f"resume, {name}, {workers} workers", wrong_resume(program, ["resume", "--workers", workers, *paths], base, wanted, stored)
+            yield f"resume, {name}, {workers} workers", wrong_resume(
+                program, ["resume", "--workers", workers, *paths], base, wanted, stored
+            )
     paths[1].write_bytes(ONE_MORE)
     damaged = [("Damaged", shared_counts())]
-    for why, base in [*((why, image({**IN_VERSION_2, **stored})) for why, all_stored in NOT_ADOPTED.items() for stored in all_stored), *damaged]:
+    for why, base in [
+        *((why, image({**IN_VERSION_2, **stored})) for why, all_stored in NOT_ADOPTED.items() for stored in all_stored),
+        *damaged,
+    ]:
         paths[0].write_bytes(base)
         yield f"resume, {why}", wrong_fault(program, ["resume", *paths], fault(f"Adopt {why}", 3), paths[-1])
     paths[0].write_bytes(blank(2))
     paths[1].write_bytes(THREE_SAMPLES)
     yield "resume, no histograms", difference(Answer(THREE_REPORT), answer(program, ["resume", *paths]))
-    yield "resume, no histograms, the image", None if paths[-1].read_bytes() == image(IN_VERSION_2) else "other words were written"
+    wrong = None if paths[-1].read_bytes() == image(IN_VERSION_2) else "other words were written"
+    yield "resume, no histograms, the image", wrong
 
 
 def cases(program, _options):

@@ -1,7 +1,7 @@
 """Runs a program so that one of its allocations is refused, and tells all of them (Linux, with a shared C library).
 
-`refuse.c` is loaded before the program: each allocation goes by way of its `malloc` and `realloc`, also one for which the C library asks
-the system for nothing.
+`refuse.c` is loaded before the program: each allocation goes by way of its `malloc` and `realloc`, also one for which
+the C library asks the system for nothing.
 """
 
 from __future__ import annotations
@@ -20,7 +20,8 @@ TRY = "try "
 
 @dataclasses.dataclass
 class Asked:
-    """An allocation: the line that named its call, how many such lines came before that, and the bytes that were asked for."""
+    """An allocation: the line that named its call, how many such lines came before that, and the bytes that were asked
+    for."""
 
     call: str
     place: int
@@ -33,13 +34,15 @@ class Refuser:
     def __init__(self, folder: Path) -> None:
         self.library = pathlib.Path(folder) / "refuse.so"
         self.log = pathlib.Path(folder) / "allocations"
-        native.run([*native.compiler(".c"), "-std=gnu11", *native.STRICT, "-fPIC", "-shared", "-o", self.library, SOURCE])
+        native.run(
+            [*native.compiler(".c"), "-std=gnu11", *native.STRICT, "-fPIC", "-shared", "-o", self.library, SOURCE]
+        )
 
     def answer(
         self, program: Path, words: Iterable[Word], refused: int | None = None, lasting: bool = False
     ) -> tuple[Answer, list[Asked]]:
-        """What the program returns where the allocation at `refused` is refused, from 0, or none, and all allocations of the calls that it
-        named. Where it is `lasting`, so are those after it of the same call."""
+        """What the program returns where the allocation at `refused` is refused, from 0, or none, and all allocations
+        of the calls that it named. Where it is `lasting`, so are those after it of the same call."""
         settings = {**os.environ, "LD_PRELOAD": str(self.library), "REFUSE_LOG": str(self.log)}
         if refused is not None:
             settings["REFUSE_AT"] = str(refused)

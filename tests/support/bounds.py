@@ -1,4 +1,5 @@
-"""What a killed program may have left: of each bucket at least the units that it had ended, and at most those that it had begun.
+"""What a killed program may have left: of each bucket at least the units that it had ended, and at most those that it
+had begun.
 
 The program is `tests/c/killed.cpp`, and the file in which it tells both is that of `tests/c/tally.hpp`.
 """
@@ -6,7 +7,10 @@ The program is `tests/c/killed.cpp`, and the file in which it tells both is that
 from __future__ import annotations
 
 import collections
+import pathlib
+import random
 import struct
+import time
 
 THREADS = 4
 LINEAR_LOWS = (0, 1, 126, 251, 376, 501, 625, 750, 875, 1000)
@@ -22,6 +26,28 @@ Cell = tuple[str, int]
 Units = collections.Counter[Cell]
 BYTES = THREADS * len(CELLS) * 16
 MOST_PACKED = 65_535
+# The shapes of its segments, and how long it lives at most, in seconds.
+SHAPES = ((65_536, 4096), (8192, 1024), (4096, 512), (2048, 512))
+LIVES = (0.001, 0.005, 0.02, 0.06)
+
+
+class Runs:
+    """Runs of the program, each of which continues with what the one before left: `before` has the units of that."""
+
+    def __init__(self, killed: pathlib.Path, program: pathlib.Path, chance: random.Random, version: int) -> None:
+        self.killed, self.program, self.chance, self.version = killed, program, chance, version
+        self.shape = chance.choice(SHAPES)
+        self.before: Units = collections.Counter()
+
+    def words(self, where: str, file: pathlib.Path, tally: pathlib.Path) -> list[str]:
+        """The words of a run, which begins with an empty tally."""
+        tally.write_bytes(bytes(BYTES))
+        words = [self.killed, where, file, tally, self.chance.getrandbits(31), self.version, *self.shape]
+        return [str(word) for word in words]
+
+    def live(self) -> None:
+        """Lets it live for a moment."""
+        time.sleep(self.chance.uniform(0, self.chance.choice(LIVES)))
 
 
 def numbers(data: bytes) -> tuple[Units, Units]:
@@ -49,16 +75,20 @@ def units_of(report: bytes) -> tuple[Units, list[str]]:
 
 
 def short_of(units: Units, least: Units, version: int) -> list[Cell]:
-    """The buckets that have too few units. In version 1 one of each histogram with buckets may lack those that were being moved."""
+    """The buckets that have too few units. In version 1 one of each histogram with buckets may lack those that were
+    being moved."""
     short = [cell for cell in least if units[cell] < least[cell]]
     if version == 2:
         return short
     names = collections.Counter(name for name, _ in short)
-    return [cell for cell in short if cell[0] == "sparse" or names[cell[0]] > 1 or least[cell] - units[cell] > MOST_PACKED]
+    return [
+        cell for cell in short if cell[0] == "sparse" or names[cell[0]] > 1 or least[cell] - units[cell] > MOST_PACKED
+    ]
 
 
 def wrong_of(units: Units, faults: list[str], before: Units, data: bytes, version: int) -> str | None:
-    """What is wrong with the units of a report, beside those that were there before and what the threads told; or None."""
+    """What is wrong with the units of a report, beside those that were there before and what the threads told; or
+    None."""
     if faults:
         return f"the report has {faults[:3]}"
     begun, ended = numbers(data)

@@ -1,5 +1,5 @@
-"""How the headers and sources of `c/` compile: without a warning by each compiler that is there and in each standard; in one program of files
-with exceptions and without; and under the thread sanitizer.
+"""How the headers and sources of `c/` compile: without a warning by each compiler that is there and in each standard;
+in one program of files with exceptions and without; and under the thread sanitizer.
 """
 
 from __future__ import annotations
@@ -13,9 +13,12 @@ from collections.abc import Iterator
 from support import native
 from support.program import Case, Word
 
-WARNINGS = ["-Wall", "-Wextra", "-Wpedantic", "-Wconversion", "-Wshadow", "-Werror", "-fsyntax-only", f"-I{native.LIBRARY}"]
+WARNINGS = [
+    "-Wall", "-Wextra", "-Wpedantic", "-Wconversion", "-Wshadow", "-Werror", "-fsyntax-only", f"-I{native.LIBRARY}",
+]
 CPP_WARNINGS = ["-Wold-style-cast", "-Wzero-as-null-pointer-constant"]
-C_HEADERS, CPP_HEADERS = ("povundiri.h", "povundiri_file.h"), ("povundiri.h", "povundiri_file.h", "povundiri_status.hpp", "povundiri.hpp")
+C_HEADERS = ("povundiri.h", "povundiri_file.h")
+CPP_HEADERS = (*C_HEADERS, "povundiri_status.hpp", "povundiri.hpp")
 MOST_SECONDS = 300
 
 
@@ -60,9 +63,11 @@ MISTAKES = (
     (".cpp", "povundiri::Recorder copied(recorder);", "deleted"),
 )
 PROGRAMS = {
-    ".c": "#include <povundiri.h>\nint main(void) {\n    struct povundiri_handle segment = {0}, recorder = {0};\n    %s\n"
+    ".c": "#include <povundiri.h>\nint main(void) {\n"
+    "    struct povundiri_handle segment = {0}, recorder = {0};\n    %s\n"
     "    return segment.full || recorder.full;\n}\n",
-    ".cpp": "#include <povundiri.hpp>\nint main() {\n    povundiri::Segment segment;\n    povundiri::Recorder recorder;\n    povundiri::Hist hist;\n    %s\n"
+    ".cpp": "#include <povundiri.hpp>\nint main() {\n"
+    "    povundiri::Segment segment;\n    povundiri::Recorder recorder;\n    povundiri::Hist hist;\n    %s\n"
     "    return segment || recorder || recorder.add(hist, 1);\n}\n",
 }
 
@@ -72,10 +77,14 @@ def mistakes(folder: pathlib.Path) -> Iterator[Case]:
     for suffix, statement, word in (*((suffix, "", "") for suffix in PROGRAMS), *MISTAKES):
         source = folder / f"mistake{suffix}"
         source.write_text(PROGRAMS[suffix] % statement)
-        words = [*native.compiler(suffix), "-Wall", "-Wextra", "-Werror", f"-I{native.LIBRARY}", "-c", "-o", "/dev/null", source]
+        words = [
+            *native.compiler(suffix), "-Wall", "-Wextra", "-Werror", f"-I{native.LIBRARY}", "-c", "-o", "/dev/null",
+            source,
+        ]
         done = subprocess.run([str(word) for word in words], capture_output=True, text=True, timeout=MOST_SECONDS)
-        wrong = done.returncode != 0 if statement == "" else done.returncode == 0 or word not in done.stderr
-        yield f"refused: {statement or f'nothing ({suffix})'}", f"status {done.returncode}: {done.stderr[-1000:]}" if wrong else None
+        is_right = done.returncode == 0 if statement == "" else done.returncode != 0 and word in done.stderr
+        wrong = None if is_right else f"status {done.returncode}: {done.stderr[-1000:]}"
+        yield f"refused: {statement or f'nothing ({suffix})'}", wrong
 
 
 def own_lines(source: pathlib.Path, *flags: str) -> list[str]:
@@ -103,7 +112,9 @@ def one_definition(folder: pathlib.Path) -> Iterator[Case]:
 def compiled(folder: pathlib.Path, source: pathlib.Path, *flags: str) -> pathlib.Path:
     """An object of a source, with the headers of the library."""
     built = folder / f"{source.stem}.o"
-    native.run([*native.compiler(source.suffix), *native.STRICT, *flags, f"-I{native.LIBRARY}", "-c", "-o", built, source])
+    native.run(
+        [*native.compiler(source.suffix), *native.STRICT, *flags, f"-I{native.LIBRARY}", "-c", "-o", built, source]
+    )
     return built
 
 
@@ -114,10 +125,12 @@ def said_by(program: pathlib.Path, *words: Word) -> tuple[int, str]:
 
 
 def mixed(installed: native.Installed, folder: pathlib.Path) -> Iterator[Case]:
-    """Files with exceptions and without in one program; what throws then throws, or ends it where povundiri_raise.cpp is built without."""
+    """Files with exceptions and without in one program; what throws then throws, or ends it where povundiri_raise.cpp
+    is built without."""
     plain = compiled(folder, native.PROGRAMS / "mixed_plain.cpp", "-fno-exceptions")
     status, said = said_by(installed.program(native.PROGRAMS / "mixed.cpp", plain))
-    yield "files with exceptions and without", None if status == 0 and "failed" not in said else f"status {status}: {said}"
+    wrong = None if status == 0 and "failed" not in said else f"status {status}: {said}"
+    yield "files with exceptions and without", wrong
     raising = compiled(folder, native.LIBRARY / "povundiri_raise.cpp", "-fno-exceptions")
     status, said = said_by(installed.program(native.PROGRAMS / "mixed.cpp", plain, raising), "aborts")
     wanted = (-6, "povundiri: recorder, lease 1048576: EmptyHandle\n")

@@ -1,16 +1,19 @@
 #!/usr/bin/env python3
-"""Makes the end of docs/DEFINITIONS.md, which lists the crates that have definitions, and of the comments in specs/ a page of
-docs/definitions for each of them. The pages are not kept in git.
+"""Makes the end of docs/DEFINITIONS.md, which lists the crates that have definitions, and of the comments in specs/ a
+page of docs/definitions for each of them. The pages are not kept in git.
 
     tests/support/definitions.py [--write]
 
 With --write it writes the files. Without, it says where docs/DEFINITIONS.md differs, and the status is 1 if it does.
 """
 
+from __future__ import annotations
+
 import pathlib
 import re
 import sys
 import textwrap
+from collections.abc import Collection, Iterable, Iterator, Sequence
 
 sys.path.insert(0, str(pathlib.Path(__file__).resolve().parents[1]))
 from support import made
@@ -24,30 +27,34 @@ MOST_SIGNS = 110
 MADE_FROM = "These crates have a page, in the order of `ARCHITECTURE.md`:\n\n"
 
 # The head of a definition that others may name.
-PUBLIC = re.compile(r"^(?:(?:abbrev|unfoldable|plain|opaque) )*pub (?:(?:abbrev|unfoldable|plain|opaque|record|data) )*([^\W\d][\w']*)")
+PUBLIC = re.compile(
+    r"^(?:(?:abbrev|unfoldable|plain|opaque) )*pub (?:(?:abbrev|unfoldable|plain|opaque|record|data) )*([^\W\d][\w']*)"
+)
 # What names definitions: in antt and in contracts.
-IMPORT = re.compile(r"^(pub |ghost |pub ghost )?use (?:Rattle\.)?(?:(\w+)\.)?specs\.([\w.]+)\.\{([^}]*)\}", re.MULTILINE)
+IMPORT = re.compile(
+    r"^(pub |ghost |pub ghost )?use (?:Rattle\.)?(?:(\w+)\.)?specs\.([\w.]+)\.\{([^}]*)\}", re.MULTILINE
+)
 
 
-def crates():
+def crates() -> list[str]:
     """The crates that have definitions, in the order of docs/ARCHITECTURE.md, and then those that it does not have."""
     listed = re.findall(r"^\| `(\w+)` \|", (ROOT / "docs" / "ARCHITECTURE.md").read_text(), re.MULTILINE)
     every = sorted(folder.parent.name for folder in (ROOT / "crates").glob("*/specs"))
     return sorted(every, key=lambda name: (listed.index(name) if name in listed else len(listed), name))
 
 
-def names_in(text, with_public):
-    """Which definitions a file brings in to name them, and those for others where that is wanted: the crate, or None for its own, the
-    module and the name."""
+def names_in(text: str, with_public: bool) -> Iterator[tuple[str | None, str, str]]:
+    """Which definitions a file brings in to name them, and those for others where that is wanted: the crate, or None
+    for its own, the module and the name."""
     for kind, crate, module, names in IMPORT.findall(text):
         if with_public or not kind.startswith("pub"):
             for name in names.split(","):
                 yield crate or None, module, name.split(" as ")[0].strip()
 
 
-def named():
+def named() -> set[tuple[str, str, str]]:
     """The definitions that a contract names, or a definition of another crate: crate, module and name."""
-    found = set()
+    found: set[tuple[str, str, str]] = set()
     for folder in (ROOT / "crates").iterdir():
         for file in [*folder.glob("src/**/*.rt"), *folder.glob("specs/**/*.antt")]:
             prelude = file.name == "Prelude.antt"  # the words that the contracts of a folder name
@@ -57,7 +64,7 @@ def named():
     return found
 
 
-def comment_above(lines, place):
+def comment_above(lines: Sequence[str], place: int) -> str:
     """The comment that ends above a line: one paragraph."""
     start = place
     while start > 0 and lines[start - 1].startswith("--") and not lines[start - 1].startswith("-- --"):
@@ -65,7 +72,7 @@ def comment_above(lines, place):
     return " ".join(line[2:].strip() for line in lines[start:place])
 
 
-def in_short(comment):
+def in_short(comment: str) -> str:
     """The first sentence, or the whole where it is short, without a sign at the end."""
     whole = comment.replace("`", "").strip()
     if len(whole) > MOST_SIGNS:
@@ -73,9 +80,9 @@ def in_short(comment):
     return whole.rstrip(".:;")
 
 
-def definitions(text):
-    """The name and the comment of each definition of a module that others may name. Those without a line between them, and with no
-    comment of their own, share the comment of the first."""
+def definitions(text: str) -> Iterator[tuple[str, str]]:
+    """The name and the comment of each definition of a module that others may name. Those without a line between them,
+    and with no comment of their own, share the comment of the first."""
     lines, shared = text.split("\n"), ""
     for place, line in enumerate(lines):
         found = PUBLIC.match(line)
@@ -86,7 +93,7 @@ def definitions(text):
         yield found[1], shared
 
 
-def grouped(listed):
+def grouped(listed: Iterable[tuple[str, str]]) -> list[tuple[list[str], str]]:
     """Definitions with one comment between them stand in one entry."""
     groups: list[tuple[list[str], str]] = []
     for name, comment in listed:
@@ -97,7 +104,7 @@ def grouped(listed):
     return groups
 
 
-def wrapped(entry):
+def wrapped(entry: str) -> list[str]:
     """The lines of an entry of a list."""
     lines, line = [], "-"
     for word in entry.split():
@@ -108,8 +115,9 @@ def wrapped(entry):
     return [*lines, line]
 
 
-def module_lines(crate, file, used):
-    """The lines of a module, or none where nothing of it is listed. One in a room has the room's name before its own."""
+def module_lines(crate: str, file: pathlib.Path, used: Collection[tuple[str, str, str]]) -> list[str]:
+    """The lines of a module, or none where nothing of it is listed. One in a room has the room's name before its
+    own."""
     text = file.read_text()
     module = ".".join(file.relative_to(ROOT / "crates" / crate / "specs").with_suffix("").parts)
     begin = re.match(r"(?:--.*\n)*", text)
@@ -124,24 +132,26 @@ def module_lines(crate, file, used):
     return lines
 
 
-def pages():
+def pages() -> Iterator[tuple[str, str]]:
     """The page of each crate of which anything is listed, by the name of the crate."""
     used = named()
     for crate in crates():
-        modules = [module_lines(crate, file, used) for file in sorted((ROOT / "crates" / crate / "specs").glob("**/*.antt"))]
+        modules = [
+            module_lines(crate, file, used) for file in sorted((ROOT / "crates" / crate / "specs").glob("**/*.antt"))
+        ]
         if any(modules):
             lines = [f"# The definitions of `{crate}`", *(line for module in modules for line in module)]
             yield crate, "\n".join(lines) + "\n"
 
 
-def index():
+def index() -> made.Documents:
     """The document that says how the pages are made, with the crates that have one at its end, by its path."""
     crates_in_a_row = " ".join(f"`{crate}`" for crate, _ in pages())
     by_hand = DOCUMENT.read_text().partition(MADE_FROM)[0]
     return {DOCUMENT: by_hand + MADE_FROM + "\n".join(textwrap.wrap(crates_in_a_row, WIDTH)) + "\n"}
 
 
-def difference():
+def difference() -> str | None:
     """Where that document differs, or None. To say which crates have a page, all pages are made."""
     return made.difference(index(), "specs/")
 

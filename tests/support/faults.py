@@ -3,7 +3,8 @@
 
     tests/support/faults.py [--write]
 
-With --write it writes the file. Without, it says what differs in the file that is there, and the status is 1 if anything does.
+With --write it writes the file. Without, it says what differs in the file that is there, and the status is 1 if
+anything does.
 """
 
 from __future__ import annotations
@@ -25,15 +26,16 @@ HEAD = """\
 # The faults
 
 What each fault means, and what to do: what `persist_report explain NAME` prints. This page is made from the table in
-`crates/fault_texts/src/table.rt`, the statuses in `crates/persist_report/src/failure.rt`, and the names in `c/povundiri.h`: do not edit
-it, but these, and then run `tests/support/faults.py --write`.
+`crates/fault_texts/src/table.rt`, the statuses in `crates/persist_report/src/failure.rt`, and the names in
+`c/povundiri.h`: do not edit it, but these, and then run `tests/support/faults.py --write`.
 
-The line of a fault is its name. Some have more on it: `Image FAULT`, `Adopt FAULT`, `BadLine NUMBER`, `Refused NUMBER WHY` and `Merge NAME
-WHY`, where WHY is `BadName`, `BadSpec` and what is wrong with the spec, `TooLarge`, `ZeroCount`, `NoUnits`, `Corrupt`, `Full` or
-`OtherSpec`, as in `Refused 2 BadSpec TooFew`. NUMBER is that of a record of the script. `stepped` writes `World NUMBER FAULT`.
+The line of a fault is its name. Some have more on it: `Image FAULT`, `Adopt FAULT`, `BadLine NUMBER`, `Refused NUMBER
+WHY` and `Merge NAME WHY`, where WHY is `BadName`, `BadSpec` and what is wrong with the spec, `TooLarge`, `ZeroCount`,
+`NoUnits`, `Corrupt`, `Full` or `OtherSpec`, as in `Refused 2 BadSpec TooFew`. NUMBER is that of a record of the script.
+`stepped` writes `World NUMBER FAULT`.
 
-'Status' is that of the program. A fault of status 0 is only a line of a report, and one without a status only programs of your own can
-see. 'In C' has the statuses of `povundiri.h`, without `POVUNDIRI_`.
+'Status' is that of the program. A fault of status 0 is only a line of a report, and one without a status only programs
+of your own can see. 'In C' has the statuses of `povundiri.h`, without `POVUNDIRI_`.
 
 | Fault | Status | In C | What it means | What to do |
 |---|---|---|---|---|
@@ -42,7 +44,8 @@ ENTRY = re.compile(r'^    \(\n        "(.*)",\n        "(.*)",\n        "(.*)",\
 BRANCH = re.compile(r"^ +((?:CliFault|Failure)::.*) => (\d),$", re.MULTILINE)
 IN_C = re.compile(r"^    POVUNDIRI_((?:REFUSED|OPEN|ADOPT|SPEC|IMAGE)_(\w+)|NO_MEMORY) = \d+,?(.*)$", re.MULTILINE)
 NEVER = "never returned"
-# What a fault means begins so if it is a line of a report, and has the other one if only a program of one's own can see it.
+# What a fault means begins so if it is a line of a report, and has the other one if only a program of one's own can see
+# it.
 OF_REPORTS = "In a report: "
 OF_PROGRAMS = "Only programs that "
 REFUSED = 3
@@ -55,7 +58,9 @@ def texts() -> list[tuple[str, str, str]]:
 
 def statuses() -> dict[str, str]:
     """The status of each fault that is a line by itself."""
-    return {name: status for names, status in BRANCH.findall(STATUSES.read_text()) for name in re.findall(r"::(\w+)", names)}
+    return {
+        name: status for names, status in BRANCH.findall(STATUSES.read_text()) for name in re.findall(r"::(\w+)", names)
+    }
 
 
 def names_in_c() -> dict[str, list[str]]:

@@ -3,9 +3,11 @@
 `image_of(chance)` gives the bytes of one; the same random numbers give the same bytes.
 """
 
+from __future__ import annotations
+
 import dataclasses
+import random
 import struct
-import typing
 
 from support.layout import (
     BLOCK_COOKIE,
@@ -39,27 +41,27 @@ class Record:
     name: bytes = b""
     n: int = 0
     counts: int = 0
-    named: typing.Optional[int] = None
+    named: int | None = None
 
     @property
-    def first_range(self):
+    def first_range(self) -> int:
         return self.at + 15 + -(-len(self.name) // 8)
 
 
 class Forge(Words):
     """Words of a segment, filled from the front, and the records on its list."""
 
-    def __init__(self, chance):
+    def __init__(self, chance: random.Random) -> None:
         self.chance = chance
         page = chance.choice([64, 64, 64, 96, 128, 256, 4096])
         size = page * (1 if page == 4096 else chance.randint(1, 8))
         flags = chance.choice([0, 0, 0, 0, 1, 2, 3, 4])
         self.version = chance.choice([1, 2])
         super().__init__(size, page, self.version, flags)
-        self.histograms = []
-        self.samples = []
+        self.histograms: list[Record] = []
+        self.samples: list[Record] = []
 
-    def spec(self, kind):
+    def spec(self, kind: int) -> tuple[list[int], list[int]]:
         """The three numbers of a spec, and a custom one's ranges."""
         chance = self.chance
         most_buckets = min(1000, (self.page - 40) // 2)
@@ -78,7 +80,7 @@ class Forge(Words):
             return [ranges[0], ranges[-1], count + 1], ranges
         return [0, 0, 0], []
 
-    def histogram(self):
+    def histogram(self) -> Record | None:
         """A histogram where there is room for it, valid but for a name of 129 bytes or 1,001 buckets now and then."""
         chance = self.chance
         kind = chance.choice([LINEAR, BOOLEAN, CUSTOM, SPARSE])
@@ -98,12 +100,13 @@ class Forge(Words):
         self.histograms.append(record)
         return record
 
-    def single_words(self, bucket, units):
-        """The words that are packed with these units, disabled after that (in version 2: frozen), and before any were packed."""
+    def single_words(self, bucket: int, units: int) -> tuple[int, int, int]:
+        """The words that are packed with these units, disabled after that (in version 2: frozen), and before any were
+        packed."""
         packed = bucket * 2**32 + units
         return (packed, TOP + bucket, NOTHING_PACKED) if self.version == 1 else (packed, TOP + packed, TOP)
 
-    def samples_of(self, record):
+    def samples_of(self, record: Record) -> int:
         """A valid single word, counts and marks of a histogram that is not sparse; gives its units."""
         chance, at, n = self.chance, record.at, record.n
         shared = [other.counts for other in self.histograms if other.counts and other.n == n]
@@ -124,20 +127,22 @@ class Forge(Words):
         if single not in (0, nothing_packed):
             record.named = bucket
             total = counts[bucket] + kept
-            self.store(at + 10, chance.choice([0, 0, total, total // 2, max(total, 65_535) if self.version == 1 else total]))
+            self.store(
+                at + 10, chance.choice([0, 0, total, total // 2, max(total, 65_535) if self.version == 1 else total])
+            )
             if record.counts:
                 self.store(record.counts + 4 + n + bucket, chance.choice([0, 0, 0, 2**64 - 1]))
         self.store(at + 8, record.counts, single)
         return sum(counts) + kept
 
-    def sums(self, record, units):
+    def sums(self, record: Record, units: int) -> None:
         chance = self.chance
         total = chance.choice([0, 1, 77, -5, -MOST_SUM, MOST_SUM, MOST_SUM // 2])
         mark = chance.choice([0, total, total // 2])
         redundant = units if chance.random() < 0.7 else chance.choice([0, 1, 2**64 - 1])
         self.store(record.at + 11, total, mark, redundant)
 
-    def sample(self):
+    def sample(self) -> None:
         """A sample of a sparse histogram, if there is one and room."""
         chance = self.chance
         owners = [record.at for record in self.histograms if record.kind == SPARSE]
@@ -149,37 +154,37 @@ class Forge(Words):
             self.publish(at)
             self.samples.append(Record(at, SPARSE))
 
-    def other(self):
+    def other(self) -> None:
         """A block of a type that readers pass over."""
         at = self.block(5, self.chance.choice([0, 2, 4, 2**64 - 1]))
         if at is not None:
             self.publish(at)
 
 
-def small_block(forge, record):
+def small_block(forge: Forge, record: Record) -> None:
     forge.store(record.at, forge.chance.choice([15, 15, 8, 5]))
 
 
-def shortened_block(forge, record):
+def shortened_block(forge: Forge, record: Record) -> None:
     """The block ends right after the name or the ranges, or one word before."""
     ranges = record.n - 1 if record.kind == CUSTOM else 0
     forge.store(record.at, record.first_range + ranges - record.at - forge.chance.choice([0, 1, 1]))
 
 
-def no_kind(forge, record):
+def no_kind(forge: Forge, record: Record) -> None:
     forge.store(record.at + 4, forge.chance.choice([0, 5, 2**32 + 1, 2**64 - 1]))
 
 
-def another_kind(forge, record):
+def another_kind(forge: Forge, record: Record) -> None:
     forge.store(record.at + 4, forge.chance.choice([LINEAR, BOOLEAN, CUSTOM, SPARSE]))
 
 
-def name_length(forge, record):
+def name_length(forge: Forge, record: Record) -> None:
     size = forge.words[record.at]
     forge.store(record.at + 14, forge.chance.choice([0, 129, 2**64 - 1, 2**32 + 1, min(128, 8 * (size - 15) + 1)]))
 
 
-def name_byte(forge, record):
+def name_byte(forge: Forge, record: Record) -> None:
     byte = forge.chance.choice([0x00, 0x20, 0x7F, 0x80, 0xFF, *b',"!'])
     place = forge.chance.choice([0, len(record.name) - 1, forge.chance.randrange(len(record.name))])
     at = record.at + 15 + place // 8
@@ -187,11 +192,11 @@ def name_byte(forge, record):
     forge.store(at, kept | byte << 8 * (place % 8))
 
 
-def name_start(forge, record):
+def name_start(forge: Forge, record: Record) -> None:
     forge.store(record.at + 15, forge.words[record.at + 15] & ~0xFF | ord("!"))
 
 
-def spec_number(forge, record):
+def spec_number(forge: Forge, record: Record) -> None:
     chance = forge.chance
     place = chance.choice([5, 6, 7])
     word = forge.words[record.at + place]
@@ -199,7 +204,7 @@ def spec_number(forge, record):
     forge.store(record.at + place, chance.choice(edges))
 
 
-def linear_numbers(forge, record):
+def linear_numbers(forge: Forge, record: Record) -> None:
     """The numbers of a linear spec at a limit, or one past it."""
     most = GREATEST - 1
     lawful = [(1, most, 5), (5, 6, 3), (1, 4, 5), (1, 2, 3), (1, most, 1000)]
@@ -208,20 +213,20 @@ def linear_numbers(forge, record):
         forge.store(record.at + 5, *forge.chance.choice(forge.chance.choice([lawful, wrong, wrong])))
 
 
-def spec_past_page(forge, record):
+def spec_past_page(forge: Forge, record: Record) -> None:
     buckets = (forge.page - 4) // 2 + forge.chance.choice([0, 1, 1, 1])
     if record.kind == LINEAR:
         forge.store(record.at + 5, 1, GREATEST - 1, buckets)
 
 
-def custom_count(forge, record):
+def custom_count(forge: Forge, record: Record) -> None:
     if record.kind == CUSTOM:
         size = forge.words[record.at]
         most = record.at + size - record.first_range + 1
         forge.store(record.at + 7, forge.chance.choice([0, 1, 1001, 2**64 - 1, record.n + 1, record.n - 1, most + 1]))
 
 
-def custom_range(forge, record):
+def custom_range(forge: Forge, record: Record) -> None:
     """A range at the one before it, or at a limit; the record's minimum and maximum mostly follow it."""
     chance = forge.chance
     if record.kind == CUSTOM:
@@ -236,34 +241,36 @@ def custom_range(forge, record):
             forge.store(record.at + 6, *[word] * (place == last))
 
 
-def counts_reference(forge, record):
+def counts_reference(forge: Forge, record: Record) -> None:
     records = [other.at for other in forge.histograms]
     edges = [0, 12, 13, 15, 16, forge.free - 5, forge.free - 4, forge.free, 2**64 - 3, record.counts + 1, *records]
     forge.store(record.at + 8, forge.chance.choice(edges))
 
 
-def counts_size(forge, record):
+def counts_size(forge: Forge, record: Record) -> None:
     if record.counts:
         needed = 4 + 2 * record.n
         rest = forge.free - record.counts
         room = forge.page - record.counts % forge.page
-        forge.store(record.counts, forge.chance.choice([needed - 1, needed - 1, needed, 4, 0, rest, rest + 1, room, room + 1]))
+        forge.store(
+            record.counts, forge.chance.choice([needed - 1, needed - 1, needed, 4, 0, rest, rest + 1, room, room + 1])
+        )
 
 
-def counts_header(forge, record):
+def counts_header(forge: Forge, record: Record) -> None:
     if record.counts:
         place, word = forge.chance.choice([(1, 0), (1, 2**64 - 1), (2, 0), (2, 1), (2, 3)])
         forge.store(record.counts + place, word)
 
 
-def count(forge, record):
+def count(forge: Forge, record: Record) -> None:
     chance = forge.chance
     if record.counts:
         bucket = chance.choice([0, record.n - 1, chance.randrange(record.n)])
         forge.store(record.counts + 4 + bucket, chance.choice([MOST_UNITS, MOST_UNITS + 1, 2**64 - 1]))
 
 
-def count_and_packed(forge, record):
+def count_and_packed(forge: Forge, record: Record) -> None:
     """The sum of the two is at the limit, or one above it; in version 2 the word may be frozen."""
     chance = forge.chance
     if record.counts:
@@ -273,12 +280,12 @@ def count_and_packed(forge, record):
         forge.store(record.counts + 4 + bucket, MOST_UNITS - units + chance.choice([0, 1, 1]))
 
 
-def sparse_words(forge, record):
+def sparse_words(forge: Forge, record: Record) -> None:
     if record.kind == SPARSE:
         forge.store(record.at + forge.chance.choice([8, 9, 10]), forge.chance.choice([1, 16, 2**32 + 1]))
 
 
-def single_word(forge, record):
+def single_word(forge: Forge, record: Record) -> None:
     """Words of either version, in an image of any."""
     chance, n = forge.chance, record.n
     last = max(0, n - 1)
@@ -289,16 +296,16 @@ def single_word(forge, record):
     forge.store(record.at + 9, chance.choice(chance.choice([packed_past, disabled_past, frozen_past, forms])))
 
 
-def single_without_counts(forge, record):
+def single_without_counts(forge: Forge, record: Record) -> None:
     if record.kind != SPARSE:
         forge.store(record.at + 8, 0, TOP + forge.chance.choice([0, record.n - 1, 65_535, 2**32 + 1]))
 
 
-def single_mark(forge, record):
+def single_mark(forge: Forge, record: Record) -> None:
     forge.store(record.at + 10, forge.chance.choice([1, 65_535, 65_536, 2**32, 2**64 - 1]))
 
 
-def single_mark_at_total(forge, record):
+def single_mark_at_total(forge: Forge, record: Record) -> None:
     """A mark at the packed bucket's total, or one above it."""
     if record.counts and record.named is not None:
         total = forge.chance.choice([65_534, 65_535, 65_536, MOST_UNITS])
@@ -308,25 +315,25 @@ def single_mark_at_total(forge, record):
         forge.store(record.at + 10, total + forge.chance.choice([0, 1, 1]))
 
 
-def other_mark(forge, record):
+def other_mark(forge: Forge, record: Record) -> None:
     if record.counts:
         bucket = forge.chance.randrange(record.n)
         total = forge.words[record.counts + 4 + bucket]
         forge.store(record.counts + 4 + record.n + bucket, total + forge.chance.choice([0, 1, 2**63]))
 
 
-def sum_limit(forge, record):
+def sum_limit(forge: Forge, record: Record) -> None:
     forge.store(record.at + 11 + forge.chance.choice([0, 1]), forge.chance.choice([-1, 1]) * (MOST_SUM + 1))
 
 
-def sum_difference(forge, record):
+def sum_difference(forge: Forge, record: Record) -> None:
     """The difference is at its limit, or one beyond it."""
     side = forge.chance.choice([-1, 1])
     near = forge.chance.choice([0, MOST_SUM // 2, MOST_SUM])
     forge.store(record.at + 11, side * near, side * (near - MOST_SUM - forge.chance.choice([0, 1, 1])))
 
 
-def name_of_another(forge, record):
+def name_of_another(forge: Forge, record: Record) -> None:
     """The name of an earlier record of the same kind of name words."""
     same = [other for other in forge.histograms if len(other.name) == len(record.name)]
     chosen = forge.chance.choice(same)
@@ -388,7 +395,7 @@ IN_ORDER = [
 ]
 
 
-def neighbouring_faults(forge, record):
+def neighbouring_faults(forge: Forge, record: Record) -> None:
     """A fault of one check and one of the next, of which the first has to be told."""
     chance = forge.chance
     first = chance.randrange(len(IN_ORDER) - 1)
@@ -396,7 +403,7 @@ def neighbouring_faults(forge, record):
         chance.choice(faults)(forge, record)
 
 
-def sample_fault(forge, record):
+def sample_fault(forge: Forge, record: Record) -> None:
     chance = forge.chance
     at = record.at
     owners = [other.at for other in forge.histograms] + [at, 0, 16, 2**64 - 1]
@@ -411,15 +418,19 @@ def sample_fault(forge, record):
     forge.store(at + place, chance.choice(faults[place]))
 
 
-def near(forge):
+def near(forge: Forge) -> int:
     """A value that stands near some limit."""
-    edges = [0, 1, 2, 3, 5, 12, 15, 16, 64, 128, 1000, 65_535, 65_536, 2**31 - 1, 2**31, MOST_UNITS, 2**32, TOP, 2**64 - 1]
-    edges += [forge.free, len(forge.words), forge.page, BLOCK_COOKIE, NOTHING_PACKED, 2**32 + 1, 2**33 + 65_536, MOST_SUM]
+    edges = [
+        0, 1, 2, 3, 5, 12, 15, 16, 64, 128, 1000, 65_535, 65_536, 2**31 - 1, 2**31, MOST_UNITS, 2**32, TOP, 2**64 - 1,
+    ]
+    edges += [
+        forge.free, len(forge.words), forge.page, BLOCK_COOKIE, NOTHING_PACKED, 2**32 + 1, 2**33 + 65_536, MOST_SUM,
+    ]
     edges += [record.at for record in forge.histograms]
     return forge.chance.choice(edges) + forge.chance.choice([-5, -4, -1, 0, 0, 0, 1, 2])
 
 
-def overwrite(forge):
+def overwrite(forge: Forge) -> None:
     """Stores anything anywhere, mostly into a record."""
     chance = forge.chance
     if forge.histograms and chance.random() < 0.7:
@@ -429,14 +440,16 @@ def overwrite(forge):
     forge.store(at, near(forge))
 
 
-def break_list(forge):
+def break_list(forge: Forge) -> None:
     """A next that leads elsewhere, or the header of a block on the list that is no more valid."""
     chance = forge.chance
     records = [record.at for record in forge.histograms + forge.samples]
     at = chance.choice(records)
     room = forge.page - at % forge.page
     ways = {
-        3: [at, chance.choice(records), 0, 13, 15, 2**64 - 4, forge.free - 5, forge.free - 4, forge.free, at + 1, QUEUE],
+        3: [
+            at, chance.choice(records), 0, 13, 15, 2**64 - 4, forge.free - 5, forge.free - 4, forge.free, at + 1, QUEUE,
+        ],
         1: [0, 2**64 - 1, BLOCK_COOKIE + 1],
         0: [0, 4, forge.free - at, forge.free - at + 1, room, room + 1, room + 1],
     }
@@ -444,7 +457,7 @@ def break_list(forge):
     forge.store(at + place, chance.choice(ways[place]))
 
 
-def break_header(forge):
+def break_header(forge: Forge) -> None:
     """Something else in one word of the header."""
     chance = forge.chance
     size, page = len(forge.words), forge.page
@@ -465,7 +478,7 @@ def break_header(forge):
     forge.store(place, chance.choice(edges[place]))
 
 
-def resize(data, chance):
+def resize(data: bytes, chance: random.Random) -> bytes:
     """The image in another length."""
     ways = [
         data[: chance.randrange(len(data))],
@@ -478,7 +491,7 @@ def resize(data, chance):
     return chance.choice(ways)
 
 
-def image_of(chance):
+def image_of(chance: random.Random) -> bytes:
     """The bytes of a forged image."""
     forge = Forge(chance)
     for _ in range(chance.randint(0, 20)):

@@ -3,9 +3,11 @@
 
     tests/support/layers.py
 
-It prints each crate with its depth: 1 for one that stands on no other crate of the workspace, and one more for each on the longest way
-down. Where a crate that reads stands on the machine it says by which way, and the status is 1.
+It prints each crate with its depth: 1 for one that stands on no other crate of the workspace, and one more for each on
+the longest way down. Where a crate that reads stands on the machine it says by which way, and the status is 1.
 """
+
+from __future__ import annotations
 
 import functools
 import pathlib
@@ -16,19 +18,25 @@ from support.made import ROOT
 
 LIST = ROOT / "crates.txt"
 # What a change of the machine must not prove again: nothing of it says what actors do.
-READING = ["image_reader", "reading_texts", "reading_shows", "persist_report_core", "segment_search", "fault_texts", "schedule"]
+READING = [
+    "image_reader", "reading_texts", "reading_shows", "persist_report_core", "segment_search", "fault_texts",
+    "schedule",
+]
 MACHINE = ["segment_machine", "segment_invariant", "segment_promises"]
 
+# The crates of a list, each with those of the list that it stands on.
+Needs = dict[str, list[str]]
 
-def parsed(text):
-    """The crates of a list, each with those of the list that it stands on."""
+
+def parsed(text: str) -> Needs:
+    """What a list says of crates."""
     lines = [line.split("#")[0] for line in text.splitlines()]
     pairs = [line.split(":", 1) for line in lines if line.strip()]
     needs = {head.split()[0]: rest.split() for head, rest in pairs}
     return {name: [need for need in found if need in needs] for name, found in needs.items()}
 
 
-def way(needs, crate, below):
+def way(needs: Needs, crate: str, below: str) -> list[str] | None:
     """The crates from one down to another, or None where it does not stand on that."""
     if crate == below:
         return [crate]
@@ -36,16 +44,16 @@ def way(needs, crate, below):
     return next(([crate, *rest] for rest in down if rest), None)
 
 
-def depths(needs):
+def depths(needs: Needs) -> dict[str, int]:
     """How deep each crate stands."""
     @functools.cache
-    def depth(crate):
+    def depth(crate: str) -> int:
         return 1 + max(map(depth, needs[crate]), default=0)
 
     return {crate: depth(crate) for crate in needs}
 
 
-def difference(text=None):
+def difference(text: str | None = None) -> str | None:
     """Which crates that read stand on the machine, each with the way down, or are not there; or None."""
     needs = parsed(LIST.read_text() if text is None else text)
     came = [f"{LIST.name} has no crate {crate}" for crate in READING + MACHINE if crate not in needs]
@@ -54,9 +62,9 @@ def difference(text=None):
     return "\n".join(came) or None
 
 
-def let_through():
-    """The lists that have to be refused and are not, or None: of each crate that reads, where it stands on the machine itself or by a
-    crate below it; and where the list lacks one."""
+def let_through() -> str | None:
+    """The lists that have to be refused and are not, or None: of each crate that reads, where it stands on the machine
+    itself or by a crate below it; and where the list lacks one."""
     text = LIST.read_text()
     wrong = [f"{text}between: {below}\n".replace(f"\n{crate}: ", f"\n{crate}: {by} ")
              for crate in READING for below in MACHINE for by in (below, "between")]
@@ -65,7 +73,7 @@ def let_through():
     return f"{len(came)} of {len(wrong)} wrong lists are let through" if came else None
 
 
-def main():
+def main() -> int:
     deep = depths(parsed(LIST.read_text()))
     for crate in sorted(deep, key=lambda crate: (deep[crate], crate)):
         print(deep[crate], crate)

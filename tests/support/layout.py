@@ -81,7 +81,8 @@ class Words:
 
 
 def image_of(size: int, version: int, listed: Collection[Listed], others: Iterable[Listed] = ()) -> bytes:
-    """The bytes of a full image whose list has these blocks, each its reference, size, type and payload, and which has others."""
+    """The bytes of a full image whose list has these blocks, each its reference, size, type and payload, and which has
+    others."""
     image = Words(size, PAGE, version)
     for at, words, tag, payload in [*listed, *others]:
         image.store(at, words, BLOCK_COOKIE, tag, 0, *payload)

@@ -1,5 +1,8 @@
 """The links of the documents lead to files of the repository."""
 
+from __future__ import annotations
+
+import pathlib
 import re
 
 from support import definitions
@@ -8,12 +11,14 @@ from support.made import ROOT
 LINK = re.compile(r"\]\(([^)#\s]+)[^)]*\)")
 
 
-def documents():
-    places = ("*.md", "docs/**/*.md", "crates/*/*.md", "c/**/*.md", "bench/**/*.md", "examples/**/*.md", "tests/**/*.md")
+def documents() -> list[pathlib.Path]:
+    places = (
+        "*.md", "docs/**/*.md", "crates/*/*.md", "c/**/*.md", "bench/**/*.md", "examples/**/*.md", "tests/**/*.md",
+    )
     return sorted(file for place in places for file in ROOT.glob(place) if definitions.PAGES not in file.parents)
 
 
-def broken():
+def broken() -> str | None:
     """The links that lead to no file that is there, or to one that is made and not kept; or None."""
     found = []
     for file in documents():

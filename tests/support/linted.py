@@ -1,7 +1,9 @@
-"""What ruff and mypy find in the Python of tests/ and bench/, by the settings of pyproject.toml; what is not installed is said."""
+"""What ruff, flake8 and mypy find in the Python of tests/ and bench/, by the settings of pyproject.toml, and the lines
+that are longer than these allow. A tool that is not installed is left out, and a line says so."""
 
 from __future__ import annotations
 
+import re
 import shutil
 import subprocess
 from collections.abc import Iterator
@@ -9,20 +11,45 @@ from collections.abc import Iterator
 from support.made import ROOT
 from support.program import Case
 
+SETTINGS = (ROOT / "pyproject.toml").read_text()
+LIMIT = int(re.findall(r"^line-length = (\d+)$", SETTINGS, re.MULTILINE)[0])
+IGNORED = re.findall(r"\w+", re.findall(r"^ignore = \[(.*)\]$", SETTINGS, re.MULTILINE)[0])
+
 SCRIPTS = [f"bench/{name}" for name in ("c_recorders", "commands", "recorders", "run", "steps", "texts")]
-MODULES = ["tests/support", *(f"bench/{path.name}" for path in sorted((ROOT / "bench").glob("*.py")))]
-COMMANDS = {
-    "ruff": ["ruff", "check", "--no-cache", "tests", "tests/run", "tests/quick", "bench", *SCRIPTS],
-    "mypy": ["mypy", "--no-incremental", "--cache-dir", "/dev/null", *MODULES, *SCRIPTS],
-}
+RUN_BY_HAND = ["tests/run", "tests/quick", *SCRIPTS]
+MODULES = [str(path.relative_to(ROOT)) for path in sorted((ROOT / "bench").glob("*.py"))]
+MYPY = ["mypy", "--no-incremental", "--cache-dir", "/dev/null"]
+COMMANDS = [
+    ["ruff", "check", "--no-cache", "tests", "bench", *RUN_BY_HAND],
+    # E203 refuses the space before a colon in `words[at : at + 8]`.
+    [
+        *("flake8", "--isolated", f"--max-line-length={LIMIT}", f"--extend-ignore={','.join([*IGNORED, 'E203'])}"),
+        *("tests", "bench", *RUN_BY_HAND),
+    ],
+    # Each by itself: there is a script `run` in both.
+    [*MYPY, "tests/support", "tests/parts", "tests/run", "tests/quick"],
+    [*MYPY, *MODULES, *SCRIPTS],
+]
 MOST_SECONDS = 300
 MOST_SHOWN = 3000
 
 
+def long_lines() -> str | None:
+    """The lines that are longer than the limit, or None."""
+    modules = [path for folder in ("tests", "bench") for path in sorted((ROOT / folder).glob("**/*.py"))]
+    found = []
+    for path in [*modules, *(ROOT / name for name in RUN_BY_HAND)]:
+        for number, line in enumerate(path.read_text().splitlines(), 1):
+            if len(line) > LIMIT:
+                found.append(f"{path.relative_to(ROOT)}:{number}: {len(line)} signs, and {LIMIT} is the limit")
+    return "\n".join(found)[:MOST_SHOWN] or None
+
+
 def cases() -> Iterator[Case]:
-    for tool, words in COMMANDS.items():
-        if shutil.which(tool) is None:
-            print(f"left out: {tool} is not installed", flush=True)
+    yield "the limit of lines", long_lines()
+    for words in COMMANDS:
+        if shutil.which(words[0]) is None:
+            print(f"left out: {words[0]} is not installed", flush=True)
             continue
         done = subprocess.run(words, cwd=ROOT, capture_output=True, text=True, timeout=MOST_SECONDS)
-        yield tool, None if done.returncode == 0 else (done.stdout + done.stderr)[-MOST_SHOWN:]
+        yield f"{words[0]} of {words[-1]}", None if done.returncode == 0 else (done.stdout + done.stderr)[-MOST_SHOWN:]

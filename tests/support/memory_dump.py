@@ -6,10 +6,27 @@ import os
 import pathlib
 import signal
 import subprocess
+import sys
 from collections.abc import Iterator
 from typing import Any
 
 Process = subprocess.Popen[Any]
+
+
+NOT_ALLOWED = "no program may read another's memory here"
+
+
+def can_read() -> bool:
+    """Whether the memory of a child may be read here."""
+    with subprocess.Popen([sys.executable, "-c", "import time; time.sleep(60)"]) as running:
+        try:
+            stop(running)
+            write(running, os.devnull)
+            return True
+        except (OSError, ValueError):
+            return False
+        finally:
+            running.kill()
 
 
 def stop(process: Process) -> None:

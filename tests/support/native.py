@@ -1,4 +1,5 @@
-"""C and C++ programs: the library as `make -C c` builds it, installed for one run, and what is compiled against it by pkg-config."""
+"""C and C++ programs: the library as `make -C c` builds it, installed for one run, and what is compiled against it by
+pkg-config."""
 
 from __future__ import annotations
 
@@ -8,7 +9,7 @@ import shlex
 import shutil
 import subprocess
 import tempfile
-from collections.abc import Callable, Iterable, Iterator
+from collections.abc import Callable, Iterable, Iterator, Mapping
 from typing import Any
 
 from support.program import ROOT, Case, Path, Word
@@ -51,7 +52,8 @@ def compiler(suffix: str) -> list[str]:
 
 
 def groups(said: str) -> Iterator[Case]:
-    """The name of each group of checks that a program tells of, and what failed in it or None. What it leaves out is printed."""
+    """The name of each group of checks that a program tells of, and what failed in it or None. What it leaves out is
+    printed."""
     failed: list[str] = []
     for line in said.splitlines():
         name, _, how = line.rpartition(": ")
@@ -64,6 +66,19 @@ def groups(said: str) -> Iterator[Case]:
             failed = []
         else:
             failed.append(line)
+
+
+def checks_of(title: str, words: Iterable[Path], setting: Mapping[str, str]) -> Iterator[Case]:
+    """The cases of a program that checks something: each group of its checks, and its end, before which one was run."""
+    try:
+        done = subprocess.run([*words], capture_output=True, text=True, timeout=MOST_SECONDS, env=setting)
+    except subprocess.TimeoutExpired as why:
+        yield title, str(why)
+        return
+    checked = [*groups(done.stdout)]
+    yield from ((f"{title}, {group}", wrong) for group, wrong in checked)
+    wrong = None if done.returncode == 0 else f"status {done.returncode}: {done.stderr[-1500:]}"
+    yield f"{title}, its end", wrong or (None if checked else "no group of checks was run")
 
 
 class Installed:
@@ -83,26 +98,41 @@ class Installed:
         return shlex.split(run(["pkg-config", what, "povundiri"], env={**os.environ, "PKG_CONFIG_PATH": path}))
 
     def sanitized(self, suffix: str) -> list[pathlib.Path]:
-        """What is in `c/` for a program in this language, compiled under the sanitizers: it is linked in place of the library's own."""
+        """What is in `c/` for a program in this language, compiled under the sanitizers: it is linked in place of the
+        library's own."""
         kept = [".c"] if suffix == ".c" else [*COMPILERS]
         for source in sorted(path for path in LIBRARY.iterdir() if path.suffix in kept):
             if source not in self.objects:
                 self.objects[source] = self.folder / f"{source.stem}_sanitized.o"
-                run([*compiler(source.suffix), *STRICT, *SANITIZED, *self.words("--cflags"), "-c", "-o", self.objects[source], source])
+                run(
+                    [
+                        *compiler(source.suffix), *STRICT, *SANITIZED, *self.words("--cflags"), "-c", "-o",
+                        self.objects[source], source,
+                    ]
+                )
         return [built for source, built in self.objects.items() if source.suffix in kept]
 
     def program(self, source: pathlib.Path, *flags: Word) -> pathlib.Path:
         """A program, compiled and linked; `flags` are more words for the compiler."""
-        built = self.folder / f"{source.stem}{source.suffix.replace('.', '_')}{'_sanitized' if SANITIZED[0] in flags else ''}"
+        built = (
+            self.folder
+            / f"{source.stem}{source.suffix.replace('.', '_')}{'_sanitized' if SANITIZED[0] in flags else ''}"
+        )
         objects = self.sanitized(source.suffix) if SANITIZED[0] in flags else []
-        run([*compiler(source.suffix), *STRICT, *flags, *self.words("--cflags"), "-o", built, source, *objects, *self.words("--libs")])
+        run(
+            [
+                *compiler(source.suffix), *STRICT, *flags, *self.words("--cflags"), "-o", built, source, *objects,
+                *self.words("--libs"),
+            ]
+        )
         return built
 
     def with_file_layer(
         self, source: pathlib.Path, compiler_words: Iterable[str], flags: Iterable[str], replaced: Iterable[str] = ()
     ) -> pathlib.Path:
-        """A program of `tests/c` with povundiri_file.c compiled for it: by these words and flags, and with the calls to the system that are
-        in `replaced` going to the program's own `test_` functions. The proved part is that of the library."""
+        """A program of `tests/c` with povundiri_file.c compiled for it: by these words and flags, and with the calls to
+        the system that are in `replaced` going to the program's own `test_` functions. The proved part is that of the
+        library."""
         built = self.folder / f"{source.stem}_with_file_layer"
         words = [*compiler_words, *STRICT, *flags, *self.words("--cflags")]
         parts: list[pathlib.Path] = []
@@ -114,7 +144,8 @@ class Installed:
 
 
 def cases_of(source: str, test: Callable[[pathlib.Path, pathlib.Path], Iterable[Case]]) -> Iterator[Case]:
-    """The cases of a test that is given a program of `tests/c` and a folder to work in; or that there is no such program, and why."""
+    """The cases of a test that is given a program of `tests/c` and a folder to work in; or that there is no such
+    program, and why."""
     with tempfile.TemporaryDirectory() as scratch:
         folder = pathlib.Path(scratch)
         try:

@@ -17,7 +17,8 @@ FOREIGN_STYLE = re.compile(r"url\(|@import|@font-face", re.IGNORECASE)
 
 
 class Reader(html.parser.HTMLParser):
-    """Gathers the lines of a page: of each title, paragraph, row and footer; and the links, the places and the widths of bars."""
+    """Gathers the lines of a page: of each title, paragraph, row and footer; and the links, the places and the widths
+    of bars."""
 
     LINES = {"h2", "p", "tr", "footer"}
 
@@ -88,7 +89,8 @@ class Reader(html.parser.HTMLParser):
 
 @dataclasses.dataclass
 class Page:
-    """What a page says: its lines, the names and places that its table of contents leads to, its places, and the widths of its bars."""
+    """What a page says: its lines, the names and places that its table of contents leads to, its places, and the widths
+    of its bars."""
 
     lines: list[list[str]]
     links: list[tuple[str | None, ...]]
@@ -115,4 +117,7 @@ def read(data: bytes) -> tuple[Page | None, str | None]:
         reader.fail(f"<{reader.open[-1]}> is left open")
     if not text.startswith("<!DOCTYPE html>\n"):
         reader.fail("it does not begin as HTML")
-    return Page(words_of(reader.lines), [tuple(link) for link in reader.links], reader.places, reader.widths), reader.wrong
+    return (
+        Page(words_of(reader.lines), [tuple(link) for link in reader.links], reader.places, reader.widths),
+        reader.wrong,
+    )

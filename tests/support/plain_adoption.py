@@ -1,6 +1,7 @@
 """Why an image may not be adopted, and what it has used: a plain slow reckoning, written apart from the program.
 
-It follows the text of the format one sentence at a time. It reads by the plain reader, and shares nothing with the program.
+It follows the text of the format one sentence at a time. It reads by the plain reader, and shares nothing with the
+program.
 """
 
 from __future__ import annotations
@@ -27,11 +28,12 @@ MOST_CURSORS = 8
 
 # What makes an image damaged, in no order: any of these does.
 LISTED = """
-a list that stops; a bad record; two records overlap; a record and counts overlap; counts overlap; a word behind the free pointer
-too little room behind the free pointer; a tail that is not on the list; a later sample with a count; a later sample with a mark
-a name that is not padded; counts that are not in use; marks that are not in use; a mark of the packed bucket on its counts
-""".replace("\n", ";")
-DAMAGES = [damage.strip() for damage in LISTED.split(";") if damage.strip()]
+a list that stops; a bad record; two records overlap; a record and counts overlap; counts overlap
+a word behind the free pointer; too little room behind the free pointer; a tail that is not on the list
+a later sample with a count; a later sample with a mark; a name that is not padded
+counts that are not in use; marks that are not in use; a mark of the packed bucket on its counts
+"""
+DAMAGES = [damage.strip() for damage in LISTED.replace("\n", ";").split(";") if damage.strip()]
 
 
 class Read:

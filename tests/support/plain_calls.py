@@ -1,44 +1,60 @@
-"""The calls of the stepped world in plain Python, an event at a time, to know which events are exchanges and what those want.
+"""The calls of the stepped world in plain Python, an event at a time, to know which events are exchanges and what those
+want.
 
-It is written after docs/FORMAT.md and shares nothing with the program. A call is a generator of what its events do. It is sent what each
-event found. The events of a delta or a snapshot are not told here: no event of theirs is an exchange.
+It is written after docs/FORMAT.md and shares nothing with the program. A call is a generator of what its events do. It
+is sent what each event found. The events of a delta or a snapshot are not told here: no event of theirs is an exchange.
 """
+
+from __future__ import annotations
+
+from collections.abc import Generator, Iterable, Mapping, Sequence
+from typing import Any, Optional
 
 from support.layout import BLOCK_COOKIE as CLAIMED
 from support.layout import BLOCK_HEADER as HEADER
-from support.layout import COOKIE, CORRUPT, FLAGS, FREE, FULL, HISTOGRAM, NEXT, QUEUE, SAMPLE, SIZE, TAIL, TOP, TYPE, WASTED, WORD
+from support.layout import (
+    COOKIE, CORRUPT, FLAGS, FREE, FULL, HISTOGRAM, NEXT, QUEUE, SAMPLE, SIZE, TAIL, TOP, TYPE, WASTED, WORD,
+)
 from support.layout import COUNTS as OF_COUNTS
-from support.plain_tally import Histogram, boundaries_of
+from support.plain_tally import Histogram, Spec, boundaries_of
+from support.seeded_schedules import Schedule
 
 COUNTS, SINGLE, SUM, REDUNDANT, LENGTH, NAME = 8, 9, 11, 13, 14, 15
 KINDS = {"linear": 1, "boolean": 2, "custom": 3, "sparse": 4}
 
+# An event: its kind, its word, what an exchange wants, and the operand. A call, which is sent what each event found.
+Event = tuple[str, int, Optional[int], Optional[int]]
+Call = Generator[Event, int, None]
+# A histogram that an actor knows: its reference and its spec.
+Known = tuple[int, Spec]
 
-def load(at):
+
+def load(at: int) -> Event:
     return "load", at, None, None
 
 
-def store(at, value):
+def store(at: int, value: int) -> Event:
     return "store", at, None, value
 
 
-def exchange(at, wanted, new):
+def exchange(at: int, wanted: int, new: int) -> Event:
     return "exchange", at, wanted, new
 
 
-def add(at, amount):
+def add(at: int, amount: int) -> Event:
     return "add", at, None, amount
 
 
-def made_of(event, found):
+def made_of(event: Event, found: int) -> int:
     """What an event makes of the word that it found."""
     kind, _, wanted, value = event
+    new = value or 0
     if kind == "exchange":
-        return value if found == wanted else found
-    return {"load": found, "store": value, "add": (found + (value or 0)) % WORD, "set": found | (value or 0)}[kind]
+        return new if found == wanted else found
+    return {"load": found, "store": new, "add": (found + new) % WORD, "set": found | new}[kind]
 
 
-def allocate(world, payload, tag):
+def allocate(world: Schedule, payload: int, tag: int) -> Generator[Event, int, int | None]:
     """Claims a block, and gives its reference, or None if it is refused."""
     size = payload + HEADER
     while True:
@@ -60,7 +76,7 @@ def allocate(world, payload, tag):
             return free
 
 
-def publish(reference):
+def publish(reference: int) -> Generator[Event, int, None]:
     yield store(reference + NEXT, QUEUE)
     while True:
         tail = yield load(TAIL)
@@ -70,7 +86,7 @@ def publish(reference):
             return
 
 
-def make(world, payload, tag):
+def make(world: Schedule, payload: Sequence[int], tag: int) -> Generator[Event, int, int | None]:
     """Makes a record, and gives its reference, or None if it is refused."""
     reference = yield from allocate(world, len(payload), tag)
     if reference is not None:
@@ -81,21 +97,22 @@ def make(world, payload, tag):
     return reference
 
 
-def letters_of(name):
+def letters_of(name: str) -> list[int]:
     data = name.encode("latin-1")
     return [int.from_bytes(data[at : at + 8], "little") for at in range(0, len(data), 8)]
 
 
-def spec_words(spec):
+def spec_words(spec: Spec) -> tuple[list[int], list[int]]:
     """The kind, the least value, the greatest, the number of buckets, and the ranges of a custom histogram."""
     kind, *numbers = spec
     buckets = max(len(boundaries_of(spec)) - 1, 0)
-    low, high = {"linear": numbers[:2], "boolean": [1, 2], "sparse": [0, 0]}.get(kind) or [min(n for n in numbers if n), max(numbers)]
+    ends = {"linear": numbers[:2], "boolean": [1, 2], "sparse": [0, 0]}.get(kind)
+    low, high = ends or [min(n for n in numbers if n), max(numbers)]
     ranges = boundaries_of(spec)[1:-1] if kind == "custom" else []
     return [KINDS[kind], low, high, buckets], ranges
 
 
-def hist(world, name, spec):
+def hist(world: Schedule, name: str, spec: Spec) -> Generator[Event, int, None]:
     (numbers, ranges), letters = spec_words(spec), letters_of(name)
     payload = numbers + [0] * 6 + [len(name)] + letters + ranges
     named = [(TYPE, HISTOGRAM), (LENGTH, len(name)), *((NAME + at, word) for at, word in enumerate(letters))]
@@ -114,7 +131,7 @@ def hist(world, name, spec):
             return
 
 
-def are(block, words):
+def are(block: int, words: Iterable[tuple[int, int]]) -> Generator[Event, int, bool]:
     """Loads words of a block up to the first that is another."""
     for place, word in words:
         if (yield load(block + place)) != word:
@@ -122,7 +139,7 @@ def are(block, words):
     return True
 
 
-def sample(world, histogram, value):
+def sample(world: Schedule, histogram: int, value: int) -> Generator[Event, int, int | None]:
     """The first sample of a value, or None if it is refused."""
     at, word = histogram, value % WORD
     while True:
@@ -139,7 +156,7 @@ def sample(world, histogram, value):
             return at
 
 
-def packed(word, bucket, count):
+def packed(word: int, bucket: int, count: int) -> int | None:
     """The word with so many units of a bucket more, or None."""
     if word == 0 and count <= 65_535:
         return bucket * 2**32 + count
@@ -148,7 +165,7 @@ def packed(word, bucket, count):
     return None
 
 
-def mount(world, histogram, buckets):
+def mount(world: Schedule, histogram: int, buckets: int) -> Generator[Event, int, int | None]:
     """The reference of the counts of a histogram, or None if they are refused."""
     counts = yield load(histogram + COUNTS)
     if counts:
@@ -162,7 +179,7 @@ def mount(world, histogram, buckets):
     return counts or mine
 
 
-def disable(world, histogram, counts):
+def disable(world: Schedule, histogram: int, counts: int) -> Generator[Event, int, None]:
     while True:
         word = yield load(histogram + SINGLE)
         if word >= TOP:
@@ -174,8 +191,11 @@ def disable(world, histogram, counts):
             return
 
 
-def count_bucket(world, histogram, buckets, bucket, count):
+def count_bucket(
+    world: Schedule, histogram: int, buckets: int, bucket: int, count: int
+) -> Generator[Event, int, bool]:
     """Counts units of a bucket. Whether they are counted."""
+    counts: int | None
     while True:
         word = yield load(histogram + SINGLE)
         if word >= TOP:
@@ -194,7 +214,7 @@ def count_bucket(world, histogram, buckets, bucket, count):
     return True
 
 
-def count(world, known, value, units):
+def count(world: Schedule, known: Known, value: int, units: int) -> Generator[Event, int, bool]:
     """Counts units of a value. Whether they are counted."""
     reference, spec = known
     if spec[0] == "sparse":
@@ -207,7 +227,7 @@ def count(world, known, value, units):
     return (yield from count_bucket(world, reference, buckets, bucket, units))
 
 
-def batch(world, known, items, amount, note_last):
+def batch(world: Schedule, known: Known, items: Iterable[tuple[int, int]], amount: int, note_last: bool) -> Call:
     """Counts items, each with what it adds to the sum if that is reported, and then an amount."""
     for value, units in items:
         if not (yield from count(world, known, value, units)):
@@ -219,25 +239,25 @@ def batch(world, known, items, amount, note_last):
         yield add(known[0] + SUM, amount % WORD)
 
 
-def call(world, known, record):
+def call(world: Schedule, known: Mapping[str, Known], record: Sequence[str]) -> Call | None:
     """The events of the call of a record, whose actor knows these histograms, or None if they are not told."""
     kind, _, *rest = record
     if kind == "hist":
         return hist(world, rest[0], spec_of(rest[1:]))
     if kind in ("add", "batch"):
-        name, *numbers = rest[0], *map(int, rest[1:])
+        name, numbers = rest[0], [int(field) for field in rest[1:]]
         if kind == "batch":
             return batch(world, known[name], list(zip(numbers[1::2], numbers[2::2])), numbers[0], False)
         amount = Histogram.of(known[name][1]).clamped(numbers[0]) * numbers[1]
-        return batch(world, known[name], [tuple(numbers)], amount, True)
+        return batch(world, known[name], [(numbers[0], numbers[1])], amount, True)
     return None
 
 
-def spec_of(fields):
+def spec_of(fields: Sequence[str]) -> Spec:
     return fields[0], *map(int, fields[1:])
 
 
-def has_ended(events, found):
+def has_ended(events: Call, found: Any) -> bool:
     """Whether no event comes after one that found this."""
     try:
         events.send(found)
@@ -249,18 +269,20 @@ def has_ended(events, found):
 class Calls:
     """The calls that run in a world, beside its lines."""
 
-    def __init__(self, world, records):
+    def __init__(self, world: Schedule, records: Sequence[Sequence[str]]) -> None:
         self.world, self.records = world, records
-        self.known = {}
-        self.running = {}
-        self.number = {}
+        self.known: dict[int, dict[str, Known]] = {}
+        # By actor, its call and what the last event found, None before the first.
+        self.running: dict[int, tuple[Call | None, Any]] = {}
+        self.number: dict[int, int] = {}
 
-    def begin(self, number, actor):
+    def begin(self, number: int, actor: int) -> None:
         self.number[actor] = number
         self.running[actor] = call(self.world, self.known.get(actor, {}), self.records[number - 1]), None
 
-    def step(self, actor, words, change):
-        """What an actor's call does by its next event, or None if it is not told. The event changed this, and is to have changed no more."""
+    def step(self, actor: int, words: Sequence[int], change: list[int]) -> Event | None:
+        """What an actor's call does by its next event, or None if it is not told. The event changed this, and is to
+        have changed no more."""
         events, found = self.running[actor]
         if events is None:
             return None
@@ -271,7 +293,7 @@ class Calls:
         self.running[actor] = events, found
         return event
 
-    def answer(self, number, actor, said):
+    def answer(self, number: int, actor: int, said: Sequence[str]) -> None:
         record = self.records[number - 1]
         if actor in self.running:
             record = self.records[self.number[actor] - 1]

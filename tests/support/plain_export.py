@@ -1,6 +1,7 @@
 """A plain renderer of what `export` has to write, over the plain reader of images; it shares nothing with the program.
 
-It gives the samples first, and then their text, so that a parser of the format can be asked whether it reads the same ones.
+It gives the samples first, and then their text, so that a parser of the format can be asked whether it reads the same
+ones.
 """
 
 from __future__ import annotations
@@ -37,7 +38,8 @@ def histogram_samples(name: str, histogram: dict[str, Any]) -> Iterator[Sample]:
 
 
 def families_of(data: bytes) -> Families:
-    """The samples of each family, each a name without the prefix, labels and a whole number; raises the image's fault."""
+    """The samples of each family, each a name without the prefix, labels and a whole number; raises the image's
+    fault."""
     by_name, bad_records, stopped, flags = plain_reader.reading_of(data, collections.Counter())
     families: Families = {family: [] for family in FAMILIES}
     for name in sorted(by_name):

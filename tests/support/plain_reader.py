@@ -33,7 +33,8 @@ BadFree; BadQueue
 a list that ends; Loop; stopped, BadRef below the first block; stopped, BadRef past the free pointer
 stopped, BadBlock of another cookie; stopped, BadBlock too small; stopped, BadBlock past the free pointer
 stopped, BadBlock in two pages
-linear; boolean; custom; sparse; a type that is passed over; a later record of a name; a lawful record after a faulty one
+linear; boolean; custom; sparse; a type that is passed over
+a later record of a name; a lawful record after a faulty one
 BadKind of a small block; BadKind of no kind
 BadName by its length; BadName past the block; BadName by a byte; BadName by its first byte
 BadSpec of a linear; BadSpec of a boolean; BadSpec of a custom's number of buckets; BadSpec past the block
@@ -44,8 +45,10 @@ BadCounts, BadBlock too small; BadCounts, BadBlock past the free pointer; BadCou
 BadCounts of another type; BadCounts of a block too small for them; BadCounts of a count; BadCounts with packed units
 BadCounts with frozen units; BadCounts of a sparse
 BadSingle of a packed word of no form; BadSingle of a packed word of no bucket
-BadSingle of a disabled word of no form; BadSingle of a disabled word of no bucket; BadSingle of a disabled word without counts
-BadSingle of a frozen word of no form; BadSingle of a frozen word of no bucket; BadSingle of a frozen word without counts
+BadSingle of a disabled word of no form; BadSingle of a disabled word of no bucket
+BadSingle of a disabled word without counts
+BadSingle of a frozen word of no form; BadSingle of a frozen word of no bucket
+BadSingle of a frozen word without counts
 BadMark where nothing was packed; BadMark of the packed bucket in version 1; BadMark of the packed bucket in version 2
 BadMark of another bucket
 BadSum of the sum; BadSum of the mark; BadSum of the difference
@@ -232,7 +235,10 @@ def totals_of(words: Words, at: int, n: int) -> list[int]:
     if kept is not None:
         bucket, units = kept
         totals[bucket] += units
-        require(totals[bucket] <= MOST_UNITS, "BadCounts", "with packed units" if words[at + 9] < TOP else "with frozen units")
+        require(
+            totals[bucket] <= MOST_UNITS, "BadCounts",
+            "with packed units" if words[at + 9] < TOP else "with frozen units",
+        )
     return totals
 
 
@@ -411,8 +417,8 @@ def lawful_name(words: Words, at: int) -> list[bytes]:
 def reading_of(
     data: bytes, seen: Seen
 ) -> tuple[dict[bytes, ReadHistogram], list[tuple[int, str]], str | None, int]:
-    """What an image reads as: its histograms by their names, its bad records, why its list stops or None, and its word of
-    flags; raises its fault if there is none."""
+    """What an image reads as: its histograms by their names, its bad records, why its list stops or None, and its word
+    of flags; raises its fault if there is none."""
     words = words_of(data, seen)
     check_header(words, seen)
     references, stopped = walk(words, seen)

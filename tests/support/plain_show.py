@@ -56,7 +56,8 @@ def quantile_of(rows: Iterable[Row], total: int, hundredths: int, is_sparse: boo
 
 
 def left_out_of(rows: Iterable[Row], is_sparse: bool, shows_all: bool) -> set[int]:
-    """The values of a sparse histogram that have no line: those after the 20 with the most units, the lower first among equals."""
+    """The values of a sparse histogram that have no line: those after the 20 with the most units, the lower first among
+    equals."""
     if shows_all or not is_sparse:
         return set()
     return {low for low, _, _ in sorted(rows, key=lambda row: (-row[2], row[0]))[MOST_VALUES:]}
@@ -103,7 +104,11 @@ def histogram_text(
 
 def shown_of(by_name: Iterable[bytes], names: Collection[str], part: str | None) -> list[bytes]:
     """The names of the histograms that are shown, in their order."""
-    return [name for name in sorted(by_name) if (not names or name.decode() in names) and (part is None or part in name.decode())]
+    return [
+        name
+        for name in sorted(by_name)
+        if (not names or name.decode() in names) and (part is None or part in name.decode())
+    ]
 
 
 def bars_of(

@@ -1,12 +1,16 @@
-"""A plain picture of a schedule, made of its records and of the lines that its replay has to write, to compare `stepped --show` with.
+"""A plain picture of a schedule, made of its records and of the lines that its replay has to write, to compare `stepped
+--show` with.
 
 It is written after docs/STEPPED.md, "The picture of a replayed schedule", and shares nothing with the program.
 """
 
+from __future__ import annotations
+
 import csv
+from collections.abc import Sequence
 
 from support.layout import COUNTS, HISTOGRAM, SAMPLE
-from support.plain_calls import Calls
+from support.plain_calls import Calls, Event
 from support.plain_reader import signed
 from support.seeded_schedules import Schedule
 
@@ -14,12 +18,15 @@ COLUMN = 32
 HEADER = {6: "flags", 7: "free", 8: "tail", 15: "queue.next"}
 COMMON = ["size", "cookie", "type", "next"]
 FIELDS = {
-    HISTOGRAM: [*COMMON, "kind", "min", "max", "buckets", "counts", "single", "single_mark", "sum", "sum_mark", "redundant", "name_length"],
+    HISTOGRAM: [
+        *COMMON, "kind", "min", "max", "buckets", "counts", "single", "single_mark", "sum", "sum_mark", "redundant",
+        "name_length",
+    ],
     SAMPLE: [*COMMON, "histogram", "value", "count", "mark"],
 }
 
 
-def blocks_of(words):
+def blocks_of(words: Sequence[int]) -> list[int]:
     """Where the blocks begin: words without a size are passed one by one."""
     at, blocks = 16, []
     while at < len(words):
@@ -29,20 +36,20 @@ def blocks_of(words):
     return blocks
 
 
-def name_at(words, block):
+def name_at(words: Sequence[int], block: int) -> str:
     length = min(words[block + 14], 128)
     data = b"".join(word.to_bytes(8, "little") for word in words[block + 15 : block + 31])
     return data[:length].decode("latin-1")
 
 
-def in_counts(words, histogram, block, place):
+def in_counts(words: Sequence[int], histogram: int, block: int, place: int) -> str:
     """The name of a word after the header of a block of counts."""
     buckets, index = words[histogram + 7], place - len(COMMON)
     part = f"count[{index}]" if index < buckets else f"mark[{index - buckets}]"
     return f"{name_at(words, histogram)}.{part}"
 
 
-def meaning(words, at):
+def meaning(words: Sequence[int], at: int) -> str:
     """What a word means, as the words stand."""
     blocks = blocks_of(words)
     block = next((block for block in blocks if block <= at < block + words[block]), None)
@@ -64,14 +71,14 @@ def meaning(words, at):
     return f"{owner}.{fields[place] if place < len(fields) else other}"
 
 
-def asked(record):
+def asked(record: Sequence[str]) -> str:
     """What the record of a call asks for."""
     kind, _, *rest = record
     shown = {"add": 3, "set_corrupt": 0}.get(kind, 1)
     return " ".join([kind, *rest[:shown]])
 
 
-def effect(words, event, change):
+def effect(words: list[int], event: Event | None, change: Sequence[int]) -> str:
     """What an event did, which changed this of the words: they stand as they did before."""
     if change:
         at, old, new = change
@@ -82,20 +89,22 @@ def effect(words, event, change):
     return "-"
 
 
-def row(number, actor, cell):
+def row(number: int | str, actor: int, cell: str) -> str:
     return f"{number}\t{' ' * (COLUMN * actor)}{cell}\n"
 
 
-def picture(schedule, lines, most=None):
+def picture(schedule: str, lines: str, most: int | None = None) -> str:
     """The picture of a schedule, whose replay writes these lines, up to so many events."""
     records = list(csv.reader(schedule.splitlines()))
     size, page, segment_id, actors, version = map(int, records[0][1:])
     world = Schedule(size, page, segment_id, actors, version)
     words, calls = world.words(), Calls(world, records)
-    rows, events, running = [], 0, set()
+    rows: list[str] = []
+    running: set[int] = set()
+    events = 0
     for line in lines.splitlines():
-        number, actor, what, *rest = line.split(",")
-        actor, record = int(actor), records[int(number) - 1]
+        number, who, what, *rest = line.split(",")
+        actor, record = int(who), records[int(number) - 1]
         if what != "answer" or actor not in running:
             if most is not None and events == most:
                 break

@@ -15,6 +15,7 @@ ROOT = pathlib.Path(__file__).resolve().parents[2]
 EXAMPLE = ROOT / "examples" / "three_samples.img"
 SCRIPT = ROOT / "examples" / "three_samples.csv"
 MOST_SECONDS = 60
+UNTRIED = "what can't be tried here"
 
 Path = Union[str, pathlib.Path]
 # A word of a command line.
@@ -46,7 +47,12 @@ def explained(text: str, status: int, lines: Iterable[str]) -> Answer:
     """The answer that tells a fault and then these lines, and then what it means and what to do."""
     meant = {name: (meaning, remedy) for name, meaning, remedy in faults.texts()}
     name = next(word for word in reversed(text.split()) if word in meant)
-    return Answer(error="".join(f"{line}\n" for line in (f"persist_report: {text}", *(f"  {more}" for more in (*lines, *meant[name])))).encode(), status=status)
+    return Answer(
+        error="".join(
+            f"{line}\n" for line in (f"persist_report: {text}", *(f"  {more}" for more in (*lines, *meant[name])))
+        ).encode(),
+        status=status,
+    )
 
 
 def answer(program: Path, words: Iterable[Word], data: bytes = b"", **settings: Any) -> Answer:
@@ -63,7 +69,7 @@ def answer(program: Path, words: Iterable[Word], data: bytes = b"", **settings: 
 def untried(why: str, options: argparse.Namespace) -> Case:
     """The case of what can't be tried on this machine: it fails, unless the options allow that."""
     print(f"NOT TRIED: {why}", flush=True)
-    return "what can't be tried here", None if options.allow_untried else f"{why}; --allow-untried leaves it out"
+    return UNTRIED, None if options.allow_untried else f"{why}; --allow-untried leaves it out"
 
 
 def content(path: pathlib.Path) -> bytes | None:

@@ -3,12 +3,13 @@
 
     tests/support/proved.py [--write]
 
-A doc comment names the clauses of its function in brackets, each behind a sentence that it carries: 'Returns the bucket of the value
-[bucket].' A clause that stands alone needs no name, and then the whole comment is its sentence. A clause without a bracket is refused,
-and so is a bracket without a clause, and a clause that names a definition without a comment.
+A doc comment names the clauses of its function in brackets, each behind a sentence that it carries: 'Returns the bucket
+of the value [bucket].' A clause that stands alone needs no name, and then the whole comment is its sentence. A clause
+without a bracket is refused, and so is a bracket without a clause, and a clause that names a definition without a
+comment.
 
-With --write it writes the pages. Without, it says what differs in the pages that are there, and what was refused; the status is 1 where
-anything was.
+With --write it writes the pages. Without, it says what differs in the pages that are there, and what was refused; the
+status is 1 where anything was.
 """
 
 from __future__ import annotations
@@ -17,6 +18,7 @@ import itertools
 import pathlib
 import re
 import sys
+from collections.abc import Callable, Iterable, Iterator, Sequence
 from typing import NamedTuple
 
 sys.path.insert(0, str(pathlib.Path(__file__).resolve().parents[1]))
@@ -40,6 +42,10 @@ LINK = re.compile(r"\[(`[^`]*`)\](?:\([^)]*\))?")
 CODE = re.compile(r"`[^`]*`")
 NAME = re.compile(r"[^\W\d][\w']*")
 
+# A definition: the crate, the module and the name there; and which one each name is.
+Definition = tuple[str, str, str]
+Names = dict[str, Definition]
+
 
 class Clause(NamedTuple):
     kind: str
@@ -52,14 +58,14 @@ class Function(NamedTuple):
     signature: str
     comment: list[str]
     clauses: list[Clause]
-    # Which definition each name of its clauses is: the crate, the module and the name there.
-    names: dict[str, tuple[str, str, str]]
+    # Those of its clauses.
+    names: Names
 
-    def promises(self):
+    def promises(self) -> list[Clause]:
         return [clause for clause in self.clauses if clause.kind == "ensures"]
 
 
-def imported(lines):
+def imported(lines: Iterable[str]) -> Names:
     """What names mean by the `ghost use` lines among these: the crate, the module and the name there."""
     found = {}
     for _, crate, module, names in definitions.IMPORT.findall("\n".join(line.strip() for line in lines)):
@@ -69,7 +75,7 @@ def imported(lines):
     return found
 
 
-def clauses_from(lines, place):
+def clauses_from(lines: Sequence[str], place: int) -> tuple[list[Clause], int]:
     """The clauses that stand from a line on, and the line behind them."""
     found = []
     while (match := CLAUSE.match(lines[place])) is not None:
@@ -82,7 +88,7 @@ def clauses_from(lines, place):
     return found, place
 
 
-def comment_above(lines, place):
+def comment_above(lines: Sequence[str], place: int) -> list[str]:
     """The doc comment that ends above a line; attributes and comments may come between."""
     while place > 0 and lines[place - 1].strip().startswith(("#[", "// ")):
         place -= 1
@@ -92,17 +98,22 @@ def comment_above(lines, place):
     return [line.strip()[3:].removeprefix(" ") for line in lines[start:place]]
 
 
-def head_from(lines, place):
-    """The head of the function that begins on a line, on one line and without its type parameters, and the line behind it."""
+def head_from(lines: Sequence[str], place: int) -> tuple[str, int]:
+    """The head of the function that begins on a line, on one line and without its type parameters, and the line behind
+    it."""
     head = lines[place].strip()
-    while not re.search(r"[{;]$|\{\}$", head) and CLAUSE.match(lines[place + 1]) is None and lines[place + 1].strip() not in ("{", "{}"):
+    while (
+        not re.search(r"[{;]$|\{\}$", head)
+        and CLAUSE.match(lines[place + 1]) is None
+        and lines[place + 1].strip() not in ("{", "{}")
+    ):
         place += 1
         head += " " + lines[place].strip()
     head = re.sub(r"^(?:pub |const |unsafe |extern \"C\" )*fn (\w+)(?:<.*?>)?\(", r"\1(", head.rstrip("{; "))
     return head.replace("( ", "(").replace(", )", ")").replace(",)", ")"), place + 1
 
 
-def functions(text):
+def functions(text: str) -> Iterator[Function]:
     """The public functions of a file that have clauses; those of a trait, or of its `impl`, are public too."""
     lines = text.split("\n")
     whole = imported(line for line in lines if line.startswith("ghost use"))
@@ -125,12 +136,12 @@ def functions(text):
             yield Function(name, signature, comment_above(lines, place), clauses, whole | inside)
 
 
-def bracketed(comment):
+def bracketed(comment: Iterable[str]) -> list[str]:
     """The clauses that a comment names, each as often as it does."""
     return [name for names in BRACKET.findall(CODE.sub("", " ".join(comment))) for name in names.split(", ")]
 
 
-def faults(function, said):
+def faults(function: Function, said: Callable[[Definition], str | None]) -> Iterator[str]:
     """What is wrong between the comment of a function and its clauses, by what is said of a definition."""
     named, promised = bracketed(function.comment), [clause.name for clause in function.promises()]
     if not any(function.comment):
@@ -148,21 +159,21 @@ def faults(function, said):
             yield f"{function.name}: the definition {name} has no comment"
 
 
-def sources(crate):
+def sources(crate: str) -> list[pathlib.Path]:
     return sorted((ROOT / "crates" / crate / "src").glob("**/*.rt"))
 
 
-def promising(crate):
+def promising(crate: str) -> bool:
     """Whether the crate has a public function that has clauses."""
     return any(True for file in sources(crate) for _ in functions(file.read_text()))
 
 
-def done():
+def done() -> list[str]:
     """The crates that have a page, in the order of docs/ARCHITECTURE.md."""
     return [crate for crate in definitions.crates() if crate not in PROGRAMS_OF_TESTS and promising(crate)]
 
 
-def refused():
+def refused() -> Iterator[str]:
     """What is wrong in the doc comments of the crates that have a page, or of docs/PROVED.md, which leads to each."""
     index = INDEX.read_text()
     for crate in done():
@@ -173,7 +184,7 @@ def refused():
             yield f"docs/PROVED.md does not lead to proved/{crate}.md"
 
 
-def said_of(definition):
+def said_of(definition: Definition) -> str | None:
     """The first sentence of the comment of a definition, '' where it has none, or None where it is of no crate here."""
     crate, module, name = definition
     file = ROOT / "crates" / crate / "specs" / f"{module.replace('.', '/')}.antt"
@@ -189,8 +200,9 @@ def said_of(definition):
     return None
 
 
-def clause_entry(clause, function, told):
-    """A clause as it stands, where it is short, and what the definitions that it names say, where they were not told yet."""
+def clause_entry(clause: Clause, function: Function, told: dict[str, str]) -> str:
+    """A clause as it stands, where it is short, and what the definitions that it names say, where they were not told
+    yet."""
     cited = {}
     for name in dict.fromkeys(NAME.findall(clause.text)):
         if name in function.names and (said := said_of(function.names[name])) is not None:
@@ -209,7 +221,7 @@ def clause_entry(clause, function, told):
     return (f"{head.strip()}: " if head else "") + ". ".join(parts) + ("." if len(parts) > 1 or not stands else "")
 
 
-def wrapped(text, first="", later=""):
+def wrapped(text: str, first: str = "", later: str = "") -> list[str]:
     """The lines of a paragraph; a name in signs of code is not parted."""
     lines: list[str] = []
     line = first
@@ -221,7 +233,7 @@ def wrapped(text, first="", later=""):
     return [*lines, line.rstrip()]
 
 
-def comment_lines(comment):
+def comment_lines(comment: Iterable[str]) -> list[str]:
     """A doc comment as it stands on a page: its paragraphs and its lists."""
     shown = LINK.sub(r"\1", "\n".join(comment))
     shown = BRACKET.sub(lambda names: "[" + ", ".join(f"`{name}`" for name in names[1].split(", ")) + "]", shown)
@@ -235,7 +247,7 @@ def comment_lines(comment):
     return lines
 
 
-def function_lines(function):
+def function_lines(function: Function) -> list[str]:
     told: dict[str, str] = {}
     is_law = re.search(r"\(\)$", function.signature) is not None
     lines = ["", f"### `{function.name}`", ""]
@@ -247,18 +259,18 @@ def function_lines(function):
     return lines
 
 
-def about(text):
+def about(text: str) -> str:
     """What a file says that it is about, in its first paragraph."""
     head = list(itertools.takewhile(lambda line: line.startswith("//! "), text.splitlines()))
     return LINK.sub(r"\1", " ".join(line[3:].strip() for line in head))
 
 
-def root_of(crate):
+def root_of(crate: str) -> pathlib.Path:
     """The root file of a crate, which says what the crate is about."""
     return next(file for file in sources(crate) if file.name in ("lib.rt", "main.rt"))
 
 
-def page(crate):
+def page(crate: str) -> str:
     lines = [f"# What is proved of `{crate}`", "", *wrapped(about(root_of(crate).read_text())), ""]
     lines += ["This page is made by `tests/support/proved.py` of the doc comments; `../PROVED.md` says how to read it."]
     for file in sources(crate):
@@ -271,12 +283,12 @@ def page(crate):
     return "\n".join(lines) + "\n"
 
 
-def documents():
+def documents() -> made.Documents:
     """The pages by their paths."""
     return {PAGES / f"{crate}.md": page(crate) for crate in done()}
 
 
-def difference():
+def difference() -> str | None:
     """What was refused, or where the pages differ from the comments, or a page has no crate; or None."""
     return "\n".join(refused()) or made.difference(documents(), "src/", PAGES)
 
@@ -351,10 +363,12 @@ FOUND_WRONG = [
 ]
 
 
-def self_check():
+def self_check() -> str | None:
     """What is found wrong in a made-up file, if it is not what is wrong there; or None."""
     told = {"clamped": "a number within bounds", "untold": ""}
-    found = [fault for function in functions(MADE_UP) for fault in faults(function, lambda definition: told[definition[2]])]
+    found = [
+        fault for function in functions(MADE_UP) for fault in faults(function, lambda definition: told[definition[2]])
+    ]
     return None if found == FOUND_WRONG else "\n".join(["of a made-up file was found:", *found])
 
 

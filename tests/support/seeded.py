@@ -1,4 +1,5 @@
-"""Lawful scripts that are generated from a seed: all kinds of histograms, in segments with room to spare for up to 16 workers."""
+"""Lawful scripts that are generated from a seed: all kinds of histograms, in segments with room to spare for up to 16
+workers."""
 
 from __future__ import annotations
 
@@ -13,6 +14,7 @@ from typing import Any
 
 from support.plain_reader import GREATEST
 from support.plain_tally import Histogram, Spec
+from support.program import Case
 
 MOST_WORKERS = 16
 MOST_UNITS = 2**32 - 1
@@ -121,12 +123,15 @@ def calls_of(chance: random.Random, histograms: dict[str, Histogram], most: int)
 
 
 def blocks_of(histograms: dict[str, Histogram], calls: list[ScriptCall]) -> Iterator[int]:
-    """The words of the blocks that a segment may need: where workers meet, each makes a block, and one of these is used."""
+    """The words of the blocks that a segment may need: where workers meet, each makes a block, and one of these is
+    used."""
     for name, one in histograms.items():
         own = len(one.boundaries) - 2 if one.kind == "custom" else 0
         yield 16 + -(-len(name) // 8) + own
         if one.kind == "sparse":
-            yield from (8 for _ in range(MOST_WORKERS * len({call[1] for call in calls if call[0] == name and call[1:]})))
+            yield from (
+                8 for _ in range(MOST_WORKERS * len({call[1] for call in calls if call[0] == name and call[1:]}))
+            )
         else:
             yield from (4 + 2 * (len(one.boundaries) - 1) for _ in range(MOST_WORKERS))
 
@@ -172,8 +177,8 @@ def text_of(chance: random.Random, script: Script) -> bytes:
 
 
 def tried(
-    seeds: Collection[int], wrong_of: Callable[[int, pathlib.Path], str | None]
-) -> Iterator[tuple[int, str | None]]:
+    seeds: Collection[str], wrong_of: Callable[[str, pathlib.Path], str | None]
+) -> Iterator[Case]:
     """Each seed with what is wrong with it, or None: tried side by side, in one folder that is gone after the last."""
     with tempfile.TemporaryDirectory() as scratch, concurrent.futures.ThreadPoolExecutor(os.cpu_count()) as pool:
         folder = pathlib.Path(scratch)

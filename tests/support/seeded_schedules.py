@@ -1,18 +1,26 @@
 """Schedules of the stepped world that are generated from a seed, and what the lines of one say of its calls.
 
-A schedule is made a round at a time, in which each actor begins a call or continues by a few events; then it is replayed, to
-know which calls have ended. So no record of it is a fault.
+A schedule is made a round at a time, in which each actor begins a call or continues by a few events; then it is
+replayed, to know which calls have ended. So no record of it is a fault.
 """
 
+from __future__ import annotations
+
 import collections
+import random
+from collections.abc import Callable, Collection, Iterable, Mapping, Sequence
 from typing import Any
 
 from support.plain_reader import GREATEST, SEGMENT_COOKIE, TOP
-from support.plain_tally import Histogram
+from support.plain_tally import Histogram, Spec
+from support.program import Answer
 
 LEAST_VALUE = -(2**31)
 SHAPES = [(64, 64), (128, 64), (128, 128), (192, 64), (256, 128), (512, 64)]
-SPECS = [("linear", 1, 10, 5), ("linear", 1, 4, 4), ("boolean",), ("custom", 7), ("custom", 3, 100), ("sparse",), ("sparse",)]
+SPECS: list[Spec] = [
+    ("linear", 1, 10, 5), ("linear", 1, 4, 4), ("boolean",), ("custom", 7), ("custom", 3, 100), ("sparse",),
+    ("sparse",),
+]
 NAMES = ["A", "B", "S", "a-long-name"]
 VALUES = [LEAST_VALUE, -5, -1, 0, 1, 1, 2, 3, 5, 7, 10, 100, GREATEST]
 COUNTS = [0, 1, 1, 1, 1, 2, 3, 65_534, 65_535, 65_536, 2**31]
@@ -21,23 +29,28 @@ TIMES = [1, 1, 1, 2, 3, 5, 10]
 ROUNDS = 24
 COUNTING = ("add", "batch")
 
+# A record of a schedule; a histogram by its name with the key of a count.
+Record = tuple[Any, ...]
+Key = tuple[str, int]
+
 
 class Schedule:
-    """A schedule: the shape, the id and the version of its segment, how many actors there are, and the later records."""
+    """A schedule: the shape, the id and the version of its segment, how many actors there are, and the later
+    records."""
 
-    def __init__(self, size, page, segment_id, actors, version):
+    def __init__(self, size: int, page: int, segment_id: int, actors: int, version: int) -> None:
         self.size = size
         self.page = page
         self.id = segment_id
         self.actors = actors
         self.version = version
-        self.records = []
+        self.records: list[Record] = []
 
-    def text(self):
+    def text(self) -> str:
         first = ("world", self.size, self.page, self.id, self.actors, self.version)
         return "".join(",".join(map(str, record)) + "\n" for record in [first, *self.records])
 
-    def words(self):
+    def words(self) -> list[int]:
         """The words of a new segment."""
         head = [SEGMENT_COOKIE, self.version, self.size, self.page, self.id, 1, 0, 16, 12, 0, 0, 0, 4, 1, 0, 12]
         return head + [0] * (self.size - len(head))
@@ -46,27 +59,28 @@ class Schedule:
 class Running:
     """A call of an actor, and how many of its events have happened."""
 
-    def __init__(self, record):
+    def __init__(self, record: Record) -> None:
         self.record = record
         self.events = 0
 
 
 class Done:
-    """What the lines of a schedule say was done up to an event: the words, and the calls that run and that were accepted.
+    """What the lines of a schedule say was done up to an event: the words, and the calls that run and that were
+    accepted.
 
     `lines` are those up to the answer after the event; with -1 events they are all.
     """
 
-    def __init__(self, schedule, lines, events):
+    def __init__(self, schedule: Schedule, lines: Iterable[bytes], events: int) -> None:
         self.schedule = schedule
         self.words = schedule.words()
-        self.lines = []
-        self.running = {}
+        self.lines: list[bytes] = []
+        self.running: dict[int, Running] = {}
         self.known: dict[int, dict[str, Histogram]] = collections.defaultdict(dict)
-        self.counted: collections.Counter[tuple[str, int]] = collections.Counter()
+        self.counted: collections.Counter[Key] = collections.Counter()
         # By actor, the word that its last event disabled, and what it was before.
-        self.disabled = {}
-        last = None
+        self.disabled: dict[int, tuple[int, int]] = {}
+        last: tuple[str, str, str] | None = None
         for line in lines:
             number, actor, what, *rest = line.decode().rstrip("\n").split(",")
             ends_last = what == "answer" and last == (number, actor, "step")
@@ -77,10 +91,10 @@ class Done:
             self.lines.append(line)
             {"begin": self.begin, "step": self.step, "answer": self.answer}[what](int(number), int(actor), rest)
 
-    def begin(self, number, actor, _):
+    def begin(self, number: int, actor: int, _: list[str]) -> None:
         self.running[actor] = Running(self.schedule.records[number - 2])
 
-    def step(self, _, actor, change):
+    def step(self, _: int, actor: int, change: list[str]) -> None:
         self.running[actor].events += 1
         self.disabled.pop(actor, None)
         if change:
@@ -90,7 +104,7 @@ class Done:
             if old < TOP <= new:
                 self.disabled[actor] = at, old
 
-    def answer(self, number, actor, said):
+    def answer(self, number: int, actor: int, said: list[str]) -> None:
         # A call that needs no event returns at once.
         ended = self.running.pop(actor, None)
         record = ended.record if ended else self.schedule.records[number - 2]
@@ -101,23 +115,23 @@ class Done:
         elif said[0] == "batch_refused":
             self.counted.update(self.entries(actor, record, int(said[1])))
 
-    def entries(self, actor, record, most=None):
+    def entries(self, actor: int, record: Record, most: int | None = None) -> Mapping[Key, int]:
         """The units of each key that a call counts, or of its first items."""
         if record[0] not in COUNTING:
             return {}
         kind, _, name, *rest = record
         numbers = rest if kind == "add" else rest[1:]
         histogram = self.known[actor][name]
-        units: collections.Counter[tuple[str, int]] = collections.Counter()
+        units: collections.Counter[Key] = collections.Counter()
         for value, count in list(zip(numbers[::2], numbers[1::2]))[:most]:
             units[name, histogram.key(value)] += count
         return units
 
-    def ended(self):
+    def ended(self) -> collections.Counter[Key]:
         """The units of each key that calls which ended have counted."""
         return self.counted
 
-    def begun(self):
+    def begun(self) -> collections.Counter[Key]:
         """These, and those of the calls of which an event has happened."""
         units = collections.Counter(self.counted)
         for actor, call in self.running.items():
@@ -126,11 +140,11 @@ class Done:
         return units
 
 
-def item_of(chance):
+def item_of(chance: random.Random) -> tuple[int, int]:
     return chance.choice(VALUES), chance.choice(COUNTS)
 
 
-def call_of(chance, actor, specs, known):
+def call_of(chance: random.Random, actor: int, specs: Mapping[str, Spec], known: Collection[str]) -> Record:
     """The record of a call that an actor begins."""
     if not known or chance.random() < 0.2:
         name = chance.choice(NAMES)
@@ -146,8 +160,11 @@ def call_of(chance, actor, specs, known):
     return kind, actor, name
 
 
-def schedule_of(chance, replay, versions=(1, 2)):
-    """A schedule without a fault of one of some versions, and the answer to it. `replay` gives the answer to the text of one."""
+def schedule_of(
+    chance: random.Random, replay: Callable[[str], Answer], versions: Sequence[int] = (1, 2)
+) -> tuple[Schedule, Answer]:
+    """A schedule without a fault of one of some versions, and the answer to it. `replay` gives the answer to the text
+    of one."""
     size, page = chance.choice(SHAPES)
     schedule = Schedule(size, page, chance.choice([0, 7, 2**64 - 1]), chance.randrange(1, 6), chance.choice(versions))
     specs = {name: chance.choice(SPECS) for name in NAMES}
@@ -158,7 +175,7 @@ def schedule_of(chance, replay, versions=(1, 2)):
         for actor in chance.sample(range(schedule.actors), schedule.actors):
             if actor not in running and not last:
                 corrupts = chance.random() < 0.003
-                call = ("set_corrupt", actor) if corrupts else call_of(chance, actor, specs, known[actor])
+                call: Record = ("set_corrupt", actor) if corrupts else call_of(chance, actor, specs, known[actor])
                 schedule.records.append(call)
             elif actor in running:
                 schedule.records.append(("step", actor, 10**6 if last else chance.choice(TIMES)))

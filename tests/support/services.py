@@ -1,6 +1,8 @@
-"""`examples/cpp/service.cpp`, run against files that a release, a fault or a disk left it. Whatever it finds, it answers requests until it is told
-to end, and says what it could not record.
+"""`examples/cpp/service.cpp`, run against files that a release, a fault or a disk left it. Whatever it finds, it
+answers requests until it is told to end, and says what it could not record.
 """
+
+from __future__ import annotations
 
 import os
 import pathlib
@@ -9,10 +11,11 @@ import signal
 import struct
 import subprocess
 import time
+from collections.abc import Callable, Iterator
 from typing import Any
 
 from support import native
-from support.program import ROOT
+from support.program import ROOT, Answer, Case, Path
 
 SOURCE = ROOT / "examples" / "cpp" / "service.cpp"
 MOST_SECONDS = 120
@@ -21,8 +24,11 @@ ENOUGH = 200
 FREE_AT = 8 * (1 + 7)
 ALL_UNITS = 4_294_967_295
 
+# The report that a program makes of a file.
+ReportIn = Callable[[Path, pathlib.Path], Answer]
 
-def requests_of(report):
+
+def requests_of(report: Answer) -> int:
     """How many requests a report of the service's file tells of."""
     total = re.search(rb"^latency_us,total,(\d+),", report.output, re.MULTILINE)
     return 0 if total is None else int(total[1])
@@ -31,17 +37,19 @@ def requests_of(report):
 class Service:
     """The service, and the files of one run of the tests."""
 
-    def __init__(self, installed, program, folder, report_in):
+    def __init__(
+        self, installed: native.Installed, program: Path, folder: pathlib.Path, report_in: ReportIn
+    ) -> None:
         self.installed = installed
         self.folder = folder / "services"
         self.folder.mkdir()
         self.program = installed.program(SOURCE)
-        self.report_in = lambda file: report_in(program, file)
+        self.report_in: Callable[[pathlib.Path], Answer] = lambda file: report_in(program, file)
 
-    def recorded(self, file):
+    def recorded(self, file: pathlib.Path) -> int:
         return requests_of(self.report_in(file))
 
-    def killed(self, file, before):
+    def killed(self, file: pathlib.Path, before: int) -> str:
         """What it prints until it is killed, once it has recorded more requests than there were before."""
         ends = time.monotonic() + MOST_SECONDS
         with subprocess.Popen([self.program, file], stdout=subprocess.PIPE, text=True) as running:
@@ -52,7 +60,7 @@ class Service:
                 running.kill()
             return running.communicate()[0]
 
-    def ended(self, file, **settings):
+    def ended(self, file: pathlib.Path, **settings: Any) -> tuple[str, str]:
         """What it says to its two streams when it is told to end, once it has answered some hundred requests."""
         streams: dict[str, Any] = {"stdout": subprocess.PIPE, "stderr": subprocess.PIPE, "text": True}
         with subprocess.Popen([self.program, file], **streams, **settings) as running:
@@ -63,13 +71,14 @@ class Service:
             raise native.Failed(f"status {running.returncode}: {said} {errors}")
         return said, errors
 
-    def made(self, name, source):
+    def made(self, name: str, source: str) -> pathlib.Path:
         """A file that a C++ program of these statements left, with `segment` in it."""
         file, program = self.folder / name, self.folder / f"{name}.cpp"
         program.write_text(
             "#include <povundiri.hpp>\n"
             "int main(int, char** words) {\n"
-            "    auto opened = povundiri::Segment::open(words[1], povundiri::shape(65536, 4096, 7), povundiri::Policy::AdoptOrFail);\n"
+            "    auto shape = povundiri::shape(65536, 4096, 7);\n"
+            "    auto opened = povundiri::Segment::open(words[1], shape, povundiri::Policy::AdoptOrFail);\n"
             "    povundiri::Recorder recorder = opened.segment.recorder();\n"
             f"    {source}\n"
             "}\n"
@@ -78,13 +87,14 @@ class Service:
         return file
 
 
-def counts(said):
-    """How many requests were answered and how many of them not recorded, as the service says at its end; None if it does not."""
+def counts(said: str) -> tuple[int, int] | None:
+    """How many requests were answered and how many of them not recorded, as the service says at its end; None if it
+    does not."""
     found = re.search(r"^served: (\d+), not recorded: (\d+)$", said, re.MULTILINE)
     return None if found is None else (int(found[1]), int(found[2]))
 
 
-def is_killed_thrice(service):
+def is_killed_thrice(service: Service) -> str | None:
     """It continues with what the one before had left, and says so."""
     file, before = service.folder / "killed.seg", 0
     for _ in range(3):
@@ -98,7 +108,7 @@ def is_killed_thrice(service):
     return None
 
 
-def ends_well(service):
+def ends_well(service: Service) -> str | None:
     """Told to end, it has recorded all that it answered."""
     file = service.folder / "ends.seg"
     said, errors = service.ended(file)
@@ -107,16 +117,21 @@ def ends_well(service):
     return f"{said} {errors} {service.recorded(file)}" if wrong else None
 
 
-def has_another_spec(service):
+def has_another_spec(service: Service) -> str | None:
     """A release before had other buckets: it answers, and does not record."""
     file = service.made("spec.seg", 'recorder.add_or_throw(recorder.linear("latency_us", 1, 500, 10), 17);')
     said, errors = service.ended(file)
     served, missed = counts(said) or (0, 0)
-    wrong = served < ENOUGH or missed != served or "latency_us is not recorded: OtherSpec" not in errors or service.recorded(file) != 1
+    wrong = (
+        served < ENOUGH
+        or missed != served
+        or "latency_us is not recorded: OtherSpec" not in errors
+        or service.recorded(file) != 1
+    )
     return f"{said} {errors}" if wrong else None
 
 
-def has_few_units(service):
+def has_few_units(service: Service) -> str | None:
     """It records to the last unit, and then answers on."""
     left = 100
     file = service.made("units.seg", f'recorder.add_or_throw(recorder.boolean("other"), 1, {ALL_UNITS - left}u);')
@@ -126,10 +141,11 @@ def has_few_units(service):
     if wrong:
         return f"{said} {errors} {service.recorded(file)}"
     said, errors = service.ended(file)
-    return None if f"{file} is full" in said and counts(said) and counts(said)[0] == counts(said)[1] else f"spent: {said} {errors}"
+    served, missed = counts(said) or (0, -1)
+    return None if f"{file} is full" in said and served == missed else f"spent: {said} {errors}"
 
 
-def is_damaged(service):
+def is_damaged(service: Service) -> str | None:
     """A damaged file is set aside as it is, and a new one is begun."""
     file = service.made("damaged.seg", 'recorder.add_or_throw(recorder.boolean("other"), 1);')
     with open(file, "r+b") as stream:
@@ -139,11 +155,17 @@ def is_damaged(service):
     said, errors = service.ended(file)
     served, missed = counts(said) or (0, 0)
     aside = re.search(r"^set aside as (.*): BadFree$", said, re.MULTILINE)
-    wrong = errors or aside is None or pathlib.Path(aside[1]).read_bytes() != was or missed != 0 or service.recorded(file) != served
+    wrong = (
+        errors
+        or aside is None
+        or pathlib.Path(aside[1]).read_bytes() != was
+        or missed != 0
+        or service.recorded(file) != served
+    )
     return f"{said} {errors}" if wrong or served < ENOUGH else None
 
 
-def has_a_full_disk(service):
+def has_a_full_disk(service: Service) -> str | None:
     """Without room for a file it records into memory."""
     shim = service.folder / "full_disk.so"
     native.run([*native.compiler(".c"), "-shared", "-fPIC", "-o", shim, native.PROGRAMS / "full_disk.c"])
@@ -155,7 +177,8 @@ def has_a_full_disk(service):
         return f"{said} {errors}"
     # With room again, it takes what was left there as new.
     said, errors = service.ended(file)
-    return f"behind the full disk: {said} {errors}" if errors or service.recorded(file) != (counts(said) or (0, 0))[0] else None
+    served, _ = counts(said) or (0, 0)
+    return f"behind the full disk: {said} {errors}" if errors or service.recorded(file) != served else None
 
 
 TESTS = (
@@ -168,7 +191,9 @@ TESTS = (
 )
 
 
-def cases(installed, program, folder, report_in):
+def cases(
+    installed: native.Installed, program: Path, folder: pathlib.Path, report_in: ReportIn
+) -> Iterator[Case]:
     """Each test of the service, and what was wrong in it or None."""
     try:
         service = Service(installed, program, folder, report_in)

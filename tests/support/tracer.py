@@ -1,7 +1,7 @@
 """Runs a program so that chosen calls of it to the system fail, or so that it is killed at one (Linux on x86-64).
 
-The program is traced (ptrace): each call to the system stops it where the call begins and where it ends. A call that is to
-fail is not made, and the program is given an error in its place. Nor is one made at which the program is killed.
+The program is traced (ptrace): each call to the system stops it where the call begins and where it ends. A call that is
+to fail is not made, and the program is given an error in its place. Nor is one made at which the program is killed.
 """
 
 from __future__ import annotations
@@ -61,9 +61,9 @@ class Call(ctypes.Structure):
 @dataclasses.dataclass
 class Fault:
     """Which calls fail: of those with these numbers, on these files and those in these folders alone if any are named,
-    the one at `at`, from 0; and all after it, if it is `lasting`; or those after it up to the thread's next call of another
-    number, if it is one `growth`, for which the C library asks more than once. With `kills` the program is killed there
-    instead. With `most`, each read and write of them moves so many bytes at most instead.
+    the one at `at`, from 0; and all after it, if it is `lasting`; or those after it up to the thread's next call of
+    another number, if it is one `growth`, for which the C library asks more than once. With `kills` the program is
+    killed there instead. With `most`, each read and write of them moves so many bytes at most instead.
     """
 
     numbers: tuple[int, ...]
@@ -137,7 +137,8 @@ def begin(thread: int, call: Call, fault: Fault) -> Registers:
 
 
 def meet(thread: int, fault: Fault, to_set: dict[int, Registers]) -> None:
-    """Meets a thread that stands at a call, where it begins or ends. `to_set` has what is to be set there, by thread."""
+    """Meets a thread that stands at a call, where it begins or ends. `to_set` has what is to be set there, by
+    thread."""
     call = Call()
     ptrace(CALL_INFO, thread, ctypes.sizeof(call), ctypes.addressof(call))
     if call.kind == BEGINS:
@@ -172,7 +173,9 @@ def follow(first: int, fault: Fault) -> int:
         stopped, reason = thread, status >> 8
         if reason == AT_CALL:
             meet(stopped, fault, to_set)
-        signal_given = reason if reason not in (AT_CALL, signal.SIGSTOP) and reason < 0x80 and reason != signal.SIGTRAP else 0
+        signal_given = (
+            reason if reason not in (AT_CALL, signal.SIGSTOP) and reason < 0x80 and reason != signal.SIGTRAP else 0
+        )
 
 
 def answer(program: Path, words: Iterable[Word], fault: Fault, **settings: typing.Any) -> Answer:

@@ -1,4 +1,5 @@
-"""Programs that are run by `rt try`, which builds them without any proof, and how their answers differ from what was wanted."""
+"""Programs that are run by `rt try`, which builds them without any proof, and how their answers differ from what was
+wanted."""
 
 from __future__ import annotations
 
@@ -10,7 +11,8 @@ from collections.abc import Collection, Iterable, Iterator
 
 from support.program import ROOT, Answer, content, difference
 
-# The line of a case: how it ended, its status where it did, and whether it wrote what was wanted. Before it stands what it told.
+# The line of a case: how it ended, its status where it did, and whether it wrote what was wanted. Before it stands what
+# it told.
 LINE = re.compile(rb"(.*?)^case=(\S+) run=(\S+)(?: status=(\S+))?(.*?)$\n", re.MULTILINE | re.DOTALL)
 # What a case wrote that has no file of the output that is wanted.
 SHOWN = re.compile(rb"^== (\S+)$\n", re.MULTILINE)
@@ -21,8 +23,8 @@ MOST_SIGNS = 500
 
 @dataclasses.dataclass
 class Case:
-    """A command line with its standard input, and what has to come: the answer, and the bytes of the files that it writes, None of
-    one that it must not make."""
+    """A command line with its standard input, and what has to come: the answer, and the bytes of the files that it
+    writes, None of one that it must not make."""
 
     name: str
     words: list[str]
@@ -42,7 +44,8 @@ def end_of(came: subprocess.CompletedProcess[bytes]) -> str:
 
 
 def store(cases: Iterable[Case], folder: pathlib.Path) -> None:
-    """Writes a folder of cases as `rt try` reads it: NAME is the standard input, NAME.args the words, NAME.stdout the output.
+    """Writes a folder of cases as `rt try` reads it: NAME is the standard input, NAME.args the words, NAME.stdout the
+    output.
 
     Of a case that tells a fault there is no NAME.stdout, since `rt try` shows what it tells only then.
     """
@@ -77,7 +80,8 @@ def wrong_of(case: Case, line: tuple[bytes, ...] | None, shown: bytes) -> str | 
 
 
 def replay(crate: str, cases: Collection[Case], folder: pathlib.Path) -> Iterator[tuple[str, str | None]]:
-    """Builds the program of a crate once and runs it on each case: the name of each, and what is wrong with it, or None."""
+    """Builds the program of a crate once and runs it on each case: the name of each, and what is wrong with it, or
+    None."""
     store(cases, folder / "cases")
     came = run(crate, ["--cases", str(folder / "cases")])
     lines = {name: (told, *found) for told, name, *found in LINE.findall(came.stderr)}

@@ -1,7 +1,11 @@
 -- What the functions of a recorder's calls rest on, a record for each context.
-use Rattle.std.specs.Prelude.{◌≡◌, ℕ, ◌+◌, ◌≤◌, []}
+use Rattle.std.specs.Prelude.{◌≡◌, false, ℕ, ◌+◌, ◌≤◌, [], length}
+use Rattle.bucket_ranges.specs.declared.spec.Spec.TheVariants.{Sparse}
 use Rattle.segment_calls.specs.declared.asked.Asked.{Asked}
+use Rattle.segment_machine.specs.declared.actor.Known.{Known}
+use Rattle.segment_machine.specs.Actor.{is_bound}
 use Rattle.segment_machine.specs.Calls.{MayTurn}
+use Rattle.segment_promises.specs.Onward.{is_holding}
 use Rattle.live_segment.specs.declared.list.index.KeyKind.{KeyKind}
 use Rattle.live_segment.specs.declared.list.index.KeyKind.TheVariants.{Name, Sample}
 use Rattle.live_segment.specs.declared.list.index.RecordIndex.{RecordIndex}
@@ -13,12 +17,23 @@ use Rattle.live_segment.specs.Known.{KnowsRight}
 use Rattle.live_segment.specs.List.Index.{IsIndexed}
 use Rattle.live_segment.specs.Seated.{IsSeated}
 use Rattle.live_segment.specs.Steps.{IsAtRest, Pass}
+use Rattle.live_segment.specs.Steps.GhostNotes.{KnowsAlone}
 
 -- a recorder's seat where no call goes on, and a histogram that it knows: a call on the histogram may begin
 pub record IsReadyFor (segment : Segment) (histogram : KnownHistogram) (seat : Pass) : Type 0 where
   pub seated : IsSeated segment seat
   pub rests : IsAtRest seat.me.0
   pub right : KnowsRight segment.setting seat.me.0 histogram
+
+-- a recorder's seat whose call looks at the samples of a sparse histogram that it knows
+pub record LooksAtValues (segment : Segment) (known : Known) (seat : Pass) : Type 0 where
+  pub seated : IsSeated segment seat
+  pub alone : KnowsAlone seat.me.0 known
+  pub sparse : known.spec ≡ Sparse
+  pub free : is_bound seat.me.0.hand.place ≡ false
+  pub apart : is_holding seat.me.0.hand.place ≡ false
+  pub singles : seat.me.0.since.singles ≤ length seat.me.0.seen.singles
+  pub counts : seat.me.0.since.counts ≤ length seat.me.0.seen.counts
 
 -- a recorder's seat whose call counts values of a histogram that it knows, and its index of samples
 pub record CountsFor (segment : Segment) (histogram : KnownHistogram) (samples : RecordIndex) (seat : Pass) : Type 0 where

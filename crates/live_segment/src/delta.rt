@@ -9,15 +9,17 @@ use crate::segment::Segment;
 use segment_image::layout::{BLOCK_LEAST, HEADER_WORDS};
 
 impl Segment {
-    ghost use Rattle.std.specs.Prelude.{◌≡◌, ◌⊎◌, ◌+◌, ◌≤◌, [], length, vec_capacity, IfSome, MatchOption};
-    ghost use Rattle.live_segment.specs.Delta.Prelude.{Actor, AreFewKeys, AreMostKeys, AreOwn, HasTaken, HasTakenSum, HasTakenValues, HoldsKeys, IsAtRest, IsSame, IsSeated, known_view, KnowsRight, MayTakeSum, opened_with, Setting, Sparse, Standing};
+    ghost use Rattle.std.specs.Prelude.{◌≡◌, ◌+◌, ◌≤◌, [], length, vec_capacity, IfSome, MatchOption};
+    ghost use Rattle.live_segment.specs.Delta.Prelude.{Actor, AreFewKeys, AreMostKeys, AreOwn, HasTaken, HasTakenSum, HoldsKeys, IsAtRest, IsSame, IsSeated, known_view, KnowsRight, MayTakeSum, NoRepeats, opened_with, SamplesStandBehind, Setting, Sparse, Standing};
 
     // The delta takes what is new of the sum, once it has taken of all buckets or of all samples, and ends.
     fn take_sum(&self, seat: &mut Pass, histogram: &KnownHistogram) -> i64
-        requires may { MayTakeSum self.now (known_view histogram.now) seat.old ⊎ HasTakenValues self.now (known_view histogram.now) seat.old }
+        requires may { MayTakeSum self.now (known_view histogram.now) seat.old }
         requires room { histogram.now.reference + 15 ≤ self.now.setting.shape.size }
         ensures same { IsSame seat.old seat.new }
         ensures taken { HasTakenSum (known_view histogram.now) result seat.old.me.0 seat.new.me.0 }
+        ensures behind { SamplesStandBehind seat.old.me.0 }
+        ensures once { NoRepeats seat.old.me.0.seen.chain }
         ensures stands { Standing (opened_with self.now) seat.new.id seat.new.me.0 }
     {
         let sum = self.load_sum(seat, histogram.reference).cast_signed();
@@ -70,10 +72,8 @@ impl Segment {
         ensures few { AreFewKeys self.now (known_view histogram.now) taken.new.items }
         ensures stands { Standing (opened_with self.now) seat.new.id seat.new.me.0 }
     {
-        if let Some(own) = samples {
-            self.delta_of_listed(seat, histogram, own, taken)
-        } else if histogram.ranges.len() == 0 {
-            self.delta_of_values(seat, histogram, taken)
+        if histogram.ranges.len() == 0 {
+            self.delta_of_samples(seat, histogram, samples, taken)
         } else {
             self.delta_of_buckets(seat, histogram, taken)
         }

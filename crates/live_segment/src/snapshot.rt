@@ -30,7 +30,7 @@ fn snapshot_said(said: Announcement) -> Snapshot
 
 impl Segment {
     ghost use Rattle.std.specs.Prelude.{◌≤◌, length, IfOk, IfSome, MatchOption, ◌+◌, [], false, vec_capacity};
-    ghost use Rattle.live_segment.specs.Snapshot.Prelude.{Actor, answered_as, answers, AreFewKeys, AreOwn, AreUnits, HasSnapshot, is_opener, IsAtRest, IsSame, IsSeated, known_view, KnowsAlone, KnowsRight, load_sum, MayNote, MayStep, NoRepeats, noted, opened_with, OpensWith, SamplesStandBehind, saw_sum, Setting, Sparse, Standing, table_of, taking_event};
+    ghost use Rattle.live_segment.specs.Snapshot.Prelude.{Actor, answered_as, answers, AreFewKeys, AreOwn, AreUnits, HasSeenAll, HasSnapshot, is_opener, IsAtRest, IsSame, IsSeated, known_view, KnowsAlone, KnowsRight, load_sum, MayNote, MayStep, NoRepeats, noted, opened_with, OpensWith, SamplesStandBehind, saw_sum, Setting, Sparse, Standing, table_of, taking_event};
 
     // The sum of a histogram, and its redundant count, which is loaded last. No sample that was met stands before the record of its
     // histogram.
@@ -71,6 +71,33 @@ impl Segment {
         snapshot_said(said)
     }
 
+    // A snapshot that has looked at all buckets, or at all samples, loads the sum and the redundant count, and is answered with what it
+    // listed.
+    fn finish_snapshot(
+        &self,
+        seat: &mut Pass,
+        histogram: &KnownHistogram,
+        counts: Vec<(i32, u64)>,
+    ) -> Snapshot
+        requires table { seat.old.table_id ≡ table_of self.now }
+        requires room { histogram.now.reference + 15 ≤ self.now.setting.shape.size }
+        requires saw { (old : Actor) × IsAtRest old × KnowsAlone old (known_view histogram.now) × HasSeenAll (known_view histogram.now) old counts.items seat.old.me.0 }
+        ensures same { IsSame seat.old seat.new }
+        ensures counts { result.counts ≡ counts }
+        ensures answer { (old : Actor) → KnowsAlone old (known_view histogram.now) → HasSeenAll (known_view histogram.now) old counts.items seat.old.me.0 → HasSnapshot (known_view histogram.now) old result seat.new.me.0 }
+        ensures stands { Standing (opened_with self.now) seat.new.id seat.new.me.0 }
+        ensures behind { SamplesStandBehind seat.old.me.0 }
+        ensures once { NoRepeats seat.old.me.0.seen.chain }
+    {
+        let (sum, redundant) = self.look_at_sum(seat, histogram.reference);
+        let snapshot = Snapshot {
+            counts,
+            sum,
+            redundant,
+        };
+        self.answer_with(seat, histogram, snapshot)
+    }
+
     // The totals with which a snapshot of a histogram begins. Where an index has all samples of a sparse one, there is room for these.
     pub(crate) fn opening_totals(
         &self,
@@ -106,12 +133,10 @@ impl Segment {
         ensures units { histogram.now.spec ≡ Sparse → AreUnits result.counts.items }
         ensures few { AreFewKeys self.now (known_view histogram.now) result.counts.items }
     {
-        if let Some(own) = samples {
-            return self.snapshot_of_listed(seat, histogram, own, totals);
-        }
         if histogram.ranges.len() == 0 {
-            return self.snapshot_of_values(seat, histogram, totals);
+            self.snapshot_of_samples(seat, histogram, samples, totals)
+        } else {
+            self.snapshot_of_buckets(seat, histogram, totals)
         }
-        self.snapshot_of_buckets(seat, histogram, totals)
     }
 }

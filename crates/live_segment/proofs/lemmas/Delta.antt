@@ -5,12 +5,10 @@ pub mod BucketKeys
 pub mod DeltaEnds
 pub mod FewKeys
 pub mod Given
-pub mod ListedDelta
 pub mod OneBucket
 pub mod OneDelta
 pub mod OneSample
 pub mod OneValue
 pub mod Owed
 pub mod SampleCounts
-pub mod ValuesDelta
-pub mod ValuesTaken
+pub mod SamplesDelta

@@ -1,4 +1,6 @@
 -- Records are put on the list, walks along it, and shared cursors.
+pub mod AlongSamples
+pub mod CallBegins
 pub mod Ends
 pub mod FewSamples
 pub mod Filled
@@ -9,10 +11,12 @@ pub mod Keyed
 pub mod OwnSamples
 pub mod Owned
 pub mod Published
+pub mod SampleCalls
 pub mod SamplesBehind
 pub mod SamplesListed
 pub mod Sharing
 pub mod Showing
+pub mod ThroughOwn
 pub mod ValuesListed
 pub mod WalkProgress
 pub mod Walked

@@ -2,8 +2,7 @@
 pub mod Answered
 pub mod Answering
 pub mod BucketsSeen
-pub mod ListedSeen
 pub mod Packed
+pub mod SamplesSeen
 pub mod Seeing
 pub mod Totals
-pub mod ValuesSeen

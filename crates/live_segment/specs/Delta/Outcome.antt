@@ -13,14 +13,17 @@ use Rattle.segment_machine.specs.Actor.{SawCount, SawSingle, has_buckets, is_bou
 use Rattle.segment_machine.specs.Calls.{change_last}
 use Rattle.segment_machine.specs.Form.{is_off, units_in}
 use Rattle.segment_machine.specs.Made.{SawSample}
-use Rattle.segment_machine.specs.Note.{TookAll, TookBucket, TookSample, moment_of}
+use Rattle.segment_machine.specs.Note.{TookAll, TookBucket, TookSample, moment_of, nothing_taken}
 use Rattle.segment_machine.specs.Taking.{Takes}
 pub use Rattle.segment_promises.specs.Calls.{AreUnits}
+use Rattle.segment_promises.specs.Calls.{SamplesStandBehind}
 use Rattle.live_segment.specs.declared.delta.buckets.Mounted.{Mounted}
 use Rattle.live_segment.specs.declared.segment.Segment.{Segment}
 use Rattle.live_segment.specs.Holders.{table_of}
 use Rattle.live_segment.specs.Snapshot.Counts.{StandsAt}
-use Rattle.segment_promises.specs.Onward.{SeesOn, is_holding}
+use Rattle.segment_promises.specs.Onward.{SeesOn}
+use Rattle.segment_promises.specs.Values.{NoRepeats}
+use Rattle.live_segment.specs.Ready.{LooksAtValues}
 use Rattle.live_segment.specs.Rule.{IsOf}
 use Rattle.live_segment.specs.Steps.{Pass}
 use Rattle.live_segment.specs.Steps.GhostNotes.{KnowsAlone}
@@ -87,16 +90,8 @@ pub record TakesAt (segment : Segment) (known : Known) (mounted : Mounted) (seat
 
 -- A recorder's seat takes a delta of a sparse histogram.
 pub record TakesValues (segment : Segment) (known : Known) (seat : Pass) : Type 0 where
-  pub table : seat.table_id ≡ table_of segment
-  pub recorder : is_opener seat.me.0.role ≡ false
-  pub of : IsOf segment.setting seat.me.0
-  pub alone : KnowsAlone seat.me.0 known
-  pub sparse : known.spec ≡ spec.Sparse
+  pub looks : LooksAtValues segment known seat
   pub takes : Takes seat.me.0 known.reference known
-  pub free : is_bound seat.me.0.hand.place ≡ false
-  pub apart : is_holding seat.me.0.hand.place ≡ false
-  pub singles : seat.me.0.since.singles ≤ length seat.me.0.seen.singles
-  pub counts : seat.me.0.since.counts ≤ length seat.me.0.seen.counts
 
 -- it may take of a sample whose count it has loaded
 pub record MayTakeSample (segment : Segment) (known : Known) (value : ℤ) (sample count : ℕ) (seat : Pass) : Type 0 where
@@ -124,15 +119,16 @@ pub record HasTakenBuckets (known : Known) (taken : List (ℤ × ℕ)) (old new 
   pub units : AreUnits taken
   pub few : length taken ≤ buckets_of known.spec
 
--- A delta has taken of the units of a histogram all that its recorder saw, and may take of the sum.
+-- A delta has taken of the units of a histogram all that its recorder saw, and may take of the sum; of samples, where each that was met stands
+-- behind the record of its histogram, and no block twice.
 pub record MayTakeSum (segment : Segment) (known : Known) (seat : Pass) : Type 0 where
   pub table : seat.table_id ≡ table_of segment
   pub recorder : is_opener seat.me.0.role ≡ false
   pub free : is_bound seat.me.0.hand.place ≡ false
   pub takes : Takes seat.me.0 known.reference known
   pub buckets : has_buckets known.spec ≡ true → (bucket : ℕ) → bucket < buckets_of known.spec → TookBucket seat.me.0 known bucket
-  pub samples : known.spec ≡ spec.Sparse → (value : ℤ) (sample : ℕ) → Contains seat.me.0.seen.chain sample
-      → SawSample seat.me.0.seen known.reference value sample → TookSample seat.me.0 sample
+  pub samples : SamplesStandBehind seat.me.0 → NoRepeats seat.me.0.seen.chain → known.spec ≡ spec.Sparse → (value : ℤ) (sample : ℕ)
+      → Contains seat.me.0.seen.chain sample → SawSample seat.me.0.seen known.reference value sample → TookSample seat.me.0 sample
 
 -- a delta took this of the sum
 abbrev pub with_sum : ℤ → Taken → Taken
@@ -145,6 +141,15 @@ pub record HasTakenSum (known : Known) (amount : ℤ) (old new : Actor) : Type 0
     deltas = record old.deltas { taking = false; taken = change_last (with_sum amount) old.deltas.taken };
   }
   pub all : TookAll new known
+
+-- A delta of a histogram has begun and taken these units. Its recorder has seen no less, and all else that it has is as before.
+pub record HasTakenSome (known : Known) (units : List (ℤ × ℕ)) (old new : Actor) : Type 0 where
+  pub view : new ≡ record (looking old) {
+    hand = record old.hand { place = new.hand.place };
+    seen = new.seen;
+    deltas = record old.deltas { taking = true; taken = old.deltas.taken ++ with_units units (nothing_taken old known.name) ∷ [] };
+  }
+  pub seen : SeesOn old.seen new.seen
 
 -- what a delta took, as its recorder keeps it
 abbrev pub taken_as : Actor → Known → List (ℤ × ℕ) → ℤ → Taken

@@ -4,9 +4,10 @@ pub use Rattle.bucket_ranges.specs.declared.spec.Spec.TheVariants.{Sparse}
 pub use Rattle.live_segment.specs.Delta.Outcome.{AreUnits, HasTaken, HasTakenBuckets, HasTakenSample, HasTakenSum, MayTakeSample, MayTakeSum, TakesAt, TakesOn, TakesValues, TakesWord, units_of_key}
 pub use Rattle.live_segment.specs.Holders.{opened_with}
 pub use Rattle.live_segment.specs.Known.{KnowsRight, known_view}
-pub use Rattle.live_segment.specs.List.IndexedValues.{AreOwn, TakesListed}
+pub use Rattle.live_segment.specs.List.IndexedValues.{AreOwn, ListsIndexed, ListsThrough}
 pub use Rattle.live_segment.specs.List.SampleRecords.{SamplesStandBehind}
-pub use Rattle.live_segment.specs.List.Values.{AreFewKeys, AreMostKeys, HasTakenValues, HoldsKeys, TakesAlong, TakesValue}
+pub use Rattle.live_segment.specs.List.Values.{AreFewKeys, AreMostKeys, HoldsKeys, ListsAlong, TakesValue}
+pub use Rattle.live_segment.specs.List.Values.SampleCall.{OfDelta}
 pub use Rattle.live_segment.specs.Ready.{IsReadyFor}
 pub use Rattle.live_segment.specs.Seated.{IsSeated}
 pub use Rattle.live_segment.specs.Standing.{Standing}

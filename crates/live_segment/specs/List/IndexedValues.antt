@@ -1,19 +1,22 @@
 -- How a recorder goes through the samples of a sparse histogram that its index has, and which values it lists of them.
-use Rattle.std.specs.Prelude.{◌≡◌, ℕ, ◌+◌, ◌*◌, ◌≤◌, ℤ, List, length}
+use Rattle.std.specs.Prelude.{◌≡◌, ℕ, ◌+◌, ◌-◌, ◌*◌, ◌/◌, ◌≤◌, ℤ, List, length}
 use Rattle.std.specs.List.{All, AllByRecursion, Contains}
 use Rattle.segment_image.specs.declared.layout.TheConstants.{BLOCK_LEAST, HEADER_WORDS}
+use Rattle.segment_machine.specs.declared.actor.Actor.{Actor}
 use Rattle.segment_machine.specs.declared.actor.Known.{Known}
 use Rattle.segment_machine.specs.declared.seen.Seen.{Seen}
-use Rattle.segment_machine.specs.Made.{IsFirstSample}
-use Rattle.segment_machine.specs.Note.{TookSample}
-use Rattle.segment_promises.specs.Values.{NoKeyRepeats, Passes}
+use Rattle.segment_machine.specs.Made.{IsFirstSample, SawSample}
+use Rattle.segment_promises.specs.Calls.{SamplesStandBehind}
+use Rattle.segment_promises.specs.Values.{NoKeyRepeats, NoRepeats, Passes}
 use Rattle.list_index.specs.Firsts.{all_of}
 use Rattle.live_segment.specs.declared.list.index.KeyKind.TheVariants.{Sample}
 use Rattle.live_segment.specs.declared.list.index.RecordIndex.{RecordIndex}
 use Rattle.live_segment.specs.declared.segment.Segment.{Segment}
 use Rattle.live_segment.specs.List.Index.{IsIndexed}
-use Rattle.live_segment.specs.Delta.Outcome.{TakesOn, TakesValues}
-use Rattle.live_segment.specs.List.Values.{HasListed, HasTotal, LooksAtValues, SeesMore}
+use Rattle.live_segment.specs.Delta.Outcome.{HasTakenSome}
+use Rattle.live_segment.specs.List.Values.{Goes, HasDone, HasUnitsOf, ListsOn, SampleCall}
+use Rattle.live_segment.specs.List.Values.SampleCall.{OfDelta, OfSnapshot}
+use Rattle.live_segment.specs.Snapshot.Outcome.{HasLooked}
 use Rattle.live_segment.specs.Steps.{IsSame, Pass}
 
 -- ---- what the index has
@@ -42,23 +45,32 @@ pub record ListsSamples (Does : ℤ → ℕ → Type 0) (Has : ℕ → ℕ → T
   pub once : NoKeyRepeats listed
   pub few : length listed ≤ length passed
 
--- ---- a delta
-
--- A delta of a sparse histogram took what it saw of each of these samples. Of the list it has seen no more.
-pub record TakesListed (segment : Segment) (known : Known) (passed : List ℕ) (taken : List (ℤ × ℕ)) (old new : Pass) : Type 0 where
+-- A call on a sparse histogram listed what it saw of the first of these samples of each value. Of the list it has seen no more.
+pub record ListsIndexed (call : SampleCall) (segment : Segment) (known : Known) (passed : List ℕ) (listed : List (ℤ × ℕ)) (old new : Pass) : Type 0 where
   pub same : IsSame old new
-  pub takes : TakesValues segment known new
-  pub on : TakesOn taken old.me.0 new.me.0
+  pub goes : Goes call segment known new
+  pub on : ListsOn call listed old.me.0 new.me.0
   pub chain : new.me.0.seen.chain ≡ old.me.0.seen.chain
-  pub lists : ListsSamples (λ value sample. TookSample new.me.0 sample) (λ sample units. 1 ≤ units) known.reference passed taken new.me.0.seen
+  pub lists : ListsSamples (HasDone call listed new.me.0) (HasUnitsOf call new.me.0) known.reference passed listed new.me.0.seen
 
--- ---- a snapshot
+-- ---- all of it
 
--- A snapshot of a sparse histogram looked at each of these samples, and listed what it saw of the first of each value. Of the list it has seen
--- no more.
-pub record LooksListed (segment : Segment) (known : Known) (passed : List ℕ) (listed : List (ℤ × ℕ)) (old new : Pass) : Type 0 where
+-- it has listed these of records, among which are all samples of the histogram that were met
+pub record HasListedAll (call : SampleCall) (known : Known) (listed : List (ℤ × ℕ)) (a : Actor) : Type 0 where
+  pub passed : List ℕ
+  pub lists : ListsSamples (HasDone call listed a) (HasUnitsOf call a) known.reference passed listed a.seen
+  pub each : (value : ℤ) (sample : ℕ) → Contains a.seen.chain sample → SawSample a.seen known.reference value sample → Contains passed sample
+
+-- what becomes of a recorder whose call began and listed these
+abbrev pub HasGone : SampleCall → Known → List (ℤ × ℕ) → Actor → Actor → Type 0
+HasGone OfDelta known listed old new = HasTakenSome known listed old new
+HasGone OfSnapshot known listed old new = HasLooked old new
+
+-- A call on a sparse histogram has begun and listed these, which fit in the segment. It has listed all, where each sample that was met stands
+-- behind the record of its histogram, and no block twice.
+pub record ListsThrough (call : SampleCall) (segment : Segment) (known : Known) (listed : List (ℤ × ℕ)) (old new : Pass) : Type 0 where
   pub same : IsSame old new
-  pub looks : LooksAtValues segment known new
-  pub on : SeesMore old.me.0 new.me.0
-  pub chain : new.me.0.seen.chain ≡ old.me.0.seen.chain
-  pub lists : ListsSamples (HasListed listed new.me.0) (HasTotal new.me.0) known.reference passed listed new.me.0.seen
+  pub goes : Goes call segment known new
+  pub gone : HasGone call known listed old.me.0 new.me.0
+  pub all : SamplesStandBehind new.me.0 → NoRepeats new.me.0.seen.chain → HasListedAll call known listed new.me.0
+  pub few : length listed ≤ (segment.setting.shape.size - HEADER_WORDS) / BLOCK_LEAST

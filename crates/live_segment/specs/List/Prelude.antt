@@ -13,11 +13,10 @@ pub use Rattle.live_segment.specs.List.Publish.{HasPublishedFor, IsFilledFor}
 pub use Rattle.live_segment.specs.List.SampleRecords.{CountsSample, SamplesAreFew, SamplesStandBehind, SeesSample, ShowsSample}
 pub use Rattle.live_segment.specs.List.SharedCursors.{AnswersNext, gift}
 pub use Rattle.live_segment.specs.List.Walk.{HasCome, WalksOn}
-pub use Rattle.live_segment.specs.Ready.{HasMetRecord, WalksWith}
+pub use Rattle.live_segment.specs.Ready.{HasMetRecord, LooksAtValues, WalksWith}
 pub use Rattle.live_segment.specs.Seated.{IsSeated}
 pub use Rattle.live_segment.specs.Standing.{HasList, HasShared}
 pub use Rattle.live_segment.specs.Steps.{IsSame}
-pub use Rattle.live_segment.specs.Steps.GhostNotes.{KnowsAlone}
 pub use Rattle.live_segment.specs.declared.list.index.KeyKind.TheVariants.{Name, Sample}
 pub use Rattle.live_segment.specs.declared.rule.Setting.{Setting}
 pub use Rattle.segment_machine.specs.Actor.{has_buckets, is_bound, word_seen}
@@ -27,3 +26,4 @@ pub use Rattle.segment_machine.specs.declared.seen.Seen.{Seen}
 pub use Rattle.segment_promises.specs.Onward.{is_holding}
 pub use Rattle.segment_promises.specs.Values.{NoRepeats}
 pub use Rattle.std.specs.Int.{cast_unsigned, w64}
+pub use Rattle.std.specs.List.{Contains}

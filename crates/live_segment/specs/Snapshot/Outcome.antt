@@ -11,7 +11,9 @@ use Rattle.segment_machine.specs.declared.place.Place.TheVariants.{SumLoaded}
 use Rattle.segment_machine.specs.Actor.{is_bound, looking}
 use Rattle.segment_machine.specs.Calls.{sight}
 use Rattle.segment_machine.specs.Note.{SawAll, SawBucket}
+use Rattle.segment_promises.specs.Calls.{SamplesStandBehind}
 use Rattle.segment_promises.specs.Onward.{SeesOn}
+use Rattle.segment_promises.specs.Values.{NoRepeats}
 use Rattle.live_segment.specs.Steps.Taking.{answered_as}
 
 -- ---- what it begins with
@@ -41,6 +43,13 @@ saw_sum a histogram sum redundant = record a {
   hand = record a.hand { place = SumLoaded histogram sum };
   seen = record a.seen { counts = a.seen.counts ++ sight (histogram + HISTOGRAM_REDUNDANT) redundant };
 }
+
+-- A recorder has looked anew, and these are all that a snapshot of the histogram may list, whatever the sum and the redundant count are: of
+-- samples, where each that was met stands behind the record of its histogram, and no block twice.
+pub record HasSeenAll (known : Known) (old : Actor) (counts : List (ℤ × ℕ)) (new : Actor) : Type 0 where
+  pub looked : HasLooked old new
+  pub saw : SamplesStandBehind new → NoRepeats new.seen.chain → (snapshot : Snapshot) → snapshot.counts.items ≡ counts
+      → let summed = saw_sum new known.reference snapshot.sum snapshot.redundant in SawAll summed known (answered_as summed known snapshot)
 
 -- ---- what is answered
 

@@ -7,8 +7,8 @@ use segment_calls::sort_by_key;
 use segment_image::layout::{QUEUE, SAMPLE_MARK};
 
 impl Segment {
-    ghost use Rattle.std.specs.Prelude.{◌≡◌, ◌+◌, ◌-◌, ◌/◌, ◌≤◌, ℕ, ℤ, List, [], length, vec_capacity};
-    ghost use Rattle.live_segment.specs.Delta.Prelude.{AreFewKeys, AreOwn, ComesTo, Contains, HasTaken, HasTakenSample, IsReadyFor, IsSame, Known, known_view, KnowsRight, MayTakeSample, NoRepeats, opened_with, SamplesStandBehind, Sparse, Standing, TakesAlong, TakesListed, TakesValue, TakesValues};
+    ghost use Rattle.std.specs.Prelude.{◌≡◌, ◌+◌, ◌-◌, ◌/◌, ◌≤◌, ℕ, ℤ, List, [], length, vec_capacity, IfSome, MatchOption};
+    ghost use Rattle.live_segment.specs.Delta.Prelude.{AreFewKeys, AreOwn, ComesTo, Contains, HasTaken, HasTakenSample, IsReadyFor, IsSame, Known, known_view, KnowsRight, ListsAlong, ListsIndexed, ListsThrough, MayTakeSample, NoRepeats, OfDelta, opened_with, SamplesStandBehind, Sparse, Standing, TakesValue, TakesValues};
     ghost use Rattle.segment_image.specs.declared.layout.TheConstants.{QUEUE};
 
     // The units of a sample that the delta takes, whose count was loaded: its mark is raised to that.
@@ -51,7 +51,7 @@ impl Segment {
         requires takes { TakesValues self.now (known_view histogram.now) seat.old }
         requires comes { ComesTo histogram.now.reference [] first seat.old.me.0 }
         requires room { (taken.old.items ≡ []) × ((self.now.setting.shape.size - 16) / 5 ≤ vec_capacity taken.old) }
-        ensures { (passed : List ℕ) × TakesAlong self.now (known_view histogram.now) passed QUEUE taken.new.items seat.old seat.new }
+        ensures { (passed : List ℕ) × ListsAlong OfDelta self.now (known_view histogram.now) passed QUEUE taken.new.items seat.old seat.new }
     {
         let mut at = first;
         while at != QUEUE {
@@ -60,27 +60,6 @@ impl Segment {
             }
             at = self.load_next(seat, at);
         }
-    }
-
-    // A delta of a sparse histogram. There is room for as many values as fit in a segment. It answers what it took of the sum.
-    pub(crate) fn delta_of_values(
-        &self,
-        seat: &mut Pass,
-        histogram: &KnownHistogram,
-        taken: &mut Vec<(i32, u64)>,
-    ) -> i64
-        requires ready { IsReadyFor self.now histogram.now seat.old }
-        requires sparse { histogram.now.spec ≡ Sparse }
-        requires room { (taken.old.items ≡ []) × ((self.now.setting.shape.size - 16) / 5 ≤ vec_capacity taken.old) }
-        ensures same { IsSame seat.old seat.new }
-        ensures taken { HasTaken (known_view histogram.now) taken.new.items result seat.old.me.0 seat.new.me.0 }
-        ensures few { AreFewKeys self.now (known_view histogram.now) taken.new.items }
-        ensures stands { Standing (opened_with self.now) seat.new.id seat.new.me.0 }
-    {
-        let first = self.take_next(seat, histogram.reference);
-        self.take_values(seat, histogram, first, taken);
-        sort_by_key(taken);
-        self.take_sum(seat, histogram)
     }
 
     // The delta takes what is new of the samples of a sparse histogram, which an index has, and lists the values in their order there. There
@@ -96,7 +75,7 @@ impl Segment {
         requires right { KnowsRight self.now.setting seat.old.me.0 histogram.now }
         requires own { AreOwn self.now.setting.shape.size seat.old.me.0.seen histogram.now.reference samples.now }
         requires room { (taken.old.items ≡ []) × (length samples.now ≤ vec_capacity taken.old) }
-        ensures { TakesListed self.now (known_view histogram.now) samples.now taken.new.items seat.old seat.new }
+        ensures { ListsIndexed OfDelta self.now (known_view histogram.now) samples.now taken.new.items seat.old seat.new }
     {
         for at in samples {
             if let Some(count) = self.take_value(seat, histogram, *at) {
@@ -105,25 +84,50 @@ impl Segment {
         }
     }
 
-    // A delta of a sparse histogram whose samples an index has. There is room for all of them. It answers what it took of the sum.
-    pub(crate) fn delta_of_listed(
+    // A delta of a sparse histogram begins and takes what is new of all samples: of those that an index has, or else along the list. There
+    // is room for all of them, or for as many values as fit in a segment.
+    fn take_samples(
         &self,
         seat: &mut Pass,
         histogram: &KnownHistogram,
-        samples: &[u64],
+        samples: Option<&[u64]>,
+        taken: &mut Vec<(i32, u64)>,
+    )
+        requires ready { IsReadyFor self.now histogram.now seat.old }
+        requires sparse { histogram.now.spec ≡ Sparse }
+        requires own { IfSome samples (λ own. AreOwn self.now.setting.shape.size seat.old.me.0.seen histogram.now.reference own.now) }
+        requires begins { taken.old.items ≡ [] }
+        requires room { MatchOption samples ((self.now.setting.shape.size - 16) / 5 ≤ vec_capacity taken.old) (λ own. length own.now ≤ vec_capacity taken.old) }
+        ensures { ListsThrough OfDelta self.now (known_view histogram.now) taken.new.items seat.old seat.new }
+    {
+        if let Some(own) = samples {
+            self.take_type(seat, histogram.reference);
+            self.take_listed(seat, histogram, own, taken);
+        } else {
+            let first = self.take_next(seat, histogram.reference);
+            self.take_values(seat, histogram, first, taken);
+        }
+    }
+
+    // A delta of a sparse histogram, with room as for its samples. It returns what it took of the sum.
+    pub(crate) fn delta_of_samples(
+        &self,
+        seat: &mut Pass,
+        histogram: &KnownHistogram,
+        samples: Option<&[u64]>,
         taken: &mut Vec<(i32, u64)>,
     ) -> i64
         requires ready { IsReadyFor self.now histogram.now seat.old }
         requires sparse { histogram.now.spec ≡ Sparse }
-        requires own { AreOwn self.now.setting.shape.size seat.old.me.0.seen histogram.now.reference samples.now }
-        requires room { (taken.old.items ≡ []) × (length samples.now ≤ vec_capacity taken.old) }
+        requires own { IfSome samples (λ own. AreOwn self.now.setting.shape.size seat.old.me.0.seen histogram.now.reference own.now) }
+        requires begins { taken.old.items ≡ [] }
+        requires room { MatchOption samples ((self.now.setting.shape.size - 16) / 5 ≤ vec_capacity taken.old) (λ own. length own.now ≤ vec_capacity taken.old) }
         ensures same { IsSame seat.old seat.new }
         ensures taken { HasTaken (known_view histogram.now) taken.new.items result seat.old.me.0 seat.new.me.0 }
         ensures few { AreFewKeys self.now (known_view histogram.now) taken.new.items }
         ensures stands { Standing (opened_with self.now) seat.new.id seat.new.me.0 }
     {
-        self.take_type(seat, histogram.reference);
-        self.take_listed(seat, histogram, samples, taken);
+        self.take_samples(seat, histogram, samples, taken);
         sort_by_key(taken);
         self.take_sum(seat, histogram)
     }

@@ -1,7 +1,7 @@
 //! How a recorder meets the samples of a sparse histogram along the list.
 
-ghost use Rattle.std.specs.Prelude.{◌≡◌, ◌+◌, ◌≤◌, true, false, length, IfSome};
-ghost use Rattle.live_segment.specs.List.Prelude.{CountsSample, HasReadWords, known_view, KnowsAlone, Meets, NoRepeats, SamplesAreFew, SamplesStandBehind, SeesSample, ShowsSample, Sparse};
+ghost use Rattle.std.specs.Prelude.{◌≡◌, ◌+◌, ◌≤◌, true, false, IfSome};
+ghost use Rattle.live_segment.specs.List.Prelude.{Contains, CountsSample, HasReadWords, known_view, LooksAtValues, NoRepeats, SamplesAreFew, SamplesStandBehind, SeesSample, ShowsSample, Sparse};
 
 use crate::list::index::RecordIndex;
 use crate::recorder::KnownHistogram;
@@ -10,7 +10,7 @@ use crate::segment::Segment;
 use segment_image::layout::{SAMPLE_COUNT, SAMPLE_HISTOGRAM, SAMPLE_VALUE, TYPE_SAMPLE};
 
 impl Segment {
-    ghost use Rattle.live_segment.specs.List.Prelude.{Actor, has_buckets, HasMetRecord, HasPassedAll, HasSearched, is_holding, IsIndexed, IsSame, IsSeated, KnowsRight, MayTurn, Setting};
+    ghost use Rattle.live_segment.specs.List.Prelude.{Actor, has_buckets, HasMetRecord, HasPassedAll, HasSearched, IsIndexed, IsSame, IsSeated, KnowsRight, MayTurn, Setting};
     ghost use Rattle.live_segment.specs.declared.list.index.KeyKind.TheVariants.{Sample as OfSample};
 
     // The value of a record that was met, where it is a sample of a histogram.
@@ -42,11 +42,8 @@ impl Segment {
         histogram: &KnownHistogram,
         at: u64,
     ) -> Option<(i32, u64)>
-        requires seat { IsSeated self.now seat.old }
-        requires sparse { KnowsAlone seat.old.me.0 (known_view histogram.now) × (histogram.now.spec ≡ Sparse) }
-        requires apart { is_holding seat.old.me.0.hand.place ≡ false }
-        requires since { seat.old.me.0.since.counts ≤ length seat.old.me.0.seen.counts }
-        requires met { Meets at seat.old.me.0 }
+        requires looks { LooksAtValues self.now (known_view histogram.now) seat.old }
+        requires met { Contains seat.old.me.0.seen.chain at }
         requires room { at + 5 ≤ self.now.setting.shape.size }
         ensures same { IsSame seat.old seat.new }
         ensures view { SeesSample seat.old.me.0 seat.new.me.0 }

@@ -66,12 +66,6 @@ impl Segment {
         ensures stands { Standing (opened_with self.now) seat.new.id seat.new.me.0 }
     {
         self.look_at_buckets(seat, histogram, totals.as_mut_slice());
-        let (sum, redundant) = self.look_at_sum(seat, histogram.reference);
-        let snapshot = Snapshot {
-            counts: totals,
-            sum,
-            redundant,
-        };
-        self.answer_with(seat, histogram, snapshot)
+        self.finish_snapshot(seat, histogram, totals)
     }
 }

@@ -7,8 +7,8 @@ use segment_calls::{Snapshot, sort_by_key};
 use segment_image::layout::QUEUE;
 
 impl Segment {
-    ghost use Rattle.std.specs.Prelude.{◌≡◌, ◌≤◌, ℕ, length, ◌-◌, ◌/◌, List, [], vec_capacity};
-    ghost use Rattle.live_segment.specs.Snapshot.Prelude.{AreFewKeys, AreOwn, AreUnits, ComesTo, HasSnapshot, IsReadyFor, IsSame, known_view, KnowsRight, LooksAlong, LooksAtValues, LooksListed, opened_with, Sparse, Standing};
+    ghost use Rattle.std.specs.Prelude.{◌≡◌, ◌≤◌, ℕ, length, ◌-◌, ◌/◌, List, [], vec_capacity, IfSome, MatchOption};
+    ghost use Rattle.live_segment.specs.Snapshot.Prelude.{AreFewKeys, AreOwn, AreUnits, ComesTo, HasSnapshot, IsReadyFor, IsSame, known_view, KnowsRight, ListsAlong, ListsIndexed, ListsThrough, LooksAtValues, OfSnapshot, opened_with, Sparse, Standing};
     ghost use Rattle.segment_image.specs.declared.layout.TheConstants.{QUEUE};
 
     // The values of a sparse histogram that have units, from the first record behind its own on to the end of the list, are listed in
@@ -23,7 +23,7 @@ impl Segment {
         requires looks { LooksAtValues self.now (known_view histogram.now) seat.old }
         requires comes { ComesTo histogram.now.reference [] first seat.old.me.0 }
         requires room { (totals.old.items ≡ []) × ((self.now.setting.shape.size - 16) / 5 ≤ vec_capacity totals.old) }
-        ensures { (passed : List ℕ) × LooksAlong self.now (known_view histogram.now) passed QUEUE totals.new.items seat.old seat.new }
+        ensures { (passed : List ℕ) × ListsAlong OfSnapshot self.now (known_view histogram.now) passed QUEUE totals.new.items seat.old seat.new }
     {
         let mut at = first;
         while at != QUEUE {
@@ -32,34 +32,6 @@ impl Segment {
             }
             at = self.load_next(seat, at);
         }
-    }
-
-    // What a sparse histogram has: the totals are empty, and there is room for as many values as fit in a segment.
-    pub(crate) fn snapshot_of_values(
-        &self,
-        seat: &mut Pass,
-        histogram: &KnownHistogram,
-        mut totals: Vec<(i32, u64)>,
-    ) -> Snapshot
-        requires ready { IsReadyFor self.now histogram.now seat.old }
-        requires sparse { histogram.now.spec ≡ Sparse }
-        requires room { (totals.items ≡ []) × ((self.now.setting.shape.size - 16) / 5 ≤ vec_capacity totals) }
-        ensures same { IsSame seat.old seat.new }
-        ensures answer { HasSnapshot (known_view histogram.now) seat.old.me.0 result seat.new.me.0 }
-        ensures stands { Standing (opened_with self.now) seat.new.id seat.new.me.0 }
-        ensures units { AreUnits result.counts.items }
-        ensures few { AreFewKeys self.now (known_view histogram.now) result.counts.items }
-    {
-        let first = self.look_next(seat, histogram.reference);
-        self.look_at_values(seat, histogram, first, &mut totals);
-        sort_by_key(&mut totals);
-        let (sum, redundant) = self.look_at_sum(seat, histogram.reference);
-        let snapshot = Snapshot {
-            counts: totals,
-            sum,
-            redundant,
-        };
-        self.answer_with(seat, histogram, snapshot)
     }
 
     // The values of a sparse histogram that have units are listed, of its samples, which an index has, in their order there. There is room
@@ -75,7 +47,7 @@ impl Segment {
         requires right { KnowsRight self.now.setting seat.old.me.0 histogram.now }
         requires own { AreOwn self.now.setting.shape.size seat.old.me.0.seen histogram.now.reference samples.now }
         requires room { (totals.old.items ≡ []) × (length samples.now ≤ vec_capacity totals.old) }
-        ensures { LooksListed self.now (known_view histogram.now) samples.now totals.new.items seat.old seat.new }
+        ensures { ListsIndexed OfSnapshot self.now (known_view histogram.now) samples.now totals.new.items seat.old seat.new }
     {
         for at in samples {
             if let Some(total) = self.sample_at(seat, histogram, *at) {
@@ -84,33 +56,52 @@ impl Segment {
         }
     }
 
-    // What a sparse histogram has whose samples an index has: the totals are empty, and there is room for all of them.
-    pub(crate) fn snapshot_of_listed(
+    // A snapshot of a sparse histogram begins and lists the values that have units: of the samples that an index has, or else along the
+    // list. There is room for all of them, or for as many values as fit in a segment.
+    fn look_at_samples(
         &self,
         seat: &mut Pass,
         histogram: &KnownHistogram,
-        samples: &[u64],
+        samples: Option<&[u64]>,
+        totals: &mut Vec<(i32, u64)>,
+    )
+        requires ready { IsReadyFor self.now histogram.now seat.old }
+        requires sparse { histogram.now.spec ≡ Sparse }
+        requires own { IfSome samples (λ own. AreOwn self.now.setting.shape.size seat.old.me.0.seen histogram.now.reference own.now) }
+        requires begins { totals.old.items ≡ [] }
+        requires room { MatchOption samples ((self.now.setting.shape.size - 16) / 5 ≤ vec_capacity totals.old) (λ own. length own.now ≤ vec_capacity totals.old) }
+        ensures { ListsThrough OfSnapshot self.now (known_view histogram.now) totals.new.items seat.old seat.new }
+    {
+        if let Some(own) = samples {
+            self.look_type(seat, histogram.reference);
+            self.look_at_listed(seat, histogram, own, totals);
+        } else {
+            let first = self.look_next(seat, histogram.reference);
+            self.look_at_values(seat, histogram, first, totals);
+        }
+    }
+
+    // What a sparse histogram has: the totals are empty, with room as for its samples.
+    pub(crate) fn snapshot_of_samples(
+        &self,
+        seat: &mut Pass,
+        histogram: &KnownHistogram,
+        samples: Option<&[u64]>,
         mut totals: Vec<(i32, u64)>,
     ) -> Snapshot
         requires ready { IsReadyFor self.now histogram.now seat.old }
         requires sparse { histogram.now.spec ≡ Sparse }
-        requires own { AreOwn self.now.setting.shape.size seat.old.me.0.seen histogram.now.reference samples.now }
-        requires room { (totals.items ≡ []) × (length samples.now ≤ vec_capacity totals) }
+        requires own { IfSome samples (λ own. AreOwn self.now.setting.shape.size seat.old.me.0.seen histogram.now.reference own.now) }
+        requires begins { totals.items ≡ [] }
+        requires room { MatchOption samples ((self.now.setting.shape.size - 16) / 5 ≤ vec_capacity totals) (λ own. length own.now ≤ vec_capacity totals) }
         ensures same { IsSame seat.old seat.new }
         ensures answer { HasSnapshot (known_view histogram.now) seat.old.me.0 result seat.new.me.0 }
         ensures stands { Standing (opened_with self.now) seat.new.id seat.new.me.0 }
         ensures units { AreUnits result.counts.items }
         ensures few { AreFewKeys self.now (known_view histogram.now) result.counts.items }
     {
-        self.look_type(seat, histogram.reference);
-        self.look_at_listed(seat, histogram, samples, &mut totals);
+        self.look_at_samples(seat, histogram, samples, &mut totals);
         sort_by_key(&mut totals);
-        let (sum, redundant) = self.look_at_sum(seat, histogram.reference);
-        let snapshot = Snapshot {
-            counts: totals,
-            sum,
-            redundant,
-        };
-        self.answer_with(seat, histogram, snapshot)
+        self.finish_snapshot(seat, histogram, totals)
     }
 }

@@ -30,10 +30,10 @@ use Rattle.segment_promises.specs.Onward.{SeesOn}
 use Rattle.segment_promises.proofs.Growing.{grows_not}
 use Rattle.live_segment.specs.Steps.GhostNotes.{MayPack, HasPacked, Noted, bucket_entry, bucket_notes}
 use Rattle.live_segment.specs.Add.Progress.{LooksOn, LooksFor, MayCount, Tries}
-use Rattle.live_segment.proofs.lemmas.Steps.Proceeding.{does_not, sees_not}
+use Rattle.live_segment.proofs.lemmas.Steps.Proceeding.{does_not, sees_not, sees_single}
 use Rattle.live_segment.specs.Alloc.Claims.{KeepsBlocks}
 use Rattle.live_segment.proofs.lemmas.Add.Blocks.{keeps_begun, keeps_on}
-use Rattle.live_segment.proofs.lemmas.Add.Beginning.{singled, sees_single, may_tell, is_next, only_begun, knows, looks_for, may_yet, looks_for_on, late, counted, counted_behind}
+use Rattle.live_segment.proofs.lemmas.Add.Beginning.{singled, may_tell, is_next, only_begun, knows, looks_for, may_yet, looks_for_on, late, counted, counted_behind}
 use Rattle.segment_promises.proofs.Ranks.{rank, on_units, leads_higher, last_rank, last_most, last_is, last_leads}
 use Rattle.segment_promises.proofs.Calls.Places.{looks_there}
 

@@ -28,7 +28,7 @@ use Rattle.segment_promises.specs.Onward.{SeesOn}
 use Rattle.live_segment.specs.Steps.GhostNotes.{bucket_entry, entry_notes, opening_notes}
 use Rattle.live_segment.specs.Add.Progress.{CountsAlone, HaveEnded, IsOpenTo, LooksOn, MayCount, MayGoOn, HasNotBegun, Waits, HasBegun, LooksFor, HasCounted, counted_next}
 use Rattle.live_segment.proofs.lemmas.Add.Ended.{goes_on_with, next_behind, notes_nothing}
-use Rattle.live_segment.proofs.lemmas.Steps.Proceeding.{does_not, proceeds_on}
+use Rattle.live_segment.proofs.lemmas.Steps.Proceeding.{does_not, proceeds_on, sees_single}
 use Rattle.segment_promises.proofs.Growing.{grows_by, grows_not}
 
 -- ---- what is known
@@ -46,20 +46,6 @@ known_there (x ∷ rest) reference known is = by_test (x.reference == reference)
     by_test false there found later = let ((k, below, same), refers) = later found in ((suc k, omega (arith, below), same), refers)
 
 -- ---- while it looks
-
-pub sees_single : (a : Seen) (more : List Sighting) → SeesOn a (record a { singles = a.singles ++ more })
-sees_single a more = record {
-  free = omega arith;
-  corrupt = λ saw. saw;
-  warned = omega arith;
-  chain = grows_not a.chain;
-  ends = grows_not a.ends;
-  tails = grows_not a.tails;
-  singles = grows_by a.singles more;
-  counts = grows_not a.counts;
-  words = grows_not a.words;
-  cursors = grows_not a.cursors;
-}
 
 -- it loads a single word, or comes too late to change it
 pub singled : (a : Actor) (place : Place) (more : List Sighting) → is_bound place ≡ false

@@ -25,21 +25,7 @@ use Rattle.live_segment.proofs.lemmas.Add.Beginning.{counted, is_next, only_begu
 use Rattle.live_segment.proofs.lemmas.Add.Ended.{how_many, how_many_before, still_open}
 use Rattle.segment_promises.proofs.Growing.{grows_by, grows_not}
 use Rattle.live_segment.proofs.lemmas.Add.Refusing.{may_at_rest}
-
--- it has seen a count more
-pub sees_count : (a : Seen) (more : List Sighting) → SeesOn a (record a { counts = a.counts ++ more })
-sees_count a more = record {
-  free = omega arith;
-  corrupt = λ saw. saw;
-  warned = omega arith;
-  chain = grows_not a.chain;
-  ends = grows_not a.ends;
-  tails = grows_not a.tails;
-  singles = grows_not a.singles;
-  counts = grows_by a.counts more;
-  words = grows_not a.words;
-  cursors = grows_not a.cursors;
-}
+use Rattle.live_segment.proofs.lemmas.Steps.Proceeding.{sees_count}
 
 -- where all that runs has ended
 may_end_ended : (running : List EntryProgress) → HaveEnded running → MayEnd running

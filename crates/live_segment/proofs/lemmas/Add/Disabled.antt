@@ -27,7 +27,7 @@ use Rattle.live_segment.specs.Seated.{IsSeated}
 use Rattle.live_segment.specs.Add.Counts.{MayMount, HasDisabled, LooksAtCounts}
 use Rattle.live_segment.specs.Steps.{Pass, IsSame, Stepped}
 use Rattle.live_segment.specs.Add.Progress.{CountsWithin, LooksAt, LooksOn}
-use Rattle.live_segment.proofs.lemmas.Steps.Proceeding.{does_not, looks_on, sees_not}
+use Rattle.live_segment.proofs.lemmas.Steps.Proceeding.{does_not, looks_on, sees_lists, sees_not}
 use Rattle.segment_promises.proofs.Growing.{grows_by, grows_not}
 use Rattle.live_segment.proofs.lemmas.Add.Beginning.{singled}
 use Rattle.live_segment.proofs.lemmas.Add.Attempts.{is_on}
@@ -226,18 +226,8 @@ module _ {segment : Segment} {known : Known} {counts : ℕ} {first old : Pass} (
                     same = refl;
                     free = refl;
                     done = does_not b.done;
-                    seen = record {
-                      free = omega arith;
-                      corrupt = λ saw. saw;
-                      warned = omega arith;
-                      chain = grows_not b.seen.chain;
-                      ends = grows_not b.seen.ends;
-                      tails = grows_not b.seen.tails;
-                      singles = grows_by b.seen.singles (sight (known.reference + 9) off);
-                      counts = grows_by b.seen.counts (sight (counts + 4 + word / 2 ^ 32) (count + word % 2 ^ 32));
-                      words = grows_not b.seen.words;
-                      cursors = grows_not b.seen.cursors;
-                    };
+                    seen = sees_lists b.seen (grows_not b.seen.chain) (grows_not b.seen.ends) (grows_not b.seen.tails) (grows_by b.seen.singles (sight (known.reference + 9) off))
+                        (grows_by b.seen.counts (sight (counts + 4 + word / 2 ^ 32) (count + word % 2 ^ 32))) (grows_not b.seen.words) (grows_not b.seen.cursors);
                   };
                   units = refl;
                   entries = refl;

@@ -48,7 +48,7 @@ use Rattle.live_segment.specs.Steps.{Pass, Sat, Stepped}
 use Rattle.live_segment.specs.Add.Progress.{CountsWithin, LooksOn}
 use Rattle.live_segment.proofs.lemmas.Steps.Allowed.{does_at}
 use Rattle.live_segment.proofs.lemmas.Alloc.Claimed.{looks_claimed, looks_refused}
-use Rattle.live_segment.proofs.lemmas.Steps.Proceeding.{does_not, looks_on}
+use Rattle.live_segment.proofs.lemmas.Steps.Proceeding.{does_not, looks_on, sees_lists}
 use Rattle.segment_promises.proofs.Growing.{ended_grows, grows_by, grows_not, grows_on, grows_same}
 use Rattle.segment_promises.proofs.Calls.Places.{looks_there}
 use Rattle.live_segment.proofs.lemmas.Add.Refusing.{only_given_up}
@@ -96,18 +96,7 @@ mounts_on a b known may looks =
 
 -- it has seen words more, and may have found one that leads to no block
 sees_words : (a : Seen) (more : List Sighting) (ends : List ℕ) → Grows a.ends ends → SeesOn a (record a { words = a.words ++ more; ends = ends })
-sees_words a more ends longer = record {
-  free = omega arith;
-  corrupt = λ saw. saw;
-  warned = omega arith;
-  chain = grows_not a.chain;
-  ends = longer;
-  tails = grows_not a.tails;
-  singles = grows_not a.singles;
-  counts = grows_not a.counts;
-  words = grows_by a.words more;
-  cursors = grows_not a.cursors;
-}
+sees_words a more ends longer = sees_lists a (grows_not a.chain) longer (grows_not a.tails) (grows_not a.singles) (grows_not a.counts) (grows_by a.words more) (grows_not a.cursors)
 
 -- it stands elsewhere with other blocks, and has seen words more
 pub with_words : (a : Actor) (hand : Hand) (more : List Sighting) (ends : List ℕ) → Grows a.seen.ends ends → is_bound hand.place ≡ false

@@ -14,7 +14,7 @@ use Rattle.live_segment.specs.Delta.Outcome.{HasTaken, taken_as}
 use Rattle.live_segment.specs.Snapshot.Outcome.{HasSnapshot}
 use Rattle.live_segment.specs.Steps.Taking.{answered_as}
 use Rattle.live_segment.specs.Steps.{IsAtRest}
-use Rattle.live_segment.proofs.lemmas.Steps.Proceeding.{sees_on}
+use Rattle.live_segment.proofs.lemmas.Steps.Proceeding.{sees_lists, sees_on}
 
 module _ (old mid : Actor) (searched : HasSearched old mid) where
   -- a search leaves its recorder at rest
@@ -30,18 +30,8 @@ module _ (old mid : Actor) (searched : HasSearched old mid) where
   }
 
   pub sees_behind : SeesOn old.seen mid.seen
-  sees_behind = subst (λ (a : Actor). SeesOn old.seen a.seen) (sym searched.view) (record {
-    free = omega arith;
-    corrupt = λ saw. saw;
-    warned = omega arith;
-    chain = searched.chain;
-    ends = searched.ends;
-    tails = grows_not old.seen.tails;
-    singles = grows_not old.seen.singles;
-    counts = grows_not old.seen.counts;
-    words = searched.words;
-    cursors = grows_not old.seen.cursors;
-  })
+  sees_behind = subst (λ (a : Actor). SeesOn old.seen a.seen) (sym searched.view) (sees_lists old.seen searched.chain searched.ends
+      (grows_not old.seen.tails) (grows_not old.seen.singles) (grows_not old.seen.counts) searched.words (grows_not old.seen.cursors))
 
   -- a delta behind it
   pub taken_behind : (known : Known) (delta : List (ℤ × ℕ)) (sum : ℤ) (new : Actor) → HasTaken known delta sum mid new → HasTaken known delta sum old new

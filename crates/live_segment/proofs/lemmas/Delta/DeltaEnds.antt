@@ -1,5 +1,5 @@
 -- A delta ends: it takes what is new of the sum, and its recorder keeps what it took.
-use Rattle.std.proofs.Common.{◌≡◌, ℕ, ◌+◌, ℤ, false, true≢false, List, [], ◌∷◌, ◌++◌, refl, sym, ap, subst, ◌∙◌}
+use Rattle.std.proofs.Common.{◌≡◌, ℕ, ◌+◌, ℤ, false, true, true≢false, List, [], ◌∷◌, ◌++◌, refl, sym, ap, subst, ◌∙◌}
 use Rattle.std.specs.Prelude.{◌-ℤ◌}
 use Rattle.std.specs.Int.{cast_signed, w64}
 use Rattle.std.specs.List.{Contains}
@@ -7,31 +7,32 @@ use Rattle.std.proofs.Math.IntN.{+ℤ_idl}
 use Rattle.segment_machine.specs.declared.actor.Actor.{Actor}
 use Rattle.segment_machine.specs.declared.actor.Known.{Known}
 use Rattle.segment_machine.specs.declared.actor.Taken.{Taken}
-use Rattle.segment_machine.specs.declared.place.Place.{Place}
 use Rattle.segment_machine.specs.declared.place.Place.TheVariants.{Idle, SumLoaded}
 use Rattle.segment_machine.specs.declared.seen.Seen.{Seen}
-use Rattle.segment_machine.specs.Actor.{has_buckets, is_opener, looking}
-use Rattle.segment_machine.specs.Calls.{change_last}
+use Rattle.segment_machine.specs.Actor.{has_buckets, is_opener, looking, units_listed}
+use Rattle.segment_machine.specs.Calls.{change_last, sight}
 use Rattle.segment_machine.specs.Event.{Event, next, packing_event, taking_event}
 use Rattle.segment_machine.specs.Note.{TookAll, has_taken, noted, nothing_taken, takes}
 use Rattle.segment_machine.specs.Packing.{load_single}
 use Rattle.segment_machine.specs.Taking.{Takes, load_sum, swap_sum, swap_sum_mark}
 use Rattle.segment_invariant.proofs.Notes.Amounts.{last_changed}
 use Rattle.live_segment.specs.declared.segment.Segment.{Segment}
-use Rattle.live_segment.specs.Delta.Outcome.{HasTaken, HasTakenBuckets, HasTakenSum, MayTakeSum, TakesOn, TakesWord, taken_as, with_sum, with_units}
+use Rattle.live_segment.specs.Delta.Outcome.{AreUnits, HasTaken, HasTakenBuckets, HasTakenSome, HasTakenSum, MayTakeSum, TakesOn, TakesWord, taken_as, with_sum, with_units}
 use Rattle.live_segment.specs.Holders.{MayStep}
+use Rattle.segment_promises.specs.Calls.{SamplesStandBehind}
 use Rattle.segment_promises.specs.Onward.{SeesOn}
+use Rattle.segment_promises.specs.Values.{NoRepeats}
 use Rattle.live_segment.specs.Steps.{IsSame, Pass, Stepped}
 use Rattle.live_segment.specs.Steps.GhostNotes.{MayDo, Noted}
-use Rattle.live_segment.proofs.lemmas.Add.Beginning.{sees_single}
 use Rattle.live_segment.proofs.lemmas.Delta.OneBucket.{takes_of}
-use Rattle.live_segment.proofs.lemmas.Steps.Proceeding.{sees_on}
+use Rattle.live_segment.proofs.lemmas.Steps.Proceeding.{sees_on, sees_single}
 
 module _ (segment : Segment) (known : Known) (old : Pass) (may : MayTakeSum segment known old) where
   pub may_load_sum : MayStep segment old (taking_event (load_sum known.reference))
   may_load_sum = record { table = may.table; recorder = may.recorder; ready = (may.free, (known, may.takes.1, refl)) }
 
-  module _ (word : ℕ) (mid : Pass) (load : Stepped old (taking_event (load_sum known.reference)) word mid) where
+  module _ (word : ℕ) (mid : Pass) (load : Stepped old (taking_event (load_sum known.reference)) word mid) (behind : SamplesStandBehind old.me.0)
+      (once : NoRepeats old.me.0.seen.chain) where
     abbrev sum : ℤ
     sum = cast_signed w64 word
 
@@ -49,7 +50,7 @@ module _ (segment : Segment) (known : Known) (old : Pass) (may : MayTakeSum segm
     took_all found =
         let (taking, has, of, (before, last, is, name)) = may.takes in record {
           buckets = may.buckets;
-          samples = may.samples;
+          samples = may.samples behind once;
           summed = (
             before,
             swap_sum sum (cast_signed w64 found) last,
@@ -88,51 +89,57 @@ module _ (segment : Segment) (known : Known) (old : Pass) (may : MayTakeSum segm
 
 -- ---- all of it
 
--- what its recorder keeps, wherever it stood and whatever it had seen since it began
-module _ (known : Known) (first one two : Actor) (place : Place) (seen : Seen)
-    (view : one ≡ record (noted first (takes known.name)) { hand = record first.hand { place = place }; seen = seen }) (sees : SeesOn first.seen seen)
-    (units : List (ℤ × ℕ)) (on : TakesOn units one two) (amount : ℤ) (new : Actor) (ends : HasTakenSum known amount two new) where
+-- what it has taken once it goes on and takes more
+pub takes_some : (known : Known) (first one two : Actor) (units : List (ℤ × ℕ)) → HasTakenSome known [] first one → TakesOn units one two
+    → HasTakenSome known units first two
+takes_some known first one two units gone on = record {
+  view = on.view ∙ (ap (λ (a : Actor). record a {
+    hand = record a.hand { place = two.hand.place };
+    deltas = record a.deltas { taken = change_last (with_units units) a.deltas.taken };
+    seen = two.seen;
+  }) gone.view ∙ ap (λ (taken : List Taken). record (looking first) {
+    hand = record first.hand { place = two.hand.place };
+    seen = two.seen;
+    deltas = record first.deltas { taking = true; taken = taken };
+  }) (last_changed (with_units units) first.deltas.taken (nothing_taken first known.name)));
+  seen = sees_on first.seen one.seen two.seen gone.seen on.seen;
+}
+
+-- what its recorder keeps
+module _ (known : Known) (first two : Actor) (units : List (ℤ × ℕ)) (gone : HasTakenSome known units first two) (amount : ℤ) (new : Actor)
+    (ends : HasTakenSum known amount two new) where
   abbrev ending : Actor → Actor
   ending a = record a {
     hand = record a.hand { place = Idle };
     deltas = record a.deltas { taking = false; taken = change_last (with_sum amount) a.deltas.taken };
   }
 
-  abbrev going : Actor → Actor
-  going a = record a {
-    hand = record a.hand { place = two.hand.place };
-    deltas = record a.deltas { taken = change_last (with_units units) a.deltas.taken };
-    seen = two.seen;
-  }
-
-  abbrev keeping : List Taken → Actor
-  keeping taken = record (looking first) {
+  abbrev keeping : Seen → List Taken → Actor
+  keeping seen taken = record (looking first) {
     hand = record first.hand { place = Idle };
-    seen = two.seen;
+    seen = seen;
     deltas = record first.deltas { taking = false; taken = taken };
   }
 
-  taken_is : change_last (with_sum amount) (change_last (with_units units) (first.deltas.taken ++ nothing_taken first known.name ∷ []))
-      ≡ first.deltas.taken ++ taken_as first known units amount ∷ []
-  taken_is =
-      let before : List Taken = first.deltas.taken in
-      let nothing : Taken = nothing_taken first known.name in
-      ap (change_last (with_sum amount)) (last_changed (with_units units) before nothing)
-      ∙ (last_changed (with_sum amount) before (with_units units nothing)
-      ∙ ap (λ (sum : ℤ). before ++ record (taken_as first known units amount) { sum = sum } ∷ []) (+ℤ_idl amount))
+  abbrev all : List Taken
+  all = first.deltas.taken ++ taken_as first known units amount ∷ []
+
+  taken_is : change_last (with_sum amount) (first.deltas.taken ++ with_units units (nothing_taken first known.name) ∷ []) ≡ all
+  taken_is = last_changed (with_sum amount) first.deltas.taken (with_units units (nothing_taken first known.name))
+      ∙ ap (λ (sum : ℤ). first.deltas.taken ++ record (taken_as first known units amount) { sum = sum } ∷ []) (+ℤ_idl amount)
 
   seen_is : new.seen ≡ two.seen
   seen_is = ap (λ (a : Actor). a.seen) ends.view
 
-  view_is : new ≡ keeping (first.deltas.taken ++ taken_as first known units amount ∷ [])
-  view_is = ends.view ∙ (ap ending on.view ∙ (ap (λ (a : Actor). ending (going a)) view ∙ ap keeping taken_is))
-
-  pub kept_all : new ≡ record (keeping (first.deltas.taken ++ taken_as first known units amount ∷ [])) { seen = new.seen }
-  kept_all = view_is ∙ ap (λ seen. record (keeping (first.deltas.taken ++ taken_as first known units amount ∷ [])) { seen = seen }) (sym seen_is)
-
-  pub sees_all : SeesOn first.seen new.seen
-  sees_all = subst (SeesOn first.seen) (sym seen_is)
-      (sees_on first.seen one.seen two.seen (subst (λ (a : Actor). SeesOn first.seen a.seen) (sym view) sees) on.seen)
+  pub has_kept : (delta : List (ℤ × ℕ)) → AreUnits delta → ((key : ℤ) → units_listed delta key ≡ units_listed units key) → HasTaken known delta amount first new
+  has_kept delta are each = record {
+    counts = units;
+    same = ends.view ∙ (ap ending gone.view ∙ (ap (keeping two.seen) taken_is ∙ ap (λ (seen : Seen). keeping seen all) (sym seen_is)));
+    seen = subst (SeesOn first.seen) (sym seen_is) gone.seen;
+    all = ends.all;
+    units = are;
+    each = each;
+  }
 
 module _ (segment : Segment) (known : Known) (first one two : Pass) (word : ℕ) (takes_word : TakesWord segment known word one)
     (view : one.me.0 ≡ next (noted first.me.0 (takes known.name)) (packing_event (load_single known.reference)) word)
@@ -144,22 +151,15 @@ module _ (segment : Segment) (known : Known) (first one two : Pass) (word : ℕ)
     free = took.free;
     takes = takes_of one.me.0 two.me.0 units known.reference known took.on takes_word.takes;
     buckets = λ bucketed. took.took;
-    samples = λ sparse. absurd (true≢false (sym takes_word.bucketed ∙ ap has_buckets sparse));
+    samples = λ behind once sparse. absurd (true≢false (sym takes_word.bucketed ∙ ap has_buckets sparse));
   }
 
   module _ (amount : ℤ) (new : Actor) (ends : HasTakenSum known amount two.me.0 new) where
-    abbrev at_word : Actor
-    at_word = next (noted first.me.0 (takes known.name)) (packing_event (load_single known.reference)) word
-
-    sees_word : SeesOn first.me.0.seen at_word.seen
-    sees_word = sees_single first.me.0.seen (record { at = known.reference + 9; word = word } ∷ [])
-
     pub has_taken_all : HasTaken known units amount first.me.0 new
-    has_taken_all = record {
-      counts = units;
-      same = kept_all known first.me.0 one.me.0 two.me.0 at_word.hand.place at_word.seen view sees_word units took.on amount new ends;
-      seen = sees_all known first.me.0 one.me.0 two.me.0 at_word.hand.place at_word.seen view sees_word units took.on amount new ends;
-      all = ends.all;
-      units = took.units;
-      each = λ key. refl;
-    }
+    has_taken_all = has_kept known first.me.0 two.me.0 units (takes_some known first.me.0 one.me.0 two.me.0 units (record {
+      view = view ∙ (λ i. record (noted first.me.0 (takes known.name)) {
+        hand = record first.me.0.hand { place = sym (ap (λ (a : Actor). a.hand.place) view) i };
+        seen = sym (ap (λ (a : Actor). a.seen) view) i;
+      });
+      seen = subst (λ (a : Actor). SeesOn first.me.0.seen a.seen) (sym view) (sees_single first.me.0.seen (sight (known.reference + 9) word));
+    }) took.on) amount new ends units took.units (λ key. refl)

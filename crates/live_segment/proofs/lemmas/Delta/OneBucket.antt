@@ -34,7 +34,7 @@ use Rattle.live_segment.specs.Snapshot.Counts.{StandsAt}
 use Rattle.segment_promises.specs.Onward.{SeesOn}
 use Rattle.live_segment.specs.Steps.{IsSame, Pass, Stepped}
 use Rattle.segment_promises.proofs.Growing.{grows_by, grows_not}
-use Rattle.live_segment.proofs.lemmas.Steps.Proceeding.{sees_on, sees_not}
+use Rattle.live_segment.proofs.lemmas.Steps.Proceeding.{sees_count, sees_on, sees_not}
 use Rattle.segment_promises.proofs.Calls.Sights.{began_still, seen_here, saw_bucket, saw_single, saw_word}
 use Rattle.live_segment.proofs.lemmas.Snapshot.Seeing.{began, takes_sees}
 
@@ -74,21 +74,6 @@ takes_then a b c more rest first second = record {
       ∙ ap (λ (l : List Taken). record a { hand = record a.hand { place = c.hand.place }; deltas = record a.deltas { taken = l }; seen = c.seen })
       (then_more more rest a.deltas.taken));
   seen = sees_on a.seen b.seen c.seen first.seen second.seen;
-}
-
--- a count or a mark was seen
-pub sees_count : (a : Seen) (more : List Sighting) → SeesOn a (record a { counts = a.counts ++ more })
-sees_count a more = record {
-  free = omega arith;
-  corrupt = λ saw. saw;
-  warned = omega arith;
-  chain = grows_not a.chain;
-  ends = grows_not a.ends;
-  tails = grows_not a.tails;
-  singles = grows_not a.singles;
-  counts = grows_by a.counts more;
-  words = grows_not a.words;
-  cursors = grows_not a.cursors;
 }
 
 pub saw_here : (a : Actor) (at word : ℕ) → a.since.counts ≤ length a.seen.counts

@@ -44,7 +44,8 @@ use Rattle.live_segment.specs.Steps.GhostNotes.{KnowsAlone, Noted}
 use Rattle.live_segment.proofs.lemmas.Add.Beginning.{known_there}
 use Rattle.live_segment.proofs.lemmas.Snapshot.BucketsSeen.{counts_there}
 use Rattle.segment_promises.proofs.Calls.Sights.{long_still}
-use Rattle.live_segment.proofs.lemmas.Delta.OneBucket.{marked, none_packed, nothing_more, saw_here, sees_count, takes_by, takes_not, takes_of}
+use Rattle.live_segment.proofs.lemmas.Delta.OneBucket.{marked, none_packed, nothing_more, saw_here, takes_by, takes_not, takes_of}
+use Rattle.live_segment.proofs.lemmas.Steps.Proceeding.{sees_count, sees_lists}
 use Rattle.segment_promises.proofs.Growing.{ended_grows, grows_by, grows_not}
 use Rattle.segment_promises.proofs.Ranks.{on_units}
 use Rattle.segment_promises.proofs.Calls.Places.{looks_again, looks_there}
@@ -165,18 +166,8 @@ module _ (segment : Segment) (known : Known) (word : ℕ) (old : Pass) (takes : 
     }
 
     sees : SeesOn old.me.0.seen seen
-    sees = record {
-      free = omega arith;
-      corrupt = λ saw. saw;
-      warned = omega arith;
-      chain = grows_not old.me.0.seen.chain;
-      ends = ended_grows old.me.0.seen.ends (known.reference + 8) (counts == 0);
-      tails = grows_not old.me.0.seen.tails;
-      singles = grows_not old.me.0.seen.singles;
-      counts = grows_not old.me.0.seen.counts;
-      words = grows_by old.me.0.seen.words (sight_counts known.reference counts);
-      cursors = grows_not old.me.0.seen.cursors;
-    }
+    sees = sees_lists old.me.0.seen (grows_not old.me.0.seen.chain) (ended_grows old.me.0.seen.ends (known.reference + 8) (counts == 0)) (grows_not old.me.0.seen.tails)
+        (grows_not old.me.0.seen.singles) (grows_not old.me.0.seen.counts) (grows_by old.me.0.seen.words (sight_counts known.reference counts)) (grows_not old.me.0.seen.cursors)
 
     abbrev place : Place
     place = Looking (record (look_of old.me.0.hand.place known.reference) { counts = counts })

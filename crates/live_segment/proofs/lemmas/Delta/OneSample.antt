@@ -1,5 +1,5 @@
 -- A delta takes what is counted in one sample of a sparse histogram: the sample's mark is raised to the count that was loaded.
-use Rattle.std.proofs.Common.{◌≡◌, ℕ, ◌+◌, ◌-◌, ℤ, max, false, List, ◌++◌, Option, inr, refl, sym, ap, subst, ◌∙◌, arith}
+use Rattle.std.proofs.Common.{◌≡◌, ℕ, ◌+◌, ◌-◌, ℤ, max, List, ◌++◌, Option, inr, refl, sym, ap, subst, ◌∙◌, arith}
 use Rattle.std.specs.Prelude.{unwrap_or}
 use Rattle.std.specs.Int.{cast_signed, w64}
 use Rattle.segment_machine.specs.declared.actor.Actor.{Actor}
@@ -7,51 +7,29 @@ use Rattle.segment_machine.specs.declared.actor.Known.{Known}
 use Rattle.segment_machine.specs.declared.actor.Taken.{Taken}
 use Rattle.segment_machine.specs.declared.place.Place.TheVariants.{Idle}
 use Rattle.segment_machine.specs.declared.seen.Seen.{Seen}
-use Rattle.segment_machine.specs.Actor.{SawCount, is_bound, is_opener, known_at}
+use Rattle.segment_machine.specs.Actor.{SawCount, is_bound}
 use Rattle.segment_machine.specs.Calls.{back, sight}
 use Rattle.segment_machine.specs.Event.{taking_event}
 use Rattle.segment_machine.specs.Taking.{raise_mark, taken_key}
 use Rattle.segment_machine.proofs.Values.{value_word}
 use Rattle.segment_promises.specs.Onward.{is_holding}
 use Rattle.live_segment.specs.declared.segment.Segment.{Segment}
-use Rattle.live_segment.specs.Delta.Outcome.{HasTakenSample, MayTakeSample, TakesOn, TakesValues, units_of_key}
+use Rattle.live_segment.specs.Delta.Outcome.{HasTakenSample, MayTakeSample, TakesOn, units_of_key}
+use Rattle.live_segment.specs.List.Values.SampleCall.{OfDelta}
 use Rattle.live_segment.specs.Holders.{MayStep}
-use Rattle.live_segment.specs.Steps.{IsSame, Pass, Stepped}
-use Rattle.live_segment.proofs.lemmas.Delta.OneBucket.{marked, saw_here, sees_count, takes_by, takes_of}
-use Rattle.segment_promises.proofs.Calls.Sights.{began_still, saw_count}
+use Rattle.live_segment.specs.Steps.{Pass, Stepped}
+use Rattle.live_segment.proofs.lemmas.Delta.OneBucket.{marked, saw_here, takes_by}
+use Rattle.segment_promises.proofs.Calls.Sights.{saw_count}
+use Rattle.live_segment.proofs.lemmas.List.SampleCalls.{goes_on}
 use Rattle.live_segment.proofs.lemmas.Snapshot.Seeing.{began, takes_sees}
-
--- ---- values
-
-module _ (segment : Segment) (known : Known) (old : Pass) (takes : TakesValues segment known old) where
-  -- it takes them still once its delta went on
-  pub values_on : (new : Pass) (more : List (ℤ × ℕ)) → IsSame old new → TakesOn more old.me.0 new.me.0 → is_bound new.me.0.hand.place ≡ false
-      → is_holding new.me.0.hand.place ≡ false → TakesValues segment known new
-  values_on new more same on free apart = record {
-    table = same.0 ∙ takes.table;
-    recorder = ap (λ (a : Actor). is_opener a.role) on.view ∙ takes.recorder;
-    of = record {
-      shape = ap (λ (a : Actor). a.segment.shape) on.view ∙ takes.of.shape;
-      version = ap (λ (a : Actor). a.segment.version) on.view ∙ takes.of.version;
-      cursors = ap (λ (a : Actor). a.segment.cursors) on.view ∙ takes.of.cursors;
-    };
-    alone = ap (λ (a : Actor). known_at a.answers.names known.reference) on.view ∙ takes.alone;
-    sparse = takes.sparse;
-    takes = takes_of old.me.0 new.me.0 more known.reference known on takes.takes;
-    free = free;
-    apart = apart;
-    singles = (began_still old.me.0 new.me.0 (takes_sees old.me.0 new.me.0 more on) (began old.me.0 takes.singles takes.counts)).singles;
-    counts = (began_still old.me.0 new.me.0 (takes_sees old.me.0 new.me.0 more on) (began old.me.0 takes.singles takes.counts)).counts;
-  }
-
--- ---- one sample
+use Rattle.live_segment.proofs.lemmas.Steps.Proceeding.{sees_count}
 
 module _ (segment : Segment) (known : Known) (value : ℤ) (sample count : ℕ) (old : Pass) (may : MayTakeSample segment known value sample count old) where
   pub may_raise : MayStep segment old (taking_event (raise_mark (sample + 7) count))
   may_raise =
       let some = may.some in record {
-        table = may.takes.table;
-        recorder = may.takes.recorder;
+        table = may.takes.looks.seated.table;
+        recorder = may.takes.looks.seated.recorder;
         ready = (omega (arith, some), inr (sample, known.reference, known, may.loaded, may.saw.1, may.takes.takes, refl));
       }
 
@@ -76,15 +54,15 @@ module _ (segment : Segment) (known : Known) (value : ℤ) (sample count : ℕ) 
 
     pub took_units : (units : ℕ) → units ≡ count - found → HasTakenSample segment known value sample units old new
     took_units units is = record {
-      takes = values_on segment known old may.takes new (units_of_key value (count - found)) raise.same raised (ap is_bound idle) (ap is_holding idle);
+      takes = goes_on OfDelta segment known old new (units_of_key value (count - found)) may.takes raised raise.same (ap is_bound idle) (ap is_holding idle);
       on = subst (λ (n : ℕ). TakesOn (units_of_key value n) old.me.0 new.me.0) (sym is) raised;
       seen = ap (λ (a : Actor). a.seen) raise.view ∙ (λ i. record old.me.0.seen { counts = sym (ap (λ (a : Actor). a.seen.counts) raise.view) i });
       took = (
         count,
-        saw_count old.me.0 new.me.0 (takes_sees old.me.0 new.me.0 (units_of_key value (count - found)) raised) (began old.me.0 may.takes.singles may.takes.counts) (sample + 6) count may.counted,
+        saw_count old.me.0 new.me.0 (takes_sees old.me.0 new.me.0 (units_of_key value (count - found)) raised) (began old.me.0 may.takes.looks.singles may.takes.looks.counts) (sample + 6) count may.counted,
         inr (
           max found count,
-          subst (λ (a : Actor). SawCount a (sample + 7) (max found count)) (sym raise.view) (saw_here old.me.0 (sample + 7) (max found count) may.takes.counts),
+          subst (λ (a : Actor). SawCount a (sample + 7) (max found count)) (sym raise.view) (saw_here old.me.0 (sample + 7) (max found count) may.takes.looks.counts),
           omega arith,
         ),
       );

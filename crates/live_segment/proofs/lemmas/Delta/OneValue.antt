@@ -3,50 +3,27 @@ use Rattle.std.proofs.Common.{◌≡◌, ◌≢◌, ℕ, ℤ, if◌then◌else�
 use Rattle.std.proofs.lemmas.Bool.{lt-ltb}
 use Rattle.segment_machine.specs.declared.actor.Actor.{Actor}
 use Rattle.segment_machine.specs.declared.actor.Known.{Known}
-use Rattle.segment_machine.specs.declared.actor.Taken.{Taken}
 use Rattle.segment_machine.specs.declared.seen.Seen.{Seen}
 use Rattle.segment_machine.specs.Made.{SawSample}
 use Rattle.segment_machine.specs.Note.{TookSample}
 use Rattle.segment_machine.specs.Taking.{IsLaterSample}
 use Rattle.live_segment.specs.declared.segment.Segment.{Segment}
 use Rattle.live_segment.specs.Delta.Outcome.{HasTakenSample, MayTakeSample, TakesOn, TakesValues, units_of_key}
-use Rattle.segment_promises.specs.Onward.{SeesOn}
 use Rattle.live_segment.specs.List.SampleRecords.{CountsSample, HasUnits, SeesSample}
 use Rattle.live_segment.specs.Steps.{IsSame, Pass}
 use Rattle.segment_promises.specs.Values.{Passes}
 use Rattle.live_segment.specs.List.Values.{TakesValue}
-use Rattle.live_segment.proofs.lemmas.Delta.OneBucket.{nothing_more, takes_by, takes_then}
-use Rattle.live_segment.proofs.lemmas.Delta.OneSample.{values_on}
-use Rattle.segment_promises.proofs.Growing.{grows_not}
+use Rattle.live_segment.specs.List.Values.SampleCall.{OfDelta}
+use Rattle.live_segment.proofs.lemmas.Delta.OneBucket.{takes_then}
+use Rattle.live_segment.proofs.lemmas.List.SampleCalls.{goes_on, seen_one}
 
-module _ (segment : Segment) (known : Known) (at : ℕ) (old mid : Pass) (takes : TakesValues segment known old) (same : IsSame old mid)
+module _ {segment : Segment} {known : Known} (at : ℕ) {old mid : Pass} (takes : TakesValues segment known old) (same : IsSame old mid)
     (sees : SeesSample old.me.0 mid.me.0) where
-  sees_on_sample : SeesOn old.me.0.seen (record old.me.0.seen { words = mid.me.0.seen.words; counts = mid.me.0.seen.counts })
-  sees_on_sample = record {
-    free = omega arith;
-    corrupt = λ saw. saw;
-    warned = omega arith;
-    chain = grows_not old.me.0.seen.chain;
-    ends = grows_not old.me.0.seen.ends;
-    tails = grows_not old.me.0.seen.tails;
-    singles = grows_not old.me.0.seen.singles;
-    counts = sees.counts;
-    words = sees.words;
-    cursors = grows_not old.me.0.seen.cursors;
-  }
-
   none_taken : TakesOn [] old.me.0 mid.me.0
-  none_taken =
-      let seen : Seen = record old.me.0.seen { words = mid.me.0.seen.words; counts = mid.me.0.seen.counts } in
-      takes_by old.me.0 mid.me.0 mid.me.0.hand.place [] seen
-      (sees.view ∙ ap (λ (l : List Taken). record old.me.0 {
-        hand = record old.me.0.hand { place = mid.me.0.hand.place };
-        deltas = record old.me.0.deltas { taken = l };
-        seen = seen;
-      }) (sym (nothing_more old.me.0.deltas.taken))) sees_on_sample
+  none_taken = seen_one OfDelta old.me.0 mid.me.0 sees
 
   takes_mid : TakesValues segment known mid
-  takes_mid = values_on segment known old takes mid [] same none_taken sees.free sees.apart
+  takes_mid = goes_on OfDelta segment known old mid [] takes none_taken same sees.free sees.apart
 
   chain_mid : mid.me.0.seen.chain ≡ old.me.0.seen.chain
   chain_mid = ap (λ (a : Actor). a.seen.chain) sees.view
@@ -59,11 +36,11 @@ module _ (segment : Segment) (known : Known) (at : ℕ) (old mid : Pass) (takes 
       by (inl none) = inr none
       by (inr (value, saw, zero)) = inl (value, saw, (0, zero, inl refl))
 
-  module _ (value : ℤ) (count : ℕ) (has : HasUnits known.reference at value count mid.me.0) where
+  module _ {value : ℤ} {count : ℕ} (has : HasUnits known.reference at value count mid.me.0) where
     pub may_take : MayTakeSample segment known value at count mid
     may_take = record { takes = takes_mid; saw = has.saw; loaded = has.loaded; counted = has.counted; some = has.some }
 
-    module _ (units : ℕ) (late : Pass) (taken : HasTakenSample segment known value at units mid late) where
+    module _ {units : ℕ} {late : Pass} (taken : HasTakenSample segment known value at units mid late) where
       late_is : late.me.0 ≡ record mid.me.0 {
         hand = record mid.me.0.hand { place = late.me.0.hand.place };
         deltas = late.me.0.deltas;

@@ -3,7 +3,6 @@ use Rattle.std.proofs.Common.{◌≡◌, ◌≢◌, ℕ, ◌+◌, ◌-◌, ◌�
 use Rattle.std.specs.List.{Contains}
 use Rattle.std.proofs.lemmas.List.{append-nil, drop-append-le}
 use Rattle.std.proofs.lemmas.List.Elements.{Contains-append_right}
-use Rattle.bucket_ranges.specs.declared.spec.Spec.TheVariants as spec
 use Rattle.segment_machine.specs.declared.actor.Actor.{Actor}
 use Rattle.segment_machine.specs.declared.actor.Known.{Known}
 use Rattle.segment_machine.specs.declared.place.Place.{Place}
@@ -17,11 +16,11 @@ use Rattle.segment_machine.specs.Made.{SawSample}
 use Rattle.segment_machine.specs.Taking.{IsLaterSample, at_count, load_count}
 use Rattle.segment_promises.specs.Onward.{is_holding}
 use Rattle.live_segment.specs.declared.segment.Segment.{Segment}
-use Rattle.live_segment.specs.Hist.ListSearch.{Meets, SeesWords}
-use Rattle.live_segment.specs.Holders.{table_of, MayStep}
+use Rattle.live_segment.specs.Hist.ListSearch.{SeesWords}
+use Rattle.live_segment.specs.Holders.{MayStep}
 use Rattle.live_segment.specs.List.SampleRecords.{SeesSample}
+use Rattle.live_segment.specs.Ready.{LooksAtValues}
 use Rattle.live_segment.specs.Steps.{Pass, IsSame, Stepped}
-use Rattle.live_segment.specs.Steps.GhostNotes.{KnowsAlone}
 use Rattle.live_segment.proofs.lemmas.Add.Beginning.{known_there}
 use Rattle.live_segment.proofs.lemmas.List.Showing.{meets_still}
 use Rattle.segment_promises.proofs.Calls.Places.{not_looking}
@@ -50,37 +49,36 @@ sees_no_count a b free apart sees = record {
   apart = ap (λ (x : Actor). is_holding x.hand.place) sees.view ∙ apart;
 }
 
-module _ (segment : Segment) (known : Known) (first old : Pass) (at : ℕ) (value : ℤ) (table : first.table_id ≡ table_of segment)
-    (records : is_opener first.me.0.role ≡ false) (alone : KnowsAlone first.me.0 known) (sparse : known.spec ≡ spec.Sparse)
-    (apart : is_holding first.me.0.hand.place ≡ false) (since : first.me.0.since.counts ≤ length first.me.0.seen.counts) (met : Meets at first.me.0)
-    (same : IsSame first old) (sees : SeesWords first.me.0 old.me.0) (saw : SawSample old.me.0.seen known.reference value at) where
+module _ {segment : Segment} {known : Known} {first old : Pass} (at : ℕ) (value : ℤ) (looks : LooksAtValues segment known first)
+    (met : Contains first.me.0.seen.chain at) (same : IsSame first old) (sees : SeesWords first.me.0 old.me.0)
+    (saw : SawSample old.me.0.seen known.reference value at) where
   abbrev event : Event
   event = taking_event (load_count (at + 6))
 
   pub may_count : MayStep segment old event
-  may_count = let there = meets_still at first.me.0 old.me.0 sees met in record {
-    table = same.0 ∙ table;
-    recorder = ap (λ (x : Actor). is_opener x.role) sees.view ∙ records;
+  may_count = let there = meets_still at first.me.0 old.me.0 sees (looks.free, met) in record {
+    table = same.0 ∙ looks.seated.table;
+    recorder = ap (λ (x : Actor). is_opener x.role) sees.view ∙ looks.seated.recorder;
     ready = inr (
       known,
       at,
       value,
       (
-        subst (λ (x : Actor). Contains x.answers.names known) (sym sees.view) (known_there first.me.0.answers.names known.reference known alone).0,
+        subst (λ (x : Actor). Contains x.answers.names known) (sym sees.view) (known_there first.me.0.answers.names known.reference known looks.alone).0,
         refl,
-        sparse,
+        looks.sparse,
       ),
       there.1,
       saw,
       refl,
       there.0,
-      not_looking old.me.0.hand.place (ap (λ (x : Actor). is_holding x.hand.place) sees.view ∙ apart),
+      not_looking old.me.0.hand.place (ap (λ (x : Actor). is_holding x.hand.place) sees.view ∙ looks.apart),
     );
   }
 
-  module _ (found : ℕ) (new : Pass) (step : Stepped old event found new) where
+  module _ {found : ℕ} {new : Pass} (step : Stepped old event found new) where
     apart_old : is_holding old.me.0.hand.place ≡ false
-    apart_old = ap (λ (x : Actor). is_holding x.hand.place) sees.view ∙ apart
+    apart_old = ap (λ (x : Actor). is_holding x.hand.place) sees.view ∙ looks.apart
 
     counts_are : new.me.0.seen.counts ≡ first.me.0.seen.counts ++ sight (at + 6) found
     counts_are = ap (λ (x : Actor). x.seen.counts) step.view ∙ ap (λ (x : Actor). x.seen.counts ++ sight (at + 6) found) sees.view
@@ -108,7 +106,7 @@ module _ (segment : Segment) (known : Known) (first old : Pass) (at : ℕ) (valu
         let seen : Sighting = record { at = at + 6; word = found } in
         let began : new.me.0.since.counts ≡ first.me.0.since.counts = ap (λ (x : Actor). x.since.counts) step.view ∙ ap (λ (x : Actor). x.since.counts) sees.view in
         subst (λ (l : List Sighting). Contains l seen)
-        (sym ((λ i. drop (began i) (counts_are i)) ∙ drop-append-le first.me.0.since.counts first.me.0.seen.counts (sight (at + 6) found) since))
+        (sym ((λ i. drop (began i) (counts_are i)) ∙ drop-append-le first.me.0.since.counts first.me.0.seen.counts (sight (at + 6) found) looks.counts))
         (Contains-append_right (drop first.me.0.since.counts first.me.0.seen.counts) (sight (at + 6) found) seen (0, omega arith, refl))
 
     -- it stands at it

@@ -34,7 +34,7 @@ use Rattle.live_segment.specs.Hist.Search.{HasMadeNone, HasSearched, Searches, W
 use Rattle.live_segment.proofs.lemmas.List.Ends.{all_on}
 use Rattle.live_segment.proofs.lemmas.Alloc.Claimed.{sees_header}
 use Rattle.live_segment.proofs.lemmas.Alloc.Rooms.{lacked_since, lacks_room}
-use Rattle.live_segment.proofs.lemmas.Steps.Proceeding.{does_not, does_on, sees_on}
+use Rattle.live_segment.proofs.lemmas.Steps.Proceeding.{does_not, does_on, sees_not, sees_on}
 use Rattle.segment_promises.proofs.Growing.{grows_by, grows_not, grows_same}
 use Rattle.live_segment.proofs.lemmas.Add.Refusing.{at_rest}
 use Rattle.live_segment.proofs.lemmas.Hist.Searching.{others_still}
@@ -162,18 +162,7 @@ filled_around a free = record {
     lacked = grows_by a.done.lacked _;
     spoiled = λ set. refl;
   };
-  seen = record {
-    free = omega arith;
-    corrupt = λ saw. saw;
-    warned = omega arith;
-    chain = grows_not a.seen.chain;
-    ends = grows_not a.seen.ends;
-    tails = grows_not a.seen.tails;
-    singles = grows_not a.seen.singles;
-    counts = grows_not a.seen.counts;
-    words = grows_not a.seen.words;
-    cursors = grows_not a.seen.cursors;
-  };
+  seen = sees_not a.seen;
   untouched = (refl, refl);
 }
 

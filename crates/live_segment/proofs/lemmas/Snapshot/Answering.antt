@@ -16,16 +16,21 @@ use Rattle.segment_machine.specs.Calls.{sight}
 use Rattle.segment_machine.specs.Event.{taking_event}
 use Rattle.segment_machine.specs.Taking.{load_sum}
 use Rattle.segment_machine.specs.Note.{answers, MayNote, noted, SawAll, SawBucket}
+use Rattle.live_segment.specs.declared.recorder.KnownHistogram.{KnownHistogram}
+use Rattle.live_segment.specs.declared.rule.Setting.{Setting}
 use Rattle.live_segment.specs.declared.segment.Segment.{Segment}
 use Rattle.live_segment.specs.Holders.{table_of, MayStep}
 use Rattle.segment_promises.specs.Onward.{SeesOn}
-use Rattle.live_segment.specs.Snapshot.Outcome.{HasLooked, HasSeenBuckets, HasSnapshot, saw_sum}
-use Rattle.live_segment.specs.Steps.{Pass, IsAtRest, IsSame}
+use Rattle.live_segment.specs.Snapshot.Outcome.{HasLooked, HasSeenAll, HasSeenBuckets, HasSnapshot, saw_sum}
+use Rattle.live_segment.specs.Steps.{Pass, IsAtRest}
 use Rattle.live_segment.specs.Steps.Taking.{answered_as}
 use Rattle.live_segment.specs.Steps.GhostNotes.{KnowsAlone}
+use Rattle.live_segment.specs.Known.{KnowsRight, known_view}
 use Rattle.live_segment.proofs.lemmas.Add.Beginning.{known_there}
+use Rattle.segment_promises.specs.Totals.{blank_totals}
+use Rattle.segment_promises.proofs.Calls.BlankTotals.{keys_of_buckets}
 use Rattle.segment_promises.proofs.Growing.{grows_by, grows_not}
-use Rattle.live_segment.proofs.lemmas.Steps.Proceeding.{sees_on}
+use Rattle.live_segment.proofs.lemmas.Steps.Proceeding.{sees_count, sees_on}
 
 -- what it had seen since it began to look it has still seen, where it sees more counts
 pub counted_since : (a : Actor) (more : List Sighting) → a.since.counts ≤ length a.seen.counts
@@ -43,16 +48,16 @@ pub not_sparse : (s : Spec) → has_buckets s ≡ true → s ≢ spec.Sparse
 not_sparse s has is = true≢false (sym has ∙ ap has_buckets is)
 
 -- it may load the sum then
-pub may_sum : (segment : Segment) (known : Known) (first seat : Pass) → first.table_id ≡ table_of segment → IsAtRest first.me.0 → KnowsAlone first.me.0 known
-    → IsSame first seat → HasLooked first.me.0 seat.me.0 → MayStep segment seat (taking_event (load_sum known.reference))
-may_sum segment known first seat table rests alone same looked = record {
-  table = same.0 ∙ table;
+pub may_sum : (segment : Segment) (known : Known) (seat : Pass) (old : Actor) → seat.table_id ≡ table_of segment → IsAtRest old → KnowsAlone old known
+    → HasLooked old seat.me.0 → MayStep segment seat (taking_event (load_sum known.reference))
+may_sum segment known seat old table rests alone looked = record {
+  table = table;
   recorder = ap (λ (x : Actor). is_opener x.role) looked.same ∙ rests.recorder;
   ready = (
     looked.free,
     (
       known,
-      subst (λ (x : Actor). Contains x.answers.names known) (sym looked.same) (known_there first.me.0.answers.names known.reference known alone).0,
+      subst (λ (x : Actor). Contains x.answers.names known) (sym looked.same) (known_there old.answers.names known.reference known alone).0,
       refl,
     ),
   );
@@ -81,18 +86,7 @@ module _ (known : Known) (a b : Actor) (looked : HasLooked a b) (snapshot : Snap
   same_answer = ap (λ (x : Actor). answered_as (saw_sum x known.reference snapshot.sum snapshot.redundant) known snapshot) looked.same
 
   sees : SeesOn b.seen summed.seen
-  sees = record {
-    free = omega arith;
-    corrupt = λ saw. saw;
-    warned = omega arith;
-    chain = grows_not b.seen.chain;
-    ends = grows_not b.seen.ends;
-    tails = grows_not b.seen.tails;
-    singles = grows_not b.seen.singles;
-    counts = grows_by b.seen.counts (sight (known.reference + 13) snapshot.redundant);
-    words = grows_not b.seen.words;
-    cursors = grows_not b.seen.cursors;
-  }
+  sees = sees_count b.seen (sight (known.reference + 13) snapshot.redundant)
 
   -- it may note that, and has
   pub may_answer : (now : Actor) → KnowsAlone a known → SawAll summed known answered → now ≡ summed → MayNote now (answers (answered_as now known snapshot))
@@ -138,7 +132,7 @@ module _ (known : Known) (a b : Actor) (snapshot : Snapshot) (has : has_buckets 
         )) form,
   )
 
-  pub saw_buckets : map (λ (total : ℤ × ℕ). total.0) snapshot.counts.items ≡ map (bucket_key (Some known)) (range_with_len 0 (buckets_of known.spec))
+  saw_buckets : map (λ (total : ℤ × ℕ). total.0) snapshot.counts.items ≡ map (bucket_key (Some known)) (range_with_len 0 (buckets_of known.spec))
       → SawAll (summed known a b seen.looked snapshot) known (answered known a b seen.looked snapshot)
   saw_buckets keys = record {
     buckets = λ _. (keys, λ bucket count there. saw_bucket bucket count.1 (seen.saw bucket count there));
@@ -148,3 +142,15 @@ module _ (known : Known) (a b : Actor) (snapshot : Snapshot) (has : has_buckets 
     sum = refl;
     redundant = redundant_last known a b seen.looked snapshot;
   }
+
+pub has_seen_buckets : {setting : Setting} {histogram : KnownHistogram} {a b : Actor} {totals counts : List (ℤ × ℕ)} → KnowsRight setting a histogram
+    → has_buckets histogram.spec ≡ true → totals ≡ blank_totals histogram.ranges
+    → map (λ (total : ℤ × ℕ). total.0) counts ≡ map (λ (total : ℤ × ℕ). total.0) totals → HasSeenBuckets (known_view histogram) a counts b
+    → HasSeenAll (known_view histogram) a counts b
+has_seen_buckets {setting} {histogram} {a} {b} {totals} {counts} right has blank keys seen = record {
+  looked = seen.looked;
+  saw = λ behind once snapshot is.
+      saw_buckets (known_view histogram) a b snapshot has (subst (λ (l : List (ℤ × ℕ)). HasSeenBuckets (known_view histogram) a l b) (sym is) seen)
+      (ap (map (λ (total : ℤ × ℕ). total.0)) (is) ∙ (keys ∙ (ap (map (λ (total : ℤ × ℕ). total.0)) blank
+      ∙ (keys_of_buckets (known_view histogram) histogram.ranges right.lawful has right.ranges).0)));
+}

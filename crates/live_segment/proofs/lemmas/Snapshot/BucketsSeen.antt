@@ -31,7 +31,8 @@ use Rattle.live_segment.specs.Snapshot.Outcome.{HavePacked, HasLooked, HasSeenBu
 use Rattle.live_segment.specs.Steps.{Pass, IsAtRest, Stepped}
 use Rattle.live_segment.specs.Steps.GhostNotes.{KnowsAlone, MayDo, Noted}
 use Rattle.live_segment.proofs.lemmas.Add.Attempts.{is_on}
-use Rattle.live_segment.proofs.lemmas.Add.Beginning.{known_there, sees_single}
+use Rattle.live_segment.proofs.lemmas.Add.Beginning.{known_there}
+use Rattle.live_segment.proofs.lemmas.Steps.Proceeding.{sees_lists, sees_single}
 use Rattle.segment_promises.proofs.Growing.{ended_grows, grows_by, grows_not}
 use Rattle.segment_promises.proofs.Calls.Places.{looks_again, looks_there}
 use Rattle.segment_promises.proofs.Calls.SeenWords.{seen_now}
@@ -176,18 +177,8 @@ module _ {segment : Segment} (known : Known) {first : Pass} (seated : IsSeated s
         view = now.view
 
         sees : SeesOn a.seen seen
-        sees = record {
-          free = omega arith;
-          corrupt = λ saw. saw;
-          warned = omega arith;
-          chain = grows_not a.seen.chain;
-          ends = ended_grows a.seen.ends (known.reference + 8) (counts == 0);
-          tails = grows_not a.seen.tails;
-          singles = grows_by a.seen.singles (sight (known.reference + 9) word);
-          counts = now.more;
-          words = grows_by a.seen.words (sight_counts known.reference counts);
-          cursors = grows_not a.seen.cursors;
-        }
+        sees = sees_lists a.seen (grows_not a.seen.chain) (ended_grows a.seen.ends (known.reference + 8) (counts == 0)) (grows_not a.seen.tails)
+            (grows_by a.seen.singles (sight (known.reference + 9) word)) now.more (grows_by a.seen.words (sight_counts known.reference counts)) (grows_not a.seen.cursors)
 
         pub saw_off : HasSeenBuckets known a after three.me.0
         saw_off = record {

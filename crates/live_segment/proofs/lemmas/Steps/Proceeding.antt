@@ -1,10 +1,13 @@
 -- A call of a recorder goes on, step by step.
-use Rattle.std.proofs.Common.{refl, ap, ◌∙◌, arith}
+use Rattle.std.proofs.Common.{ℕ, ◌+◌, ◌==◌, List, ◌++◌, refl, ap, ◌∙◌, arith}
 use Rattle.segment_machine.specs.declared.actor.Actor.{Actor}
 use Rattle.segment_machine.specs.declared.actor.Done.{Done}
 use Rattle.segment_machine.specs.declared.seen.Seen.{Seen}
-use Rattle.segment_promises.specs.Onward.{DoesOn, SeesOn}
-use Rattle.segment_promises.proofs.Growing.{grows_not, grows_on}
+use Rattle.segment_machine.specs.declared.seen.Sighting.{Sighting}
+use Rattle.segment_machine.specs.Calls.{ended}
+use Rattle.segment_machine.specs.Walking.{extended}
+use Rattle.segment_promises.specs.Onward.{DoesOn, Grows, SeesOn}
+use Rattle.segment_promises.proofs.Growing.{ended_grows, extended_grows, grows_by, grows_not, grows_on}
 use Rattle.live_segment.specs.Add.Progress.{FrameOfCall, LooksOn}
 
 -- ---- what is done and seen
@@ -12,19 +15,44 @@ use Rattle.live_segment.specs.Add.Progress.{FrameOfCall, LooksOn}
 pub does_not : (a : Done) → DoesOn a a
 does_not a = record { same = refl; claimed = grows_not a.claimed; raised = grows_not a.raised; published = grows_not a.published; filled = λ e. e; lacked = grows_not a.lacked; spoiled = λ e. refl }
 
-pub sees_not : (a : Seen) → SeesOn a a
-sees_not a = record {
+-- it has come to more of what it sees
+pub sees_lists : (a : Seen) {chain ends tails : List ℕ} {singles counts words cursors : List Sighting} → Grows a.chain chain → Grows a.ends ends
+    → Grows a.tails tails → Grows a.singles singles → Grows a.counts counts → Grows a.words words → Grows a.cursors cursors
+    → SeesOn a (record a { chain = chain; ends = ends; tails = tails; singles = singles; counts = counts; words = words; cursors = cursors })
+sees_lists a chain ends tails singles counts words cursors = record {
   free = omega arith;
   corrupt = λ saw. saw;
   warned = omega arith;
-  chain = grows_not a.chain;
-  ends = grows_not a.ends;
-  tails = grows_not a.tails;
-  singles = grows_not a.singles;
-  counts = grows_not a.counts;
-  words = grows_not a.words;
-  cursors = grows_not a.cursors;
+  chain = chain;
+  ends = ends;
+  tails = tails;
+  singles = singles;
+  counts = counts;
+  words = words;
+  cursors = cursors;
 }
+
+module _ (a : Seen) where
+  pub sees_not : SeesOn a a
+  sees_not = sees_lists a (grows_not a.chain) (grows_not a.ends) (grows_not a.tails) (grows_not a.singles) (grows_not a.counts) (grows_not a.words) (grows_not a.cursors)
+
+  pub sees_single : (more : List Sighting) → SeesOn a (record a { singles = a.singles ++ more })
+  sees_single more =
+      sees_lists a (grows_not a.chain) (grows_not a.ends) (grows_not a.tails) (grows_by a.singles more) (grows_not a.counts) (grows_not a.words) (grows_not a.cursors)
+
+  pub sees_count : (more : List Sighting) → SeesOn a (record a { counts = a.counts ++ more })
+  sees_count more =
+      sees_lists a (grows_not a.chain) (grows_not a.ends) (grows_not a.tails) (grows_not a.singles) (grows_by a.counts more) (grows_not a.words) (grows_not a.cursors)
+
+  pub sees_words : (more : List Sighting) → SeesOn a (record a { words = a.words ++ more })
+  sees_words more =
+      sees_lists a (grows_not a.chain) (grows_not a.ends) (grows_not a.tails) (grows_not a.singles) (grows_not a.counts) (grows_by a.words more) (grows_not a.cursors)
+
+  -- the next of a record
+  pub sees_next : (at found : ℕ) → SeesOn a (record a { chain = extended a.chain at found; ends = ended a.ends (at + 3) (found == 12) })
+  sees_next at found =
+      sees_lists a (extended_grows a.chain at found) (ended_grows a.ends (at + 3) (found == 12)) (grows_not a.tails) (grows_not a.singles) (grows_not a.counts)
+      (grows_not a.words) (grows_not a.cursors)
 
 pub does_on : (a b c : Done) → DoesOn a b → DoesOn b c → DoesOn a c
 does_on a b c first second = record {

@@ -18,9 +18,8 @@ use Rattle.live_segment.specs.Steps.{IsSame, Pass, Stepped}
 use Rattle.live_segment.specs.Steps.GhostNotes.{entry_notes}
 use Rattle.live_segment.specs.Add.Progress.{CountsAlone, HasCounted, FrameOfCall, Waits, counted_next}
 use Rattle.live_segment.proofs.lemmas.Add.Beginning.{known_there, then_waits}
-use Rattle.live_segment.proofs.lemmas.Add.CountsAlone.{sees_count}
 use Rattle.live_segment.proofs.lemmas.Add.Ended.{changed_behind, next_behind, still_open}
-use Rattle.live_segment.proofs.lemmas.Steps.Proceeding.{does_not, proceeds_on}
+use Rattle.live_segment.proofs.lemmas.Steps.Proceeding.{does_not, proceeds_on, sees_count}
 
 module _ (known : Known) (value : ℤ) (units : ℕ) (old mid : Pass) (may : CountsAlone old.me.0 known (item_of known value units))
     (has : HasCounted (item_of known value units) old.me.0 mid.me.0) where

@@ -1,4 +1,4 @@
-use Rattle.std.proofs.Common.{rules, ℤ, FitsSigned, w64, inl, sym, ap, ◌∙◌, subst}
+use Rattle.std.proofs.Common.{rules, ℤ, FitsSigned, w64, sym, ap, ◌∙◌, subst}
 use Rattle.std.proofs.lemmas.Int.{to_z-of_z}
 use Rattle.segment_machine.specs.declared.actor.Actor.{Actor}
 use Rattle.live_segment.specs.Delta.Outcome.{HasTaken}
@@ -28,7 +28,7 @@ take_units-requires-clause-takes c =
 
 pub take_sum-requires-clause-may : goal.take_sum-requires-clause-may
 take_sum-requires-clause-may c =
-    inl (may_take_sum c.args.self.now (known_view c.args.histogram.now) c.args.seat.now c.take_single-word.new.seat c.take_units.new.seat c.take_single-word.result (takes_word (known_view c.args.histogram.now) c.requires.ready.seated c.requires.ready.rests c.requires.ready.right.alone c.requires.bucketed c.take_single-word.result c.take_single-word.new.seat c.take_single-word.ensures) (view (known_view c.args.histogram.now) c.requires.ready.seated c.requires.ready.rests c.requires.ready.right.alone c.requires.bucketed c.take_single-word.result c.take_single-word.new.seat c.take_single-word.ensures) _ c.take_units.ensures.same c.take_units.ensures.taken)
+    may_take_sum c.args.self.now (known_view c.args.histogram.now) c.args.seat.now c.take_single-word.new.seat c.take_units.new.seat c.take_single-word.result (takes_word (known_view c.args.histogram.now) c.requires.ready.seated c.requires.ready.rests c.requires.ready.right.alone c.requires.bucketed c.take_single-word.result c.take_single-word.new.seat c.take_single-word.ensures) (view (known_view c.args.histogram.now) c.requires.ready.seated c.requires.ready.rests c.requires.ready.right.alone c.requires.bucketed c.take_single-word.result c.take_single-word.new.seat c.take_single-word.ensures) _ c.take_units.ensures.same c.take_units.ensures.taken
 
 pub returns-clause-same : goal.returns-clause-same
 returns-clause-same c =

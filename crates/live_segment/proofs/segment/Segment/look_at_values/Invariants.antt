@@ -1,13 +1,14 @@
 use Rattle.std.proofs.Common.{◌-◌, ◌/◌, ◌≤◌, ℕ, List, vec_capacity}
 use Rattle.live_segment.specs.Known.{known_view}
-use Rattle.live_segment.specs.List.Values.{LooksAlong}
+use Rattle.live_segment.specs.List.Values.{ListsAlong}
+use Rattle.live_segment.specs.List.Values.SampleCall.{OfSnapshot}
 use Rattle.segment_promises.proofs.ValueWalks.{left_of}
 use Rattle.live_segment.proofs.segment.Segment.look_at_values.Given as goal
 
 -- it has listed what it saw of the samples among the records that it passed, and there is room for as many values as fit in a segment
 abbrev pub invariant-loop-at : goal.invariant-loop-at
 invariant-loop-at l = record {
-  looks : (passed : List ℕ) × LooksAlong l.self (known_view l.histogram) passed l.at l.totals.items l.fn.seat l.seat;
+  lists : (passed : List ℕ) × ListsAlong OfSnapshot l.self (known_view l.histogram) passed l.at l.totals.items l.fn.seat l.seat;
   room : (l.self.setting.shape.size - 16) / 5 ≤ vec_capacity l.totals;
 }
 

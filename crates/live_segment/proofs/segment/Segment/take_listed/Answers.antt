@@ -1,80 +1,53 @@
-use Rattle.std.proofs.Common.{◌≡◌, ◌<◌, ◌+◌, ℕ, ℤ, List, [], ◌++◌, Option, length, slice_index, subst, sym, ap, ◌∙◌, arith, vec_capacity}
+use Rattle.std.proofs.Common.{◌≡◌, ◌<◌, ◌+◌, ℕ, ℤ, List, [], ◌++◌, Option, length, subst, sym, ap, ◌∙◌, arith, vec_capacity}
 use Rattle.std.specs.Prelude.{take}
-use Rattle.std.specs.List.{Contains}
 use Rattle.std.proofs.Math.Seq.{take-length}
-use Rattle.std.proofs.lemmas.List.{append-nil, length-take-le, take_more}
-use Rattle.segment_promises.specs.Values.{NoRepeats, listed_of}
-use Rattle.segment_promises.proofs.ValueWalks.{stands_there}
+use Rattle.std.proofs.lemmas.List.{append-nil}
+use Rattle.segment_promises.specs.Values.{listed_of}
 use Rattle.live_segment.specs.Known.{known_view}
-use Rattle.live_segment.specs.List.IndexedValues.{TakesListed}
-use Rattle.live_segment.proofs.lemmas.Delta.ListedDelta.{begins, takes_one}
-use Rattle.live_segment.proofs.lemmas.List.OwnSamples.{new_own, met_own, within_own}
+use Rattle.live_segment.specs.List.IndexedValues.{ListsIndexed}
+use Rattle.live_segment.specs.List.Values.SampleCall.{OfDelta}
+use Rattle.live_segment.proofs.lemmas.List.SampleCalls.{one_taken}
+use Rattle.live_segment.proofs.lemmas.List.ThroughOwn.{begins, lists_one, met, room, room_for_one}
 use Rattle.live_segment.proofs.segment.Segment.take_listed.Goals as goal
 use Rattle.live_segment.proofs.segment.Segment.take_listed.Goals.{in-Some, in_default}
 
 pub loop-at-init : goal.loop-at-init
 loop-at-init c = record {
-  takes = subst (λ (l : List (ℤ × ℕ)). TakesListed c.args.self.now (known_view c.args.histogram.now) [] l c.args.seat.now c.args.seat.now)
-      (sym c.requires.room.0) (begins c.args.self.now (known_view c.args.histogram.now) c.args.seat.now c.requires.takes);
+  lists = subst (λ (l : List (ℤ × ℕ)). ListsIndexed OfDelta c.args.self.now (known_view c.args.histogram.now) [] l c.args.seat.now c.args.seat.now)
+      (sym c.requires.room.0) (begins OfDelta c.args.self.now (known_view c.args.histogram.now) c.args.seat.now c.requires.takes);
   room = c.requires.room.1;
 }
 
 pub take_value-requires-clause-takes : goal.take_value-requires-clause-takes
-take_value-requires-clause-takes c = c.loop-at.invariant.takes.takes
+take_value-requires-clause-takes c = c.loop-at.invariant.lists.goes
 
 pub take_value-requires-clause-met : goal.take_value-requires-clause-met
-take_value-requires-clause-met c =
-    let samples = c.args.samples.now in
-    let i = c.loop-at.at-index in
-    let below : i < length samples = omega (arith, c.loop-at-test.true, c.loop-at.auto.at-index-end) in
-    subst (λ (l : List ℕ). Contains l (slice_index samples i)) (sym c.loop-at.invariant.takes.chain)
-    (met_own c.args.self.now.setting.shape.size c.args.seat.now.me.0.seen c.args.histogram.now.reference samples c.requires.own i below)
+take_value-requires-clause-met c = met c.requires.right c.requires.own c.loop-at.invariant.lists (omega (arith, c.loop-at-test.true, c.loop-at.auto.at-index-end))
 
 pub take_value-requires-clause-room : goal.take_value-requires-clause-room
-take_value-requires-clause-room c =
-    let samples = c.args.samples.now in
-    let i = c.loop-at.at-index in
-    let below : i < length samples = omega (arith, c.loop-at-test.true, c.loop-at.auto.at-index-end) in
-    (within_own c.args.self.now.setting.shape.size c.args.seat.now.me.0.seen c.args.histogram.now.reference samples c.requires.own i below).1
+take_value-requires-clause-room c = room c.requires.right c.requires.own c.loop-at.invariant.lists (omega (arith, c.loop-at-test.true, c.loop-at.auto.at-index-end))
 
 pub push_reserved-requires : goal.push_reserved-requires
 push_reserved-requires c =
-    let samples = c.args.samples.now in
-    let i = c.loop-at.at-index in
-    let below : i < length samples = omega (arith, c.loop-at-test.true, c.loop-at.auto.at-index-end) in
-    let long = length-take-le i samples (omega (arith, below)) in
-    let few = c.loop-at.invariant.takes.lists.few in
-    let enough = c.loop-at.invariant.room in
-    omega (arith, below, long, few, enough)
+    let few = room_for_one c.requires.right c.requires.own c.loop-at.invariant.lists (omega (arith, c.loop-at-test.true, c.loop-at.auto.at-index-end)) in
+    let enough = c.loop-at.invariant.room in omega (arith, few, enough)
 
 pub loop-at-preserved : goal.loop-at-preserved
 loop-at-preserved c =
-    let segment = c.args.self.now in
-    let known = known_view c.args.histogram.now in
-    let samples = c.args.samples.now in
-    let i = c.loop-at.at-index in
-    let at : ℕ = slice_index samples i in
-    let below : i < length samples = omega (arith, c.loop-at-test.true, c.loop-at.auto.at-index-end) in
-    let (front, behind, split) = stands_there c.args.seat.now.me.0.seen.chain known.reference c.requires.right.met in
-    let (index, has, are) = c.requires.own in
-    let was = c.loop-at.invariant.takes in
-    let Taken : List (ℤ × ℕ) → Type 0 = λ taken. TakesListed segment known (take (i + 1) samples) taken c.args.seat.now c.take_value.new.seat in
-    let all : Taken (c.loop-at.taken.items ++ listed_of c.take_value.result) =
-    subst (λ (l : List ℕ). TakesListed segment known l (c.loop-at.taken.items ++ listed_of c.take_value.result) c.args.seat.now c.take_value.new.seat)
-    (sym (take_more samples i 0 below))
-    (takes_one segment known segment.setting.shape.size index (take i samples) at c.loop-at.taken.items c.args.seat.now c.loop-at.seat has was
-    (met_own segment.setting.shape.size c.args.seat.now.me.0.seen known.reference samples c.requires.own i below)
-    (new_own segment.setting.shape.size c.args.seat.now.me.0.seen known.reference samples c.requires.own
-    (subst NoRepeats was.chain c.take_value.ensures.once) i below)
-    front behind split c.take_value.result c.take_value.new.seat c.take_value.ensures.same c.take_value.ensures.takes c.take_value.ensures.behind) in
+    let Listed : List (ℤ × ℕ) → Type 0 =
+    λ listed. ListsIndexed OfDelta c.args.self.now (known_view c.args.histogram.now) (take (c.loop-at.at-index + 1) c.args.samples.now) listed c.args.seat.now c.take_value.new.seat in
+    let all : Listed (c.loop-at.taken.items ++ listed_of c.take_value.result) =
+    lists_one c.requires.right c.requires.own c.loop-at.invariant.lists (omega (arith, c.loop-at-test.true, c.loop-at.auto.at-index-end))
+    (one_taken c.loop-at.taken.items c.take_value.ensures.same c.take_value.ensures.takes)
+    c.take_value.ensures.behind c.take_value.ensures.once in
     let enough = c.loop-at.invariant.room in
     elim c.match-take_value.branch [
       | in-Some w ↦ record {
-        takes = subst Taken (ap (λ (r : Option (ℤ × ℕ)). c.loop-at.taken.items ++ listed_of r) w.in-Some.is ∙ sym (ap (λ v. v.items) w.taken-is ∙ w.push_reserved.ensures.items)) all;
+        lists = subst Listed (ap (λ (r : Option (ℤ × ℕ)). c.loop-at.taken.items ++ listed_of r) w.in-Some.is ∙ sym (ap (λ v. v.items) w.taken-is ∙ w.push_reserved.ensures.items)) all;
         room = let stays = w.push_reserved.ensures.capacity in let same = ap vec_capacity w.taken-is in omega (arith, stays, same, enough);
       }
       | in_default w ↦ record {
-        takes = subst Taken (ap (λ (r : Option (ℤ × ℕ)). c.loop-at.taken.items ++ listed_of r) w.in_default.is
+        lists = subst Listed (ap (λ (r : Option (ℤ × ℕ)). c.loop-at.taken.items ++ listed_of r) w.in_default.is
             ∙ (append-nil c.loop-at.taken.items ∙ sym (ap (λ v. v.items) w.taken-is))) all;
         room = let same = ap vec_capacity w.taken-is in omega (arith, same, enough);
       }
@@ -84,5 +57,5 @@ pub returns : goal.returns
 returns c =
     let samples = c.args.samples.now in
     let all : c.loop-at.at-index ≡ length samples = omega (arith, c.loop-at-test.false, c.loop-at.auto.at-index-end) in
-    subst (λ (l : List ℕ). TakesListed c.args.self.now (known_view c.args.histogram.now) l c.loop-at.taken.items c.args.seat.now c.loop-at.seat)
-    (ap (λ (n : ℕ). take n samples) all ∙ take-length samples) c.loop-at.invariant.takes
+    subst (λ (l : List ℕ). ListsIndexed OfDelta c.args.self.now (known_view c.args.histogram.now) l c.loop-at.taken.items c.args.seat.now c.loop-at.seat)
+    (ap (λ (n : ℕ). take n samples) all ∙ take-length samples) c.loop-at.invariant.lists

@@ -1,4 +1,4 @@
-use Rattle.std.proofs.Common.{rules, ◌≡◌, ◌⊎◌, ℤ, FitsSigned, w64, to_z, of_z, [], ◌∷◌, inl, inr, sym, ap, ◌∙◌, subst, arith}
+use Rattle.std.proofs.Common.{rules, ◌≡◌, ℤ, FitsSigned, w64, to_z, of_z, [], ◌∷◌, sym, ap, ◌∙◌, subst, arith}
 use Rattle.std.specs.Prelude.{◌-ℤ◌}
 use Rattle.std.specs.Int.{cast_signed}
 use Rattle.std.proofs.lemmas.Int.{to_z-of_z, fits_signed_from_abs}
@@ -7,23 +7,12 @@ use Rattle.segment_machine.specs.Note.{has_taken}
 use Rattle.segment_machine.specs.Taking.{swap_sum_mark}
 use Rattle.segment_machine.specs.declared.actor.Actor.{Actor}
 use Rattle.segment_machine.specs.declared.actor.Known.{Known}
-use Rattle.live_segment.specs.declared.segment.Segment.{Segment}
-use Rattle.live_segment.specs.Delta.Outcome.{HasTakenSum, MayTakeSum}
+use Rattle.live_segment.specs.Delta.Outcome.{HasTakenSum}
 use Rattle.live_segment.specs.Known.{known_view}
-use Rattle.segment_promises.specs.Values.{NoRepeats}
-use Rattle.live_segment.specs.List.SampleRecords.{SamplesStandBehind}
 use Rattle.live_segment.specs.Steps.{Pass}
 use Rattle.live_segment.specs.Steps.GhostNotes.{MayDo, Noted}
-use Rattle.live_segment.specs.List.Values.{HasTakenValues}
 use Rattle.live_segment.proofs.lemmas.Delta.DeltaEnds.{may_swap, ended}
-use Rattle.live_segment.proofs.lemmas.Delta.ValuesDelta.{may_take_sum}
 use Rattle.live_segment.proofs.segment.Segment.take_sum.Goals as goal
-
--- it has taken of all buckets, or of all samples up to the end of the list
-may_take : (segment : Segment) (known : Known) (seat : Pass) → MayTakeSum segment known seat ⊎ HasTakenValues segment known seat
-    → SamplesStandBehind seat.me.0 → NoRepeats seat.me.0.seen.chain → MayTakeSum segment known seat
-may_take segment known seat (inl may) behind once = may
-may_take segment known seat (inr has) behind once = may_take_sum segment known seat has behind once
 
 -- a seat that is the same has taken the same
 taken_still : {known : Known} {sum : ℤ} {a : Actor} (old new : Pass) → new ≡ old → HasTakenSum known sum a old.me.0 → HasTakenSum known sum a new.me.0
@@ -34,7 +23,8 @@ swap_sum_mark-requires-clause-may c =
     let fits : FitsSigned w64 c.cast_signed-sum.result = search rules in
     subst (λ (s : ℤ). MayDo c.load_sum.new.seat [] (taking_event (swap_sum_mark c.args.histogram.now.reference s)) (has_taken ∷ []))
     (sym (to_z-of_z w64 c.cast_signed-sum.result fits ∙ c.cast_signed-sum.ensures))
-    (may_swap c.args.self.now (known_view c.args.histogram.now) c.args.seat.now (may_take c.args.self.now (known_view c.args.histogram.now) c.args.seat.now c.requires.may c.load_sum.ensures.behind c.load_sum.ensures.once) c.load_sum.result c.load_sum.new.seat c.load_sum.ensures.step)
+    (may_swap c.args.self.now (known_view c.args.histogram.now) c.args.seat.now c.requires.may c.load_sum.result c.load_sum.new.seat c.load_sum.ensures.step
+    c.load_sum.ensures.behind c.load_sum.ensures.once)
 
 pub returns-clause-taken : goal.returns-clause-taken
 returns-clause-taken c =
@@ -49,6 +39,6 @@ returns-clause-taken c =
     let amount : ℤ = cast_signed w64 c.load_sum.result -ℤ cast_signed w64 c.swap_sum_mark.result in
     let small : FitsSigned w64 amount = fits_signed_from_abs w64 amount (let most = swap.learned.2 in omega (arith, most)) in
     taken_still c.swap_sum_mark.new.seat c.stand.new.seat c.stand.ensures.same
-    (ended c.args.self.now (known_view c.args.histogram.now) c.args.seat.now
-    (may_take c.args.self.now (known_view c.args.histogram.now) c.args.seat.now c.requires.may c.load_sum.ensures.behind c.load_sum.ensures.once) c.load_sum.result c.load_sum.new.seat c.load_sum.ensures.step c.swap_sum_mark.result c.swap_sum_mark.new.seat swap _
+    (ended c.args.self.now (known_view c.args.histogram.now) c.args.seat.now c.requires.may c.load_sum.result c.load_sum.new.seat c.load_sum.ensures.step
+    c.load_sum.ensures.behind c.load_sum.ensures.once c.swap_sum_mark.result c.swap_sum_mark.new.seat swap _
     (ap (λ (d : ℤ). to_z w64 (of_z w64 d)) (λ i. sum i -ℤ mark i) ∙ to_z-of_z w64 amount small))

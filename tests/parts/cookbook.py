@@ -92,9 +92,7 @@ def readme_commands() -> Iterator[tuple[str, list[str]]]:
             yield from ((command, [line.strip() for line in shown.splitlines()]) for command, shown in found)
 
 
-def wrong_in_readme(
-    command: str, shown: list[str], folder: pathlib.Path, setting: Mapping[str, str]
-) -> str | None:
+def wrong_in_readme(command: str, shown: list[str], folder: pathlib.Path, setting: Mapping[str, str]) -> str | None:
     """What is wrong with a command of README.md, or None."""
     came = subprocess.run(["bash", "-c", command], cwd=folder, env=setting, capture_output=True, timeout=SECONDS)
     if came.returncode != 0:
@@ -124,8 +122,9 @@ def cases(program: pathlib.Path, _options: argparse.Namespace) -> Iterator[Case]
                     yield f"{title}: {command}", wrong_command(command, wanted, folder, setting)
     yield "the tasks", None if len(titles) >= LEAST_TASKS else f"only {len(titles)}"
     with tempfile.TemporaryDirectory() as scratch:
-        shutil.copytree(ROOT / "examples", pathlib.Path(scratch) / "examples")
+        folder = pathlib.Path(scratch)
+        shutil.copytree(ROOT / "examples", folder / "examples")
         count = 0
         for count, (command, shown) in enumerate(readme_commands(), 1):
-            yield f"README.md: {command}", wrong_in_readme(command, shown, scratch, setting)
+            yield f"README.md: {command}", wrong_in_readme(command, shown, folder, setting)
         yield "the commands of README.md", None if count >= LEAST_IN_README else f"only {count}"

@@ -87,7 +87,8 @@ def wrong_gate(repository: pathlib.Path) -> str | None:
 
 
 def wrong_runs(program: pathlib.Path, folder: pathlib.Path, first: str) -> str | None:
-    """What is wrong with two runs in one folder, or None: the second counts as much again, whatever the order of its threads."""
+    """What is wrong with two runs in one folder, or None: the second counts as much again, whatever the order of its
+    threads."""
     folder.mkdir()
     if wrong := difference(Answer(first.encode()), answer(program, [], cwd=folder)):
         return wrong
@@ -109,7 +110,8 @@ def doubled(line: str) -> str:
 
 def cases(_program: None, _options: argparse.Namespace) -> Iterator[Case]:
     found = files()
-    yield "the files on the page", None if HOME / "src" / "main.rt" in found and HOME / "stdout" in found else f"it has {sorted(found)}"
+    has_all = HOME / "src" / "main.rt" in found and HOME / "stdout" in found
+    yield "the files on the page", None if has_all else f"it has {sorted(found)}"
     yield "the commands on the page", None if commands() is not None else f"none writes {CRATES}"
     yield "the numbers on the page", wrong_counts(found)
     with tempfile.TemporaryDirectory() as scratch:

@@ -1,13 +1,13 @@
 """Documents that are made of the sources are what these say now, links lead to files that are there, README.md is
-short, the crates that read do not depend on the machine, and the Python of tests/ and bench/ is clean. No program is
-run."""
+short, the crates that read do not depend on the machine, a name of a definition means one thing, and the Python of
+tests/ and bench/ is clean. No program is run."""
 
 from __future__ import annotations
 
 import argparse
 from collections.abc import Iterator
 
-from support import definitions, faults, layers, linted, links, proved
+from support import definitions, faults, layers, linted, links, names, proved
 from support.program import ROOT, Case
 
 PROGRAM = None
@@ -29,4 +29,6 @@ def cases(_program: None, _options: argparse.Namespace) -> Iterator[Case]:
     yield "the length of README.md", too_long()
     yield "crates.txt: no crate that reads depends on the machine (tests/support/layers.py)", layers.difference()
     yield "that this is found where one does", layers.let_through()
+    yield "specs/: a name is defined by one file, but for a table of some (tests/support/names.py)", names.difference()
+    yield "that this is found where one is not", names.let_through()
     yield from linted.cases()

@@ -4,6 +4,8 @@ All of it is taken from the page: the commands that copy the libraries, and each
 that names it. `rt ci` proves the program, builds it by both compilers, runs what each made, and compares what that
 prints with `stdout`. The libraries are not proved again, where a run of `rt ci` on this machine has proved the same
 files. Then the program is run twice in one folder: the second run continues in the image of the first.
+
+The lines in Rattle of README.md and of the README of live_segment are run too, as functions of a program, by `rt try`.
 """
 
 from __future__ import annotations
@@ -25,6 +27,9 @@ PAGE = ROOT / "docs" / "USING.md"
 CLONE = "povundiri"
 HOME = pathlib.Path("crates") / NAME
 CRATES = "crates.txt"
+# The pages that show lines in Rattle, and the crate that is made of them.
+SHOWING = {"of_readme": ROOT / "README.md", "of_crate": ROOT / "crates" / "live_segment" / "README.md"}
+SHOWN = "shown_lines"
 INDENT = "    "
 # A paragraph, and the block after it.
 BLOCK = re.compile(rf"((?:^(?!{INDENT}).+\n)+)\n((?:^{INDENT}.*\n(?:\n(?={INDENT}))*)+)", re.MULTILINE)
@@ -32,25 +37,26 @@ FILE = re.compile(rf"`({HOME}/[\w./]+)`")
 MOST_SHOWN = 3000
 
 
-def blocks() -> Iterator[tuple[str, str]]:
-    """Each block of the page, after its paragraph."""
-    for before, block in BLOCK.findall(PAGE.read_text()):
+def blocks(page: pathlib.Path) -> Iterator[tuple[str, str]]:
+    """Each block of a page, after its paragraph."""
+    for before, block in BLOCK.findall(page.read_text()):
         yield before, "".join(f"{line.removeprefix(INDENT)}\n" for line in block.splitlines())
 
 
 def files() -> dict[pathlib.Path, str]:
     """What the page has of each file, by its path in the repository."""
-    return {pathlib.Path(named[1]): block for before, block in blocks() if (named := FILE.match(before)) is not None}
+    named = ((FILE.match(before), block) for before, block in blocks(PAGE))
+    return {pathlib.Path(found[1]): block for found, block in named if found is not None}
 
 
 def commands() -> str | None:
     """The commands of the page that copy the libraries."""
-    return next((block for _, block in blocks() if f">> {CRATES}" in block), None)
+    return next((block for _, block in blocks(PAGE) if f">> {CRATES}" in block), None)
 
 
 def second_run() -> str:
     """The lines that the page says are in what the second run prints."""
-    return next((block for before, block in blocks() if before.startswith("Run it twice")), "")
+    return next((block for before, block in blocks(PAGE) if before.startswith("Run it twice")), "")
 
 
 def wrong_counts(found: Mapping[pathlib.Path, str]) -> str | None:
@@ -108,6 +114,30 @@ def doubled(line: str) -> str:
     return ",".join([name, kind, *bounds, *counts])
 
 
+def shown_lines() -> str:
+    """The lines in Rattle that pages show, each page's as a function of a program."""
+    uses, functions = ["use anyhow::Result;", "use std::alloc::Global;"], ""
+    for name, page in SHOWING.items():
+        lines = next(block for _, block in blocks(page) if "Segment::create(" in block).splitlines()
+        uses += [line for line in lines if line.startswith("use ") and line not in uses]
+        body = "".join(f"    {line}\n" for line in lines if line and not line.startswith("use "))
+        functions += f"fn {name}(alloc: Global) -> Result<()> {{\n{body}    Ok(())\n}}\n\n"
+    calls = "".join(f"    {name}(rt.alloc())?;\n" for name in SHOWING)
+    head = "\n".join(["#![tactic(auto)]", "", *uses])
+    return f"{head}\n\n{functions}fn main(rt: HostRuntime) -> Result<()> {{\n{calls}    Ok(())\n}}\n"
+
+
+def wrong_lines(repository: pathlib.Path) -> str | None:
+    """What is wrong with these lines, or None."""
+    home = repository / "crates" / SHOWN
+    (home / "src").mkdir(parents=True)
+    (home / "src" / "main.rt").write_text(shown_lines())
+    with (repository / CRATES).open("a") as lines:
+        lines.write(f"{SHOWN}: live_segment anyhow\n")
+    came = subprocess.run(["rt", "try"], cwd=home, capture_output=True, text=True)
+    return None if came.returncode == 0 else f"status {came.returncode}\n{(came.stdout + came.stderr)[-MOST_SHOWN:]}"
+
+
 def cases(_program: None, _options: argparse.Namespace) -> Iterator[Case]:
     found = files()
     has_all = HOME / "src" / "main.rt" in found and HOME / "stdout" in found
@@ -120,3 +150,4 @@ def cases(_program: None, _options: argparse.Namespace) -> Iterator[Case]:
         repository = folder / "repository"
         yield "proved and run", wrong_gate(repository)
         yield "run twice", wrong_runs(repository / HOME / "out" / NAME, folder / "twice", found[HOME / "stdout"])
+        yield "lines of READMEs", wrong_lines(repository)

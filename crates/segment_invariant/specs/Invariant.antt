@@ -348,7 +348,7 @@ IsAnswered actors name kind at =
     ((known : Known) × Contains (all_names actors) known × (known.name ≡ name))
     ⊎ Contains (all_owed actors) (record { name = name; spec = kind; reference = at })
 
--- so it is with the first record of each name on the list
+-- the first record of each name on the list was returned by a `hist`, or its maker's `hist` still has to return it
 abbrev pub AreAnswered : List Listed → List Actor → Type 0
 AreAnswered records actors = (name : List ℕ) (kind : Spec) (at : ℕ) → IsFirst records name kind at → IsAnswered actors name kind at
 
@@ -456,7 +456,7 @@ FinalsAreExact actors opener id a = record {
 abbrev pub HasPublished : List Published → Known → Type 0
 HasPublished published mine = Contains published (record { reference = mine.reference; made = made.Histogram mine.name mine.spec })
 
--- who owes answers has published the records of all
+-- each histogram that a `hist` still has to return has been published
 abbrev pub OwesPublished : List Published → List Known → Type 0
 OwesPublished published owed = All (HasPublished published) owed
 

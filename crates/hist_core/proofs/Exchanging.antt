@@ -1,7 +1,6 @@
 -- Where nobody stands, nothing is exchanged.
-use Rattle.std.proofs.Common.{◌≡◌, ◌≤◌, arith, length, List, refl, ℕ}
-use mathlib.Core.Option.{Option, some, none}
-use lib.ListN.{get_elem?}
+use Rattle.segment_invariant.proofs.Prelude.Std.{◌≡◌, ◌≤◌, arith, length, List, refl, ℕ, some, none, get_elem?}
+use mathlib.Core.Option.{Option}
 use Rattle.hist_core.proofs.HistCall.Asking.{place_below}
 
 -- what is said of nothing is said of what stands beyond a list

@@ -1,17 +1,10 @@
 -- An `add` of an actor goes on: what becomes of its entry and its units.
-use Rattle.std.proofs.Common.{◌≡◌, ℕ, Bool, true, false, not, pos, List, [], ◌∷◌, ◌++◌, map, length, take, drop, All, inl, inr, refl, sym, ap, subst, ◌∙◌, arith}
-use Rattle.std.specs.Prelude.{Option, Some}
-use Rattle.std.specs.List.{Contains}
-use Rattle.std.specs.Ordering.{int_eq}
-use Rattle.std.proofs.lemmas.List.{take-append-drop, take-take, take_all}
-use Rattle.std.proofs.lemmas.List.Elements.{All-nil, All-cons}
-use Rattle.segment_image.specs.Shape.{Dimensions}
-use Rattle.segment_machine.specs.declared.actor.Actor.{Actor}
+use Rattle.segment_invariant.proofs.Prelude.Std.{◌≡◌, ℕ, Bool, true, false, not, pos, List, [], ◌∷◌, ◌++◌, map, length, take, drop, All, inl, inr, refl, sym, ap, subst, ◌∙◌, arith, Option, Some, Contains, int_eq, take-append-drop, All-nil, All-cons}
+use Rattle.segment_invariant.proofs.Prelude.Machine.{Dimensions, Actor, EntryProgress, has_ended, tally_noted, Note, Notes, is_untouched, noted, Refusal}
+use Rattle.std.proofs.lemmas.List.{take-take, take_all}
 use Rattle.segment_machine.specs.declared.actor.Known.{Known as MachineKnown}
-use Rattle.segment_machine.specs.declared.entry.EntryProgress.{EntryProgress}
 use Rattle.segment_machine.specs.declared.entry.Entry.{Entry as MachineEntry}
-use Rattle.segment_machine.specs.Entry.{has_ended, tally_noted}
-use Rattle.segment_machine.specs.Note.{Note, Notes, is_untouched, noted, refused}
+use Rattle.segment_machine.specs.Note.{refused}
 use Rattle.hist_core.specs.declared.add.Add.{Add as AddCall}
 use Rattle.hist_core.specs.declared.add.AddStep.{AddStep}
 use Rattle.hist_core.specs.declared.add.AddStep.TheVariants.{More, Done, Refused}
@@ -29,7 +22,6 @@ use Rattle.hist_core.specs.Batch.{Runs, HaveEnded, IsCutAt}
 use Rattle.hist_core.specs.StepsBy.{Deed, links, raises, DoesOnly, StepsBy}
 use Rattle.hist_core.proofs.Worlds.Landing.{Landing, does_as_said}
 use Rattle.hist_core.specs.ActorRun.{known_of, ended_by, begun_by, pending_by, held_by, IsGhostNoting, IsAdding, StandsIn, IsRun, IsAddAnnounced, LandsBack, MayBeRefused, Answers, DoesAsSaid, IsRefusedBy, Serves, is_flagged, lacks_room}
-use Rattle.segment_calls.specs.declared.refusal.Refusal.{Refusal}
 use Rattle.hist_core.specs.Making.{IsCause}
 use Rattle.hist_core.proofs.AddCall.Refusals.{HasOnlyNoted, cause_noted, needs_still}
 use Rattle.hist_core.proofs.Parts.Allocations.{goes_with}

@@ -1,22 +1,7 @@
 -- An `add` counts its units, adds its amount to the sum, and notes its units in the redundant count.
-use Rattle.std.proofs.Common.{◌≡◌, ℕ, ◌+◌, ◌%◌, ◌^◌, ◌<◌, ◌≤◌, ℤ, pos, Bool, true, false, not, List, [], ◌∷◌, ◌++◌, map, filter, length, refl, sym, ap, subst, arith, inl, inr, ⊎_elim, ◌∙◌}
-use Rattle.std.specs.Prelude.{slice_set, if◌then◌else◌}
-use Rattle.std.specs.Ordering.{int_eq}
-use Rattle.std.proofs.Props.{props}
-use Rattle.std.proofs.Math.Logic.{∥∥₁_elim}
-use Rattle.std.proofs.lemmas.List.{append-nil}
-use Rattle.segment_image.specs.Shape.{Dimensions}
-use Rattle.segment_image.specs.Words.{word_at}
-use Rattle.segment_machine.specs.declared.actor.Actor.{Actor}
-use Rattle.segment_machine.specs.declared.actor.Known.{Known}
-use Rattle.segment_machine.specs.declared.entry.EntryProgress.{EntryProgress}
-use Rattle.segment_machine.specs.Calls.{IsNext, change_next, MayTurn}
-use Rattle.segment_machine.specs.Counting.{add_count}
-use Rattle.bucket_ranges.specs.Ranges.{boundaries_of}
-use Rattle.bucket_ranges.specs.declared.spec.Spec.{Spec}
-use Rattle.segment_machine.specs.Made.{IsFirstSample}
-use Rattle.segment_machine.specs.Entry.{fresh, key_of, has_ended, is_counted}
-use Rattle.segment_machine.specs.Event.{Event, next, counting_event}
+use Rattle.segment_invariant.proofs.Prelude.Std.{◌≡◌, ℕ, ◌+◌, ◌%◌, ◌^◌, ◌<◌, ◌≤◌, ℤ, pos, Bool, true, false, not, List, [], ◌∷◌, ◌++◌, map, filter, length, refl, sym, ap, subst, arith, inl, inr, ⊎_elim, ◌∙◌, slice_set, if◌then◌else◌, int_eq, props, ∥∥₁_elim, append-nil}
+use Rattle.segment_invariant.proofs.Prelude.Machine.{Dimensions, word_at, Actor, Known, EntryProgress, MayTurn, add_count, boundaries_of, Spec, IsFirstSample, fresh, key_of, has_ended, is_counted, Event, next, counting_event}
+use Rattle.segment_machine.specs.Calls.{IsNext, change_next}
 use Rattle.hist_core.proofs.Parts.Alone.{by_event}
 use Rattle.hist_core.specs.declared.add.Add.{Add}
 use Rattle.hist_core.specs.declared.add.AddStep.TheVariants.{More}

@@ -1,14 +1,9 @@
 -- The entry of an `add`, of which one event after the other happens.
-use Rattle.std.proofs.Common.{◌≡◌, ◌==◌, Bool, true, false, cond, not, pos, List, [], ◌∷◌, ◌++◌, filter, All, refl, ap, ◌∙◌}
-use Rattle.std.specs.Prelude.{◌&&◌, ◌||◌}
-use Rattle.std.proofs.lemmas.List.Elements.{All-head, All-tail}
-use Rattle.segment_machine.specs.declared.actor.Known.{Known}
-use Rattle.segment_machine.specs.declared.entry.EntryProgress.{EntryProgress}
+use Rattle.segment_invariant.proofs.Prelude.Std.{◌≡◌, ◌==◌, Bool, true, false, cond, not, pos, List, [], ◌∷◌, ◌++◌, filter, All, refl, ap, ◌∙◌, ◌&&◌, ◌||◌, All-head, All-tail, int_eq}
+use Rattle.segment_invariant.proofs.Prelude.Machine.{Known, EntryProgress, has_ended, is_counted, is_summed, is_noted}
 use Rattle.segment_machine.specs.Calls.{change_next}
-use Rattle.segment_machine.specs.Entry.{has_ended, is_counted, is_summed, is_noted}
 use Rattle.hist_core.specs.declared.add.Add.{Add}
 use Rattle.hist_core.specs.Add.{counted_entry, ended_entry}
-use Rattle.std.specs.Ordering.{int_eq}
 
 falls : (x y z : Bool) → z ≡ false → (x && y && z) ≡ false
 falls true true z is = is

@@ -1,18 +1,12 @@
 -- A call that counts goes on: what becomes of its entries and its units.
-use Rattle.std.proofs.Common.{◌≡◌, ◌≤◌, ◌+◌, ◌-◌, ℕ, false, List, [], ◌∷◌, ◌++◌, map, length, take, inr, refl, sym, ap, subst, ◌∙◌, arith, length-append, ⊎_elim}
-use Rattle.std.specs.Prelude.{Some, None, vec_len, vec_capacity}
+use Rattle.segment_invariant.proofs.Prelude.Std.{◌≡◌, ◌≤◌, ◌+◌, ◌-◌, ℕ, false, List, [], ◌∷◌, ◌++◌, map, length, take, inr, refl, sym, ap, subst, ◌∙◌, arith, length-append, ⊎_elim, Some, None, vec_len, vec_capacity, map-append, take-append-drop, length-map, append-nil}
+use Rattle.segment_invariant.proofs.Prelude.Machine.{Dimensions, Actor, Cost, EntryProgress, cost_total, is_opener, fresh, tally_noted, Note, Notes, noted, begins}
 use Rattle.std.proofs.Math.Seq.{take-append-add}
-use Rattle.std.proofs.lemmas.List.{map-append, take-append-drop, take_all, drop_all, length-drop, length-map, length-take-le, append-nil, take-map}
-use Rattle.segment_image.specs.Shape.{Dimensions}
-use Rattle.segment_machine.specs.declared.actor.Actor.{Actor}
-use Rattle.segment_machine.specs.declared.actor.Cost.{Cost}
+use Rattle.std.proofs.lemmas.List.{take_all, drop_all, length-drop, length-take-le, take-map}
 use Rattle.segment_machine.specs.declared.actor.Entries.{Entries}
 use Rattle.segment_machine.specs.declared.actor.Units.{Units}
-use Rattle.segment_machine.specs.declared.entry.EntryProgress.{EntryProgress}
 use Rattle.segment_machine.specs.declared.entry.Entry.{Entry as MachineEntry}
-use Rattle.segment_machine.specs.Actor.{cost_total, is_opener}
-use Rattle.segment_machine.specs.Entry.{fresh, tally_noted}
-use Rattle.segment_machine.specs.Note.{Note, Notes, MayNote, noted, begins, ends, refused, spent_by}
+use Rattle.segment_machine.specs.Note.{MayNote, ends, refused, spent_by}
 use Rattle.segment_machine.specs.Seats.{giver}
 use Rattle.hist_core.specs.declared.actor_run.Running.{Running}
 use Rattle.hist_core.specs.declared.actor_run.ActorRun.{ActorRun}

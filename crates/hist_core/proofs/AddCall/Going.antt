@@ -1,13 +1,8 @@
 -- An `add` goes on by one event of its actor.
-use Rattle.std.proofs.Common.{◌≡◌, ℕ, Bool, true, false, ◌==◌, List, [], refl, sym, ap, ◌∙◌, ◌++◌, subst}
-use Rattle.std.proofs.lemmas.List.{append-nil}
-use Rattle.segment_image.specs.Shape.{Dimensions}
-use Rattle.segment_image.specs.Words.{word_at}
-use Rattle.segment_machine.specs.declared.actor.Actor.{Actor}
-use Rattle.segment_machine.specs.declared.actor.Known.{Known}
-use Rattle.segment_machine.specs.Calls.{sight_counts}
-use Rattle.segment_machine.specs.Event.{spot, after, next, Ready, Learned, packing_event, Event}
-use Rattle.segment_machine.specs.Packing.{PackingEvent, load_single, pack, mount_counts, purge_block, disable, add_moved, after_pack, after_mount, after_disable}
+use Rattle.segment_invariant.proofs.Prelude.Std.{◌≡◌, ℕ, Bool, true, false, ◌==◌, List, [], refl, sym, ap, ◌∙◌, ◌++◌, subst, append-nil, Contains}
+use Rattle.segment_invariant.proofs.Prelude.Machine.{Dimensions, word_at, Actor, Known, sight_counts, spot, next, Ready, Learned, packing_event, Event, load_single, pack, mount_counts, purge_block, disable, add_moved, after_pack, after_mount, after_disable, known_at}
+use Rattle.segment_machine.specs.Event.{after}
+use Rattle.segment_machine.specs.Packing.{PackingEvent}
 use Rattle.hist_core.proofs.Parts.Alone.{by_event}
 use Rattle.hist_core.specs.declared.add.Add.{Add}
 use Rattle.hist_core.specs.declared.add.AddStep.TheVariants.{More}
@@ -16,8 +11,6 @@ use Rattle.hist_core.specs.StepsBy.{DoesOnly, StepsBy}
 use Rattle.hist_core.specs.Add.{Amid, FrameOfAdd, StaysOpen, StandsAtStage, IsAdd, AddGives, serves_counted}
 use Rattle.hist_core.proofs.Parts.Deeds.{does_nothing}
 use Rattle.hist_core.proofs.AddCall.Counts.{counts_on}
-use Rattle.std.specs.List.{Contains}
-use Rattle.segment_machine.specs.Actor.{known_at}
 
 -- ---- what stays as it was
 

@@ -1,20 +1,7 @@
 -- An `add` loads the counts reference.
-use Rattle.std.proofs.Common.{◌≡◌, ◌<◌, ◌≤◌, ℕ, ◌+◌, ◌*◌, ◌%◌, ◌^◌, Bool, List, refl, sym, ap, subst, ◌∙◌, arith, inl}
-use Rattle.std.specs.Prelude.{◌≢◌, Some, if◌then◌else◌}
-use Rattle.std.proofs.lemmas.Bool.{eq-eqb}
-use lib.Seq.{set-get_or}
-use Rattle.bucket_ranges.specs.Spec.{buckets_of}
-use Rattle.segment_image.specs.Shape.{Dimensions}
-use Rattle.segment_image.specs.Words.{word_at}
-use Rattle.segment_machine.specs.declared.actor.Actor.{Actor}
-use Rattle.segment_machine.specs.declared.actor.Known.{Known}
-use Rattle.segment_machine.specs.declared.place.Look.{Look}
-use Rattle.segment_machine.specs.declared.place.Place.{Place}
-use Rattle.segment_machine.specs.declared.place.Place.TheVariants.{Looking}
-use Rattle.segment_machine.specs.Actor.{is_bound, Buckets}
-use Rattle.segment_machine.specs.Calls.{MayTurn, look_of, nothing_of, AreCountsOf, CountsStay}
-use Rattle.segment_machine.specs.Counting.{load_counts}
-use Rattle.segment_machine.specs.Event.{Event, next, counting_event}
+use Rattle.segment_invariant.proofs.Prelude.Std.{◌≡◌, ◌<◌, ◌≤◌, ℕ, ◌+◌, ◌*◌, ◌%◌, ◌^◌, Bool, List, refl, sym, ap, subst, ◌∙◌, arith, inl, ◌≢◌, Some, if◌then◌else◌, eq-eqb, set-get_or}
+use Rattle.segment_invariant.proofs.Prelude.Machine.{buckets_of, Dimensions, word_at, Actor, Known, Look, Place, Looking, is_bound, Buckets, MayTurn, look_of, load_counts, Event, next, counting_event}
+use Rattle.segment_machine.specs.Calls.{nothing_of, AreCountsOf, CountsStay}
 use Rattle.hist_core.proofs.AddCall.Going.{aside_counts, acts_on}
 use Rattle.hist_core.specs.declared.add.Add.{Add}
 use Rattle.hist_core.specs.declared.add.AddStep.TheVariants.{More}

@@ -1,32 +1,18 @@
 -- An `add` puts the counts in use: it loads their reference, claims a block for them, and mounts it, or marks it as of no use.
-use Rattle.std.proofs.Common.{◌≡◌, ◌≢◌, ◌≤◌, ℕ, ◌+◌, ◌*◌, ◌==◌, Bool, true, false, true≢false, List, [], length, ◌++◌, refl, sym, ap, subst, ◌∙◌, arith}
-use Rattle.std.specs.Prelude.{None, if◌then◌else◌, is_some, max}
-use Rattle.std.specs.List.{Contains}
-use lib.Seq.{set-get_or}
-use Rattle.std.proofs.lemmas.List.{append-nil}
-use Rattle.std.proofs.lemmas.List.Elements.{Contains-push}
+use Rattle.segment_invariant.proofs.Prelude.Std.{◌≡◌, ◌≢◌, ◌≤◌, ℕ, ◌+◌, ◌*◌, ◌==◌, Bool, true, false, true≢false, List, [], length, ◌++◌, refl, sym, ap, subst, ◌∙◌, arith, None, if◌then◌else◌, max, Contains, set-get_or, append-nil, Contains-push, eq-eqb}
+use Rattle.segment_invariant.proofs.Prelude.Machine.{IsShape, buckets_of, Dimensions, word_at, Actor, Known, Looking, Sighting, has_buckets, is_bound, word_seen, Buckets, look_of, sight_counts, back, load_counts, Event, next, counting_event, packing_event, Note, Notes, mount_counts, purge_block, after_mount, Refusal}
+use Rattle.std.specs.Prelude.{is_some}
 use Rattle.alloc_core.specs.declared.alloc.AllocStep.{AllocStep}
 use Rattle.alloc_core.specs.declared.alloc.AllocStep.TheVariants as said
 use Rattle.alloc_core.specs.declared.alloc.Stage.TheVariants.{Claimed}
 use Rattle.alloc_core.specs.Alloc.{Allocation, IsAimed}
 use Rattle.alloc_core.specs.Alloc as alloc
 use Rattle.alloc_core.specs.Event as atomic
-use Rattle.alloc_core.specs.Layout.{IsShape}
-use Rattle.bucket_ranges.specs.Spec.{buckets_of}
-use Rattle.segment_image.specs.Shape.{Dimensions}
-use Rattle.segment_image.specs.Words.{word_at}
-use Rattle.segment_machine.specs.declared.actor.Actor.{Actor}
-use Rattle.segment_machine.specs.declared.actor.Known.{Known}
 use Rattle.segment_machine.specs.declared.actor.Segment.{Segment}
-use Rattle.segment_machine.specs.declared.place.Place.TheVariants.{Looking}
-use Rattle.segment_machine.specs.declared.seen.Sighting.{Sighting}
-use Rattle.segment_machine.specs.Actor.{has_buckets, is_bound, word_seen, Buckets, AreApart}
+use Rattle.segment_machine.specs.Actor.{AreApart}
 use Rattle.segment_machine.specs.Allocating.{new_own}
-use Rattle.segment_machine.specs.Calls.{ended, look_of, sight_counts, AreCountsOf, CountsStay, back}
-use Rattle.segment_machine.specs.Counting.{load_counts}
-use Rattle.segment_machine.specs.Event.{Event, next, counting_event, packing_event}
-use Rattle.segment_machine.specs.Note.{Note, Notes}
-use Rattle.segment_machine.specs.Packing.{mount_counts, purge_block, after_mount, PackingEvent}
+use Rattle.segment_machine.specs.Calls.{ended, AreCountsOf, CountsStay}
+use Rattle.segment_machine.specs.Packing.{PackingEvent}
 use Rattle.segment_machine.specs.Stages.{Allocates, StandsAt}
 use Rattle.segment_promises.proofs.Calls.Places.{looks_there}
 use Rattle.hist_core.specs.declared.add.Add.{Add}
@@ -34,7 +20,6 @@ use Rattle.hist_core.specs.declared.add.AddStep.{AddStep}
 use Rattle.hist_core.specs.declared.add.AddStep.TheVariants.{More, Done, Refused}
 use Rattle.hist_core.specs.declared.add.AddStage.{AddStage}
 use Rattle.hist_core.specs.declared.add.AddStage.TheVariants.{SeekingCounts, Allocating, Mounting, Purging, LoadingAgain}
-use Rattle.segment_calls.specs.declared.refusal.Refusal.{Refusal}
 use Rattle.segment_calls.specs.declared.refusal.Refusal.TheVariants as why
 use Rattle.hist_core.specs.StepsBy.{DoesOnly, FrameOfStep, SeesNoMore, StepsBy, is_tied}
 use Rattle.hist_core.specs.Add.{Amid, HasEntry, HasMetNoCounts, AreCounts, NeedsBlock, NeedsCounts, StandsAtStage, IsAdd, AddGives, BeginsToAllocate, IsAllocated, block_words, serves_counted}
@@ -48,7 +33,6 @@ use Rattle.hist_core.proofs.Parts.Allocations.{allocates_on, goes_with}
 use Rattle.hist_core.proofs.Parts.Alone.{makes_so}
 use Rattle.hist_core.proofs.Parts.Claims.{IsEnd, claimed_suits, claimed_of, goes_noting, rests_at}
 use Rattle.hist_core.proofs.Parts.Deeds.{is_full_end}
-use Rattle.std.proofs.lemmas.Bool.{eq-eqb}
 
 module _ (shape : Dimensions) (known : Known) (amid : Amid) (add : Add) (a : Actor) (words : List ℕ) (is : IsAdd shape known amid add a) where
   -- counts that it learns of lie within the segment

@@ -1,24 +1,14 @@
 -- An `add` whose counts are there loads the single word once more, disables it, and moves the units that it had to the counts.
-use Rattle.std.proofs.Common.{◌≡◌, ◌⊎◌, ◌<◌, ℕ, ◌+◌, ◌/◌, ◌%◌, ◌^◌, ◌==◌, Bool, true, false, List, length, refl, sym, ap, subst, ◌∙◌, arith, inl, inr}
-use Rattle.std.specs.Prelude.{Some, None, ◌&&◌, nat_lt, if◌then◌else◌, Option, unwrap_or, slice_set}
-use lib.Seq.{set-get_or}
-use Rattle.std.proofs.lemmas.Bool.{leb-false, ltb-true, and_parts}
+use Rattle.segment_invariant.proofs.Prelude.Std.{◌≡◌, ◌⊎◌, ◌<◌, ℕ, ◌+◌, ◌/◌, ◌%◌, ◌^◌, ◌==◌, Bool, true, false, List, length, refl, sym, ap, subst, ◌∙◌, arith, inl, inr, Some, None, ◌&&◌, nat_lt, if◌then◌else◌, Option, unwrap_or, slice_set, set-get_or, ltb-true, and_parts, Contains}
+use Rattle.segment_invariant.proofs.Prelude.Machine.{SingleWord, single_of, packed_bucket, buckets_of, Dimensions, word_at, Actor, Known, Look, Looking, has_buckets, is_bound, look_of, back, next, packing_event, load_single, disable, add_moved, after_disable}
+use Rattle.std.proofs.lemmas.Bool.{leb-false}
 use Rattle.alloc_core.specs.Event as atomic
-use Rattle.bucket_ranges.specs.declared.single.SingleWord.{SingleWord}
-use Rattle.bucket_ranges.specs.Single.{single_of, packed_bucket}
-use Rattle.bucket_ranges.specs.Spec.{buckets_of}
-use Rattle.segment_image.specs.Shape.{Dimensions}
-use Rattle.segment_image.specs.Words.{word_at}
 use Rattle.segment_invariant.proofs.Packing.OffForms.{few_buckets, disabling}
-use Rattle.segment_machine.specs.declared.actor.Actor.{Actor}
-use Rattle.segment_machine.specs.declared.actor.Known.{Known}
-use Rattle.segment_machine.specs.declared.place.Look.{Look}
-use Rattle.segment_machine.specs.declared.place.Place.TheVariants.{Looking, Moving as PlaceMoving}
-use Rattle.segment_machine.specs.Actor.{has_buckets, known_buckets, is_bound}
-use Rattle.segment_machine.specs.Calls.{look_of, back, form_seen}
-use Rattle.segment_machine.specs.Event.{next, packing_event}
+use Rattle.segment_machine.specs.declared.place.Place.TheVariants.{Moving as PlaceMoving}
+use Rattle.segment_machine.specs.Actor.{known_buckets}
+use Rattle.segment_machine.specs.Calls.{form_seen}
 use Rattle.segment_machine.specs.Form.{is_off, off_word, units_in}
-use Rattle.segment_machine.specs.Packing.{PackingEvent, load_single, disable, add_moved, after_disable, after_disabling, IsSingleOf}
+use Rattle.segment_machine.specs.Packing.{PackingEvent, after_disabling, IsSingleOf}
 use Rattle.segment_promises.proofs.Calls.Places.{looks_again}
 use Rattle.hist_core.specs.declared.add.Add.{Add}
 use Rattle.hist_core.specs.declared.add.AddStep.TheVariants.{More}
@@ -30,7 +20,6 @@ use Rattle.hist_core.proofs.AddCall.Counts.{counts_in}
 use Rattle.hist_core.proofs.AddCall.Going.{packs_on}
 use Rattle.hist_core.proofs.AddCall.Packs.{has_them, formed}
 use Rattle.hist_core.proofs.SnapshotCall.Looks.{HasUnits, on_units}
-use Rattle.std.specs.List.{Contains}
 
 module _ (shape : Dimensions) (known : Known) (amid : Amid) (add : Add) (a : Actor) (words : List ℕ) (is : IsAdd shape known amid add a) where
   -- a look at the histogram whose counts are there

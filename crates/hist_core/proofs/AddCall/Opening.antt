@@ -1,31 +1,14 @@
 -- A call of an actor that counts begins: what it counts, and that it may.
-use Rattle.std.proofs.Common.{◌≡◌, ◌≢◌, ◌≤◌, ◌<◌, ◌+◌, ◌*◌, ℕ, zero, suc, ℤ, pos, ◌+ℤ◌, Bool, true, false, not, ◌==◌, ◌⊎◌, List, [], ◌∷◌, ◌++◌, map, length, take, drop, fold, Contains, inl, refl, sym, ap, subst, ◌∙◌, arith, length-append}
-use Rattle.std.specs.Prelude.{Option, Some, None, unsigned_abs, if◌then◌else◌, vec_len, vec_capacity}
-use Rattle.std.proofs.lemmas.List.Elements.{All-nil, Contains-append_left}
-use Rattle.std.specs.Str.{bytes_eq}
-use Rattle.std.specs.Ordering.{int_eq}
-use Rattle.std.proofs.Math.IntN.{+ℤ_idl}
-use Rattle.std.proofs.lemmas.Bool.{ne_eqb}
-use Rattle.std.proofs.lemmas.List.{take-append-le, drop-append-le, drop_all}
-use mathlib.Core.Option.{some, some-injective, some-ne-none}
-use lib.ListN.{get_elem?}
-use Rattle.alloc_core.specs.Layout.{IsShape}
-use Rattle.bucket_ranges.specs.Ranges.{boundaries_of}
+use Rattle.segment_invariant.proofs.Prelude.Std.{◌≡◌, ◌≢◌, ◌≤◌, ◌<◌, ◌+◌, ◌*◌, ℕ, zero, suc, ℤ, pos, ◌+ℤ◌, Bool, true, false, not, ◌==◌, ◌⊎◌, List, [], ◌∷◌, ◌++◌, map, length, take, drop, fold, Contains, inl, refl, sym, ap, subst, ◌∙◌, arith, length-append, Option, Some, None, unsigned_abs, if◌then◌else◌, vec_len, vec_capacity, All-nil, Contains-append_left, bytes_eq, int_eq, +ℤ_idl, ne_eqb, drop-append-le, some, some-injective, some-ne-none, get_elem?}
+use Rattle.segment_invariant.proofs.Prelude.Machine.{IsShape, boundaries_of, Dimensions, Actor, Spent, known_at, has_ended, key_of, noted, begins, State, is_reference}
+use Rattle.segment_invariant.proofs.Prelude.Invariant.{Anatomy, order_of, Invariant, IsFirst, Knows}
+use Rattle.std.proofs.lemmas.List.{take-append-le, drop_all}
 use Rattle.segment_image.specs.declared.layout.TheConstants.{BLOCK_HEADER, HISTOGRAM_NAME}
-use Rattle.segment_image.specs.Shape.{Dimensions}
-use Rattle.segment_machine.specs.declared.actor.Actor.{Actor}
 use Rattle.segment_machine.specs.declared.actor.Known.{Known as MachineKnown}
 use Rattle.segment_machine.specs.declared.entry.Entry.{Entry as MachineEntry}
-use Rattle.segment_machine.specs.declared.place.Place.TheVariants.{Spent}
-use Rattle.segment_machine.specs.Actor.{known_at}
 use Rattle.segment_machine.specs.Calls.{IsKeyOfBucket}
-use Rattle.segment_machine.specs.Entry.{AreWithin, has_ended, key_of}
-use Rattle.segment_machine.specs.Note.{noted, begins}
+use Rattle.segment_machine.specs.Entry.{AreWithin}
 use Rattle.segment_machine.specs.Seats.{getter}
-use Rattle.segment_machine.specs.State.{State}
-use Rattle.segment_invariant.specs.Body.{Anatomy, order_of}
-use Rattle.segment_invariant.specs.Invariant.{Invariant}
-use Rattle.segment_invariant.specs.Seen.{IsFirst, Knows}
 use Rattle.segment_invariant.proofs.Consistency.Books.{one_name}
 use Rattle.segment_invariant.proofs.Consistency.Totals.{find_known}
 use Rattle.segment_invariant.proofs.Lists.Elements.{all_at, all_from, at_from, contains_at, each_of_one, from_map, index_at}
@@ -49,7 +32,6 @@ use Rattle.hist_core.proofs.Worlds.Free.{free_turns}
 use Rattle.hist_core.proofs.AddCall.Samples.{stands_first}
 use Rattle.hist_core.specs.StepsBy.{IsFree}
 use Rattle.segment_invariant.proofs.Walking.Walks.{stop_reference}
-use Rattle.list_core.specs.Chain.{is_reference}
 use Rattle.hist_core.proofs.Worlds.Quiet.{not_spent, all_ended, met_split}
 
 -- ---- what an actor knows

@@ -1,22 +1,11 @@
 -- An `add` loads the single word, and packs its units into it.
-use Rattle.std.proofs.Common.{◌≡◌, ◌≢◌, ◌⊎◌, ◌<◌, ◌≤◌, ℕ, ◌+◌, ◌%◌, ◌^◌, true, false, List, [], refl, sym, ap, subst, ◌∙◌, arith, inl, inr, ◌∷◌, if◌then◌else◌, Bool, ◌==◌}
-use Rattle.std.specs.Prelude.{Some, None}
-use Rattle.std.proofs.lemmas.List.Elements.{Contains-append_right}
-use lib.Seq.{set-get_or}
+use Rattle.segment_invariant.proofs.Prelude.Std.{◌≡◌, ◌≢◌, ◌⊎◌, ◌<◌, ◌≤◌, ℕ, ◌+◌, ◌%◌, ◌^◌, true, false, List, [], refl, sym, ap, subst, ◌∙◌, arith, inl, inr, ◌∷◌, if◌then◌else◌, Bool, ◌==◌, Some, None, Contains-append_right, set-get_or, props, ∥∥₁_elim}
+use Rattle.segment_invariant.proofs.Prelude.Machine.{single_of, Dimensions, word_at, Actor, Known, Looking, is_bound, Buckets, has_buckets, look_of, next, packing_event, load_single, after_pack, pack}
 use Rattle.alloc_core.specs.Event as atomic
-use Rattle.bucket_ranges.specs.Single.{single_of}
-use Rattle.segment_image.specs.Shape.{Dimensions}
-use Rattle.segment_image.specs.Words.{word_at}
 use Rattle.segment_invariant.proofs.Lists.Elements.{contains_at}
 use Rattle.segment_invariant.proofs.Packing.OffForms.{few_buckets}
-use Rattle.segment_machine.specs.declared.actor.Actor.{Actor}
-use Rattle.segment_machine.specs.declared.actor.Known.{Known}
-use Rattle.segment_machine.specs.declared.place.Place.TheVariants.{Looking}
-use Rattle.segment_machine.specs.Actor.{is_bound, Buckets, has_buckets}
-use Rattle.segment_machine.specs.Calls.{look_of}
-use Rattle.segment_machine.specs.Event.{next, packing_event}
 use Rattle.segment_machine.specs.Form.{is_off, IsPacking}
-use Rattle.segment_machine.specs.Packing.{load_single, IsSingleOf, PackingEvent, after_pack, pack}
+use Rattle.segment_machine.specs.Packing.{IsSingleOf, PackingEvent}
 use Rattle.segment_promises.proofs.Calls.Places.{looks_there}
 use Rattle.segment_promises.proofs.Calls.SpecBuckets.{apart}
 use Rattle.segment_invariant.proofs.Consistency.Keys.{one_key}
@@ -28,8 +17,6 @@ use Rattle.hist_core.specs.StepsBy.{StepsBy}
 use Rattle.hist_core.specs.Add.{Amid, IsCounting, Looks, HasSeenSingle, HasEntry, IsBehindSingle, StandsAtStage, IsAdd, AddGives, IsSomeAdd, behind_count}
 use Rattle.hist_core.proofs.AddCall.Going.{packs_on}
 use Rattle.hist_core.proofs.SnapshotCall.Looks.{on_units, HasUnits}
-use Rattle.std.proofs.Props.{props}
-use Rattle.std.proofs.Math.Logic.{∥∥₁_elim}
 use Rattle.hist_core.proofs.AddCall.Counts.{behind_stands, changed_is, next_is}
 use Rattle.hist_core.proofs.AddCall.Entries.{counting_of}
 use Rattle.hist_core.proofs.Parts.Alone.{makes_so}

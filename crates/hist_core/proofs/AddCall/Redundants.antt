@@ -1,13 +1,7 @@
 -- An `add` adds its units to the redundant count, and all of its entry has happened.
-use Rattle.std.proofs.Common.{◌≡◌, ℕ, ◌+◌, ◌%◌, ◌^◌, pos, Bool, true, false, not, List, refl, subst}
-use Rattle.std.specs.Prelude.{◌||◌, slice_set}
-use Rattle.std.specs.Ordering.{int_eq}
-use Rattle.segment_image.specs.Shape.{Dimensions}
-use Rattle.segment_image.specs.Words.{word_at}
-use Rattle.segment_machine.specs.declared.actor.Actor.{Actor}
-use Rattle.segment_machine.specs.declared.actor.Known.{Known}
+use Rattle.segment_invariant.proofs.Prelude.Std.{◌≡◌, ℕ, ◌+◌, ◌%◌, ◌^◌, pos, Bool, true, false, not, List, refl, subst, ◌||◌, slice_set, int_eq}
+use Rattle.segment_invariant.proofs.Prelude.Machine.{Dimensions, word_at, Actor, Known, Event, next, counting_event}
 use Rattle.segment_machine.specs.Counting.{add_redundant}
-use Rattle.segment_machine.specs.Event.{Event, next, counting_event}
 use Rattle.hist_core.proofs.Parts.Alone.{by_event}
 use Rattle.hist_core.proofs.AddCall.Going.{aside_still}
 use Rattle.hist_core.specs.declared.add.Add.{Add}

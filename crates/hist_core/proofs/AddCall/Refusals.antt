@@ -1,18 +1,11 @@
 -- An `add` is refused: nothing was counted.
-use Rattle.std.proofs.Common.{◌≡◌, ℕ, ℤ, ◌+◌, ◌<◌, true, false, [], ◌∷◌, ◌++◌, map, sym, ap, subst, ◌∙◌}
-use Rattle.std.specs.List.{Contains}
-use Rattle.segment_image.specs.Shape.{Dimensions}
-use Rattle.segment_machine.specs.declared.actor.Actor.{Actor}
+use Rattle.segment_invariant.proofs.Prelude.Std.{◌≡◌, ℕ, ℤ, ◌+◌, ◌<◌, true, false, [], ◌∷◌, ◌++◌, map, sym, ap, subst, ◌∙◌, Contains}
+use Rattle.segment_invariant.proofs.Prelude.Machine.{Dimensions, Actor, Known, Seen, word_seen, fresh, Refusal}
 use Rattle.segment_machine.specs.declared.actor.Done.{Done}
 use Rattle.segment_machine.specs.declared.actor.Hand.{Hand}
-use Rattle.segment_machine.specs.declared.actor.Known.{Known}
 use Rattle.segment_machine.specs.declared.actor.Segment.{Segment}
-use Rattle.segment_machine.specs.declared.seen.Seen.{Seen}
-use Rattle.segment_machine.specs.Actor.{word_seen}
-use Rattle.segment_machine.specs.Entry.{fresh}
 use Rattle.hist_core.specs.declared.add.Add.{Add}
 use Rattle.hist_core.specs.declared.add.AddStep.TheVariants.{Refused}
-use Rattle.segment_calls.specs.declared.refusal.Refusal.{Refusal}
 use Rattle.segment_calls.specs.declared.refusal.Refusal.TheVariants as why
 use Rattle.hist_core.specs.StepsBy.{DoesOnly, FrameOfStep, IsFree}
 use Rattle.hist_core.specs.Add.{Amid, HasEntry, NeedsBlock, FrameOfAdd, AddGives, block_words, serves_counted}

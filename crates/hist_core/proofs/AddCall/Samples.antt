@@ -1,15 +1,7 @@
 -- An `add` looks for the sample of its value.
-use Rattle.std.proofs.Common.{◌≡◌, ℕ, ◌+◌, ◌*◌, ◌%◌, ◌^◌, ℤ, Bool, true, false, true≢false, List, ◌∷◌, ◌++◌, inr, refl, sym, ap, subst, ◌∙◌, arith}
-use Rattle.std.specs.List.{Contains}
-use Rattle.std.specs.Prelude.{if◌then◌else◌}
-use Rattle.segment_image.specs.Shape.{Dimensions}
-use Rattle.alloc_core.specs.Layout.{IsShape}
-use Rattle.list_core.specs.Chain.{is_reference}
-use Rattle.segment_machine.specs.declared.actor.Actor.{Actor}
-use Rattle.segment_machine.specs.declared.actor.Known.{Known}
+use Rattle.segment_invariant.proofs.Prelude.Std.{◌≡◌, ℕ, ◌+◌, ◌*◌, ◌%◌, ◌^◌, ℤ, Bool, true, false, true≢false, List, ◌∷◌, ◌++◌, inr, refl, sym, ap, subst, ◌∙◌, arith, Contains, if◌then◌else◌}
+use Rattle.segment_invariant.proofs.Prelude.Machine.{Dimensions, IsShape, is_reference, Actor, Known, has_buckets, IsFirstSample, buckets_of}
 use Rattle.segment_machine.specs.declared.actor.Made.TheVariants.{Sample}
-use Rattle.segment_machine.specs.Actor.{has_buckets}
-use Rattle.segment_machine.specs.Made.{IsFirstSample}
 use Rattle.hist_core.specs.declared.add.Add.{Add}
 use Rattle.hist_core.specs.declared.add.AddStep.{AddStep}
 use Rattle.hist_core.specs.declared.add.AddStage.{AddStage}
@@ -21,7 +13,6 @@ use Rattle.hist_core.specs.Add.{Amid, HasEntry, IsAdd, IsSampled, OpensWith, Sta
 use Rattle.hist_core.specs.StepsBy.{Deed, links, raises, DoesOnly, FrameOfStep, StepsBy, IsFree}
 use Rattle.hist_core.specs.Sampling.{SamplingGives, SawNoSample, serves_sample}
 use Rattle.hist_core.specs.Making.{IsCause, is_full}
-use Rattle.bucket_ranges.specs.Spec.{buckets_of}
 use Rattle.hist_core.proofs.AddCall.Entries.{counting_of}
 use Rattle.hist_core.proofs.AddCall.Going.{goes_still}
 use Rattle.hist_core.proofs.AddCall.Refusals.{beside_aside, refuses}

@@ -1,27 +1,14 @@
 -- A search for the sample of a value, event by event.
-use Rattle.std.proofs.Common.{◌≡◌, ◌≢◌, ℕ, ◌+◌, ◌≤◌, ◌==◌, ℤ, Bool, true, false, true≢false, if◌then◌else◌, List, [], ◌∷◌, ◌++◌, length, inl, inr, refl, sym, ap, subst, ◌∙◌, arith, append_assoc, eqb-true, eq-eqb}
-use Rattle.std.specs.Prelude.{Some}
-use Rattle.std.specs.List.{All, Contains}
-use Rattle.std.proofs.Props.{props}
-use Rattle.std.proofs.Math.Logic.{∥∥₁_elim}
-use Rattle.std.proofs.lemmas.List.{get_or_push, length_push}
-use Rattle.std.proofs.lemmas.List.Elements.{All-nil, All-push, Contains-append_right}
-use lib.Seq.{set-get_or}
+use Rattle.segment_invariant.proofs.Prelude.Std.{◌≡◌, ◌≢◌, ℕ, ◌+◌, ◌≤◌, ◌==◌, ℤ, Bool, true, false, true≢false, if◌then◌else◌, List, [], ◌∷◌, ◌++◌, length, inl, inr, refl, sym, ap, subst, ◌∙◌, arith, append_assoc, eqb-true, eq-eqb, Some, All, Contains, props, ∥∥₁_elim, length_push, All-nil, All-push, Contains-append_right, set-get_or}
+use Rattle.segment_invariant.proofs.Prelude.Machine.{Dimensions, word_at, IsShape, is_reference, stops, IsPrefix, Actor, Known, word_seen, Learned, next, walking_event, SawOther, load_published}
+use Rattle.std.proofs.lemmas.List.{get_or_push}
 use Rattle.bucket_ranges.specs.Reading.{is_i32}
-use Rattle.segment_image.specs.Shape.{Dimensions}
-use Rattle.segment_image.specs.Words.{word_at}
-use Rattle.alloc_core.specs.Layout.{IsShape}
 use Rattle.list_core.specs.declared.walk.WalkStep.{WalkStep}
 use Rattle.list_core.specs.declared.walk.WalkStep.TheVariants.{Record, End, Stray}
-use Rattle.list_core.specs.Chain.{is_reference, stops}
-use Rattle.list_core.specs.Walk.{IsPrefix, said_of, given_after, stands_behind}
+use Rattle.list_core.specs.Walk.{said_of, given_after, stands_behind}
 use Rattle.list_core.proofs.Prefixes.{prefix_of_prefix}
-use Rattle.segment_machine.specs.declared.actor.Actor.{Actor}
-use Rattle.segment_machine.specs.declared.actor.Known.{Known}
-use Rattle.segment_machine.specs.Actor.{Sparse, word_seen}
-use Rattle.segment_machine.specs.Event.{Learned, next, walking_event}
-use Rattle.segment_machine.specs.Made.{SawOther}
-use Rattle.segment_machine.specs.Walking.{IsFixed, WalkingEvent, load_published}
+use Rattle.segment_machine.specs.Actor.{Sparse}
+use Rattle.segment_machine.specs.Walking.{IsFixed, WalkingEvent}
 use Rattle.segment_promises.proofs.Growing.{others_still, reference_within, still}
 use Rattle.segment_promises.proofs.Calls.SeenWords.{seen_now}
 use Rattle.hist_core.proofs.Parts.Alone.{by_event}

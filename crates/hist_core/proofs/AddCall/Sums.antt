@@ -1,14 +1,6 @@
 -- An `add` adds its amount to the sum.
-use Rattle.std.proofs.Common.{◌≡◌, ℕ, ◌+◌, ◌%◌, ◌^◌, Bool, true, false, not, List, ◌∷◌, ◌++◌, map, refl, sym, ap, subst, ◌∙◌}
-use Rattle.std.specs.Prelude.{slice_set}
-use Rattle.std.specs.Int.{cast_unsigned, w64}
-use Rattle.segment_image.specs.Shape.{Dimensions}
-use Rattle.segment_image.specs.Words.{word_at}
-use Rattle.segment_machine.specs.declared.actor.Actor.{Actor}
-use Rattle.segment_machine.specs.declared.actor.Known.{Known}
-use Rattle.segment_machine.specs.Counting.{add_sum}
-use Rattle.segment_machine.specs.Entry.{fresh}
-use Rattle.segment_machine.specs.Event.{Event, next, counting_event}
+use Rattle.segment_invariant.proofs.Prelude.Std.{◌≡◌, ℕ, ◌+◌, ◌%◌, ◌^◌, Bool, true, false, not, List, ◌∷◌, ◌++◌, map, refl, sym, ap, subst, ◌∙◌, slice_set, cast_unsigned, w64}
+use Rattle.segment_invariant.proofs.Prelude.Machine.{Dimensions, word_at, Actor, Known, add_sum, fresh, Event, next, counting_event}
 use Rattle.hist_core.proofs.AddCall.Going.{aside_still, acts_on}
 use Rattle.hist_core.specs.declared.add.Add.{Add}
 use Rattle.hist_core.specs.declared.add.AddStep.TheVariants.{More}

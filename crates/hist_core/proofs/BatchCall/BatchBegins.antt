@@ -1,30 +1,15 @@
 -- A `batch` begins: what it counts, and that it may.
-use Rattle.std.proofs.Common.{◌≡◌, ◌≤◌, ◌<◌, ◌+◌, ◌*◌, ℕ, ℤ, pos, negsuc, ◌+ℤ◌, Bool, true, false, not, ◌==◌, ◌&&◌, true≢false, ◌⊎◌, List, [], ◌∷◌, ◌++◌, map, filter, length, fold, All, Contains, inl, inr, refl, sym, ap, subst, ◌∙◌, arith}
-use Rattle.std.specs.Prelude.{Some, None, if◌then◌else◌, unsigned_abs}
+use Rattle.segment_invariant.proofs.Prelude.Std.{◌≡◌, ◌≤◌, ◌<◌, ◌+◌, ◌*◌, ℕ, ℤ, pos, ◌+ℤ◌, Bool, true, false, not, ◌==◌, ◌&&◌, true≢false, ◌⊎◌, List, [], ◌∷◌, ◌++◌, map, filter, length, fold, All, Contains, inl, inr, refl, sym, ap, subst, ◌∙◌, arith, Some, None, if◌then◌else◌, unsigned_abs, ne_eqb, eqb-false, and_parts, bytes_eq, int_eq, +ℤ_idl, +ℤ_idr, Decides-int_eq, bytes_eq-Decides, All-nil, All-cons, All-append, All-head, All-tail, filter-append, sum_by-cons, sum_by-append, map-append, get_elem?, some}
+use Rattle.segment_invariant.proofs.Prelude.Machine.{IsShape, boundaries_of, Dimensions, Actor, known_at, fresh, has_ended, is_of, key_of, tally_noted, tally_sum, noted, begins, is_reference}
+use Rattle.std.proofs.Common.{negsuc}
 use Rattle.std.specs.List.{AllZip, list_all}
-use Rattle.std.proofs.lemmas.Bool.{ne_eqb, eqb-false, and_parts}
-use Rattle.std.specs.Str.{bytes_eq}
-use Rattle.std.specs.Ordering.{int_eq}
-use Rattle.std.proofs.Math.IntN.{+ℤ_idl, +ℤ_idr}
-use Rattle.std.proofs.lemmas.Bool.Decides.{Decides-int_eq}
-use Rattle.std.proofs.lemmas.Slice.Eq.{bytes_eq-Decides}
-use Rattle.std.proofs.lemmas.List.Elements.{All-nil, All-cons, All-append, All-head, All-tail, filter-append}
-use Rattle.std.proofs.lemmas.List.Sums.{sum_by-cons, sum_by-append, fold-append}
-use Rattle.std.proofs.lemmas.List.{map-append}
-use lib.ListN.{get_elem?}
-use mathlib.Core.Option.{some}
-use Rattle.alloc_core.specs.Layout.{IsShape}
-use Rattle.bucket_ranges.specs.Ranges.{boundaries_of}
+use Rattle.std.proofs.lemmas.List.Sums.{fold-append}
 use Rattle.bucket_ranges.specs.Tally.{units_of}
-use Rattle.segment_image.specs.Shape.{Dimensions}
 use Rattle.segment_image.specs.declared.layout.TheConstants.{HISTOGRAM_NAME}
 use Rattle.segment_invariant.proofs.Lists.Elements.{all_at}
-use Rattle.segment_machine.specs.declared.actor.Actor.{Actor}
 use Rattle.segment_machine.specs.declared.actor.Known.{Known as MachineKnown}
 use Rattle.segment_machine.specs.declared.entry.Entry.{Entry as MachineEntry}
-use Rattle.segment_machine.specs.Actor.{known_at}
-use Rattle.segment_machine.specs.Entry.{AreWithin, batch_cost, batch_entries, fresh, has_ended, item_entry, sum_entry, is_of, key_of, tally_noted, tally_sum}
-use Rattle.segment_machine.specs.Note.{noted, begins}
+use Rattle.segment_machine.specs.Entry.{AreWithin, batch_cost, batch_entries, item_entry, sum_entry}
 use Rattle.segment_machine.specs.Seats.{getter}
 use Rattle.hist_core.specs.declared.add.Add.{Add}
 use Rattle.hist_core.specs.declared.batch.Batch.{Batch as BatchCall}
@@ -40,7 +25,6 @@ use Rattle.hist_core.proofs.AddCall.Samples.{stands_first as begins_first}
 use Rattle.hist_core.proofs.Worlds.Free.{free_turns}
 use Rattle.hist_core.proofs.Worlds.Quiet.{met_split}
 use Rattle.hist_core.specs.StepsBy.{IsFree}
-use Rattle.list_core.specs.Chain.{is_reference}
 use Rattle.hist_core.proofs.AddCall.Opening.{before_it, counts_so, known_inside, stands}
 use Rattle.hist_core.proofs.Worlds.Zips.{zip_all}
 

@@ -1,33 +1,26 @@
 -- What becomes of an actor by what its `batch` says.
-use Rattle.std.proofs.Common.{◌≡◌, ◌≤◌, ◌+◌, ◌-◌, ℕ, ℤ, List, ◌++◌, map, length, take, inr, refl, sym, ap, subst, ◌∙◌, arith, length-append}
-use Rattle.std.specs.Prelude.{Option, Some, vec_len}
-use Rattle.std.proofs.lemmas.List.{length-map, length-drop, take-append-drop, take-take, take_all, drop-take}
-use Rattle.segment_image.specs.Shape.{Dimensions}
-use Rattle.segment_machine.specs.declared.actor.Actor.{Actor}
+use Rattle.segment_invariant.proofs.Prelude.Std.{◌≡◌, ◌≤◌, ◌+◌, ◌-◌, ℕ, ℤ, List, ◌++◌, map, length, take, inr, refl, sym, ap, subst, ◌∙◌, arith, length-append, Option, Some, vec_len, length-map, take-append-drop, some, get_elem?, Contains}
+use Rattle.segment_invariant.proofs.Prelude.Machine.{Dimensions, Actor, Note, Notes, noted, tally_noted, Refusal}
+use Rattle.std.proofs.lemmas.List.{length-drop, take-take, take_all, drop-take}
 use Rattle.segment_machine.specs.declared.actor.Known.{Known as MachineKnown}
 use Rattle.segment_machine.specs.declared.entry.Entry.{Entry as MachineEntry}
-use Rattle.segment_machine.specs.Note.{Note, Notes, noted, refused}
+use Rattle.segment_machine.specs.Note.{refused}
 use Rattle.hist_core.specs.declared.batch.Batch.{Batch as BatchCall}
 use Rattle.hist_core.specs.declared.batch.BatchStep.{BatchStep}
 use Rattle.hist_core.specs.declared.batch.BatchStep.TheVariants.{More, Done, Refused}
 use Rattle.hist_core.specs.declared.call.Answer.TheVariants as answer
 use Rattle.hist_core.specs.declared.call.Stepped.{Stepped}
 use Rattle.hist_core.specs.declared.call.Stepped.TheVariants as stepped
-use mathlib.Core.Option.{some}
-use lib.ListN.{get_elem?}
 use Rattle.segment_promises.proofs.Spoilers.{notes_leave}
 use Rattle.segment_machine.specs.declared.actor.Made.TheVariants.{Sample}
 use Rattle.hist_core.specs.declared.actor_run.Running.{Running}
 use Rattle.hist_core.specs.declared.actor_run.Running.TheVariants.{Batch}
 use Rattle.hist_core.specs.declared.actor_run.ActorRun.{ActorRun}
-use Rattle.std.specs.List.{Contains}
 use Rattle.hist_core.specs.Add.{FrameOfAdd, block_words, counted_entry}
-use Rattle.segment_machine.specs.Entry.{tally_noted}
 use Rattle.hist_core.specs.Batch.{IsBatch, IsCutAt, HaveEnded, IsSomeBatch, IsSameBatch, IsRefusedAt, BatchSteps, BatchGives, added_of, counted_entries, serves_counted, NextNeedsBlock, sum_entries, units_among}
 use Rattle.hist_core.specs.StepsBy.{Deed, links, raises, DoesOnly, StepsBy}
 use Rattle.hist_core.proofs.Worlds.Landing.{Landing, does_as_said}
 use Rattle.hist_core.specs.ActorRun.{known_of, ended_by, begun_by, pending_by, entry_of, held_by, IsGhostNoting, IsBatching, StandsIn, IsRun, IsBatchAnnounced, LandsBack, Answers, DoesAsSaid, IsRefusedBy, Serves, is_flagged, lacks_room}
-use Rattle.segment_calls.specs.declared.refusal.Refusal.{Refusal}
 use Rattle.hist_core.specs.Making.{IsCause}
 use Rattle.hist_core.proofs.AddCall.Refusals.{HasOnlyNoted, cause_noted, needs_still}
 use Rattle.hist_core.proofs.Parts.Allocations.{goes_with}

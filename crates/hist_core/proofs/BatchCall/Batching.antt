@@ -1,21 +1,11 @@
 -- A `batch` of an actor goes on: what becomes of its entries and its units.
-use Rattle.std.proofs.Common.{◌≡◌, ◌≤◌, ◌<◌, ◌+◌, ◌-◌, ℕ, Bool, true, false, pos, List, [], ◌∷◌, ◌++◌, map, length, take, set, refl, sym, ap, subst, ◌∙◌, arith, length-append, ⊎_elim}
-use Rattle.std.specs.Prelude.{vec_len, ◌&&◌, ◌==◌, if◌then◌else◌}
-use Rattle.std.specs.Ordering.{int_eq}
-use Rattle.std.proofs.Props.{props}
-use Rattle.std.proofs.Math.Logic.{∥∥₁_elim}
-use Rattle.std.proofs.lemmas.List.{length-map, map-append, take-append-le, take-map, map-set}
-use Rattle.std.proofs.lemmas.List.Sums.{sum_by-append, sum_by-cons}
+use Rattle.segment_invariant.proofs.Prelude.Std.{◌≡◌, ◌≤◌, ◌<◌, ◌+◌, ◌-◌, ℕ, Bool, true, false, pos, List, [], ◌∷◌, ◌++◌, map, length, take, set, refl, sym, ap, subst, ◌∙◌, arith, length-append, ⊎_elim, vec_len, ◌&&◌, ◌==◌, if◌then◌else◌, int_eq, props, ∥∥₁_elim, length-map, map-append, sum_by-append, sum_by-cons, some, some-injective, get_elem?, bytes_eq-Decides}
+use Rattle.segment_invariant.proofs.Prelude.Machine.{Dimensions, Actor, EntryProgress, fresh, tally_noted}
+use Rattle.std.proofs.lemmas.List.{take-append-le, take-map, map-set}
 use Rattle.atomic_table.proofs.Lists.{set_again}
-use mathlib.Core.Option.{some, some-injective}
-use lib.ListN.{get_elem?}
-use Rattle.std.proofs.lemmas.Slice.Eq.{bytes_eq-Decides}
-use Rattle.segment_image.specs.Shape.{Dimensions}
-use Rattle.segment_machine.specs.declared.actor.Actor.{Actor}
 use Rattle.segment_machine.specs.declared.actor.Known.{Known as MachineKnown}
-use Rattle.segment_machine.specs.declared.entry.EntryProgress.{EntryProgress}
 use Rattle.segment_machine.specs.declared.entry.Entry.{Entry as MachineEntry}
-use Rattle.segment_machine.specs.Entry.{fresh, sum_entry, tally_noted}
+use Rattle.segment_machine.specs.Entry.{sum_entry}
 use Rattle.hist_core.specs.declared.add.Add.{Add}
 use Rattle.hist_core.specs.declared.add.AddStep.{AddStep}
 use Rattle.hist_core.specs.declared.add.AddStep.TheVariants as said

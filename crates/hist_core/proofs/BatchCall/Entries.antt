@@ -1,15 +1,7 @@
 -- The entries of a batch, and the units of its items.
-use Rattle.std.proofs.Common.{◌≡◌, ◌+◌, ℕ, ℤ, pos, Bool, true, false, not, List, [], ◌∷◌, map, All, refl, sym, ap, ◌∙◌}
-use Rattle.std.specs.Prelude.{if◌then◌else◌}
-use Rattle.std.specs.Ordering.{int_eq}
-use Rattle.std.specs.Str.{bytes_eq}
-use Rattle.std.proofs.lemmas.List.Elements.{All-nil, All-cons, All-head, All-tail}
-use Rattle.std.proofs.lemmas.List.Sums.{sum_by-cons}
-use Rattle.segment_machine.specs.declared.actor.Known.{Known}
-use Rattle.segment_machine.specs.declared.entry.EntryProgress.{EntryProgress}
-use Rattle.segment_machine.specs.declared.entry.Entry.{Entry}
-use Rattle.segment_machine.specs.Entry.{fresh, has_ended, is_of, sum_entry, tally_noted}
-use Rattle.segment_machine.specs.Note.{is_untouched}
+use Rattle.segment_invariant.proofs.Prelude.Std.{◌≡◌, ◌+◌, ℕ, ℤ, pos, Bool, true, false, not, List, [], ◌∷◌, map, All, refl, sym, ap, ◌∙◌, if◌then◌else◌, int_eq, bytes_eq, All-nil, All-cons, All-head, All-tail, sum_by-cons}
+use Rattle.segment_invariant.proofs.Prelude.Machine.{Known, EntryProgress, Entry, fresh, has_ended, is_of, tally_noted, is_untouched}
+use Rattle.segment_machine.specs.Entry.{sum_entry}
 use Rattle.hist_core.specs.declared.add.Add.{Add}
 use Rattle.hist_core.specs.Add.{counted_entry, ended_entry}
 use Rattle.hist_core.specs.Batch.{sum_entries, units_among}

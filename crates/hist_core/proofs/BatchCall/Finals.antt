@@ -1,19 +1,9 @@
 -- A `batch` adds its sum.
-use Rattle.std.proofs.Common.{◌≡◌, ℕ, ◌+◌, ◌%◌, ◌^◌, Bool, true, false, not, List, [], ◌∷◌, ◌++◌, map, filter, All, refl, sym, ap, subst, ◌∙◌}
-use Rattle.std.specs.Prelude.{◌&&◌, slice_set}
-use Rattle.std.specs.Int.{cast_unsigned, w64}
-use Rattle.std.proofs.lemmas.List.{map-append}
-use Rattle.std.proofs.lemmas.List.Elements.{All-nil, All-cons, All-append}
-use Rattle.segment_image.specs.Shape.{Dimensions}
-use Rattle.segment_image.specs.Words.{word_at}
-use Rattle.segment_machine.specs.declared.actor.Actor.{Actor}
-use Rattle.segment_machine.specs.declared.actor.Known.{Known}
-use Rattle.segment_machine.specs.declared.entry.EntryProgress.{EntryProgress}
-use Rattle.segment_machine.specs.declared.entry.Entry.{Entry}
+use Rattle.segment_invariant.proofs.Prelude.Std.{◌≡◌, ℕ, ◌+◌, ◌%◌, ◌^◌, Bool, true, false, not, List, [], ◌∷◌, ◌++◌, map, filter, All, refl, sym, ap, subst, ◌∙◌, ◌&&◌, slice_set, cast_unsigned, w64, map-append, All-nil, All-cons, All-append}
+use Rattle.segment_invariant.proofs.Prelude.Machine.{Dimensions, word_at, Actor, Known, EntryProgress, Entry, add_sum, fresh, has_ended, Event, next, counting_event}
 use Rattle.segment_machine.specs.Calls.{IsNext}
-use Rattle.segment_machine.specs.Counting.{add_sum, sum_next}
-use Rattle.segment_machine.specs.Entry.{fresh, has_ended, sum_entry}
-use Rattle.segment_machine.specs.Event.{Event, next, counting_event}
+use Rattle.segment_machine.specs.Counting.{sum_next}
+use Rattle.segment_machine.specs.Entry.{sum_entry}
 use Rattle.hist_core.proofs.Parts.Alone.{by_event}
 use Rattle.hist_core.proofs.AddCall.Going.{aside_still}
 use Rattle.hist_core.specs.declared.batch.Batch.{Batch}

@@ -1,26 +1,11 @@
 -- A `batch` counts its next item.
-use Rattle.std.proofs.Common.{◌≡◌, ◌≤◌, ◌+◌, ◌-◌, ◌==◌, ℕ, ℤ, pos, Bool, true, false, List, [], ◌∷◌, ◌++◌, map, length, take, drop, set, All, inl, inr, refl, sym, ap, subst, ◌∙◌, arith, length-append, append_assoc}
-use Rattle.std.specs.Prelude.{◌&&◌, if◌then◌else◌, vec_len, ◌⊎◌}
-use Rattle.std.specs.Ordering.{int_eq}
-use Rattle.std.proofs.lemmas.Bool.{eq-eqb, ne_eqb}
-use Rattle.std.proofs.lemmas.List.{map-append, append-nil, length-map}
-use Rattle.std.proofs.lemmas.List.Elements.{All-cons, All-head, All-tail, All-take, All-drop, All-set, All-contains, All-weaker, Contains-append_left, Contains-append_right}
-use Rattle.std.proofs.lemmas.List.Sums.{sum_by-cons, sum_by-append, sum_by_push}
-use Rattle.segment_image.specs.Shape.{Dimensions}
+use Rattle.segment_invariant.proofs.Prelude.Std.{◌≡◌, ◌≤◌, ◌+◌, ◌-◌, ◌==◌, ℕ, ℤ, pos, Bool, true, false, List, [], ◌∷◌, ◌++◌, map, length, take, drop, set, All, inl, inr, refl, sym, ap, subst, ◌∙◌, arith, length-append, append_assoc, ◌&&◌, if◌then◌else◌, vec_len, ◌⊎◌, int_eq, eq-eqb, ne_eqb, map-append, append-nil, length-map, All-cons, All-head, All-tail, All-contains, All-weaker, Contains-append_left, Contains-append_right, sum_by-cons, sum_by-append, at_map, some, get_elem?, Contains}
+use Rattle.segment_invariant.proofs.Prelude.Machine.{Dimensions, Actor, Known, EntryProgress, Entry, known_at, fresh, has_ended, is_untouched, Refusal}
+use Rattle.std.proofs.lemmas.List.Elements.{All-take, All-drop, All-set}
+use Rattle.std.proofs.lemmas.List.Sums.{sum_by_push}
 use Rattle.segment_invariant.proofs.Lists.Elements.{contains_at}
-use Rattle.atomic_table.proofs.Lists.{at_map}
-use mathlib.Core.Option.{some}
-use lib.ListN.{get_elem?}
 use Rattle.segment_invariant.proofs.Lists.Maps.{contains_map}
-use Rattle.segment_machine.specs.declared.actor.Actor.{Actor}
-use Rattle.segment_machine.specs.declared.actor.Known.{Known}
 use Rattle.segment_machine.specs.declared.actor.Made.TheVariants.{Sample}
-use Rattle.segment_machine.specs.declared.entry.EntryProgress.{EntryProgress}
-use Rattle.segment_machine.specs.declared.entry.Entry.{Entry}
-use Rattle.segment_machine.specs.Actor.{known_at}
-use Rattle.segment_machine.specs.Entry.{fresh, has_ended}
-use Rattle.segment_machine.specs.Note.{is_untouched}
-use Rattle.std.specs.List.{Contains}
 use Rattle.hist_core.specs.declared.add.Add.{Add}
 use Rattle.hist_core.specs.declared.add.AddStep.{AddStep}
 use Rattle.hist_core.specs.declared.add.AddStep.TheVariants as said
@@ -28,7 +13,6 @@ use Rattle.hist_core.specs.declared.add.AddStage.{AddStage}
 use Rattle.hist_core.specs.declared.batch.Batch.{Batch}
 use Rattle.hist_core.specs.declared.batch.BatchStep.{BatchStep}
 use Rattle.hist_core.specs.declared.batch.BatchStep.TheVariants.{More, Done, Refused}
-use Rattle.segment_calls.specs.declared.refusal.Refusal.{Refusal}
 use Rattle.hist_core.specs.Add.{IsAdd, FrameOfAdd, NeedsBlock, StaysOpen, HasEntry, HasEnded, AddSteps, AddGives, block_words, counted_entry, ended_entry}
 use Rattle.hist_core.specs.Add.{serves_counted as add_serves}
 use Rattle.hist_core.specs.Making.{IsCause, is_full}

@@ -1,42 +1,18 @@
 -- A delta loads the counts reference, and the count of each bucket.
-use Rattle.std.proofs.Common.{◌≡◌, ◌≢◌, ℕ, zero, suc, ℤ, take, slice_index, ◌+◌, ◌-◌, ◌*◌, ◌%◌, ◌^◌, ◌<◌, ◌≤◌, ◌==◌, Bool, true, false, true≢false, if◌then◌else◌, nat_lt, List, [], ◌∷◌, ◌++◌, drop, length, Option, Some, None, inl, inr, ⊎_elim, refl, sym, ap, subst, ◌∙◌, arith}
+use Rattle.segment_invariant.proofs.Prelude.Std.{◌≡◌, ◌≢◌, ℕ, zero, suc, ℤ, take, slice_index, ◌+◌, ◌-◌, ◌*◌, ◌%◌, ◌^◌, ◌<◌, ◌≤◌, ◌==◌, Bool, true, false, true≢false, if◌then◌else◌, nat_lt, List, [], ◌∷◌, ◌++◌, drop, length, Option, Some, None, inl, inr, ⊎_elim, refl, sym, ap, subst, ◌∙◌, arith, props, ∥∥₁_elim, Contains, eq-eqb, eqb-true, ne_eqb, ltb-true, ltb-false, append-nil, take-append-drop, Contains-append_right, set-get_or, dite, ℕ_discrete}
+use Rattle.segment_invariant.proofs.Prelude.Machine.{boundaries_of, buckets_of, single_of, units_packed, SingleWord, Dimensions, word_at, Actor, Known, Taken, Look, Place, Looking, CountLoaded, Sighting, Buckets, is_bound, word_seen, look_of, sight, sight_counts, load_counts, Event, next, counting_event, taking_event, SawBucket, load_count, Spec}
 use Rattle.std.specs.Prelude.{nat_eq}
-use Rattle.std.proofs.Props.{props}
-use Rattle.std.proofs.Math.Logic.{∥∥₁_elim}
-use Rattle.std.specs.List.{Contains}
 use Rattle.std.specs.Option.{option_eq}
-use Rattle.std.proofs.lemmas.Bool.{eq-eqb, eqb-true, ne_eqb, ltb-true, ltb-false}
-use Rattle.std.proofs.lemmas.List.{append-nil, take-append-drop}
-use Rattle.std.proofs.lemmas.List.Elements.{Contains-append_right}
-use lib.Seq.{set-get_or}
-use mathlib.Core.Logic.{dite}
-use native.Mathlib.Decide.{ℕ_discrete}
-use Rattle.bucket_ranges.specs.Ranges.{boundaries_of, IsSplit}
-use Rattle.bucket_ranges.specs.Spec.{buckets_of}
-use Rattle.bucket_ranges.specs.Single.{single_of, units_packed}
-use Rattle.bucket_ranges.specs.declared.single.SingleWord.{SingleWord}
-use Rattle.segment_image.specs.Shape.{Dimensions}
-use Rattle.segment_image.specs.Words.{word_at}
+use Rattle.bucket_ranges.specs.Ranges.{IsSplit}
 use Rattle.segment_invariant.proofs.Consistency.Marks.{packed_all}
-use Rattle.segment_machine.specs.declared.actor.Actor.{Actor}
-use Rattle.segment_machine.specs.declared.actor.Known.{Known}
-use Rattle.segment_machine.specs.declared.actor.Taken.{Taken}
-use Rattle.segment_machine.specs.declared.place.Look.{Look}
-use Rattle.segment_machine.specs.declared.place.Place.{Place}
-use Rattle.segment_machine.specs.declared.place.Place.TheVariants.{Looking, CountLoaded}
-use Rattle.segment_machine.specs.declared.seen.Sighting.{Sighting}
-use Rattle.segment_machine.specs.Actor.{Buckets, is_bound, word_seen}
-use Rattle.segment_machine.specs.Calls.{AreCountsOf, CountsStay, look_of, sight, sight_counts}
-use Rattle.segment_machine.specs.Counting.{load_counts}
-use Rattle.segment_machine.specs.Event.{Event, next, counting_event, taking_event}
+use Rattle.segment_machine.specs.Calls.{AreCountsOf, CountsStay}
 use Rattle.segment_machine.specs.Form.{is_off, SaysPacked}
-use Rattle.segment_machine.specs.Note.{SawBucket, TookBucket}
-use Rattle.segment_machine.specs.Taking.{at_count, load_count, MayLoadCount}
+use Rattle.segment_machine.specs.Note.{TookBucket}
+use Rattle.segment_machine.specs.Taking.{at_count, MayLoadCount}
 use Rattle.segment_promises.proofs.Calls.BucketLists.{still_below}
 use Rattle.segment_promises.specs.Calls.{AreBelow}
 use Rattle.segment_promises.proofs.Calls.Sights.{seen_here, took_bucket}
 use Rattle.segment_promises.proofs.Calls.Places.{looks_again}
-use Rattle.bucket_ranges.specs.declared.spec.Spec.{Spec}
 use Rattle.hist_core.proofs.Parts.Alone.{by_event}
 use Rattle.hist_core.specs.declared.mounted.Mounted.{Mounted}
 use Rattle.hist_core.specs.declared.delta_call.DeltaStage.TheVariants.{LoadingCounts, LoadingCount, Raising, LoadingSum}
@@ -45,7 +21,7 @@ use Rattle.hist_core.specs.declared.delta_call.DeltaCallStep.TheVariants.{More}
 use Rattle.hist_core.specs.StepsBy.{StepsBy}
 use Rattle.hist_core.specs.Mounted.{AreMounted, HasLoaded, HasWord, look_at, total_at}
 use Rattle.hist_core.specs.DeltaCall.{HasBuckets, IsSomeDeltaCall, IsDeltaCall, IsUnderWay, StandsAtStage, DeltaCallGives, FrameOfDelta, behind_bucket}
-use Rattle.hist_core.proofs.DeltaCall.Going.{acts_on, buckets_are, goes_still, knows_it, same_way, split, taking_sees}
+use Rattle.hist_core.proofs.DeltaCall.Going.{acts_on, buckets_are, goes_still, knows_it, same_way, split, taking_sees, delta_beside}
 use Rattle.hist_core.proofs.DeltaCall.Sights.{mounted_still}
 use Rattle.hist_core.proofs.DeltaCall.Singles.{none_packed}
 
@@ -224,18 +200,8 @@ module _ (shape : Dimensions) (known : Known) (earlier : List Taken) (delta_call
         let event : Event = counting_event (load_counts known.reference) in
         let acted : Actor = next a event found in
         let new : DeltaCall = record delta_call { stage = LoadingCount (record { counts = counts; packed = packed; kept = kept }) 0 } in
-        let beside : FrameOfDelta a acted = record {
-          role = refl;
-          segment = refl;
-          units = refl;
-          entries = refl;
-          names = refl;
-          snapshots = refl;
-          first = refl;
-          chain = ([], sym (append-nil a.seen.chain));
-          words = (sight_counts known.reference found, refl);
-          done = refl;
-        } in by_event event (is.turns, (known, knows_it shape known earlier delta_call a is before_counts.4.0))
+        let beside = delta_beside a acted refl refl refl refl refl refl refl refl (sight_counts known.reference found, refl) refl in
+        by_event event (is.turns, (known, knows_it shape known earlier delta_call a is before_counts.4.0))
         (sym (set-get_or words (known.reference + 8) 0))
         (λ learned apart ordered. (
           beside,

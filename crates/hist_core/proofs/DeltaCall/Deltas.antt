@@ -1,30 +1,21 @@
 -- A `delta` of an actor goes on, what it is shown as, and what it is answered with.
-use Rattle.std.proofs.Common.{◌≡◌, ◌⊎◌, inl, inr, ⊎_elim, ◌<◌, ◌≤◌, ◌+◌, ◌-◌, ℕ, zero, suc, ℤ, pos, arith, set, List, [], ◌∷◌, ◌++◌, length, map, take, refl, sym, ap, subst, ◌∙◌, vec_len}
-use Rattle.std.specs.Prelude.{Option, Some, None, option_to_list, slice_index_or, slice_set, vec_capacity}
+use Rattle.segment_invariant.proofs.Prelude.Std.{◌≡◌, ◌⊎◌, inl, inr, ⊎_elim, ◌<◌, ◌≤◌, ◌+◌, ◌-◌, ℕ, zero, suc, ℤ, pos, arith, set, List, [], ◌∷◌, ◌++◌, length, map, take, refl, sym, ap, subst, ◌∙◌, vec_len, Option, Some, None, slice_set, vec_capacity, All, Contains, props, ∥∥₁_elim, append-nil, length_push, some, some-injective, some-ne-none, get_elem?}
+use Rattle.segment_invariant.proofs.Prelude.Machine.{IsShape, Dimensions, Actor, is_opener, known_at, units_listed, State}
+use Rattle.std.specs.Prelude.{option_to_list, slice_index_or}
 use Rattle.std.specs.declared.alloc.Global.{Global}
 use Rattle.std.specs.declared.vec.Vec.{Vec}
-use Rattle.std.specs.List.{All, Contains}
 use Rattle.std.specs.List.Sorted.{IsStrictlySortedBy}
 use Rattle.std.specs.Ordering.{int_cmp}
-use Rattle.std.proofs.Props.{props}
-use Rattle.std.proofs.Math.Logic.{∥∥₁_elim}
-use Rattle.std.proofs.lemmas.List.{append-nil, length_push, same_from_push, take-append-le, take_all}
+use Rattle.std.proofs.lemmas.List.{same_from_push, take-append-le, take_all}
 use Rattle.std.proofs.lemmas.List.Sorted.{IsPermutation-insert, length_permutation}
-use mathlib.Core.Option.{some, some-injective, some-ne-none}
-use lib.ListN.{get_elem?}
-use Rattle.alloc_core.specs.Layout.{IsShape}
-use Rattle.segment_image.specs.Shape.{Dimensions}
 use Rattle.segment_invariant.proofs.Lists.Elements.{all_at, all_from, contains_at}
 use Rattle.segment_invariant.proofs.Lists.Maps.{contains_map}
-use Rattle.segment_machine.specs.declared.actor.Actor.{Actor}
 use Rattle.segment_machine.specs.declared.actor.Known.{Known as MachineKnown}
 use Rattle.segment_machine.specs.declared.actor.Taken.{Taken as MachineTaken}
-use Rattle.segment_machine.specs.Actor.{is_opener, known_at, units_listed}
 use Rattle.segment_machine.specs.Note.{TookSample}
 use Rattle.segment_promises.specs.Values.{ListsValues}
 use Rattle.segment_promises.proofs.ListedValues.{lists_nothing}
 use Rattle.segment_promises.specs.Calls.{AreUnits}
-use Rattle.segment_machine.specs.State.{State}
 use Rattle.hist_core.proofs.HistCall.Asking.{as_it_stood, runs_on}
 use Rattle.hist_core.proofs.Parts.Alone.{alike}
 use Rattle.hist_core.specs.declared.world_state.WorldState.{WorldState}

@@ -1,24 +1,12 @@
 -- A delta goes on by one event of its actor.
-use Rattle.std.proofs.Common.{◌≡◌, ℕ, ◌+◌, ◌-◌, ◌≤◌, true, true≢false, List, length, refl, sym, ap, ◌∙◌, subst, arith}
-use Rattle.std.specs.Prelude.{None, vec_capacity}
-use Rattle.std.proofs.Props.{props}
-use Rattle.std.proofs.Math.Logic.{∥∥₁_elim}
-use Rattle.std.specs.List.{Contains}
-use Rattle.bucket_ranges.specs.Ranges.{IsSplit, boundaries_of}
-use Rattle.bucket_ranges.specs.Spec.{buckets_of, spec_fault}
-use Rattle.bucket_ranges.specs.declared.spec.Spec.{Spec}
+use Rattle.segment_invariant.proofs.Prelude.Std.{◌≡◌, ℕ, ◌+◌, ◌-◌, ◌≤◌, true, true≢false, List, length, refl, sym, ap, ◌∙◌, subst, arith, None, vec_capacity, props, ∥∥₁_elim, Contains, [], ◌++◌, append-nil}
+use Rattle.segment_invariant.proofs.Prelude.Machine.{boundaries_of, buckets_of, spec_fault, Spec, Dimensions, word_at, Actor, Known, Taken, Buckets, has_buckets, is_opener, known_at, units_listed, MayTurn, sight, Event, spot, next, Ready, Learned, taking_event, load_count, raise_mark, raise_single_mark, load_sum, swap_sum_mark, load_redundant, Sighting}
+use Rattle.bucket_ranges.specs.Ranges.{IsSplit}
 use Rattle.bucket_ranges.specs.declared.spec.Spec.TheVariants as spec
 use Rattle.bucket_ranges.proofs.Ascent.{boundaries_of-split}
-use Rattle.segment_image.specs.Shape.{Dimensions}
-use Rattle.segment_image.specs.Words.{word_at}
 use Rattle.segment_invariant.proofs.Packing.OffForms.{few_buckets}
-use Rattle.segment_machine.specs.declared.actor.Actor.{Actor}
-use Rattle.segment_machine.specs.declared.actor.Known.{Known}
-use Rattle.segment_machine.specs.declared.actor.Taken.{Taken}
-use Rattle.segment_machine.specs.Actor.{Buckets, has_buckets, is_opener, known_at, units_listed}
-use Rattle.segment_machine.specs.Calls.{MayTurn, sight}
-use Rattle.segment_machine.specs.Event.{Event, spot, after, next, Ready, Learned, taking_event}
-use Rattle.segment_machine.specs.Taking.{TakingEvent, Takes, load_count, raise_mark, raise_single_mark, load_sum, swap_sum_mark, load_redundant}
+use Rattle.segment_machine.specs.Event.{after}
+use Rattle.segment_machine.specs.Taking.{TakingEvent, Takes}
 use Rattle.segment_promises.proofs.Growing.{grows_not}
 use Rattle.segment_promises.specs.Calls.{AreUnits, SeesMore}
 use Rattle.hist_core.proofs.Parts.Alone.{by_event}
@@ -29,16 +17,32 @@ use Rattle.hist_core.specs.DeltaCall.{IsSomeDeltaCall, IsDeltaCall, IsUnderWay, 
 
 -- ---- what stays as it was
 
+pub delta_beside : (a b : Actor) → b.role ≡ a.role → b.segment ≡ a.segment → b.units ≡ a.units → b.entries ≡ a.entries → b.answers.names ≡ a.answers.names
+    → b.deltas.snapshots ≡ a.deltas.snapshots → b.deltas.first_taken ≡ a.deltas.first_taken → b.seen.chain ≡ a.seen.chain
+    → (more : List Sighting) × (b.seen.words ≡ a.seen.words ++ more) → b.done ≡ a.done → FrameOfDelta a b
+delta_beside a b role segment units entries names snapshots first chain words done = record {
+  role = role;
+  segment = segment;
+  units = units;
+  entries = entries;
+  names = names;
+  snapshots = snapshots;
+  first = first;
+  chain = ([], chain ∙ sym (append-nil a.seen.chain));
+  words = words;
+  done = done;
+}
+
 pub taking_aside : (a : Actor) (e : TakingEvent) (found : ℕ) → FrameOfDelta a (next a (taking_event e) found)
 taking_aside a e found = by e
   where
     by : (e : TakingEvent) → FrameOfDelta a (next a (taking_event e) found)
-    by (load_count at) = record { role = refl; segment = refl; units = refl; entries = refl; names = refl; snapshots = refl; first = refl; chain = grows_not a.seen.chain; words = grows_not a.seen.words; done = refl }
-    by (raise_mark at least) = record { role = refl; segment = refl; units = refl; entries = refl; names = refl; snapshots = refl; first = refl; chain = grows_not a.seen.chain; words = grows_not a.seen.words; done = refl }
-    by (raise_single_mark histogram least) = record { role = refl; segment = refl; units = refl; entries = refl; names = refl; snapshots = refl; first = refl; chain = grows_not a.seen.chain; words = grows_not a.seen.words; done = refl }
-    by (load_sum histogram) = record { role = refl; segment = refl; units = refl; entries = refl; names = refl; snapshots = refl; first = refl; chain = grows_not a.seen.chain; words = grows_not a.seen.words; done = refl }
-    by (swap_sum_mark histogram sum) = record { role = refl; segment = refl; units = refl; entries = refl; names = refl; snapshots = refl; first = refl; chain = grows_not a.seen.chain; words = grows_not a.seen.words; done = refl }
-    by (load_redundant histogram) = record { role = refl; segment = refl; units = refl; entries = refl; names = refl; snapshots = refl; first = refl; chain = grows_not a.seen.chain; words = grows_not a.seen.words; done = refl }
+    by (load_count at) = delta_beside a (next a (taking_event (load_count at)) found) refl refl refl refl refl refl refl refl (grows_not a.seen.words) refl
+    by (raise_mark at least) = delta_beside a (next a (taking_event (raise_mark at least)) found) refl refl refl refl refl refl refl refl (grows_not a.seen.words) refl
+    by (raise_single_mark histogram least) = delta_beside a (next a (taking_event (raise_single_mark histogram least)) found) refl refl refl refl refl refl refl refl (grows_not a.seen.words) refl
+    by (load_sum histogram) = delta_beside a (next a (taking_event (load_sum histogram)) found) refl refl refl refl refl refl refl refl (grows_not a.seen.words) refl
+    by (swap_sum_mark histogram sum) = delta_beside a (next a (taking_event (swap_sum_mark histogram sum)) found) refl refl refl refl refl refl refl refl (grows_not a.seen.words) refl
+    by (load_redundant histogram) = delta_beside a (next a (taking_event (load_redundant histogram)) found) refl refl refl refl refl refl refl refl (grows_not a.seen.words) refl
 
 pub taking_sees : (a : Actor) (e : TakingEvent) (found : ℕ) → SeesMore a (next a (taking_event e) found)
 taking_sees a (load_count at) found = record { segment = refl; since = refl; singles = grows_not a.seen.singles; counts = (sight at found, refl); words = grows_not a.seen.words }

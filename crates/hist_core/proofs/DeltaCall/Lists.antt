@@ -1,21 +1,13 @@
 -- What a delta lists: the units that it took of each bucket, in the order of the buckets.
-use Rattle.std.proofs.Common.{◌≡◌, ℕ, suc, true, false, ◌+◌, ◌-◌, ◌<◌, ◌≤◌, ℤ, pos, map, nat_lt, if◌then◌else◌, Bool, List, [], ◌∷◌, ◌++◌, length, slice_index, Some, Less, Equal, Greater, refl, sym, ap, subst, ◌∙◌, arith}
-use Rattle.std.specs.List.{AllByRecursion}
+use Rattle.segment_invariant.proofs.Prelude.Std.{◌≡◌, ℕ, suc, true, false, ◌+◌, ◌-◌, ◌<◌, ◌≤◌, ℤ, pos, map, nat_lt, if◌then◌else◌, Bool, List, [], ◌∷◌, ◌++◌, length, slice_index, Some, refl, sym, ap, subst, ◌∙◌, arith, AllByRecursion, int_eq, sum_by-append, lt-ltb, le-ltb, append-nil, length_push}
+use Rattle.segment_invariant.proofs.Prelude.Machine.{boundaries_of, buckets_of, Actor, Known, Taken, bucket_key, units_listed, change_last}
+use Rattle.std.proofs.Common.{Less, Equal, Greater}
 use Rattle.std.specs.Prelude.{int_lt}
 use Rattle.std.specs.List.{insert}
-use Rattle.std.specs.Ordering.{int_cmp, int_eq}
+use Rattle.std.specs.Ordering.{int_cmp}
 use Rattle.std.proofs.lemmas.List.Sorted.{IsPermutation-insert, sum_by-IsPermutation}
-use Rattle.std.proofs.lemmas.List.Sums.{sum_by-append}
-use Rattle.std.proofs.lemmas.Bool.{lt-ltb, le-ltb}
-use Rattle.std.proofs.lemmas.List.{append-nil, length_push}
-use Rattle.bucket_ranges.specs.Ranges.{IsSplit, boundaries_of}
-use Rattle.bucket_ranges.specs.Spec.{buckets_of}
+use Rattle.bucket_ranges.specs.Ranges.{IsSplit}
 use Rattle.segment_invariant.proofs.Notes.Amounts.{last_changed}
-use Rattle.segment_machine.specs.declared.actor.Actor.{Actor}
-use Rattle.segment_machine.specs.declared.actor.Known.{Known}
-use Rattle.segment_machine.specs.declared.actor.Taken.{Taken}
-use Rattle.segment_machine.specs.Actor.{bucket_key, units_listed}
-use Rattle.segment_machine.specs.Calls.{change_last}
 use Rattle.segment_machine.specs.Taking.{take_units}
 use Rattle.segment_promises.proofs.Calls.BucketLists.{keys_below, last_below, still_below, units_push}
 use Rattle.segment_promises.specs.Calls.{AreBelow, AreUnits}

@@ -1,29 +1,14 @@
 -- A delta raises the mark of a bucket to the units that it saw there.
-use Rattle.std.proofs.Common.{◌≡◌, ◌≢◌, ℕ, ◌+◌, ◌-◌, ◌*◌, ◌<◌, ◌≤◌, ℤ, pos, max, Bool, true, false, if◌then◌else◌, List, ◌++◌, drop, length, slice_index, Option, Some, inl, inr, refl, sym, ap, subst, ◌∙◌, arith}
-use Rattle.std.specs.Prelude.{nat_eq, slice_set, unwrap_or, vec_capacity}
-use Rattle.std.specs.List.{Contains}
+use Rattle.segment_invariant.proofs.Prelude.Std.{◌≡◌, ◌≢◌, ℕ, ◌+◌, ◌-◌, ◌*◌, ◌<◌, ◌≤◌, ℤ, pos, max, Bool, true, false, if◌then◌else◌, List, ◌++◌, drop, length, slice_index, Option, Some, inl, inr, refl, sym, ap, subst, ◌∙◌, arith, slice_set, unwrap_or, vec_capacity, Contains, props, ∥∥₁_elim, dite, ℕ_discrete}
+use Rattle.segment_invariant.proofs.Prelude.Machine.{buckets_of, single_of, packed_bucket, SingleWord, Dimensions, word_at, Actor, Known, Taken, CountLoaded, Sighting, bucket_key, has_buckets, is_bound, known_at, back, change_last, sight, next, taking_event, raise_mark, raise_single_mark}
+use Rattle.std.specs.Prelude.{nat_eq}
 use Rattle.std.specs.Option.{option_eq}
-use Rattle.std.proofs.Props.{props}
-use Rattle.std.proofs.Math.Logic.{∥∥₁_elim}
-use mathlib.Core.Logic.{dite}
-use native.Mathlib.Decide.{ℕ_discrete}
-use Rattle.bucket_ranges.specs.Spec.{buckets_of}
-use Rattle.bucket_ranges.specs.Single.{single_of, packed_bucket}
-use Rattle.bucket_ranges.specs.declared.single.SingleWord.{SingleWord}
-use Rattle.segment_image.specs.Shape.{Dimensions}
-use Rattle.segment_image.specs.Words.{word_at}
 use Rattle.segment_invariant.proofs.Consistency.Marks.{packed_all}
-use Rattle.segment_machine.specs.declared.actor.Actor.{Actor}
-use Rattle.segment_machine.specs.declared.actor.Known.{Known}
-use Rattle.segment_machine.specs.declared.actor.Taken.{Taken}
-use Rattle.segment_machine.specs.declared.place.Place.TheVariants.{CountLoaded}
-use Rattle.segment_machine.specs.declared.seen.Sighting.{Sighting}
-use Rattle.segment_machine.specs.Actor.{bucket_key, has_buckets, is_bound, known_at, known_buckets}
-use Rattle.segment_machine.specs.Calls.{back, change_last, form_seen, sight}
-use Rattle.segment_machine.specs.Event.{next, taking_event}
+use Rattle.segment_machine.specs.Actor.{known_buckets}
+use Rattle.segment_machine.specs.Calls.{form_seen}
 use Rattle.segment_machine.specs.Form.{units_in}
 use Rattle.segment_machine.specs.Note.{IsMarkOf, TookBucket}
-use Rattle.segment_machine.specs.Taking.{TakingEvent, raise_mark, raise_single_mark, single_key, take_units, taken_key}
+use Rattle.segment_machine.specs.Taking.{TakingEvent, single_key, take_units, taken_key}
 use Rattle.segment_promises.specs.Calls.{AreUnits}
 use Rattle.segment_promises.proofs.Calls.Sights.{saw_bucket, seen_here, took_bucket}
 use Rattle.hist_core.specs.declared.mounted.Mounted.{Mounted}

@@ -1,26 +1,11 @@
 -- A delta takes of the samples of a sparse histogram, event by event.
-use Rattle.std.proofs.Common.{◌≡◌, ◌≢◌, ℕ, ◌+◌, ◌-◌, ◌/◌, ◌<◌, ◌≤◌, ◌==◌, ℤ, max, Bool, true, false, true≢false, if◌then◌else◌, List, [], ◌∷◌, ◌++◌, length, inl, inr, ⊎_elim, refl, sym, ap, subst, ◌∙◌, arith, eqb-true, eq-eqb}
-use Rattle.std.specs.Prelude.{Option, slice_set, unwrap_or, vec_capacity, vec_len}
-use Rattle.std.specs.Int.{cast_signed, w64}
-use Rattle.std.specs.List.{Contains}
-use Rattle.std.proofs.Props.{props}
-use Rattle.std.proofs.Math.Logic.{∥∥₁_elim}
-use lib.Seq.{set-get_or}
-use Rattle.segment_image.specs.Shape.{Dimensions}
-use Rattle.segment_image.specs.Words.{word_at}
-use Rattle.list_core.specs.Walk.{IsPrefix}
+use Rattle.segment_invariant.proofs.Prelude.Std.{◌≡◌, ◌≢◌, ℕ, ◌+◌, ◌-◌, ◌/◌, ◌<◌, ◌≤◌, ◌==◌, ℤ, max, Bool, true, false, true≢false, if◌then◌else◌, List, [], ◌∷◌, ◌++◌, length, inl, inr, ⊎_elim, refl, sym, ap, subst, ◌∙◌, arith, eqb-true, eq-eqb, Option, slice_set, unwrap_or, vec_capacity, vec_len, cast_signed, w64, Contains, props, ∥∥₁_elim, set-get_or}
+use Rattle.segment_invariant.proofs.Prelude.Machine.{Dimensions, word_at, IsPrefix, Actor, Known, Taken, Place, Sighting, SawCount, is_bound, units_listed, back, Learned, next, taking_event, noted, load_count, raise_mark}
 use Rattle.segment_invariant.proofs.Lists.Maps.{contains_map}
-use Rattle.segment_machine.specs.declared.actor.Actor.{Actor}
-use Rattle.segment_machine.specs.declared.actor.Known.{Known}
-use Rattle.segment_machine.specs.declared.actor.Taken.{Taken}
-use Rattle.segment_machine.specs.declared.place.Place.{Place}
-use Rattle.segment_machine.specs.declared.seen.Sighting.{Sighting}
 use Rattle.segment_machine.specs.declared.place.Place.TheVariants as place
-use Rattle.segment_machine.specs.Actor.{SawCount, Sparse, is_bound, units_listed}
-use Rattle.segment_machine.specs.Calls.{back}
-use Rattle.segment_machine.specs.Event.{Learned, next, taking_event}
-use Rattle.segment_machine.specs.Note.{TookSample, noted, nothing_taken, takes}
-use Rattle.segment_machine.specs.Taking.{TakingEvent, at_count, is_looking, load_count, raise_mark, taken_key}
+use Rattle.segment_machine.specs.Actor.{Sparse}
+use Rattle.segment_machine.specs.Note.{TookSample, nothing_taken, takes}
+use Rattle.segment_machine.specs.Taking.{TakingEvent, at_count, is_looking, taken_key}
 use Rattle.segment_machine.proofs.Values.{value_word}
 use Rattle.segment_promises.specs.Values.{ListsValues}
 use Rattle.segment_promises.proofs.ListedValues.{lists_on, lists_one}

@@ -1,8 +1,6 @@
 -- Counts that an actor has loaded it has loaded still when it has seen more.
-use Rattle.std.proofs.Common.{ℕ, ◌+◌, ◌*◌, ◌≤◌, sym, subst}
-use Rattle.bucket_ranges.specs.Spec.{buckets_of}
-use Rattle.segment_machine.specs.declared.actor.Actor.{Actor}
-use Rattle.segment_machine.specs.declared.actor.Known.{Known}
+use Rattle.segment_invariant.proofs.Prelude.Std.{ℕ, ◌+◌, ◌*◌, ◌≤◌, sym, subst}
+use Rattle.segment_invariant.proofs.Prelude.Machine.{buckets_of, Actor, Known}
 use Rattle.segment_machine.specs.Form.{SaysPacked}
 use Rattle.segment_promises.specs.Calls.{BeganBefore, SeesMore}
 use Rattle.segment_promises.proofs.Calls.Sights.{began_still, saw_single, saw_word, version}

@@ -1,34 +1,15 @@
 -- A delta begins: it loads the single word, and takes the packed units where the counts are not in use.
-use Rattle.std.proofs.Common.{◌≡◌, ◌≢◌, ℕ, ◌+◌, ◌-◌, ◌<◌, ◌≤◌, ℤ, pos, max, Bool, false, true≢false, if◌then◌else◌, List, [], ◌∷◌, ◌++◌, length, slice_index, Option, Some, None, inl, inr, ⊎_elim, refl, sym, ap, subst, ◌∙◌, arith}
-use Rattle.std.specs.Prelude.{slice_set, unwrap_or, vec_capacity}
-use Rattle.std.proofs.Props.{props}
-use Rattle.std.proofs.Math.Logic.{∥∥₁_elim}
-use Rattle.std.proofs.lemmas.Bool.{ne_eqb}
-use Rattle.std.proofs.lemmas.List.{append-nil, length-append}
-use lib.Seq.{set-get_or}
-use mathlib.Core.Logic.{dite}
-use native.Mathlib.Decide.{ℕ_discrete}
-use Rattle.bucket_ranges.specs.Spec.{buckets_of}
-use Rattle.bucket_ranges.specs.Single.{single_of, packed_bucket, units_packed}
-use Rattle.bucket_ranges.specs.declared.single.SingleWord.{SingleWord}
-use Rattle.bucket_ranges.specs.declared.single.SingleWord.TheVariants.{Empty, Packed, Disabled, FrozenEmpty, Frozen}
-use Rattle.segment_image.specs.Shape.{Dimensions}
-use Rattle.segment_image.specs.Words.{word_at}
+use Rattle.segment_invariant.proofs.Prelude.Std.{◌≡◌, ◌≢◌, ℕ, ◌+◌, ◌-◌, ◌<◌, ◌≤◌, ℤ, pos, max, Bool, false, true≢false, if◌then◌else◌, List, [], ◌∷◌, ◌++◌, length, slice_index, Option, Some, None, inl, inr, ⊎_elim, refl, sym, ap, subst, ◌∙◌, arith, slice_set, unwrap_or, vec_capacity, props, ∥∥₁_elim, ne_eqb, append-nil, length-append, set-get_or, dite, ℕ_discrete}
+use Rattle.segment_invariant.proofs.Prelude.Machine.{buckets_of, single_of, packed_bucket, units_packed, SingleWord, Empty, Packed, Disabled, FrozenEmpty, Frozen, Dimensions, word_at, Actor, Known, Taken, Place, Looking, bucket_key, is_bound, known_at, units_listed, back, look_of, sight, Event, next, packing_event, taking_event, noted, load_single, raise_single_mark}
 use Rattle.segment_invariant.proofs.Consistency.Keys.{packed_within}
 use Rattle.segment_invariant.proofs.Consistency.Marks.{packed_all}
 use Rattle.segment_invariant.proofs.Lists.Maps.{contains_map}
-use Rattle.segment_machine.specs.declared.actor.Actor.{Actor}
-use Rattle.segment_machine.specs.declared.actor.Known.{Known}
-use Rattle.segment_machine.specs.declared.actor.Taken.{Taken}
-use Rattle.segment_machine.specs.declared.place.Place.{Place}
-use Rattle.segment_machine.specs.declared.place.Place.TheVariants.{Looking}
-use Rattle.segment_machine.specs.Actor.{SawSingle, bucket_key, is_bound, known_at, known_buckets, units_listed}
-use Rattle.segment_machine.specs.Calls.{back, form_seen, look_of, sight}
-use Rattle.segment_machine.specs.Event.{Event, next, packing_event, taking_event}
+use Rattle.segment_machine.specs.Actor.{SawSingle, known_buckets}
+use Rattle.segment_machine.specs.Calls.{form_seen}
 use Rattle.segment_machine.specs.Form.{is_off, units_in, SaysPacked}
-use Rattle.segment_machine.specs.Note.{TookBucket, noted, nothing_taken, takes}
-use Rattle.segment_machine.specs.Packing.{IsSingleOf, load_single}
-use Rattle.segment_machine.specs.Taking.{raise_single_mark, single_key}
+use Rattle.segment_machine.specs.Note.{TookBucket, nothing_taken, takes}
+use Rattle.segment_machine.specs.Packing.{IsSingleOf}
+use Rattle.segment_machine.specs.Taking.{single_key}
 use Rattle.segment_promises.specs.Calls.{AreBelow, AreUnits}
 use Rattle.segment_promises.proofs.Calls.Sights.{seen_here}
 use Rattle.segment_promises.proofs.Calls.Places.{looks_there}
@@ -41,7 +22,7 @@ use Rattle.hist_core.specs.StepsBy.{StepsBy}
 use Rattle.hist_core.specs.Mounted.{HasWord}
 use Rattle.hist_core.specs.DeltaCall.{IsBehindSingle, IsSomeDeltaCall, IsTaken, IsDeltaCall, IsUnderWay, StandsAtStage, DeltaCallGives, FrameOfDelta, TookBuckets}
 use Rattle.hist_core.proofs.SnapshotCall.Looks.{on_units}
-use Rattle.hist_core.proofs.DeltaCall.Going.{IsSame, same_still, same_taken, same_way, acts_on, buckets_are, goes_still, knows_it, long_ranges, split, takes_it}
+use Rattle.hist_core.proofs.DeltaCall.Going.{IsSame, same_still, same_taken, same_way, acts_on, buckets_are, goes_still, knows_it, long_ranges, split, takes_it, delta_beside}
 use Rattle.hist_core.proofs.DeltaCall.Lists.{lists_on, way_on}
 
 -- a bucket that is not the packed one has no packed units
@@ -88,18 +69,7 @@ module _ (shape : Dimensions) (known : Known) (earlier : List Taken) (delta_call
     }
 
     aside : FrameOfDelta a acted
-    aside = record {
-      role = refl;
-      segment = refl;
-      units = refl;
-      entries = refl;
-      names = refl;
-      snapshots = refl;
-      first = refl;
-      chain = ([], sym (append-nil a.seen.chain));
-      words = ([], sym (append-nil a.seen.words));
-      done = refl;
-    }
+    aside = delta_beside a acted refl refl refl refl refl refl refl refl ([], sym (append-nil a.seen.words)) refl
 
     module _ (learned : IsSingleOf begun known.reference found) where
       has_word : HasWord known found acted

@@ -1,22 +1,12 @@
 -- A delta takes what is new of the sum, and ends.
-use Rattle.std.proofs.Common.{◌≡◌, ℕ, ◌+◌, ◌*◌, ◌-◌, ◌%◌, ◌^◌, ◌<◌, FitsSigned, ◌≤◌, ℤ, List, [], ◌∷◌, ◌++◌, inl, inr, ⊎_elim, refl, sym, ap, ◌∙◌, subst, true≢false, arith}
-use Rattle.std.specs.Prelude.{◌-ℤ◌, ◌+ℤ◌, slice_set, unsigned_abs}
-use Rattle.std.specs.Int.{cast_signed, cast_unsigned, int_wrap, w64}
+use Rattle.segment_invariant.proofs.Prelude.Std.{◌≡◌, ℕ, ◌+◌, ◌*◌, ◌-◌, ◌%◌, ◌^◌, ◌<◌, ◌≤◌, ℤ, List, [], ◌∷◌, ◌++◌, inl, inr, ⊎_elim, refl, sym, ap, ◌∙◌, subst, true≢false, arith, ◌-ℤ◌, ◌+ℤ◌, slice_set, unsigned_abs, cast_signed, cast_unsigned, w64, set-get_or, +ℤ_idl}
+use Rattle.segment_invariant.proofs.Prelude.Machine.{Dimensions, word_at, Actor, Known, Taken, has_buckets, is_bound, SumLoaded, change_last, Event, next, taking_event, Learned, noted, load_sum, swap_sum_mark}
+use Rattle.std.proofs.Common.{FitsSigned}
+use Rattle.std.specs.Int.{int_wrap}
 use Rattle.std.proofs.lemmas.Int.{fits_signed_from_abs, int_wrap_fits, wrapping_sub_onto}
-use lib.Seq.{set-get_or}
-use Rattle.std.proofs.Math.IntN.{+ℤ_idl}
-use Rattle.segment_image.specs.Shape.{Dimensions}
-use Rattle.segment_image.specs.Words.{word_at}
 use Rattle.segment_invariant.proofs.Notes.Amounts.{last_changed}
-use Rattle.segment_machine.specs.declared.actor.Actor.{Actor}
-use Rattle.segment_machine.specs.declared.actor.Known.{Known}
-use Rattle.segment_machine.specs.declared.actor.Taken.{Taken}
-use Rattle.segment_machine.specs.Actor.{has_buckets, is_bound}
-use Rattle.segment_machine.specs.declared.place.Place.TheVariants.{SumLoaded}
-use Rattle.segment_machine.specs.Calls.{change_last}
-use Rattle.segment_machine.specs.Event.{Event, next, taking_event, Learned}
-use Rattle.segment_machine.specs.Note.{TookAll, has_taken, noted}
-use Rattle.segment_machine.specs.Taking.{load_sum, swap_sum, swap_sum_mark}
+use Rattle.segment_machine.specs.Note.{TookAll, has_taken}
+use Rattle.segment_machine.specs.Taking.{swap_sum}
 use Rattle.hist_core.specs.declared.delta_call.DeltaStage.TheVariants.{LoadingSum, Swapping}
 use Rattle.hist_core.specs.declared.delta_call.DeltaCall.{DeltaCall}
 use Rattle.hist_core.specs.declared.delta_call.DeltaCallStep.TheVariants.{More, Done}

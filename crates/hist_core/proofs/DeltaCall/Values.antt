@@ -1,20 +1,15 @@
 -- What a delta lists of the samples of a sparse histogram: values in ascending order, each once.
-use Rattle.std.proofs.Common.{◌≡◌, ◌≢◌, ℕ, suc, ◌+◌, ◌≤◌, ℤ, Bool, true, false, if◌then◌else◌, map, sum_by, List, [], ◌∷◌, ◌++◌, Less, Equal, Greater, inr, refl, ap, ◌∙◌, arith}
+use Rattle.segment_invariant.proofs.Prelude.Std.{◌≡◌, ◌≢◌, ℕ, suc, ◌+◌, ◌≤◌, ℤ, Bool, true, false, if◌then◌else◌, map, sum_by, List, [], ◌∷◌, ◌++◌, inr, refl, ap, ◌∙◌, arith, AllByRecursion, Contains, IsPermutation, int_eq, Decides-int_eq, All-push, sum_by-append}
+use Rattle.segment_invariant.proofs.Prelude.Machine.{Actor, Known, Seen, SawOther, SawSample}
+use Rattle.std.proofs.Common.{Less, Equal, Greater}
 use Rattle.std.specs.Prelude.{int_lt}
-use Rattle.std.specs.List.{AllByRecursion, Contains, insert}
-use Rattle.std.specs.List.Sorted.{IsPermutation, IsStrictlySortedBy}
-use Rattle.std.specs.Ordering.{int_cmp, int_eq}
-use Rattle.std.proofs.lemmas.Bool.Decides.{Decides-int_eq}
+use Rattle.std.specs.List.{insert}
+use Rattle.std.specs.List.Sorted.{IsStrictlySortedBy}
+use Rattle.std.specs.Ordering.{int_cmp}
 use Rattle.std.proofs.lemmas.Cmp.{int_cmp_total}
-use Rattle.std.proofs.lemmas.List.Elements.{All-push}
 use Rattle.std.proofs.lemmas.List.Sorted.{All-permutation, IsPermutation-append_comm, IsPermutation-insert, IsPermutation-trans, length_permutation}
-use Rattle.std.proofs.lemmas.List.Sums.{sum_by-append}
 use Rattle.std.proofs.lemmas.Map.Lookups.{exact_signed}
-use Rattle.segment_machine.specs.declared.actor.Actor.{Actor}
-use Rattle.segment_machine.specs.declared.actor.Known.{Known}
-use Rattle.segment_machine.specs.declared.seen.Seen.{Seen}
 use Rattle.segment_machine.specs.Firsts.{ComesFirst}
-use Rattle.segment_machine.specs.Made.{SawOther, SawSample}
 use Rattle.segment_machine.specs.Note.{TookSample}
 use Rattle.segment_promises.specs.Values.{NoKeyRepeats, ListsValues}
 use Rattle.segment_promises.proofs.ListedValues.{lists_on, lists_still}

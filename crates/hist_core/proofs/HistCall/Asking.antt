@@ -1,29 +1,17 @@
 -- A `hist` of an actor goes on, and what its actor knows then.
-use Rattle.std.proofs.Common.{◌≡◌, ◌≢◌, ◌<◌, ◌+◌, ℕ, zero, suc, ◌≤◌, List, [], ◌∷◌, ◌++◌, length, map, take, drop, All, inl, inr, ⊎_elim, refl, sym, ap, subst, ◌∙◌, vec_len, arith}
-use Rattle.std.specs.Prelude.{Option, Some, None, Result, Ok, Err, vec_capacity}
+use Rattle.segment_invariant.proofs.Prelude.Std.{◌≡◌, ◌≢◌, ◌<◌, ◌+◌, ℕ, zero, suc, ◌≤◌, List, [], ◌∷◌, ◌++◌, length, map, take, drop, All, inl, inr, ⊎_elim, refl, sym, ap, subst, ◌∙◌, vec_len, arith, Option, Some, None, Ok, vec_capacity, map-append, Contains, All-push, Contains-append_cases, Contains-append_right, dite, ℕ_discrete, some, some-injective, some-ne-none, get_elem?}
+use Rattle.segment_invariant.proofs.Prelude.Machine.{Spec, IsShape, Dimensions, Actor, AreNameWords, is_opener, Note, Notes, noted, Refusal}
+use Rattle.std.specs.Prelude.{Result, Err}
 use Rattle.std.specs.declared.alloc.AllocError.{AllocError}
-use Rattle.bucket_ranges.specs.declared.spec.Spec.{Spec}
-use Rattle.alloc_core.specs.Layout.{IsShape}
 use Rattle.segment_calls.specs.Asked.{payload_words, IsAskedFor}
 use Rattle.segment_calls.specs.declared.asked.Asked.{Asked}
 use Rattle.hist_core.proofs.Parts.Alone.{alike}
 use Rattle.hist_core.specs.declared.call.Begun.{Begun}
 use Rattle.hist_core.specs.declared.call.Begun.TheVariants.{Going, Ended}
-use Rattle.std.proofs.lemmas.List.{map-append}
-use Rattle.std.specs.List.{Contains}
-use Rattle.std.proofs.lemmas.List.Elements.{All-push, Contains-append_cases, Contains-append_right}
-use mathlib.Core.Logic.{dite}
-use native.Mathlib.Decide.{ℕ_discrete}
-use mathlib.Core.Option.{some, some-injective, some-ne-none}
-use lib.ListN.{get_elem?}
 use Rattle.atomic_table.proofs.Lists.{at_snoc}
-use Rattle.segment_image.specs.Shape.{Dimensions}
-use Rattle.segment_machine.specs.declared.actor.Actor.{Actor}
 use Rattle.segment_machine.specs.declared.actor.Known.{Known as MachineKnown}
 use Rattle.segment_machine.specs.declared.actor.Made.TheVariants.{Histogram}
-use Rattle.segment_machine.specs.Made.{AreNameWords}
-use Rattle.segment_machine.specs.Actor.{is_opener}
-use Rattle.segment_machine.specs.Note.{Note, Notes, MayNote, noted, knows}
+use Rattle.segment_machine.specs.Note.{MayNote, knows}
 use Rattle.hist_core.specs.declared.call.Answer.TheVariants as answer
 use Rattle.hist_core.specs.declared.call.Stepped.{Stepped}
 use Rattle.hist_core.specs.declared.call.Stepped.TheVariants as stepped
@@ -42,30 +30,16 @@ use Rattle.hist_core.proofs.Worlds.Quiet.{met_on, quiet_on, gives_none, begun_th
 use Rattle.hist_core.specs.declared.actor_run.ActorRun.{ActorRun}
 use Rattle.hist_core.specs.StepsBy.{Deed, links, raises, DoesOnly, FrameOfStep, StepsBy, IsFree}
 use Rattle.hist_core.specs.Hist.{IsCause, IsSomeHist, HistSteps, SawNone, asked_of, serves_asked}
-use Rattle.segment_calls.specs.declared.refusal.Refusal.{Refusal}
 use Rattle.hist_core.proofs.Worlds.Landing.{Landing, does_as_said}
 use Rattle.hist_core.specs.ActorRun.{known_of, AreShown, HasDraft, IsKnown, NoneHasName, HaveOwnNames, StandsIn, HasRoom, IsRun, IsSomeRun, IsHistAnnounced, IsRefusedBy, MayBeRefused, BeginsHist, IsAsItWas, IsQuiet, Answers, DoesAsSaid, Serves, is_flagged, lacks_room, held_by, entry_of, ended_by, begun_by, pending_by}
+use Rattle.hist_core.proofs.Parts.Claims.{goes_noting}
 
 -- ---- a note more
 
-notes_more : (a b : Actor) (list : List Note) (note : Note) → Notes a list b → MayNote b note → Notes a (list ++ note ∷ []) (noted b note)
-notes_more a b [] note told may = (subst (λ x. MayNote x note) (sym told) may, ap (λ x. noted x note) told)
-notes_more a b (first ∷ rest) note (may_first, told) may = (may_first, notes_more (noted a first) b rest note told may)
-
 -- an actor that goes on notes one thing more
-pub goes_noting : {size version : ℕ} {a : Actor} {words new_words : List ℕ} {holds then_holds : Actor → Type 0} → StepsBy size version a words new_words holds
+notes_one : {size version : ℕ} {a : Actor} {words new_words : List ℕ} {holds then_holds : Actor → Type 0} → StepsBy size version a words new_words holds
     → ((b : Actor) → holds b → (note : Note) × MayNote b note × then_holds (noted b note)) → StepsBy size version a words new_words then_holds
-goes_noting go notes = record {
-  before = go.before;
-  at = go.at;
-  told = go.told;
-  event = go.event;
-  ready = go.ready;
-  words_are = go.words_are;
-  goes = λ learned apart ordered.
-      let did = go.goes learned apart ordered in let more = notes did.1 did.3 in
-      (did.0 ++ more.0 ∷ [], noted did.1 more.0, notes_more _ did.1 did.0 more.0 did.2 more.1, more.2);
-}
+notes_one go notes = goes_noting go (λ b its. let (note, may, then_is) = notes b its in (note ∷ [], noted b note, (may, refl), then_is))
 
 -- ---- names
 
@@ -193,7 +167,7 @@ module _ (shape : Dimensions) (version : ℕ) (old : ActorRun) (a : Actor) (run 
       let here : asked ≡ now = sym (ap (asked_by now) is_asked) in
       let then_items : new.known.items ≡ old.known.items ++ (let k = now.asked in record k { reference = now.reference }) ∷ [] =
       items ∙ ap (λ (x : HistCall). old.known.items ++ (let k = x.asked in record k { reference = x.reference }) ∷ []) here in
-      subst (λ said. Landing shape version old words new new_words said a) (sym result_is) (goes_noting (steps shape version a long stands.0) (λ b (beside, does, may, may_note, asking, within). (
+      subst (λ said. Landing shape version old words new new_words said a) (sym result_is) (notes_one (steps shape version a long stands.0) (λ b (beside, does, may, may_note, asking, within). (
         knows (asked_of now),
         may_note,
         (

@@ -1,24 +1,19 @@
 -- The words of a record that is made are claimed.
-use Rattle.std.proofs.Common.{◌≡◌, ℕ, ◌+◌, ◌≤◌, Bool, true, false, List, [], ◌∷◌, length, refl, sym, ap, subst, ◌∙◌, arith}
-use Rattle.std.specs.Prelude.{Some, is_some}
-use Rattle.segment_image.specs.Shape.{Dimensions}
-use Rattle.segment_image.specs.Words.{word_at}
+use Rattle.segment_invariant.proofs.Prelude.Std.{◌≡◌, ℕ, ◌+◌, ◌≤◌, Bool, true, false, List, [], ◌∷◌, length, refl, sym, ap, subst, ◌∙◌, arith, Some}
+use Rattle.segment_invariant.proofs.Prelude.Machine.{Dimensions, word_at, Actor, Own, Idle, Note, Notes, noted, Refusal}
+use Rattle.std.specs.Prelude.{is_some}
 use Rattle.alloc_core.specs.declared.alloc.AllocStep.{AllocStep}
 use Rattle.alloc_core.specs.declared.alloc.AllocStep.TheVariants as said
 use Rattle.alloc_core.specs.declared.alloc.Stage.TheVariants.{Claimed}
 use Rattle.alloc_core.specs.Alloc.{Allocation, IsAimed}
 use Rattle.alloc_core.specs.Alloc as alloc
 use Rattle.alloc_core.specs.Event as atomic
-use Rattle.segment_machine.specs.declared.actor.Actor.{Actor}
-use Rattle.segment_machine.specs.declared.actor.Own.{Own}
-use Rattle.segment_machine.specs.declared.place.Place.TheVariants.{Idle}
 use Rattle.segment_machine.specs.Actor.{AreApart}
 use Rattle.segment_machine.specs.Allocating.{new_own}
-use Rattle.segment_machine.specs.Note.{Note, Notes, noted, asks}
+use Rattle.segment_machine.specs.Note.{asks}
 use Rattle.segment_machine.specs.Stages.{Allocates, StandsAt}
 use Rattle.segment_invariant.proofs.Lists.Elements.{at_from}
 use Rattle.segment_invariant.proofs.Lists.Ends.{own_found}
-use Rattle.segment_calls.specs.declared.refusal.Refusal.{Refusal}
 use Rattle.segment_calls.specs.declared.refusal.Refusal.TheVariants as why
 use Rattle.hist_core.specs.declared.making.Making.{Making}
 use Rattle.hist_core.specs.declared.making.MakingStep.{MakingStep}
@@ -30,6 +25,7 @@ use Rattle.hist_core.proofs.Makes.Drafts.{may_still}
 use Rattle.hist_core.proofs.Parts.Allocations.{allocates_on, goes_with}
 use Rattle.hist_core.proofs.Parts.Deeds.{does_still, is_full_end}
 use Rattle.hist_core.proofs.Parts.Claims.{IsEnd, changed_at, claimed_of, claimed_suits, goes_noting, rests_at}
+use Rattle.hist_core.proofs.Parts.Alone.{frame_of}
 
 module _ (shape : Dimensions) (version : ℕ) (wanted : Wanted) (m : Making) (a : Actor) (words : List ℕ) (long : length words ≡ shape.size)
     (is : IsMaking shape wanted m a) (x : Allocation) (allocates : m.stage ≡ Allocating x) where
@@ -85,16 +81,7 @@ module _ (shape : Dimensions) (version : ℕ) (wanted : Wanted) (m : Making) (a 
             let c : Actor = noted b (asks at wanted.made) in
             let enough = stands.3 in
             let ends_within = subst (λ (d : Dimensions). at + size ≤ d.size) (goes.shape ∙ ap (λ s. s.shape) beside.segment ∙ is.segment) place.within in
-            let then_beside : FrameOfStep a c = record {
-              role = beside.role;
-              segment = beside.segment;
-              units = beside.units;
-              entries = beside.entries;
-              deltas = beside.deltas;
-              names = beside.names;
-              chain = beside.chain;
-              words = beside.words;
-            } in (
+            let then_beside = frame_of a c beside.role beside.segment beside.units beside.entries beside.deltas beside.names beside.chain beside.words in (
               asks at wanted.made ∷ [],
               c,
               ((own, has.1, refl, refl), refl),

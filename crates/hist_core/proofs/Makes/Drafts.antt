@@ -1,15 +1,7 @@
 -- What a record that is made is to hold.
-use Rattle.std.proofs.Common.{◌≡◌, ℕ, ◌+◌, ◌*◌, ◌≤◌, max, List, refl, sym, ap, subst, arith}
-use Rattle.std.specs.List.{Contains}
-use Rattle.segment_image.specs.Shape.{Dimensions}
-use Rattle.bucket_ranges.specs.Spec.{buckets_of}
-use Rattle.alloc_core.specs.Layout.{IsShape}
-use Rattle.segment_machine.specs.declared.actor.Actor.{Actor}
-use Rattle.segment_machine.specs.declared.actor.Known.{Known}
-use Rattle.segment_machine.specs.declared.actor.Made.{Made}
+use Rattle.segment_invariant.proofs.Prelude.Std.{◌≡◌, ℕ, ◌+◌, ◌*◌, ◌≤◌, max, List, refl, sym, ap, subst, arith, Contains}
+use Rattle.segment_invariant.proofs.Prelude.Machine.{Dimensions, buckets_of, IsShape, Actor, Known, Made, Own, MayTurn}
 use Rattle.segment_machine.specs.declared.actor.Made.TheVariants.{Histogram, Sample}
-use Rattle.segment_machine.specs.declared.actor.Own.{Own}
-use Rattle.segment_machine.specs.Calls.{MayTurn}
 use Rattle.segment_machine.specs.Publishing.{MayPublish}
 use Rattle.hist_core.specs.declared.making.Making.{Making}
 use Rattle.hist_core.specs.StepsBy.{FrameOfStep}

@@ -1,19 +1,12 @@
 -- The payload of a record that is made is stored, but for the words that are 0.
-use Rattle.std.proofs.Common.{◌≡◌, ℕ, zero, suc, ◌+◌, ◌-◌, ◌<◌, ◌≤◌, ◌==◌, Bool, true, false, List, [], ◌∷◌, ◌++◌, length, take, get_or, replicate, refl, sym, ap, subst, ◌∙◌, arith, append_assoc, eqb-true}
-use Rattle.std.specs.Prelude.{Some, if◌then◌else◌, slice_index, nat_lt}
-use Rattle.std.specs.List.{Contains}
-use Rattle.std.proofs.lemmas.List.{append-nil, replicate-append-replicate, length-take-le, take_all}
+use Rattle.segment_invariant.proofs.Prelude.Std.{◌≡◌, ℕ, zero, suc, ◌+◌, ◌-◌, ◌<◌, ◌≤◌, ◌==◌, Bool, true, false, List, [], ◌∷◌, ◌++◌, length, take, get_or, replicate, refl, sym, ap, subst, ◌∙◌, arith, append_assoc, eqb-true, Some, if◌then◌else◌, slice_index, nat_lt, Contains, append-nil, ltb-true, ltb-false, some}
+use Rattle.segment_invariant.proofs.Prelude.Machine.{Dimensions, Actor, Own, store_payload, Event, next, allocating_event}
+use Rattle.std.proofs.lemmas.List.{replicate-append-replicate, length-take-le, take_all}
 use Rattle.std.proofs.Math.Seq.{take-suc}
-use Rattle.std.proofs.lemmas.Bool.{ltb-true, ltb-false}
-use mathlib.Core.Option.{some}
 use Rattle.segment_invariant.proofs.Lists.Elements.{at_from, contains_at}
-use Rattle.segment_image.specs.Shape.{Dimensions}
 use Rattle.alloc_core.specs.Event as atomic
 use Rattle.list_core.specs.Publish as publish
-use Rattle.segment_machine.specs.declared.actor.Actor.{Actor}
-use Rattle.segment_machine.specs.declared.actor.Own.{Own}
-use Rattle.segment_machine.specs.Allocating.{store_payload, stored}
-use Rattle.segment_machine.specs.Event.{Event, next, allocating_event}
+use Rattle.segment_machine.specs.Allocating.{stored}
 use Rattle.segment_machine.specs.Publishing.{own_at}
 use Rattle.hist_core.specs.declared.making.Making.{Making}
 use Rattle.hist_core.specs.declared.making.MakingStep.TheVariants.{More}

@@ -1,16 +1,13 @@
 -- A record that is made is put on the list.
-use Rattle.std.proofs.Common.{◌≡◌, ℕ, true, false, List, length, refl, sym, ap, subst, ◌∙◌}
+use Rattle.segment_invariant.proofs.Prelude.Std.{◌≡◌, ℕ, true, false, List, length, refl, sym, ap, subst, ◌∙◌, props}
+use Rattle.segment_invariant.proofs.Prelude.Machine.{Dimensions, Actor, Made}
 use Rattle.std.specs.Prelude.{is_some}
-use Rattle.std.proofs.Props.{props}
-use Rattle.segment_image.specs.Shape.{Dimensions}
 use Rattle.list_core.specs.declared.publish.PubStep.{PubStep}
 use Rattle.list_core.specs.declared.publish.PubStep.TheVariants as put
 use Rattle.list_core.specs.declared.publish.Stage.{Stage as PublishStage}
 use Rattle.list_core.specs.declared.publish.Stage.TheVariants.{StoreOwnNext, LoadTail, Link, MoveTail, Published, Strayed}
 use Rattle.list_core.specs.Publish.{Publishing as PublishingOf, IsReach, IsWithin, answer}
 use Rattle.list_core.specs.Publish as publish
-use Rattle.segment_machine.specs.declared.actor.Actor.{Actor}
-use Rattle.segment_machine.specs.declared.actor.Made.{Made}
 use Rattle.segment_machine.specs.Stages.{PublishesAt}
 use Rattle.hist_core.specs.declared.making.Making.{Making}
 use Rattle.hist_core.specs.declared.making.MakingStep.{MakingStep}

@@ -1,55 +1,38 @@
 -- An actor goes along with an allocation and with a publish.
-use Rattle.std.proofs.Common.{◌≡◌, ◌<◌, ℕ, suc, ◌+◌, ◌==◌, Bool, true, false, true≢false, List, [], ◌∷◌, ◌++◌, length, refl, sym, ap, subst, ◌∙◌, arith, length-append, eqb-true}
-use Rattle.std.specs.Prelude.{not, ◌&&◌, if◌then◌else◌, slice_index, ⊤}
-use Rattle.std.specs.List.{Contains}
-use Rattle.std.proofs.lemmas.List.{append-nil}
-use Rattle.std.proofs.lemmas.List.Elements.{Contains-push}
-use lib.Seq.{set-get_or}
-use Rattle.list_core.specs.Chain.{is_reference, stops}
+use Rattle.segment_invariant.proofs.Prelude.Std.{◌≡◌, ◌<◌, ℕ, suc, ◌+◌, ◌==◌, Bool, true, false, true≢false, List, [], ◌∷◌, ◌++◌, length, refl, sym, ap, subst, ◌∙◌, arith, length-append, eqb-true, not, ◌&&◌, if◌then◌else◌, slice_index, ⊤, Contains, append-nil, Contains-push, set-get_or}
+use Rattle.segment_invariant.proofs.Prelude.Machine.{is_reference, stops, Dimensions, IsPrefix, word_at, Actor, Made, spot, next, allocating_event, publishing_event, walking_event, load_next, load_flags, load_free, exchange_free, store_size, store_cookie, store_type, store_payload, set_corrupt, set_full, store_own_next, load_tail, link, move_tail, is_bound}
 use Rattle.list_core.proofs.Walks.{place_of}
 use Rattle.list_core.specs.declared.walk.WalkStep.TheVariants.{Record, End, Stray}
 use Rattle.list_core.specs.declared.walk.WalkStep.{WalkStep}
-use Rattle.segment_image.specs.Shape.{Dimensions}
-use Rattle.list_core.specs.Walk.{IsPrefix, said_of, given_after, stands_behind}
-use Rattle.segment_image.specs.Words.{word_at}
+use Rattle.list_core.specs.Walk.{said_of, given_after, stands_behind}
 use Rattle.alloc_core.specs.Alloc.{Allocation, answer, stage_after}
 use Rattle.alloc_core.specs.Alloc as alloc
 use Rattle.alloc_core.specs.declared.alloc.AllocStep.{AllocStep}
 use Rattle.list_core.specs.Publish.{Publishing}
 use Rattle.list_core.specs.Publish as publish
 use Rattle.list_core.specs.declared.publish.PubStep.{PubStep}
-use Rattle.segment_machine.specs.declared.actor.Actor.{Actor}
-use Rattle.segment_machine.specs.declared.actor.Made.{Made}
-use Rattle.segment_machine.specs.Event.{operation, spot, next, allocating_event, publishing_event, walking_event}
+use Rattle.segment_machine.specs.Event.{operation}
 use Rattle.segment_machine.specs.Calls.{ended}
-use Rattle.segment_machine.specs.Walking.{IsNextOf, load_next, extended}
-use Rattle.segment_machine.specs.Allocating.{AllocatingEvent, load_flags, load_free, exchange_free, store_size, store_cookie, store_type, store_payload, set_corrupt, set_full}
-use Rattle.segment_machine.specs.Publishing.{PublishingEvent, store_own_next, load_tail, link, move_tail}
+use Rattle.segment_machine.specs.Walking.{IsNextOf, extended}
+use Rattle.segment_machine.specs.Allocating.{AllocatingEvent}
+use Rattle.segment_machine.specs.Publishing.{PublishingEvent}
 use Rattle.segment_machine.specs.Stages.{Allocates, PublishesAt, Walks}
 use Rattle.segment_machine.proofs.Stages.Allocations.{allocations_agree}
 use Rattle.segment_machine.proofs.Stages.Publishes.{publishes_agree}
 use Rattle.segment_machine.proofs.Stages.Walks.{walks_agree}
-use Rattle.hist_core.proofs.Parts.Alone.{by_event, acts_there, makes_so, allocating_beside, allocating_list, allocating_words, publishing_beside, publishing_list}
+use Rattle.hist_core.proofs.Parts.Alone.{by_event, acts_there, makes_so, allocating_beside, allocating_list, allocating_words, publishing_beside, publishing_list, frame_of}
 use Rattle.hist_core.specs.StepsBy.{Deed, links, raises, DoesOnly, FrameOfStep, SawEnd, SeesNoMore, StepsBy, IsFree}
-use Rattle.hist_core.proofs.Parts.Claims.{IsEnd, stage_ends}
+use Rattle.hist_core.proofs.Parts.Claims.{IsEnd, stage_ends, goes_noting}
 use Rattle.hist_core.proofs.Parts.Deeds.{is_full_end, publish_does, stage_does}
 use Rattle.hist_core.proofs.Worlds.Free.{free_behind, free_turns}
-use Rattle.segment_machine.specs.Actor.{AreApart, is_bound}
+use Rattle.segment_machine.specs.Actor.{AreApart}
 use Rattle.segment_promises.specs.Values.{NoRepeats}
 use Rattle.segment_promises.proofs.Calls.Places.{behind_free}
 
 -- what holds then may be more than is asked
 pub goes_with : {size version : ℕ} {a : Actor} {words new_words : List ℕ} {holds then_holds : Actor → Type 0} → StepsBy size version a words new_words holds
     → ((b : Actor) → holds b → then_holds b) → StepsBy size version a words new_words then_holds
-goes_with {then_holds = then_holds} go weaker = record {
-  before = go.before;
-  at = go.at;
-  told = go.told;
-  event = go.event;
-  ready = go.ready;
-  words_are = go.words_are;
-  goes = λ learned apart ordered. let did = go.goes learned apart ordered in (did.0, did.1, did.2, weaker did.1 did.3);
-}
+goes_with go weaker = goes_noting go (λ b its. ([], b, refl, weaker b its))
 
 -- what was seen of the chain is the front of what is seen of it behind a next
 longer : (more : Bool) (chain : List ℕ) (found : ℕ) → IsPrefix chain (if more then chain ++ found ∷ [] else chain)
@@ -189,16 +172,7 @@ walks_on version a given words walks long =
     by_event event agrees.1
     (sym (set-get_or words (stands_behind given + 3) 0))
     (λ learned apart ordered. (
-      record {
-        role = refl;
-        segment = refl;
-        units = refl;
-        entries = refl;
-        deltas = refl;
-        names = refl;
-        chain = extended_behind a.seen.chain (stands_behind given) found;
-        words = ([], sym (append-nil a.seen.words));
-      },
+      frame_of a (next a event found) refl refl refl refl refl refl (extended_behind a.seen.chain (stands_behind given) found) ([], sym (append-nil a.seen.words)),
       refl,
       ends_with a given walks found learned (ordered (λ spent. true≢false (sym (ap is_bound spent) ∙ behind_free a.hand.place (stands_behind given) found walks.0))).once (found == 12) (is_reference (length words) found) refl,
       free_behind a.hand.place (stands_behind given) found,

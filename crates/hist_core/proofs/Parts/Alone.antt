@@ -1,17 +1,13 @@
 -- An event of a part of a call: what it is in the words, and what of its actor it leaves as it was.
-use Rattle.std.proofs.Common.{◌≡◌, ◌==◌, ℕ, Bool, true, false, List, [], ◌++◌, refl, sym, ap, ◌∙◌}
-use Rattle.std.specs.Prelude.{slice_set}
-use Rattle.std.proofs.lemmas.List.{append-nil}
-use Rattle.segment_image.specs.Words.{word_at}
+use Rattle.segment_invariant.proofs.Prelude.Std.{◌≡◌, ◌==◌, ℕ, Bool, true, false, List, [], ◌++◌, refl, sym, ap, ◌∙◌, slice_set, append-nil}
+use Rattle.segment_invariant.proofs.Prelude.Machine.{word_at, Actor, Sighting, Event, Learned, Ready, spot, next, allocating_event, publishing_event, load_flags, load_free, exchange_free, store_size, store_cookie, store_type, store_payload, set_corrupt, set_full, store_own_next, load_tail, link, move_tail, after_link, IsPrefix}
 use Rattle.alloc_core.specs.Event as atomic
-use Rattle.segment_machine.specs.declared.actor.Actor.{Actor}
-use Rattle.segment_machine.specs.declared.seen.Sighting.{Sighting}
 use Rattle.segment_machine.specs.Operation.{single, spot_of, change_of}
 use Rattle.segment_machine.specs.Actor.{AreApart}
 use Rattle.hist_core.specs.StepsBy.{FrameOfStep, SeesNoMore, StepsBy, WalksInOrder}
-use Rattle.segment_machine.specs.Event.{Event, Learned, Ready, operation, spot, after, next, allocating_event, publishing_event}
-use Rattle.segment_machine.specs.Allocating.{AllocatingEvent, load_flags, load_free, exchange_free, store_size, store_cookie, store_type, store_payload, set_corrupt, set_full, after_free}
-use Rattle.segment_machine.specs.Publishing.{PublishingEvent, store_own_next, load_tail, link, move_tail, after_link}
+use Rattle.segment_machine.specs.Event.{operation, after}
+use Rattle.segment_machine.specs.Allocating.{AllocatingEvent, after_free}
+use Rattle.segment_machine.specs.Publishing.{PublishingEvent}
 
 -- ---- in the words
 
@@ -40,19 +36,25 @@ by_event {size = size} {a = a} {words = words} event ready are then_is = record 
 
 -- ---- of its actor
 
--- it has seen more words of records
-pub seen_words : (a b : Actor) (more : List Sighting) → b.role ≡ a.role → b.segment ≡ a.segment → b.units ≡ a.units → b.entries ≡ a.entries
-    → b.deltas ≡ a.deltas → b.answers.names ≡ a.answers.names → b.seen.chain ≡ a.seen.chain → b.seen.words ≡ a.seen.words ++ more → FrameOfStep a b
-seen_words a b more role segment units entries deltas names chain words = record {
+-- it has seen no less of the list and of the words of records
+pub frame_of : (a b : Actor) → b.role ≡ a.role → b.segment ≡ a.segment → b.units ≡ a.units → b.entries ≡ a.entries → b.deltas ≡ a.deltas
+    → b.answers.names ≡ a.answers.names → IsPrefix a.seen.chain b.seen.chain → (more : List Sighting) × (b.seen.words ≡ a.seen.words ++ more) → FrameOfStep a b
+frame_of a b role segment units entries deltas names chain words = record {
   role = role;
   segment = segment;
   units = units;
   entries = entries;
   deltas = deltas;
   names = names;
-  chain = ([], chain ∙ sym (append-nil a.seen.chain));
-  words = (more, words);
+  chain = chain;
+  words = words;
 }
+
+-- it has seen more words of records
+pub seen_words : (a b : Actor) (more : List Sighting) → b.role ≡ a.role → b.segment ≡ a.segment → b.units ≡ a.units → b.entries ≡ a.entries
+    → b.deltas ≡ a.deltas → b.answers.names ≡ a.answers.names → b.seen.chain ≡ a.seen.chain → b.seen.words ≡ a.seen.words ++ more → FrameOfStep a b
+seen_words a b more role segment units entries deltas names chain words =
+    frame_of a b role segment units entries deltas names ([], chain ∙ sym (append-nil a.seen.chain)) (more, words)
 
 -- it has seen the same of both
 pub seen_alike : (a b : Actor) → b.role ≡ a.role → b.segment ≡ a.segment → b.units ≡ a.units → b.entries ≡ a.entries → b.deltas ≡ a.deltas

@@ -1,6 +1,6 @@
 -- A block is claimed.
-use Rattle.std.proofs.Common.{◌≡◌, ◌≢◌, ℕ, ◌+◌, ◌-◌, ◌≤◌, ◌==◌, Bool, true, false, true≢false, List, [], ◌∷◌, ◌++◌, refl, sym, ap, subst, ◌∙◌}
-use Rattle.std.specs.Prelude.{Some, if◌then◌else◌, bit_and, ⊤}
+use Rattle.segment_invariant.proofs.Prelude.Std.{◌≡◌, ◌≢◌, ℕ, ◌+◌, ◌-◌, ◌≤◌, ◌==◌, Bool, true, false, true≢false, List, [], ◌∷◌, ◌++◌, refl, sym, ap, subst, ◌∙◌, Some, if◌then◌else◌, bit_and, ⊤}
+use Rattle.segment_invariant.proofs.Prelude.Machine.{Actor, Own, Place, Idle, Dimensions, load_flags, load_free, set_full, Note, Notes, noted}
 use Rattle.alloc_core.specs.declared.alloc.AllocStep.{AllocStep}
 use Rattle.alloc_core.specs.declared.alloc.AllocStep.TheVariants as said
 use Rattle.alloc_core.specs.declared.alloc.Purpose.{Purpose}
@@ -12,14 +12,9 @@ use Rattle.alloc_core.specs.declared.planned.Planned.TheVariants as plan
 use Rattle.alloc_core.specs.Alloc.{Allocation, IsAimed, event_at, answer, stage_after, stage_of_cookie, stage_of_plan}
 use Rattle.alloc_core.specs.Planned.{planned, is_pointer}
 use Rattle.alloc_core.specs.Event as atomic
-use Rattle.segment_machine.specs.declared.actor.Actor.{Actor}
-use Rattle.segment_machine.specs.declared.actor.Own.{Own}
-use Rattle.segment_machine.specs.declared.place.Place.{Place}
-use Rattle.segment_machine.specs.declared.place.Place.TheVariants.{FlagsLoaded, Idle}
-use Rattle.segment_image.specs.Shape.{Dimensions}
-use Rattle.segment_machine.specs.Allocating.{AllocatingEvent, Learned, Ready, free_at, load_flags, load_free, next, set_full}
+use Rattle.segment_machine.specs.declared.place.Place.TheVariants.{FlagsLoaded}
+use Rattle.segment_machine.specs.Allocating.{AllocatingEvent, Learned, Ready, free_at, next}
 use Rattle.segment_machine.specs.Calls.{change_own}
-use Rattle.segment_machine.specs.Note.{Note, Notes, noted}
 use Rattle.segment_machine.specs.Publishing.{own_at}
 use Rattle.segment_machine.specs.Stages.{StandsAt, allocates}
 use Rattle.segment_calls.specs.declared.refusal.Refusal.TheVariants as why

@@ -1,22 +1,9 @@
 -- A `hist` loads one more word of the record where its walk stands, and compares it with its own.
-use Rattle.std.proofs.Common.{◌≡◌, ◌≢◌, ◌⊎◌, ℕ, ◌+◌, ◌-◌, ◌<◌, ◌≤◌, ◌^◌, false, List, [], ◌∷◌, ◌++◌, length, inl, inr, refl, sym, ap, subst, ◌∙◌, arith}
-use Rattle.std.specs.Prelude.{Some, slice_index}
-use Rattle.std.specs.List.{Contains}
-use Rattle.std.proofs.lemmas.List.Elements.{All-push, Contains-append_left, Contains-append_right}
-use mathlib.Core.Logic.{dite}
-use native.Mathlib.Decide.{ℕ_discrete}
-use lib.Seq.{set-get_or}
-use Rattle.segment_image.specs.Shape.{Dimensions}
-use Rattle.segment_image.specs.Words.{word_at}
-use Rattle.bucket_ranges.specs.Reading.{name_words}
-use Rattle.bucket_ranges.specs.Spec.{spec_fields, spec_ranges}
-use Rattle.segment_machine.specs.declared.actor.Actor.{Actor}
-use Rattle.segment_machine.specs.Actor.{word_seen}
-use Rattle.segment_machine.specs.Calls.{sight}
+use Rattle.segment_invariant.proofs.Prelude.Std.{◌≡◌, ◌≢◌, ◌⊎◌, ℕ, ◌+◌, ◌-◌, ◌<◌, ◌≤◌, ◌^◌, false, List, [], ◌∷◌, ◌++◌, length, inl, inr, refl, sym, ap, subst, ◌∙◌, arith, Some, slice_index, Contains, All-push, Contains-append_left, Contains-append_right, dite, ℕ_discrete, set-get_or}
+use Rattle.segment_invariant.proofs.Prelude.Machine.{Dimensions, word_at, name_words, spec_fields, spec_ranges, Actor, word_seen, sight, Event, next, walking_event, load_published, Refusal}
 use Rattle.segment_machine.specs.Made.{SawOtherName}
 use Rattle.segment_machine.specs.Note.{MayNote, knows}
-use Rattle.segment_machine.specs.Event.{Event, next, walking_event}
-use Rattle.segment_machine.specs.Walking.{load_published, IsFixed, EndsWithin, IsSame}
+use Rattle.segment_machine.specs.Walking.{IsFixed, EndsWithin, IsSame}
 use Rattle.segment_promises.proofs.Calls.SeenWords.{seen_now}
 use Rattle.hist_core.specs.Making.{is_full}
 use Rattle.hist_core.proofs.Parts.Alone.{by_event, seen_words}
@@ -25,7 +12,6 @@ use Rattle.hist_core.specs.declared.hist.Hist.{Hist}
 use Rattle.hist_core.specs.declared.hist.HistStep.{HistStep}
 use Rattle.hist_core.specs.declared.hist.HistStep.TheVariants.{More, Done, Refused}
 use Rattle.hist_core.specs.declared.hist.HistStage.TheVariants.{Walking, Comparing}
-use Rattle.segment_calls.specs.declared.refusal.Refusal.{Refusal}
 use Rattle.hist_core.specs.StepsBy.{DoesOnly, FrameOfStep, StepsBy}
 use Rattle.hist_core.proofs.Worlds.Free.{free_turns}
 use Rattle.hist_core.specs.Hist.{IsHist, StandsAtStage, HaveOtherNames, AreSame, Reaches, HistGives, IsMatched, IsDifferent, IsCause, HasOtherSpec, asked_of, serves_asked, compared_place, compared_index, compared_word}

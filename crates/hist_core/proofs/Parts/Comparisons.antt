@@ -1,15 +1,10 @@
 -- The words of a record that a `hist` compares, and what each of them tells.
-use Rattle.std.proofs.Common.{◌≡◌, ◌≢◌, ◌⊎◌, ℕ, ◌+◌, ◌-◌, ◌<◌, ◌≤◌, ◌==◌, Bool, true, false, List, [], ◌∷◌, ◌++◌, length, inl, inr, refl, sym, ap, ◌∙◌, arith, length-append, eqb-true, ne_eqb, ◌^◌}
-use Rattle.std.specs.Prelude.{if◌then◌else◌, slice_index, nat_lt}
-use Rattle.std.specs.Int.{from_le_bytes, w64}
-use Rattle.std.proofs.lemmas.Bool.{eqb-false, lt-ltb, le-ltb, ltb-true, ltb-false}
-use Rattle.std.proofs.lemmas.List.{get_or_append_left, get_or-append-add}
+use Rattle.segment_invariant.proofs.Prelude.Std.{◌≡◌, ◌≢◌, ◌⊎◌, ℕ, ◌+◌, ◌-◌, ◌<◌, ◌≤◌, ◌==◌, Bool, true, false, List, [], ◌∷◌, ◌++◌, length, inl, inr, refl, sym, ap, ◌∙◌, arith, length-append, eqb-true, ne_eqb, ◌^◌, if◌then◌else◌, slice_index, nat_lt, w64, eqb-false, lt-ltb, le-ltb, ltb-true, ltb-false, get_or_append_left}
+use Rattle.segment_invariant.proofs.Prelude.Machine.{Dimensions, Spec, Linear, Boolean, Custom, Sparse, spec_fields, spec_ranges}
+use Rattle.std.specs.Int.{from_le_bytes}
+use Rattle.std.proofs.lemmas.List.{get_or-append-add}
 use Rattle.std.proofs.lemmas.Nat.{from_le_bytes-to_le_bytes_8}
-use Rattle.segment_image.specs.Shape.{Dimensions}
 use Rattle.segment_image.specs.Words.{bytes_of_words}
-use Rattle.bucket_ranges.specs.declared.spec.Spec.{Spec}
-use Rattle.bucket_ranges.specs.declared.spec.Spec.TheVariants.{Linear, Boolean, Custom, Sparse}
-use Rattle.bucket_ranges.specs.Spec.{spec_fields, spec_ranges}
 use Rattle.hist_core.specs.declared.hist.Hist.{Hist}
 use Rattle.segment_calls.specs.Asked.{payload_words}
 use Rattle.hist_core.specs.Hist.{IsAsking, compared_place, compared_index, compared_word, comparisons}

@@ -1,8 +1,6 @@
 -- What an event does to the segment for all to see.
-use Rattle.std.proofs.Common.{◌≡◌, ℕ, ◌==◌, Bool, true, false, List, [], ◌∷◌, ◌++◌, refl, sym, ap, subst, ◌∙◌}
-use Rattle.std.specs.Prelude.{Option, Some, if◌then◌else◌, bit_and, ◌||◌, ◌-◌}
-use Rattle.std.proofs.lemmas.List.{append-nil}
-use Rattle.std.proofs.lemmas.List.Elements.{All-nil, All-cons, All-weaker}
+use Rattle.segment_invariant.proofs.Prelude.Std.{◌≡◌, ℕ, ◌==◌, Bool, true, false, List, [], ◌∷◌, ◌++◌, refl, sym, ap, subst, ◌∙◌, Option, Some, if◌then◌else◌, bit_and, ◌||◌, ◌-◌, append-nil, All-nil, All-cons, All-weaker}
+use Rattle.segment_invariant.proofs.Prelude.Machine.{Actor, Made, Own, Published, load_flags, load_free, exchange_free, store_size, store_cookie, store_type, store_payload, set_full, next, allocating_event, publishing_event, store_own_next, load_tail, link, move_tail, after_link}
 use Rattle.alloc_core.specs.declared.alloc.AllocStep.{AllocStep}
 use Rattle.alloc_core.specs.declared.alloc.AllocStep.TheVariants as said
 use Rattle.alloc_core.specs.declared.alloc.Purpose.{Purpose}
@@ -15,15 +13,10 @@ use Rattle.alloc_core.specs.Alloc.{Allocation, answer, cookie_of, stage_after, s
 use Rattle.alloc_core.specs.Planned.{planned, is_pointer}
 use Rattle.list_core.specs.declared.publish.Stage.{Stage as PublishStage}
 use Rattle.list_core.specs.declared.publish.Stage.TheVariants as publish
-use Rattle.segment_machine.specs.declared.actor.Actor.{Actor}
 use Rattle.segment_machine.specs.declared.actor.Done.{Done}
-use Rattle.segment_machine.specs.declared.actor.Made.{Made}
-use Rattle.segment_machine.specs.declared.actor.Own.{Own}
-use Rattle.segment_machine.specs.declared.actor.Published.{Published}
 use Rattle.segment_machine.specs.declared.actor.Rise.{Rise}
-use Rattle.segment_machine.specs.Allocating.{AllocatingEvent, load_flags, load_free, exchange_free, store_size, store_cookie, store_type, store_payload, set_full, after_free}
-use Rattle.segment_machine.specs.Event.{next, allocating_event, publishing_event}
-use Rattle.segment_machine.specs.Publishing.{PublishingEvent, store_own_next, load_tail, link, move_tail, after_link, own_at, published_as}
+use Rattle.segment_machine.specs.Allocating.{AllocatingEvent, after_free}
+use Rattle.segment_machine.specs.Publishing.{PublishingEvent, own_at, published_as}
 use Rattle.segment_machine.specs.Stages.{Offers, PublishesAt, allocates, publishes}
 use Rattle.hist_core.specs.StepsBy.{Deed, links, raises, DoesOnly}
 

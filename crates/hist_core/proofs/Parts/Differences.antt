@@ -1,12 +1,6 @@
 -- What the words of a record that a `hist` compared tell: that it has the name and the spec, or another name, or another spec.
-use Rattle.std.proofs.Common.{◌≡◌, ◌≢◌, ℕ, ◌+◌, ◌<◌, ◌≤◌, ◌^◌, List, [], ◌∷◌, ◌++◌, length, inl, inr, refl, sym, ap, subst, ◌∙◌, arith, append_assoc}
-use Rattle.std.specs.Prelude.{Some, slice_index}
-use Rattle.std.specs.List.{All}
-use Rattle.segment_image.specs.Shape.{Dimensions}
-use Rattle.bucket_ranges.specs.Spec.{spec_fields, spec_ranges}
-use Rattle.list_core.specs.Walk.{IsPrefix}
-use Rattle.segment_machine.specs.declared.seen.Seen.{Seen}
-use Rattle.segment_machine.specs.Actor.{word_seen}
+use Rattle.segment_invariant.proofs.Prelude.Std.{◌≡◌, ◌≢◌, ℕ, ◌+◌, ◌<◌, ◌≤◌, ◌^◌, List, [], ◌∷◌, ◌++◌, length, inl, inr, refl, sym, ap, subst, ◌∙◌, arith, append_assoc, Some, slice_index, All}
+use Rattle.segment_invariant.proofs.Prelude.Machine.{Dimensions, spec_fields, spec_ranges, IsPrefix, Seen, word_seen}
 use Rattle.segment_machine.specs.Made.{IsFirstNamed, SawName, SawOtherName, SawSpec, SawOtherSpec}
 use Rattle.hist_core.specs.declared.hist.Hist.{Hist}
 use Rattle.hist_core.specs.Hist.{IsAsking, AreSame, compared_index, compared_word, comparisons}

@@ -1,8 +1,7 @@
 -- A `hist` makes its record.
-use Rattle.std.proofs.Common.{◌≡◌, Bool, false, ℕ, ◌+◌, List, length, inl, sym, ap, subst, ◌∙◌}
-use Rattle.segment_image.specs.Shape.{Dimensions}
+use Rattle.segment_invariant.proofs.Prelude.Std.{◌≡◌, Bool, false, ℕ, ◌+◌, List, length, inl, sym, ap, subst, ◌∙◌, All, Contains}
+use Rattle.segment_invariant.proofs.Prelude.Machine.{Dimensions, Actor}
 use Rattle.list_core.proofs.Prefixes.{prefix_of_prefix}
-use Rattle.segment_machine.specs.declared.actor.Actor.{Actor}
 use Rattle.hist_core.specs.declared.hist.Hist.{Hist}
 use Rattle.hist_core.specs.declared.hist.HistStep.{HistStep}
 use Rattle.hist_core.specs.declared.hist.HistStage.{HistStage}
@@ -11,7 +10,6 @@ use Rattle.hist_core.specs.declared.making.Making.{Making as MakingOf}
 use Rattle.hist_core.specs.declared.making.MakingStep.{MakingStep}
 use Rattle.hist_core.specs.declared.making.MakingStep.TheVariants as made
 use Rattle.list_core.specs.Walk.{stands_behind}
-use Rattle.std.specs.List.{All, Contains}
 use Rattle.segment_machine.specs.Made.{SawOtherName}
 use Rattle.hist_core.specs.StepsBy.{Deed, links, raises, DoesOnly, FrameOfStep, SawEnd, StepsBy}
 use Rattle.hist_core.specs.Hist.{wanted_of, IsHist, StandsAtStage, HistGives, IsMade, serves_asked}

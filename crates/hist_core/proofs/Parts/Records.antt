@@ -1,12 +1,8 @@
 -- The record that a `hist` makes where there is none of its name.
-use Rattle.std.proofs.Common.{◌≡◌, ◌≢◌, ℕ, zero, suc, ◌+◌, ◌-◌, ◌*◌, ◌<◌, ◌≤◌, List, [], ◌∷◌, ◌++◌, length, replicate, sym, ap, subst, ◌∙◌, arith, append_assoc, length-append}
-use Rattle.std.specs.Prelude.{slice_index}
-use Rattle.std.proofs.lemmas.List.{append-nil, get_or_push, length_push, replicate-append-replicate}
-use Rattle.segment_image.specs.Shape.{Dimensions}
-use Rattle.bucket_ranges.specs.declared.spec.Spec.{Spec}
+use Rattle.segment_invariant.proofs.Prelude.Std.{◌≡◌, ◌≢◌, ℕ, zero, suc, ◌+◌, ◌-◌, ◌*◌, ◌<◌, ◌≤◌, List, [], ◌∷◌, ◌++◌, length, replicate, sym, ap, subst, ◌∙◌, arith, append_assoc, length-append, slice_index, append-nil, length_push}
+use Rattle.segment_invariant.proofs.Prelude.Machine.{Dimensions, Spec, buckets_of, spec_fields, Actor}
+use Rattle.std.proofs.lemmas.List.{get_or_push, replicate-append-replicate}
 use Rattle.bucket_ranges.specs.declared.spec.Spec.TheVariants as spec
-use Rattle.bucket_ranges.specs.Spec.{buckets_of, spec_fields}
-use Rattle.segment_machine.specs.declared.actor.Actor.{Actor}
 use Rattle.hist_core.specs.declared.hist.Hist.{Hist}
 use Rattle.hist_core.specs.Hist.{IsAsking, wanted_of}
 use Rattle.hist_core.specs.Making.{MayMake}

@@ -1,16 +1,9 @@
 -- A `hist` walks along the list.
-use Rattle.std.proofs.Common.{◌≡◌, ℕ, ◌+◌, ◌<◌, ◌≤◌, ◌==◌, vec_len, Bool, true, false, true≢false, List, [], ◌∷◌, ◌++◌, length, inl, inr, refl, sym, ap, subst, ◌∙◌, arith}
-use Rattle.std.specs.Prelude.{Some, ◌&&◌, ◌||◌, nat_le}
-use Rattle.std.proofs.lemmas.Bool.{leb-true, eqb-true}
-use Rattle.segment_image.specs.Shape.{Dimensions}
-use Rattle.segment_image.specs.Words.{word_at}
+use Rattle.segment_invariant.proofs.Prelude.Std.{◌≡◌, ℕ, ◌+◌, ◌<◌, ◌≤◌, ◌==◌, vec_len, Bool, true, false, true≢false, List, [], ◌∷◌, ◌++◌, length, inl, inr, refl, sym, ap, subst, ◌∙◌, arith, Some, ◌&&◌, ◌||◌, nat_le, leb-true, eqb-true}
+use Rattle.segment_invariant.proofs.Prelude.Machine.{Dimensions, word_at, is_reference, Actor, Sighting, word_seen, IsPrefix}
 use Rattle.list_core.specs.declared.walk.WalkStep.{WalkStep}
 use Rattle.list_core.specs.declared.walk.WalkStep.TheVariants.{Record, End, Stray}
-use Rattle.list_core.specs.Chain.{is_reference}
 use Rattle.list_core.specs.Walk.{said_of, given_after, stands_behind}
-use Rattle.segment_machine.specs.declared.actor.Actor.{Actor}
-use Rattle.segment_machine.specs.declared.seen.Sighting.{Sighting}
-use Rattle.segment_machine.specs.Actor.{word_seen}
 use Rattle.segment_machine.specs.Made.{SawOtherName}
 use Rattle.segment_invariant.proofs.Walking.Words.{word_still}
 use Rattle.hist_core.specs.declared.hist.Hist.{Hist}
@@ -23,7 +16,6 @@ use Rattle.hist_core.proofs.Makes.Drafts.{begins, is_wide}
 use Rattle.hist_core.proofs.Parts.Records.{may_make, some_to_compare_is}
 use Rattle.hist_core.specs.StepsBy.{FrameOfStep, StepsBy, IsFree}
 use Rattle.hist_core.proofs.Worlds.Free.{free_turns}
-use Rattle.list_core.specs.Walk.{IsPrefix}
 use Rattle.hist_core.specs.Hist.{IsAsking, IsHist, HaveOtherNames, StandsAtStage, HistGives, comparisons, serves_asked, wanted_of}
 use Rattle.hist_core.proofs.Parts.Allocations.{EndsWith, goes_with, walks_saying}
 use Rattle.hist_core.proofs.Parts.Deeds.{does_nothing}

@@ -1,8 +1,6 @@
 -- What an actor has loaded of a histogram that it looks at.
-use Rattle.std.proofs.Common.{◌≡◌, ◌≢◌, ◌⊎◌, ℕ, ◌%◌, ◌/◌, ◌^◌, ◌<◌, ◌≤◌, true, false, ◌&&◌, nat_lt, nat_le, Some, None, inl, inr}
-use Rattle.std.proofs.lemmas.Bool.{leb-true, ltb-true, and_parts}
-use Rattle.bucket_ranges.specs.declared.single.SingleWord.TheVariants.{Packed}
-use Rattle.bucket_ranges.specs.Single.{single_of, is_packed_word}
+use Rattle.segment_invariant.proofs.Prelude.Std.{◌≡◌, ◌≢◌, ◌⊎◌, ℕ, ◌%◌, ◌/◌, ◌^◌, ◌<◌, ◌≤◌, true, false, ◌&&◌, nat_lt, nat_le, Some, None, inl, inr, leb-true, ltb-true, and_parts}
+use Rattle.segment_invariant.proofs.Prelude.Machine.{Packed, single_of, is_packed_word}
 use Rattle.segment_machine.specs.Form.{is_off}
 use Rattle.segment_invariant.proofs.Packing.OffForms.{on_form}
 

@@ -1,36 +1,12 @@
 -- A snapshot, event by event.
-use Rattle.std.proofs.Common.{◌≡◌, ◌⊎◌, ℕ, zero, suc, ◌+◌, ◌*◌, ◌<◌, ◌≤◌, ℤ, Bool, true, false, true≢false, if◌then◌else◌, nat_lt, List, [], ◌∷◌, ◌++◌, drop, length, map, slice_index, Option, Some, inl, inr, ⊎_elim, refl, sym, ap, subst, ◌∙◌, arith}
-use Rattle.std.specs.List.{All, Contains, range_with_len}
-use Rattle.std.specs.Int.{cast_signed, w64}
-use Rattle.std.proofs.Props.{props}
-use Rattle.std.proofs.Math.Logic.{∥∥₁_elim}
-use Rattle.std.proofs.lemmas.Bool.{ltb-true, ltb-false}
-use Rattle.std.proofs.lemmas.List.{append-nil, drop-append-le, length-append}
-use Rattle.std.proofs.lemmas.List.Elements.{All-contains}
-use lib.Seq.{set-get_or}
-use Rattle.bucket_ranges.specs.Spec.{buckets_of}
-use Rattle.bucket_ranges.specs.Ranges.{IsSplit, boundaries_of}
-use Rattle.bucket_ranges.specs.Single.{single_of, units_packed}
+use Rattle.segment_invariant.proofs.Prelude.Std.{◌≡◌, ◌⊎◌, ℕ, zero, suc, ◌+◌, ◌*◌, ◌<◌, ◌≤◌, ℤ, Bool, true, false, true≢false, if◌then◌else◌, nat_lt, List, [], ◌∷◌, ◌++◌, drop, length, map, slice_index, Option, Some, inl, inr, ⊎_elim, refl, sym, ap, subst, ◌∙◌, arith, All, Contains, range_with_len, cast_signed, w64, props, ∥∥₁_elim, ltb-true, ltb-false, append-nil, drop-append-le, length-append, All-contains, set-get_or, some, get_elem?}
+use Rattle.segment_invariant.proofs.Prelude.Machine.{buckets_of, boundaries_of, single_of, units_packed, Dimensions, word_at, Actor, Answered, Known, Looking, SumLoaded, IsFirstSample, SawSample, Sparse, Buckets, SawCount, bucket_key, has_buckets, is_bound, is_opener, known_at, MayTurn, look_of, sight, sight_counts, load_counts, Event, next, counting_event, packing_event, taking_event, SawBucket, noted, load_single, load_count, load_redundant, load_sum}
+use Rattle.bucket_ranges.specs.Ranges.{IsSplit}
 use Rattle.bucket_ranges.proofs.Ascent.{boundaries_of-split}
-use Rattle.segment_image.specs.Shape.{Dimensions}
-use Rattle.segment_image.specs.Words.{word_at}
 use Rattle.segment_invariant.proofs.Lists.Elements.{below_length, contains_at}
 use Rattle.segment_invariant.proofs.Packing.OffForms.{few_buckets}
-use Rattle.segment_machine.specs.declared.actor.Actor.{Actor}
-use Rattle.segment_machine.specs.declared.actor.Answered.{Answered}
-use Rattle.segment_machine.specs.declared.actor.Known.{Known}
-use Rattle.segment_machine.specs.declared.place.Place.TheVariants.{Looking, SumLoaded}
-use Rattle.segment_machine.specs.Made.{IsFirstSample, SawSample}
-use Rattle.bucket_ranges.specs.declared.spec.Spec.TheVariants.{Sparse}
-use mathlib.Core.Option.{some}
-use lib.ListN.{get_elem?}
-use Rattle.segment_machine.specs.Actor.{Buckets, SawCount, bucket_key, has_buckets, is_bound, is_opener, known_at}
-use Rattle.segment_machine.specs.Calls.{MayTurn, look_of, sight, sight_counts}
-use Rattle.segment_machine.specs.Counting.{load_counts}
-use Rattle.segment_machine.specs.Event.{Event, next, counting_event, packing_event, taking_event}
-use Rattle.segment_machine.specs.Note.{SawAll, SawBucket, answers, looks, moment_of, noted}
-use Rattle.segment_machine.specs.Packing.{IsSingleOf, load_single}
-use Rattle.segment_machine.specs.Taking.{load_count, load_redundant, load_sum}
+use Rattle.segment_machine.specs.Note.{SawAll, answers, looks, moment_of}
+use Rattle.segment_machine.specs.Packing.{IsSingleOf}
 use Rattle.hist_core.proofs.Parts.Alone.{by_event, seen_alike, seen_words}
 use Rattle.hist_core.specs.declared.snapshot_call.SnapshotCall.{SnapshotCall}
 use Rattle.hist_core.specs.declared.snapshot_call.SnapshotCallStep.TheVariants.{More, Done}
@@ -425,16 +401,7 @@ module _ (shape : Dimensions) (known : Known) (snapshot_call : SnapshotCall) (a 
           refl,
           subst (λ (stage : SnapshotStage). LooksAnew stage a (noted loaded (answers answered))) (sym loads) refl,
           record {
-            beside = record {
-              role = refl;
-              segment = refl;
-              units = refl;
-              entries = refl;
-              deltas = refl;
-              names = refl;
-              chain = ([], sym (append-nil a.seen.chain));
-              words = ([], sym (append-nil a.seen.words));
-            };
+            beside = seen_alike a (noted loaded (answers answered)) refl refl refl refl refl refl refl refl;
             answered = answered;
             deltas = refl;
             name = refl;

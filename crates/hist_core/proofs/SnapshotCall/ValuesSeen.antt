@@ -1,23 +1,10 @@
 -- A snapshot of a sparse histogram, event by event.
-use Rattle.std.proofs.Common.{◌≡◌, ◌≢◌, ℕ, ◌+◌, ◌-◌, ◌/◌, ◌<◌, ◌≤◌, ◌==◌, ℤ, Bool, true, false, true≢false, map, if◌then◌else◌, List, [], ◌∷◌, ◌++◌, length, inl, inr, refl, sym, ap, subst, ◌∙◌, arith, eqb-true, eq-eqb}
-use Rattle.std.specs.Prelude.{Option, Some, None, vec_capacity, vec_len}
-use Rattle.std.specs.List.{Contains}
-use Rattle.std.proofs.Props.{props}
-use Rattle.std.proofs.Math.Logic.{∥∥₁_elim}
-use Rattle.std.proofs.lemmas.List.{append-nil, map-append}
-use Rattle.std.proofs.lemmas.List.Elements.{Contains-push}
-use lib.Seq.{set-get_or}
-use Rattle.segment_image.specs.Shape.{Dimensions}
-use Rattle.segment_image.specs.Words.{word_at}
-use Rattle.segment_machine.specs.declared.actor.Actor.{Actor}
-use Rattle.segment_machine.specs.declared.actor.Known.{Known}
-use Rattle.segment_machine.specs.declared.place.Place.{Place}
+use Rattle.segment_invariant.proofs.Prelude.Std.{◌≡◌, ◌≢◌, ℕ, ◌+◌, ◌-◌, ◌/◌, ◌<◌, ◌≤◌, ◌==◌, ℤ, Bool, true, false, true≢false, map, if◌then◌else◌, List, [], ◌∷◌, ◌++◌, length, inl, inr, refl, sym, ap, subst, ◌∙◌, arith, eqb-true, eq-eqb, Option, Some, None, vec_capacity, vec_len, Contains, props, ∥∥₁_elim, append-nil, map-append, Contains-push, set-get_or}
+use Rattle.segment_invariant.proofs.Prelude.Machine.{Dimensions, word_at, Actor, Known, Place, SawCount, is_bound, sight, Event, Learned, next, taking_event, noted, load_count}
 use Rattle.segment_machine.specs.declared.place.Place.TheVariants as place
-use Rattle.segment_machine.specs.Actor.{SawCount, Sparse, is_bound}
-use Rattle.segment_machine.specs.Calls.{sight}
-use Rattle.segment_machine.specs.Event.{Event, Learned, next, taking_event}
-use Rattle.segment_machine.specs.Note.{looks, noted}
-use Rattle.segment_machine.specs.Taking.{at_count, is_looking, load_count}
+use Rattle.segment_machine.specs.Actor.{Sparse}
+use Rattle.segment_machine.specs.Note.{looks}
+use Rattle.segment_machine.specs.Taking.{at_count, is_looking}
 use Rattle.segment_promises.specs.Values.{ListsValues, listed_of}
 use Rattle.segment_promises.proofs.Growing.{grows_not}
 use Rattle.segment_promises.proofs.ListedValues.{lists_on, lists_one, lists_still}
@@ -25,7 +12,7 @@ use Rattle.segment_promises.proofs.ValueWalks.{behind_it, split_at_it}
 use Rattle.segment_promises.proofs.Calls.SampleLists.{not_before}
 use Rattle.segment_promises.specs.Calls.{SeesMore}
 use Rattle.segment_promises.proofs.Calls.Sights.{seen_here}
-use Rattle.hist_core.proofs.Parts.Alone.{by_event, seen_alike}
+use Rattle.hist_core.proofs.Parts.Alone.{by_event, seen_alike, frame_of}
 use Rattle.hist_core.specs.declared.snapshot_call.SnapshotCall.{SnapshotCall}
 use Rattle.hist_core.specs.declared.snapshot_call.SnapshotCallStep.TheVariants.{More}
 use Rattle.hist_core.specs.declared.snapshot_call.SnapshotStage.{SnapshotStage}
@@ -105,16 +92,7 @@ module _ (shape : Dimensions) (known : Known) (snapshot_call : SnapshotCall) (a 
         (record { sparse = stands.1.0.sparse; apart = stands.1.0.apart; met = stands.1.0.met }, stands.1.1)
         (record { singles = omega arith; counts = omega arith }) met meets) (λ b (beside, since, done, turns, comes).
         let then_is = stands_behind met new b stands.0 behind comes in
-        let aside : FrameOfStep a b = record {
-          role = beside.role;
-          segment = beside.segment;
-          units = beside.units;
-          entries = beside.entries;
-          deltas = beside.deltas;
-          names = beside.names;
-          chain = beside.chain;
-          words = beside.words;
-        } in
+        let aside = frame_of a b beside.role beside.segment beside.units beside.entries beside.deltas beside.names beside.chain beside.words in
         (aside, done, since, goes_still shape known snapshot_call a words is new b then_is.0 then_is.1 aside turns then_is.2)))
 
     pub walks_further : (walk : SampleWalk) → snapshot_call.stage ≡ Walking walk → Meets walk snapshot_call.histogram (word_at words (spot_of snapshot_call.histogram walk)) met

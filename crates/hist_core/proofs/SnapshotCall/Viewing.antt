@@ -1,9 +1,6 @@
 -- A `snapshot` of an actor goes on, and what it is answered with.
-use Rattle.std.proofs.Common.{◌≡◌, ◌≤◌, ◌+◌, inl, inr, ℕ, ℤ, List, [], length, map, take, All, refl, sym, ap, subst, ◌∙◌}
-use Rattle.std.specs.Prelude.{Option, Some, None}
-use Rattle.std.specs.List.{Contains}
-use Rattle.segment_image.specs.Shape.{Dimensions}
-use Rattle.segment_machine.specs.declared.actor.Actor.{Actor}
+use Rattle.segment_invariant.proofs.Prelude.Std.{◌≡◌, ◌≤◌, ◌+◌, inl, inr, ℕ, ℤ, List, [], length, map, take, All, refl, sym, ap, subst, ◌∙◌, Option, Some, None, Contains, range_with_len, some, get_elem?}
+use Rattle.segment_invariant.proofs.Prelude.Machine.{Dimensions, Actor, IsShape, boundaries_of, buckets_of, State, bucket_key, known_at}
 use Rattle.segment_machine.specs.declared.actor.Known.{Known as MachineKnown}
 use Rattle.segment_promises.proofs.Calls.BlankTotals.{keys_of_buckets, no_units}
 use Rattle.hist_core.proofs.Parts.Alone.{alike}
@@ -19,16 +16,8 @@ use Rattle.hist_core.specs.declared.actor_run.ActorRun.{ActorRun}
 use Rattle.hist_core.specs.StepsBy.{StepsBy, IsFree, WalksInOrder}
 use Rattle.hist_core.specs.SnapshotCall.{HasJustBegun, HasLooked, IsSnapshotCall, IsSomeSnapshotCall, LooksAnew, SnapshotCallGives, SnapshotCallSteps}
 use Rattle.hist_core.specs.ActorRun.{Advances, Answers, AreShown, BeginsSnapshot, IsKnown, known_of, IsAnswer, IsQuiet, IsRun, IsSnapshotAnnounced, IsSomeRun, LooksSince, Serves, StandsIn, begun_by, ended_by, looked_by, pending_by}
-use Rattle.std.specs.List.{range_with_len}
-use mathlib.Core.Option.{some}
-use lib.ListN.{get_elem?}
-use Rattle.alloc_core.specs.Layout.{IsShape}
-use Rattle.bucket_ranges.specs.Ranges.{boundaries_of}
-use Rattle.bucket_ranges.specs.Spec.{buckets_of}
 use Rattle.segment_invariant.proofs.Lists.Elements.{all_at, contains_at}
 use Rattle.segment_invariant.proofs.Lists.Maps.{contains_map}
-use Rattle.segment_machine.specs.State.{State}
-use Rattle.segment_machine.specs.Actor.{bucket_key, known_at}
 use Rattle.hist_core.specs.declared.world_state.WorldState.{WorldState}
 use Rattle.hist_core.specs.declared.hist.Known.{Known}
 use Rattle.hist_core.specs.Start.{Start}

@@ -1,12 +1,7 @@
 -- In a state that is reached nothing that an actor met stands out of order: no block twice, and each sample behind the record of its histogram.
-use Rattle.std.proofs.Common.{◌≡◌, ℕ}
-use mathlib.Core.Option.{some}
-use lib.ListN.{get_elem?}
-use Rattle.segment_image.specs.Shape.{Dimensions}
-use Rattle.segment_machine.specs.declared.actor.Actor.{Actor}
-use Rattle.segment_machine.specs.State.{State}
-use Rattle.segment_invariant.specs.Body.{Anatomy}
-use Rattle.segment_invariant.specs.Invariant.{Invariant}
+use Rattle.segment_invariant.proofs.Prelude.Std.{◌≡◌, ℕ, some, get_elem?}
+use Rattle.segment_invariant.proofs.Prelude.Machine.{Dimensions, Actor, State}
+use Rattle.segment_invariant.proofs.Prelude.Invariant.{Anatomy, Invariant}
 use Rattle.segment_promises.proofs.Calls.Orders.{no_repeats, stand_behind}
 use Rattle.hist_core.specs.StepsBy.{WalksInOrder}
 

@@ -1,19 +1,8 @@
 -- What an actor saw of the samples that it passed behind the record of a sparse histogram it has still seen when it has seen more; and what it
 -- lists of all of them is what a snapshot is.
-use Rattle.std.proofs.Common.{◌≡◌, ◌⊎◌, ℕ, ◌+◌, ◌*◌, ◌≤◌, ℤ, false, map, List, ◌∷◌, ◌++◌, length, inl, inr, ⊎_elim, sym, ap, subst, ◌∙◌}
-use Rattle.std.specs.Prelude.{Some}
-use Rattle.std.specs.Int.{cast_signed, cast_unsigned, w64}
-use Rattle.std.specs.List.{All, Contains}
-use Rattle.std.proofs.lemmas.List.Elements.{Contains-append_left}
-use Rattle.std.proofs.lemmas.List.{map-append}
-use Rattle.std.proofs.lemmas.List.Sorted.{All-permutation, Contains-permutation, IsPermutation-map}
-use mathlib.Core.Option.{some}
-use lib.ListN.{get_elem?}
-use Rattle.segment_machine.specs.declared.actor.Actor.{Actor}
-use Rattle.segment_machine.specs.declared.actor.Known.{Known}
-use Rattle.segment_machine.specs.declared.seen.Seen.{Seen}
-use Rattle.segment_machine.specs.Actor.{SawCount}
-use Rattle.segment_machine.specs.Made.{IsFirstSample, SawSample}
+use Rattle.segment_invariant.proofs.Prelude.Std.{◌≡◌, ◌⊎◌, ℕ, ◌+◌, ◌*◌, ◌≤◌, ℤ, false, map, List, ◌∷◌, ◌++◌, length, inl, inr, ⊎_elim, sym, ap, subst, ◌∙◌, Some, cast_signed, cast_unsigned, w64, All, Contains, Contains-append_left, map-append, Contains-permutation, some, get_elem?}
+use Rattle.segment_invariant.proofs.Prelude.Machine.{Actor, Known, Seen, SawCount, IsFirstSample, SawSample}
+use Rattle.std.proofs.lemmas.List.Sorted.{All-permutation, IsPermutation-map}
 use Rattle.segment_machine.specs.Taking.{is_looking}
 use Rattle.segment_machine.proofs.Values.{value_word}
 use Rattle.segment_promises.specs.Values.{ComesTo}

@@ -1,30 +1,17 @@
 -- A walk along the samples of a sparse histogram, event by event.
-use Rattle.std.proofs.Common.{◌≡◌, ◌≢◌, ℕ, ◌+◌, ◌*◌, ◌<◌, ◌≤◌, ◌==◌, ℤ, Bool, true, false, true≢false, if◌then◌else◌, List, [], ◌∷◌, ◌++◌, length, inl, inr, ⊎_elim, refl, sym, ap, subst, ◌∙◌, arith, eqb-true, eq-eqb}
-use Rattle.std.specs.Prelude.{Some}
-use Rattle.std.specs.List.{Contains}
-use Rattle.std.proofs.lemmas.List.{append-nil}
-use Rattle.std.proofs.lemmas.List.Elements.{Contains-append_right}
-use lib.Seq.{set-get_or}
+use Rattle.segment_invariant.proofs.Prelude.Std.{◌≡◌, ◌≢◌, ℕ, ◌+◌, ◌*◌, ◌<◌, ◌≤◌, ◌==◌, ℤ, Bool, true, false, true≢false, if◌then◌else◌, List, [], ◌∷◌, ◌++◌, length, inl, inr, ⊎_elim, refl, sym, ap, subst, ◌∙◌, arith, eqb-true, eq-eqb, Some, Contains, append-nil, Contains-append_right, set-get_or}
+use Rattle.segment_invariant.proofs.Prelude.Machine.{Dimensions, word_at, Actor, Known, Place, word_seen, MayTurn, sight, Learned, next, walking_event, SawOther, load_next, load_published}
 use Rattle.bucket_ranges.specs.Reading.{is_i32}
-use Rattle.segment_image.specs.Shape.{Dimensions}
-use Rattle.segment_image.specs.Words.{word_at}
-use Rattle.segment_machine.specs.declared.actor.Actor.{Actor}
-use Rattle.segment_machine.specs.declared.actor.Known.{Known}
-use Rattle.segment_machine.specs.declared.place.Place.{Place}
 use Rattle.segment_machine.specs.declared.place.Place.TheVariants as place
-use Rattle.segment_machine.specs.Actor.{word_seen}
-use Rattle.segment_machine.specs.Calls.{MayTurn, sight}
-use Rattle.segment_machine.specs.Event.{Learned, next, walking_event}
-use Rattle.segment_machine.specs.Made.{SawOther}
 use Rattle.segment_machine.specs.Taking.{is_looking}
-use Rattle.segment_machine.specs.Walking.{IsFixed, WalkingEvent, behind, load_next, load_published}
+use Rattle.segment_machine.specs.Walking.{IsFixed, WalkingEvent, behind}
 use Rattle.segment_promises.proofs.Growing.{extended_grows, grows_not}
 use Rattle.segment_promises.proofs.ValueWalks.{behind_it, comes_first, comes_on, met, passed_few, split_at_it}
 use Rattle.segment_promises.specs.Calls.{BeganBefore, SeesMore}
 use Rattle.segment_promises.proofs.Calls.Sights.{began_still, saw_word}
-use Rattle.segment_promises.proofs.Calls.Places.{behind_free}
+use Rattle.segment_promises.proofs.Calls.Places.{behind_free, behind_is}
 use Rattle.segment_promises.proofs.Calls.SeenWords.{seen_now}
-use Rattle.hist_core.proofs.Parts.Alone.{by_event, seen_words}
+use Rattle.hist_core.proofs.Parts.Alone.{by_event, seen_words, frame_of}
 use Rattle.hist_core.specs.declared.walk.Met.{Met}
 use Rattle.hist_core.specs.declared.walk.Met.TheVariants.{Nothing, Sample, End}
 use Rattle.hist_core.specs.declared.walk.SampleWalk.{SampleWalk}
@@ -35,27 +22,11 @@ use Rattle.hist_core.proofs.Walks.Passing.{way_still}
 
 -- who has loaded a next stands at no single word and no counts where it stood at none
 behind_apart : (p : Place) (at found : ℕ) → is_looking p ≡ false → is_looking (behind p at found) ≡ false
-behind_apart (place.Looking look) at found was = absurd (cc was)
-behind_apart (place.CountLoaded look bucket count) at found was = absurd (cc was)
-behind_apart (place.CursorLoaded cursor from) at found was = by (at == from) (found == 12)
-  where
-    by : (here ends : Bool) → is_looking (if here then (if ends then place.Idle else place.BehindCursor cursor from found) else place.CursorLoaded cursor from) ≡ false
-    by true true = refl
-    by true false = refl
-    by false ends = refl
-behind_apart p at found was = was
+behind_apart = behind_is is_looking refl (λ cursor from next. refl)
 
 pub walk_beside : (a : Actor) (e : WalkingEvent) (found : ℕ) → FrameOfStep a (next a (walking_event e) found)
-walk_beside a (load_next at) found = record {
-  role = refl;
-  segment = refl;
-  units = refl;
-  entries = refl;
-  deltas = refl;
-  names = refl;
-  chain = extended_grows a.seen.chain at found;
-  words = ([], sym (append-nil a.seen.words));
-}
+walk_beside a (load_next at) found =
+    frame_of a (next a (walking_event (load_next at)) found) refl refl refl refl refl refl (extended_grows a.seen.chain at found) ([], sym (append-nil a.seen.words))
 walk_beside a (load_published at index) found = seen_words a (next a (walking_event (load_published at index)) found) (sight (at + index) found) refl refl refl refl refl refl refl refl
 
 walk_sees : (a : Actor) (e : WalkingEvent) (found : ℕ) → SeesMore a (next a (walking_event e) found)

@@ -1,17 +1,9 @@
 -- How the running call of an actor goes on, by what its next event is.
-use Rattle.std.proofs.Common.{◌≡◌, ◌≤◌, ℕ, List, [], refl, sym, subst}
-use Rattle.std.specs.Prelude.{Some, None}
-use Rattle.std.proofs.lemmas.List.{append-nil}
-use Rattle.std.proofs.lemmas.List.Elements.{All-nil}
-use Rattle.segment_image.specs.Shape.{Dimensions}
-use Rattle.segment_image.specs.Words.{word_at}
+use Rattle.segment_invariant.proofs.Prelude.Std.{◌≡◌, ◌≤◌, ℕ, List, [], refl, sym, subst, Some, None, append-nil, All-nil}
+use Rattle.segment_invariant.proofs.Prelude.Machine.{Dimensions, word_at, Actor, Published, allocating_event, next, set_corrupt}
 use Rattle.segment_image.specs.declared.layout.TheConstants.{HEADER_WORDS}
 use Rattle.alloc_core.specs.Event as atomic
-use Rattle.segment_machine.specs.declared.actor.Actor.{Actor}
-use Rattle.segment_machine.specs.declared.actor.Published.{Published}
 use Rattle.segment_machine.specs.declared.actor.Rise.{Rise}
-use Rattle.segment_machine.specs.Event.{allocating_event, next}
-use Rattle.segment_machine.specs.Allocating.{set_corrupt}
 use Rattle.hist_core.proofs.Parts.Alone.{by_event, alike, allocating_beside}
 use Rattle.hist_core.proofs.HistCall.Asking.{runs_on}
 use Rattle.hist_core.specs.declared.actor_run.Running.TheVariants.{SetCorrupt}

@@ -1,21 +1,11 @@
 -- A call of a world begins: what has become of the actors, and what is said.
-use Rattle.std.proofs.Common.{◌≡◌, ◌+◌, ℕ, Bool, false, List, ◌∷◌, ◌++◌, get_or, set, length, inl, ⊎_elim, refl, sym, ap, subst, ◌∙◌, vec_len, arith, length-append}
-use Rattle.std.specs.Prelude.{Option, Some, None, Result, Ok, Err, IfErr, MatchOption, nat_le, if◌then◌else◌}
+use Rattle.segment_invariant.proofs.Prelude.Std.{◌≡◌, ◌+◌, ℕ, Bool, false, List, ◌∷◌, ◌++◌, get_or, set, length, inl, ⊎_elim, refl, sym, ap, subst, ◌∙◌, vec_len, arith, length-append, Option, Some, None, Ok, nat_le, if◌then◌else◌, dite, some, none, some-injective, ℕ_discrete, get_elem?, set_else, set_here}
+use Rattle.segment_invariant.proofs.Prelude.Machine.{Spec, Dimensions, spec_fields, spec_ranges, first_fault, Actor, State}
+use Rattle.std.specs.Prelude.{Result, Err, IfErr, MatchOption}
 use Rattle.std.specs.declared.alloc.AllocError.{AllocError}
-use mathlib.Core.Logic.{dite}
-use mathlib.Core.Option.{some, none, some-injective}
 use mathlib.Core.Option as maybe
-use native.Mathlib.Decide.{ℕ_discrete}
-use lib.ListN.{get_elem?}
-use Rattle.atomic_table.proofs.Lists.{set_else, set_here}
-use Rattle.bucket_ranges.specs.declared.spec.Spec.{Spec}
-use Rattle.segment_image.specs.Shape.{Dimensions}
 use Rattle.segment_calls.specs.Asked.{IsAskedFor}
-use Rattle.bucket_ranges.specs.Spec.{spec_fields, spec_ranges}
 use Rattle.segment_invariant.proofs.Walking.Words.{letters_long}
-use Rattle.segment_image.specs.Checks.{first_fault}
-use Rattle.segment_machine.specs.declared.actor.Actor.{Actor}
-use Rattle.segment_machine.specs.State.{State}
 use Rattle.hist_core.specs.Start.{Start}
 use Rattle.hist_core.specs.World.{BeginsCall, lacks, name_checks, rest_checks, runs}
 use Rattle.hist_core.specs.WorldState.{BeginsFrom, IsAsBefore, IsReached, IsReachedAs, IsReady, IsResting, OthersStay, AsksFor, IsAnsweredAtOnce, HistBegins, MayBeAsked}

@@ -1,26 +1,13 @@
 -- Why a call is refused.
-use Rattle.std.proofs.Common.{◌≡◌, ◌≢◌, ℕ, ℤ, ◌+◌, Bool, true, false, ◌||◌, map, inl, inr, refl, sym, ap, subst, ◌∙◌}
-use Rattle.std.specs.Prelude.{List, Option, Some, None, ⊤, bit_and}
-use Rattle.std.specs.List.{Contains}
-use Rattle.atomic_table.proofs.Lists.{at_map}
-use mathlib.Core.Option.{some}
-use lib.ListN.{get_elem?}
-use Rattle.segment_machine.specs.declared.actor.Actor.{Actor}
+use Rattle.segment_invariant.proofs.Prelude.Std.{◌≡◌, ◌≢◌, ℕ, ℤ, ◌+◌, Bool, true, false, ◌||◌, map, inl, inr, refl, sym, ap, subst, ◌∙◌, List, Option, Some, None, ⊤, bit_and, Contains, at_map, some, get_elem?}
+use Rattle.segment_invariant.proofs.Prelude.Machine.{Actor, Known, Seen, Spent, State, Dimensions, word_at, Refusal}
+use Rattle.segment_invariant.proofs.Prelude.Invariant.{Anatomy, layout_of, Invariant}
 use Rattle.segment_machine.specs.declared.actor.Done.{Done}
-use Rattle.segment_machine.specs.declared.actor.Known.{Known}
-use Rattle.segment_machine.specs.declared.seen.Seen.{Seen}
-use Rattle.segment_machine.specs.declared.place.Place.TheVariants.{Spent}
-use Rattle.segment_machine.specs.State.{State}
-use Rattle.segment_image.specs.Shape.{Dimensions}
-use Rattle.segment_image.specs.Words.{word_at}
 use Rattle.alloc_core.specs.Layout.{flags_of}
 use Rattle.alloc_core.proofs.Flags.{corrupt_bit, full_bit}
 use Rattle.alloc_core.proofs.Layouts.{flags_word}
-use Rattle.segment_invariant.specs.Body.{Anatomy, layout_of}
-use Rattle.segment_invariant.specs.Invariant.{Invariant}
 use Rattle.segment_invariant.proofs.Lists.Elements.{any_there}
 use Rattle.segment_invariant.proofs.Frames.Books.{noticed_there}
-use Rattle.segment_calls.specs.declared.refusal.Refusal.{Refusal}
 use Rattle.segment_calls.specs.declared.refusal.Refusal.TheVariants as why
 use Rattle.hist_core.specs.declared.world_state.WorldState.{WorldState}
 use Rattle.hist_core.specs.declared.actor_run.Running.{Running}

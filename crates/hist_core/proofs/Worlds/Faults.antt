@@ -1,10 +1,8 @@
 -- The faults of a world's calls, and the calls that are going on.
-use Rattle.std.proofs.Common.{◌≡◌, ◌≤◌, arith, zero, suc, List, [], ◌∷◌, ◌||◌, Bool, true, false, true≢false, refl, sym, subst, ℕ, ap, ◌∙◌}
-use Rattle.std.specs.Prelude.{Option, Some, None, IsSome, not, is_some, nat_le, vec_len, MatchOption, Result, Ok, Err, IfErr, IsErr, IsOk, is_ok, if◌then◌else◌}
+use Rattle.segment_invariant.proofs.Prelude.Std.{◌≡◌, ◌≤◌, arith, zero, suc, List, [], ◌∷◌, ◌||◌, Bool, true, false, true≢false, refl, sym, subst, ℕ, ap, ◌∙◌, Option, Some, None, not, nat_le, vec_len, Ok, if◌then◌else◌, some, none, some-injective, some-ne-none, get_elem?, bytes_eq, bytes_eq-Decides}
+use Rattle.segment_invariant.proofs.Prelude.Machine.{first_fault}
+use Rattle.std.specs.Prelude.{IsSome, is_some, MatchOption, Result, Err, IfErr, IsErr, IsOk, is_ok}
 use Rattle.std.proofs.lemmas.Bool.{lt-leb}
-use Rattle.segment_image.specs.Checks.{first_fault}
-use mathlib.Core.Option.{some, none, some-injective, some-ne-none}
-use lib.ListN.{get_elem?}
 use Rattle.hist_core.specs.declared.fault.WorldFault.{WorldFault}
 use Rattle.hist_core.specs.declared.fault.WorldFault.TheVariants.{NoActor, Busy, Unknown}
 use Rattle.hist_core.specs.declared.actor_run.Running.{Running}
@@ -16,8 +14,6 @@ use Rattle.hist_core.proofs.HistCall.Asking.{place_below}
 use Rattle.hist_core.specs.ActorRun.{IsKnownAt, NoneHasName}
 use Rattle.hist_core.specs.declared.hist.Known.{Known}
 use Rattle.std.specs.List.{list_any}
-use Rattle.std.specs.Str.{bytes_eq}
-use Rattle.std.proofs.lemmas.Slice.Eq.{bytes_eq-Decides}
 use mathlib.Core.Option as maybe
 
 -- the first or the second of two checks fails, or none does

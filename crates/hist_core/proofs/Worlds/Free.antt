@@ -1,12 +1,11 @@
 -- Who stands where it may turn to any other call.
-use Rattle.std.proofs.Common.{◌≡◌, ℕ, ◌==◌, Bool, true, false, true≢false, refl}
-use Rattle.std.specs.Prelude.{◌||◌, if◌then◌else◌}
-use Rattle.segment_machine.specs.declared.place.Place.{Place}
+use Rattle.segment_invariant.proofs.Prelude.Std.{◌≡◌, ℕ, ◌==◌, Bool, true, false, true≢false, refl, ◌||◌, if◌then◌else◌}
+use Rattle.segment_invariant.proofs.Prelude.Machine.{Place, is_bound}
 use Rattle.segment_machine.specs.declared.place.Place.TheVariants as place
-use Rattle.segment_machine.specs.Actor.{is_bound}
 use Rattle.segment_machine.specs.Taking.{is_looking}
 use Rattle.segment_machine.specs.Walking.{behind}
 use Rattle.hist_core.specs.StepsBy.{has_pointer, is_tied}
+use Rattle.segment_promises.proofs.Calls.Places.{behind_is}
 
 neither : (a b : Bool) → (a || b) ≡ false → (a ≡ false) × (b ≡ false)
 neither true b none = absurd (true≢false none)
@@ -23,10 +22,4 @@ free_holds_none p free = (neither (is_looking p) (has_pointer p) (neither (is_bo
 
 -- so does who has loaded a next there
 pub free_behind : (p : Place) (from found : ℕ) → is_tied p ≡ false → is_tied (behind p from found) ≡ false
-free_behind (place.CursorLoaded cursor at) from found free = by (from == at) (found == 12)
-  where
-    by : (b e : Bool) → is_tied (if b then (if e then place.Idle else place.BehindCursor cursor at found) else place.CursorLoaded cursor at) ≡ false
-    by true true = refl
-    by true false = refl
-    by false e = refl
-free_behind p from found free = free
+free_behind = behind_is is_tied refl (λ cursor from next. refl)

@@ -1,8 +1,6 @@
 -- Where an actor lands that looks at nothing.
-use Rattle.std.proofs.Common.{◌≡◌, ◌∙◌}
-use Rattle.std.specs.Prelude.{ℕ, List, Option, Some, None}
-use Rattle.segment_image.specs.Shape.{Dimensions}
-use Rattle.segment_machine.specs.declared.actor.Actor.{Actor}
+use Rattle.segment_invariant.proofs.Prelude.Std.{◌≡◌, ◌∙◌, ℕ, List, Option, Some, None}
+use Rattle.segment_invariant.proofs.Prelude.Machine.{Dimensions, Actor}
 use Rattle.hist_core.specs.declared.call.Stepped.{Stepped}
 use Rattle.hist_core.specs.declared.actor_run.ActorRun.{ActorRun}
 use Rattle.hist_core.specs.declared.actor_run.Running.{Running}

@@ -1,12 +1,8 @@
 -- What one event changes.
-use Rattle.std.proofs.Common.{◌≡◌, ℕ, List, ◌++◌, length, sym, ap, ◌∙◌, inl, inr}
-use Rattle.std.proofs.lemmas.List.{append-nil}
-use Rattle.std.proofs.Math.Logic.{∥∥₁_elim}
-use Rattle.std.proofs.Props.{props}
-use Rattle.std.specs.Prelude.{slice_set}
-use Rattle.segment_image.specs.Words.{word_at}
-use Rattle.segment_machine.specs.Event.{change, spot}
-use Rattle.segment_machine.specs.State.{State, memory}
+use Rattle.segment_invariant.proofs.Prelude.Std.{◌≡◌, ℕ, List, ◌++◌, length, sym, ap, ◌∙◌, inl, inr, append-nil, ∥∥₁_elim, props, slice_set}
+use Rattle.segment_invariant.proofs.Prelude.Machine.{word_at, spot, State}
+use Rattle.segment_machine.specs.Event.{change}
+use Rattle.segment_machine.specs.State.{memory}
 use Rattle.hist_core.specs.declared.world_state.WorldState.{WorldState}
 use Rattle.hist_core.specs.declared.call.Stepped.{Stepped}
 use Rattle.hist_core.specs.Start.{Start}

@@ -1,21 +1,12 @@
 -- A world whose actors have done nothing stands for a state of the machine: an opener that has made a recorder for each actor, one after the
 -- other. It starts with a new segment, or with an image.
-use Rattle.std.proofs.Common.{◌≡◌, ◌⊎◌, ℕ, zero, suc, ◌+◌, ◌-◌, ◌<◌, ◌≤◌, ◌^◌, List, [], ◌∷◌, ◌++◌, map, take, drop, length, All, inl, inr, refl, sym, ap, ◌∙◌, subst, arith, length-append, vec_len}
-use Rattle.std.specs.Prelude.{vec_capacity}
+use Rattle.segment_invariant.proofs.Prelude.Std.{◌≡◌, ◌⊎◌, ℕ, zero, suc, ◌+◌, ◌-◌, ◌<◌, ◌≤◌, ◌^◌, List, [], ◌∷◌, ◌++◌, map, take, drop, length, All, inl, inr, refl, sym, ap, ◌∙◌, subst, arith, length-append, vec_len, vec_capacity, some, some-ne-none, get_elem?}
+use Rattle.segment_invariant.proofs.Prelude.Machine.{head_of, Dimensions, Reading, reading_along, IsShape, Actor, Idle, State}
 use Rattle.std.proofs.Math.Numerals.{add-one}
 use Rattle.std.proofs.Math.Seq.{take-nil, drop-nil}
-use mathlib.Core.Option.{some, some-ne-none}
-use lib.ListN.{get_elem?}
 use Rattle.atomic_table.proofs.Lists.{at_snoc}
-use Rattle.segment_image.specs.Head.{head_of}
-use Rattle.segment_image.specs.Shape.{Dimensions}
-use Rattle.bucket_ranges.specs.Reading.{Reading, reading_along}
-use Rattle.alloc_core.specs.Layout.{IsShape}
-use Rattle.segment_machine.specs.declared.actor.Actor.{Actor}
 use Rattle.segment_machine.specs.declared.actor.Role.TheVariants.{Opener}
-use Rattle.segment_machine.specs.declared.place.Place.TheVariants.{Idle}
 use Rattle.segment_machine.specs.Seats.{newcomer}
-use Rattle.segment_machine.specs.State.{State}
 use Rattle.segment_machine.specs.Reached.{IsReached, started, offered, split}
 use Rattle.segment_invariant.proofs.Lists.Elements.{all_at, all_from}
 use Rattle.segment_promises.specs.Adoption.{adopter}

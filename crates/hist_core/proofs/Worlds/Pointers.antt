@@ -1,19 +1,14 @@
 -- Where an actor stands at a free pointer.
-use Rattle.std.proofs.Common.{◌≡◌, ◌≢◌, ◌⊎◌, ℕ, ◌==◌, ◌&&◌, Bool, true, false, inl, inr, refl, sym}
-use Rattle.std.specs.Prelude.{if◌then◌else◌, bit_and, nat_lt}
+use Rattle.segment_invariant.proofs.Prelude.Std.{◌≡◌, ◌≢◌, ◌⊎◌, ℕ, ◌==◌, ◌&&◌, Bool, true, false, inl, inr, refl, sym, if◌then◌else◌, bit_and, nat_lt}
+use Rattle.segment_invariant.proofs.Prelude.Machine.{Actor, Place, Idle, back, Event, next, allocating_event, publishing_event, walking_event, counting_event, taking_event, packing_event, load_flags, load_free, exchange_free, store_size, store_cookie, store_type, store_payload, set_corrupt, set_full, store_own_next, load_tail, link, move_tail, after_link, load_next, load_published, load_counts, add_count, add_sum, load_count, raise_mark, load_sum, swap_sum_mark, load_redundant, raise_single_mark, load_single, pack, mount_counts, purge_block, disable, add_moved, after_pack, after_mount, after_disable}
 use Rattle.segment_image.specs.declared.layout.TheConstants.{CLAIMED_COOKIE}
-use Rattle.segment_machine.specs.declared.actor.Actor.{Actor}
-use Rattle.segment_machine.specs.declared.place.Place.{Place}
 use Rattle.segment_machine.specs.declared.place.Place.TheVariants as place
-use Rattle.segment_machine.specs.declared.place.Place.TheVariants.{FreeLoaded, Idle}
-use Rattle.segment_machine.specs.Calls.{back}
-use Rattle.segment_machine.specs.Event.{Event, next, allocating_event, publishing_event, walking_event, counting_event, taking_event, packing_event, cursor_event}
-use Rattle.segment_machine.specs.Allocating.{load_flags, load_free, exchange_free, store_size, store_cookie, store_type, store_payload, set_corrupt, set_full, after_free, size_at}
-use Rattle.segment_machine.specs.Publishing.{store_own_next, load_tail, link, move_tail, after_link}
-use Rattle.segment_machine.specs.Walking.{load_next, load_published, behind}
-use Rattle.segment_machine.specs.Counting.{load_counts, add_count, add_sum, add_redundant}
-use Rattle.segment_machine.specs.Taking.{load_count, raise_mark, load_sum, swap_sum_mark, load_redundant, raise_single_mark, at_count}
-use Rattle.segment_machine.specs.Packing.{load_single, pack, mount_counts, purge_block, disable, add_moved, after_pack, after_mount, after_disable}
+use Rattle.segment_machine.specs.declared.place.Place.TheVariants.{FreeLoaded}
+use Rattle.segment_machine.specs.Event.{cursor_event}
+use Rattle.segment_machine.specs.Allocating.{after_free, size_at}
+use Rattle.segment_machine.specs.Walking.{behind}
+use Rattle.segment_machine.specs.Counting.{add_redundant}
+use Rattle.segment_machine.specs.Taking.{at_count}
 use Rattle.segment_machine.specs.Cursors.{load_cursor, move_cursor, after_cursor}
 
 -- ---- places that are none

@@ -1,20 +1,12 @@
 -- Of a call that counts nothing: none of its actor's entries is pending, and what it leaves as it was.
-use Rattle.std.proofs.Common.{◌≡◌, ◌≢◌, ◌≤◌, ◌-◌, false, true≢false, ℕ, List, [], ◌∷◌, ◌++◌, length, take, sym, ap, subst, ◌∙◌, arith}
-use Rattle.std.specs.List.{Contains}
+use Rattle.segment_invariant.proofs.Prelude.Std.{◌≡◌, ◌≢◌, ◌≤◌, ◌-◌, false, true≢false, ℕ, List, [], ◌∷◌, ◌++◌, length, take, sym, ap, subst, ◌∙◌, arith, Contains, Contains-append_left, length-map, append-nil, Option, Some, None, ⊤}
+use Rattle.segment_invariant.proofs.Prelude.Machine.{Dimensions, IsPrefix, Actor, Place, Spent, is_bound}
 use Rattle.segment_invariant.proofs.Lists.Elements.{at_from, split_at}
-use Rattle.std.proofs.lemmas.List.Elements.{Contains-append_left}
-use Rattle.std.proofs.lemmas.List.{length-map, length-drop, length-take-le, append-nil, drop_all}
-use Rattle.segment_image.specs.Shape.{Dimensions}
-use Rattle.list_core.specs.Walk.{IsPrefix}
-use Rattle.segment_machine.specs.declared.actor.Actor.{Actor}
+use Rattle.std.proofs.lemmas.List.{length-drop, length-take-le, drop_all}
 use Rattle.segment_machine.specs.declared.actor.Known.{Known as MachineKnown}
-use Rattle.segment_machine.specs.declared.place.Place.{Place}
-use Rattle.segment_machine.specs.declared.place.Place.TheVariants.{Spent}
-use Rattle.segment_machine.specs.Actor.{is_bound}
 use Rattle.segment_machine.specs.Seats.{giver}
 use Rattle.hist_core.specs.declared.entry.Entry.{Entry}
 use Rattle.hist_core.specs.declared.actor_run.ActorRun.{ActorRun}
-use Rattle.std.specs.Prelude.{Option, Some, None, ⊤}
 use Rattle.hist_core.specs.declared.hist.Known.{Known}
 use Rattle.hist_core.specs.declared.actor_run.Running.{Running}
 use Rattle.hist_core.specs.declared.actor_run.Running.TheVariants.{SetCorrupt, Hist, Add, Delta, Snapshot, Batch}

@@ -1,15 +1,10 @@
 -- What a world starts with, and the states that are reached from there.
-use Rattle.std.proofs.Common.{◌≡◌, ◌⊎◌, ℕ, true, List, inl, inr, refl, sym, ap, subst, ◌∙◌}
-use Rattle.segment_image.specs.Head.{head_of}
-use Rattle.segment_image.specs.Shape.{Dimensions}
-use Rattle.alloc_core.specs.Layout.{IsShape}
-use Rattle.segment_machine.specs.declared.actor.Actor.{Actor}
+use Rattle.segment_invariant.proofs.Prelude.Std.{◌≡◌, ◌⊎◌, ℕ, true, List, inl, inr, refl, sym, ap, subst, ◌∙◌}
+use Rattle.segment_invariant.proofs.Prelude.Machine.{head_of, Dimensions, IsShape, Actor, is_opener, Event, State}
+use Rattle.segment_invariant.proofs.Prelude.Invariant.{Invariant}
 use Rattle.segment_machine.specs.declared.actor.Role.TheVariants.{Opener}
-use Rattle.segment_machine.specs.Actor.{is_opener}
-use Rattle.segment_machine.specs.Event.{Event}
 use Rattle.segment_machine.specs.Reached as machine
-use Rattle.segment_machine.specs.State.{State, IsStep}
-use Rattle.segment_invariant.specs.Invariant.{Invariant}
+use Rattle.segment_machine.specs.State.{IsStep}
 use Rattle.segment_invariant.specs.Consistent.{IsConsistent}
 use Rattle.segment_invariant.specs.Keeps.{IsOpening, opening_of}
 use Rattle.segment_invariant.proofs.Consistency.Whole.{is_consistent}

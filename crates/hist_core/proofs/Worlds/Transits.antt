@@ -1,21 +1,12 @@
 -- Whose units are on their way out of a single word.
-use Rattle.std.proofs.Common.{◌≡◌, ℕ, true, false, true≢false, List, [], ◌∷◌, inl, inr, ⊎_elim, sym, ap, subst, ◌∙◌}
-use Rattle.std.specs.Prelude.{Option, Some, None}
-use mathlib.Core.Option.{some-injective}
+use Rattle.segment_invariant.proofs.Prelude.Std.{◌≡◌, ℕ, true, false, true≢false, List, [], ◌∷◌, inl, inr, ⊎_elim, sym, ap, subst, ◌∙◌, Option, Some, None, some-injective}
+use Rattle.segment_invariant.proofs.Prelude.Machine.{Dimensions, Actor, Made, Look, Moving, is_bound, MayTurn, noted, begins}
 use Rattle.alloc_core.specs.Alloc.{Allocation}
 use Rattle.alloc_core.specs.declared.alloc.Stage.{Stage as AllocStage}
 use Rattle.alloc_core.specs.declared.alloc.Stage.TheVariants.{LoadFlags, LoadFree, ExchangeFree, StoreSize, StoreCookie, StoreType, SetFull, Claimed, Full, Corrupt}
 use Rattle.list_core.specs.declared.publish.Stage.{Stage as PublishStage}
 use Rattle.list_core.specs.declared.publish.Stage.TheVariants.{StoreOwnNext, LoadTail, Link, MoveTail, Published, Strayed}
-use Rattle.segment_image.specs.Shape.{Dimensions}
-use Rattle.segment_machine.specs.declared.actor.Actor.{Actor}
 use Rattle.segment_machine.specs.declared.actor.Known.{Known as MachineKnown}
-use Rattle.segment_machine.specs.declared.actor.Made.{Made}
-use Rattle.segment_machine.specs.declared.place.Look.{Look}
-use Rattle.segment_machine.specs.declared.place.Place.TheVariants.{Moving}
-use Rattle.segment_machine.specs.Actor.{is_bound}
-use Rattle.segment_machine.specs.Calls.{MayTurn}
-use Rattle.segment_machine.specs.Note.{noted, begins}
 use Rattle.segment_machine.specs.Stages.{StandsAt, PublishesAt}
 use Rattle.hist_core.specs.declared.add.Add.{Add as AddCall}
 use Rattle.hist_core.specs.declared.add.AddStage.{AddStage}

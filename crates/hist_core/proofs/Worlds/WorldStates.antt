@@ -1,30 +1,21 @@
 -- A step of a world is one event of the machine.
-use Rattle.std.proofs.Common.{◌≡◌, ◌≢◌, false, ℕ, ℤ, zero, suc, ◌+◌, ◌<◌, ◌≤◌, List, [], ◌∷◌, ◌++◌, length, get_or, set, take, inl, inr, ⊎_elim, refl, sym, ap, ◌∙◌, subst, arith, length-set}
+use Rattle.segment_invariant.proofs.Prelude.Std.{◌≡◌, ◌≢◌, false, ℕ, ℤ, zero, suc, ◌+◌, ◌<◌, ◌≤◌, List, [], ◌∷◌, ◌++◌, length, get_or, set, take, inl, inr, ⊎_elim, refl, sym, ap, ◌∙◌, subst, arith, length-set, append-nil, set-set, ∥∥₁_elim, props, some, some-injective, some-ne-none, get_elem?, set_else, Contains, None, Ok}
+use Rattle.segment_invariant.proofs.Prelude.Machine.{Dimensions, word_at, Actor, Event, spot, next, Learned, Notes, State, Answered, is_opener, units_listed, units_of, IsListed, reading_along, spec_of, SameSpec, IsChain, head_of, Spent, boundaries_of, spec_fault, Refusal}
+use Rattle.segment_invariant.proofs.Prelude.Invariant.{layout_of, found_at, IsHistogram}
 use Rattle.std.proofs.Math.Numerals.{add-one}
-use Rattle.std.proofs.lemmas.List.{append-nil, length-take-le, set-set}
-use Rattle.std.proofs.Math.Logic.{∥∥₁_elim}
-use Rattle.std.proofs.Props.{props}
-use mathlib.Core.Option.{some, some-injective, some-ne-none}
-use lib.ListN.{get_elem?}
-use Rattle.atomic_table.proofs.Lists.{set_again, set_else}
-use Rattle.segment_image.specs.Shape.{Dimensions}
-use Rattle.segment_image.specs.Words.{word_at}
-use Rattle.segment_machine.specs.declared.actor.Actor.{Actor}
-use Rattle.segment_machine.specs.Event.{Event, spot, after, next, Learned}
-use Rattle.segment_machine.specs.Note.{Notes}
-use Rattle.segment_machine.specs.State.{State, memory, IsStep}
+use Rattle.std.proofs.lemmas.List.{length-take-le}
+use Rattle.atomic_table.proofs.Lists.{set_again}
+use Rattle.segment_machine.specs.Event.{after}
+use Rattle.segment_machine.specs.State.{memory, IsStep}
 use Rattle.segment_machine.specs.Reached.{IsLent, IsReturned, stepped, lent, returned}
 use Rattle.segment_machine.specs.Reached as machine
 use Rattle.segment_machine.specs.Seats.{giver, getter}
-use Rattle.segment_machine.specs.declared.actor.Answered.{Answered}
 use Rattle.segment_machine.specs.declared.actor.Done.{Done as Deeds}
 use Rattle.segment_machine.specs.declared.actor.Hand.{Hand}
-use Rattle.segment_machine.specs.Actor.{is_opener, units_listed, units_of, AreApart}
+use Rattle.segment_machine.specs.Actor.{AreApart}
 use Rattle.segment_invariant.proofs.Lists.Elements.{all_at, sum_at_least}
 use Rattle.alloc_core.proofs.Layouts.{length_shown}
 use Rattle.alloc_core.proofs.Owners.{set_at}
-use Rattle.segment_invariant.specs.Body.{layout_of}
-use Rattle.segment_invariant.specs.Keeps.{found_at}
 use Rattle.segment_invariant.proofs.Lists.Pairs.{element_at}
 use Rattle.segment_promises.proofs.Adopting.Headers.{header_is}
 use Rattle.segment_promises.proofs.Readings.Stopped.{stopped_reads}
@@ -35,16 +26,11 @@ use Rattle.segment_promises.proofs.Snapshots.{snapshots_see_accepted}
 use Rattle.segment_promises.proofs.Steps.{happens}
 use Rattle.segment_promises.proofs.Names.{names_are_first}
 use Rattle.segment_promises.proofs.Spoilers.{notes_leave}
-use Rattle.std.specs.List.{Contains}
-use Rattle.bucket_ranges.specs.Reading.{IsListed, reading_along, spec_of}
 use Rattle.segment_promises.specs.Adoption.{IsAdoptable}
 use Rattle.segment_promises.proofs.Adopting.Kept.{kept_are_adoptable}
-use Rattle.bucket_ranges.specs.Spec.{SameSpec}
-use Rattle.list_core.specs.Chain.{IsChain}
-use Rattle.segment_image.specs.Head.{head_of, header_of}
+use Rattle.segment_image.specs.Head.{header_of}
 use Rattle.segment_machine.specs.declared.actor.Known.{Known as MachineKnown}
-use Rattle.segment_machine.specs.declared.place.Place.TheVariants.{FreeLoaded, Spent}
-use Rattle.segment_invariant.specs.Consistent.{IsHistogram}
+use Rattle.segment_machine.specs.declared.place.Place.TheVariants.{FreeLoaded}
 use Rattle.segment_invariant.proofs.Lists.Maps.{contains_map}
 use Rattle.hist_core.specs.declared.hist.Known.{Known}
 use Rattle.hist_core.specs.declared.actor_run.ActorRun.{ActorRun}
@@ -58,9 +44,6 @@ use Rattle.hist_core.specs.Start.{MayStart, Start, start_state}
 use Rattle.hist_core.specs.StepsBy.{StepsBy, WalksInOrder, has_pointer}
 use Rattle.hist_core.specs.ActorRun.{IsAnswer, IsTook, IsKnown, IsRun, IsSomeRun, Lands, Advances, held_by, looked_by, returned_by, DoesAsSaid, LooksSince, Serves, is_flagged, lacks_room, StandsIn, known_of, pending_by, IsRefusedBy}
 use Rattle.hist_core.specs.WorldState.{AreRun, IsReachedAs, IsReached, IsConsistentAs, IsReadAs, MayBeAdopted, AreKnownFirst, HasSeen, HasTaken, ClaimsNothing, DoesOnlySo, HoldsNoPointer, LoadsPointer, IsPromised, StepsTo, IsResting, BeginsFrom, IsDue, LooksFrom}
-use Rattle.bucket_ranges.specs.Ranges.{boundaries_of}
-use Rattle.bucket_ranges.specs.Spec.{spec_fault}
-use Rattle.std.specs.Prelude.{None, Ok}
 use Rattle.hist_core.specs.World.{of_actor}
 use Rattle.hist_core.proofs.Parts.Deeds.{does_still}
 use Rattle.hist_core.proofs.Walks.Orders.{walks_in_order}
@@ -68,7 +51,6 @@ use Rattle.hist_core.proofs.Worlds.Free.{free_holds_none, free_turns}
 use Rattle.hist_core.proofs.Worlds.Pointers.{pointer_from}
 use Rattle.hist_core.proofs.Worlds.Landing.{looks_still}
 use Rattle.hist_core.proofs.Worlds.Causes.{flagged, refused_still}
-use Rattle.segment_calls.specs.declared.refusal.Refusal.{Refusal}
 use Rattle.hist_core.proofs.Worlds.Quiet.{not_spent, counts_none, some_quiet}
 use Rattle.hist_core.proofs.Worlds.Starts.{consistent_there, kept_there, shape_there, spoiled_there, version_there}
 

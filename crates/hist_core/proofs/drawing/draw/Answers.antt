@@ -1,6 +1,4 @@
-use Rattle.std.proofs.Common.{◌≡◌, ◌-◌, ℤ, w32, to_z, of_z, rules, length, refl, subst, ap, ◌∙◌, vec_len, arith}
-use mathlib.Core.Option.{some}
-use lib.ListN.{get_elem?}
+use Rattle.segment_invariant.proofs.Prelude.Std.{◌≡◌, ◌-◌, ℤ, w32, to_z, of_z, rules, length, refl, subst, ap, ◌∙◌, vec_len, arith, some, get_elem?}
 use Rattle.hist_core.specs.declared.entry.Taken.{Taken}
 use Rattle.hist_core.specs.DeltaCall.{insert_by_key}
 use Rattle.hist_core.proofs.Worlds.WorldStates.{is_there}

@@ -1,7 +1,4 @@
-use Rattle.std.proofs.Common.{◌≤◌, ◌<◌, ◌+◌, take, length, ap, sym, subst, ◌∙◌, refl, arith, rules, vec_len}
-use Rattle.std.specs.Prelude.{Some, None, vec_capacity}
-use Rattle.std.proofs.Props.{props}
-use Rattle.std.proofs.Math.Logic.{∥∥₁_elim}
+use Rattle.segment_invariant.proofs.Prelude.Std.{◌≤◌, ◌<◌, ◌+◌, take, length, ap, sym, subst, ◌∙◌, refl, arith, rules, vec_len, Some, None, vec_capacity, props, ∥∥₁_elim}
 use Rattle.hist_core.specs.declared.call.Answer.TheVariants.{Flagged}
 use Rattle.hist_core.specs.declared.call.Stepped.TheVariants.{Done}
 use Rattle.hist_core.specs.ActorRun.{HasRoom}

@@ -1,5 +1,4 @@
-use Rattle.std.proofs.Common.{◌≡◌, ℤ, List, sym, ap, subst, ◌∙◌, refl, arith, w32, w64, to_z, of_z, rules}
-use Rattle.std.specs.Prelude.{Some, None}
+use Rattle.segment_invariant.proofs.Prelude.Std.{◌≡◌, ℤ, List, sym, ap, subst, ◌∙◌, refl, arith, w32, w64, to_z, of_z, rules, Some, None}
 use Rattle.hist_core.specs.declared.call.Stepped.TheVariants as stepped
 use Rattle.hist_core.specs.declared.entry.Taken.{Taken}
 use Rattle.hist_core.specs.declared.actor_run.Running.{Running}

@@ -1,6 +1,4 @@
-use Rattle.std.proofs.Common.{◌≡◌, ℤ, sym, ap, subst, ◌∙◌, rules}
-use Rattle.std.specs.Prelude.{Some}
-use Rattle.std.specs.Int.{cast_signed, cast_unsigned, w64}
+use Rattle.segment_invariant.proofs.Prelude.Std.{◌≡◌, ℤ, sym, ap, subst, ◌∙◌, rules, Some, cast_signed, cast_unsigned, w64}
 use Rattle.hist_core.specs.declared.call.Answer.TheVariants as answer
 use Rattle.hist_core.specs.declared.call.Stepped.TheVariants.{Done}
 use Rattle.hist_core.specs.declared.snapshot_call.SnapshotCallStep.{SnapshotCallStep}

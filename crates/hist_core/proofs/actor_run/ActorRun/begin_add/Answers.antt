@@ -1,10 +1,6 @@
-use Rattle.std.specs.Prelude.{unsigned_abs}
-use Rattle.std.proofs.Common.{◌≤◌, ◌*◌, [], ◌∷◌, ◌≡◌, refl, sym, ap, subst, ◌∙◌, ℤ, w32, w64, to_z, of_z, rules}
-use Rattle.std.proofs.lemmas.Int.{to_z-of_z}
+use Rattle.segment_invariant.proofs.Prelude.Std.{unsigned_abs, ◌≤◌, ◌*◌, [], ◌∷◌, ◌≡◌, refl, sym, ap, subst, ◌∙◌, ℤ, w32, w64, to_z, of_z, rules, to_z-of_z, some-injective}
+use Rattle.segment_invariant.proofs.Prelude.Machine.{boundaries_of, key_of}
 use Rattle.hist_core.specs.Add.{IsStarted}
-use mathlib.Core.Option.{some-injective}
-use Rattle.bucket_ranges.specs.Ranges.{boundaries_of}
-use Rattle.segment_machine.specs.Entry.{key_of}
 use Rattle.bucket_ranges.specs.Tally.{amount_of}
 use Rattle.hist_core.specs.declared.hist.Known.{Known}
 use Rattle.hist_core.specs.ActorRun.{known_of}

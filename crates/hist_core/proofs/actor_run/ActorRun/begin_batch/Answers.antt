@@ -1,8 +1,6 @@
-use Rattle.std.proofs.Common.{◌≡◌, pos, refl, sym, subst, ◌∙◌, w64, to_z, of_z}
+use Rattle.segment_invariant.proofs.Prelude.Std.{◌≡◌, pos, refl, sym, subst, ◌∙◌, w64, to_z, of_z, to_z-of_z, some-injective}
 use Rattle.std.specs.List.{AllZip}
-use Rattle.std.proofs.lemmas.Int.{to_z-of_z}
 use Rattle.hist_core.specs.Add.{IsStarted}
-use mathlib.Core.Option.{some-injective}
 use Rattle.segment_machine.specs.Entry.{batch_entries}
 use Rattle.hist_core.specs.declared.batch.Batch.{Batch}
 use Rattle.hist_core.specs.declared.hist.Known.{Known}

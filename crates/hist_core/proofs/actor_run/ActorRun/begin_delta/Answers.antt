@@ -1,5 +1,4 @@
-use Rattle.std.proofs.Common.{◌≡◌, pos, refl, sym, ap, subst, ◌∙◌, arith}
-use mathlib.Core.Option.{some-injective}
+use Rattle.segment_invariant.proofs.Prelude.Std.{◌≡◌, pos, refl, sym, ap, subst, ◌∙◌, arith, some-injective}
 use Rattle.hist_core.specs.declared.hist.Known.{Known}
 use Rattle.hist_core.specs.DeltaCall.{IsStarted}
 use Rattle.hist_core.specs.ActorRun.{known_of}

@@ -1,5 +1,4 @@
-use Rattle.std.proofs.Common.{◌≡◌, refl, sym, subst, ◌∙◌}
-use mathlib.Core.Option.{some-injective}
+use Rattle.segment_invariant.proofs.Prelude.Std.{◌≡◌, refl, sym, subst, ◌∙◌, some-injective}
 use Rattle.hist_core.specs.declared.hist.Known.{Known}
 use Rattle.hist_core.specs.SnapshotCall.{IsStarted}
 use Rattle.hist_core.specs.ActorRun.{known_of}

@@ -1,6 +1,5 @@
-use Rattle.std.proofs.Common.{◌≡◌, arith, ap, sym, ◌∙◌, true≢false, subst, vec_len}
-use mathlib.Core.Option.{some-injective}
-use Rattle.bucket_ranges.specs.Spec.{SameSpec}
+use Rattle.segment_invariant.proofs.Prelude.Std.{◌≡◌, arith, ap, sym, ◌∙◌, true≢false, subst, vec_len, some-injective}
+use Rattle.segment_invariant.proofs.Prelude.Machine.{SameSpec}
 use Rattle.hist_core.specs.declared.hist.Known.{Known}
 use Rattle.hist_core.proofs.HistCall.Asking.{place_below}
 use Rattle.hist_core.proofs.Worlds.WorldStates.{is_there}

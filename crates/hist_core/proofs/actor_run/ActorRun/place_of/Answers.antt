@@ -1,7 +1,4 @@
-use Rattle.std.proofs.Common.{◌≡◌, List, length, arith, ap, sym, ◌∙◌, true≢false, subst, refl}
-use mathlib.Core.Option.{some}
-use Rattle.std.proofs.lemmas.Slice.Eq.{bytes_eq-Decides}
-use lib.ListN.{get_elem?}
+use Rattle.segment_invariant.proofs.Prelude.Std.{◌≡◌, List, length, arith, ap, sym, ◌∙◌, true≢false, subst, refl, some, bytes_eq-Decides, get_elem?}
 use Rattle.hist_core.specs.declared.hist.Known.{Known}
 use Rattle.hist_core.proofs.HistCall.Asking.{place_below, none_further}
 use Rattle.hist_core.proofs.Worlds.WorldStates.{is_there}

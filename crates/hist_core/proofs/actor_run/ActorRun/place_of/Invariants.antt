@@ -1,6 +1,4 @@
-use Rattle.std.proofs.Common.{◌≡◌, ◌≢◌, ◌<◌, ℕ}
-use mathlib.Core.Option.{some}
-use lib.ListN.{get_elem?}
+use Rattle.segment_invariant.proofs.Prelude.Std.{◌≡◌, ◌≢◌, ◌<◌, ℕ, some, get_elem?}
 use Rattle.hist_core.specs.declared.hist.Known.{Known}
 use Rattle.hist_core.proofs.actor_run.ActorRun.place_of.Given as goal
 

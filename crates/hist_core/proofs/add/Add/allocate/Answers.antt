@@ -1,5 +1,4 @@
-use Rattle.std.proofs.Props.{props}
-use Rattle.std.proofs.Math.Logic.{∥∥₁_elim}
+use Rattle.segment_invariant.proofs.Prelude.Std.{props, ∥∥₁_elim}
 use Rattle.hist_core.proofs.AddCall.Mounts.{allocates_so, asks_long, asks_more}
 use Rattle.hist_core.proofs.add.Add.allocate.Goals as goal
 

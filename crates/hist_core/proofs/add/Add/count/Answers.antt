@@ -1,14 +1,11 @@
-use Rattle.std.proofs.Common.{subst, sym, ◌∙◌, ◌+◌, ◌%◌, ◌^◌, ℕ, ap}
+use Rattle.segment_invariant.proofs.Prelude.Std.{subst, sym, ◌∙◌, ◌+◌, ◌%◌, ◌^◌, ℕ, ap, props, ∥∥₁_elim, slice_set}
+use Rattle.segment_invariant.proofs.Prelude.Machine.{word_at}
 use Rattle.hist_core.specs.declared.add.Add.{Add}
 use Rattle.hist_core.specs.declared.add.AddStep.TheVariants.{More}
 use Rattle.hist_core.specs.StepsBy.{StepsBy}
 use Rattle.hist_core.specs.Add.{AddGives}
-use Rattle.std.proofs.Props.{props}
-use Rattle.std.proofs.Math.Logic.{∥∥₁_elim}
 use Rattle.hist_core.proofs.AddCall.Counts.{count_inside, counts_so}
 use Rattle.hist_core.proofs.add.Add.count.Goals as goal
-use Rattle.std.specs.Prelude.{slice_set}
-use Rattle.segment_image.specs.Words.{word_at}
 
 pub fetch_add-requires : goal.fetch_add-requires
 fetch_add-requires c =

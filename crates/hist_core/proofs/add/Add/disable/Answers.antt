@@ -1,7 +1,4 @@
-use Rattle.std.proofs.Common.{true, false, ◌+◌, ℕ, sym, ap, subst, ◌∙◌, arith}
-use Rattle.std.proofs.Props.{props}
-use Rattle.std.proofs.Math.Logic.{∥∥₁_elim}
-use Rattle.std.proofs.lemmas.Bool.{eq-eqb, ne_eqb}
+use Rattle.segment_invariant.proofs.Prelude.Std.{true, false, ◌+◌, ℕ, sym, ap, subst, ◌∙◌, arith, props, ∥∥₁_elim, eq-eqb, ne_eqb}
 use Rattle.alloc_core.specs.Event as atomic
 use Rattle.hist_core.specs.declared.add.AddStep.TheVariants.{More}
 use Rattle.hist_core.specs.declared.add.AddStage.{AddStage}

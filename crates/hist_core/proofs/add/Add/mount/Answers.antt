@@ -1,5 +1,4 @@
-use Rattle.std.proofs.Common.{true, false, ℕ, sym, ap, subst, ◌∙◌}
-use Rattle.std.proofs.lemmas.Bool.{eq-eqb, ne_eqb}
+use Rattle.segment_invariant.proofs.Prelude.Std.{true, false, ℕ, sym, ap, subst, ◌∙◌, eq-eqb, ne_eqb}
 use Rattle.hist_core.specs.declared.add.AddStep.TheVariants.{More}
 use Rattle.hist_core.specs.declared.add.AddStage.{AddStage}
 use Rattle.hist_core.specs.declared.add.AddStage.TheVariants.{Purging}

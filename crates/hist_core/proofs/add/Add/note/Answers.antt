@@ -1,8 +1,7 @@
-use Rattle.std.proofs.Common.{◌∙◌, ◌+◌, ◌%◌, ◌^◌, ℕ, ap}
+use Rattle.segment_invariant.proofs.Prelude.Std.{◌∙◌, ◌+◌, ◌%◌, ◌^◌, ℕ, ap, slice_set}
+use Rattle.segment_invariant.proofs.Prelude.Machine.{word_at}
 use Rattle.hist_core.proofs.AddCall.Redundants.{notes_so}
 use Rattle.hist_core.proofs.add.Add.note.Goals as goal
-use Rattle.std.specs.Prelude.{slice_set}
-use Rattle.segment_image.specs.Words.{word_at}
 
 pub returns-clause-steps : goal.returns-clause-steps
 returns-clause-steps c = λ shape known amid a long is.

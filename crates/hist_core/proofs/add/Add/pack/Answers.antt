@@ -1,5 +1,4 @@
-use Rattle.std.proofs.Common.{true, false, subst, sym, ◌∙◌}
-use Rattle.std.proofs.lemmas.Bool.{eq-eqb, ne_eqb}
+use Rattle.segment_invariant.proofs.Prelude.Std.{true, false, subst, sym, ◌∙◌, eq-eqb, ne_eqb}
 use Rattle.hist_core.specs.declared.add.Add.{Add}
 use Rattle.hist_core.specs.declared.add.AddStep.TheVariants.{More}
 use Rattle.hist_core.specs.StepsBy.{StepsBy}

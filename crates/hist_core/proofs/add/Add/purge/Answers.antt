@@ -1,6 +1,4 @@
-use Rattle.std.proofs.Common.{arith}
-use Rattle.std.proofs.Props.{props}
-use Rattle.std.proofs.Math.Logic.{∥∥₁_elim}
+use Rattle.segment_invariant.proofs.Prelude.Std.{arith, props, ∥∥₁_elim}
 use Rattle.hist_core.proofs.AddCall.Mounts.{purges_so, purge_inside}
 use Rattle.hist_core.proofs.add.Add.purge.Goals as goal
 

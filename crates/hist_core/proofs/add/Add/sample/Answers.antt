@@ -1,5 +1,4 @@
-use Rattle.std.proofs.Props.{props}
-use Rattle.std.proofs.Math.Logic.{∥∥₁_elim}
+use Rattle.segment_invariant.proofs.Prelude.Std.{props, ∥∥₁_elim}
 use Rattle.hist_core.proofs.AddCall.Samples.{stood_sampling, samples_so}
 use Rattle.hist_core.proofs.add.Add.sample.Goals as goal
 

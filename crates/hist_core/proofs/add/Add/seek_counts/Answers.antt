@@ -1,8 +1,5 @@
-use Rattle.std.proofs.Common.{◌≤◌, ◌+◌, ◌*◌, sym, subst}
-use Rattle.std.proofs.Props.{props}
-use Rattle.std.proofs.Math.Logic.{∥∥₁_elim}
-use Rattle.segment_image.specs.Shape.{Dimensions}
-use Rattle.alloc_core.specs.Layout.{IsShape}
+use Rattle.segment_invariant.proofs.Prelude.Std.{◌≤◌, ◌+◌, ◌*◌, sym, subst, props, ∥∥₁_elim}
+use Rattle.segment_invariant.proofs.Prelude.Machine.{Dimensions, IsShape}
 use Rattle.hist_core.proofs.AddCall.Mounts.{seeks_none, seeks_some}
 use Rattle.hist_core.proofs.add.Add.seek_counts.Goals as goal
 

@@ -1,8 +1,5 @@
-use Rattle.std.specs.Int.{cast_signed, cast_unsigned, w64}
-use Rattle.std.specs.Prelude.{slice_set}
-use Rattle.segment_image.specs.Words.{word_at}
-use Rattle.std.proofs.Common.{rules, ◌%◌, ◌^◌}
-use Rattle.std.proofs.Common.{◌≡◌, ◌+◌, ℕ, ap, ◌∙◌}
+use Rattle.segment_invariant.proofs.Prelude.Std.{cast_signed, cast_unsigned, w64, slice_set, rules, ◌%◌, ◌^◌, ◌≡◌, ◌+◌, ℕ, ap, ◌∙◌}
+use Rattle.segment_invariant.proofs.Prelude.Machine.{word_at}
 use Rattle.hist_core.proofs.AddCall.Sums.{sums_so}
 use Rattle.hist_core.proofs.add.Add.sum.Goals as goal
 

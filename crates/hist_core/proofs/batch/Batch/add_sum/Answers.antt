@@ -1,7 +1,5 @@
-use Rattle.std.specs.Int.{cast_signed, cast_unsigned, w64}
-use Rattle.std.specs.Prelude.{slice_set}
-use Rattle.segment_image.specs.Words.{word_at}
-use Rattle.std.proofs.Common.{◌≡◌, ◌+◌, ◌%◌, ◌^◌, ℕ, arith, ap, ◌∙◌, rules}
+use Rattle.segment_invariant.proofs.Prelude.Std.{cast_signed, cast_unsigned, w64, slice_set, ◌≡◌, ◌+◌, ◌%◌, ◌^◌, ℕ, arith, ap, ◌∙◌, rules}
+use Rattle.segment_invariant.proofs.Prelude.Machine.{word_at}
 use Rattle.hist_core.proofs.BatchCall.Finals.{adds_sum}
 use Rattle.hist_core.proofs.BatchCall.Batching.{some_inside, sums_there}
 use Rattle.hist_core.proofs.batch.Batch.add_sum.Goals as goal

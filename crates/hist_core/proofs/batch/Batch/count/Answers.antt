@@ -1,6 +1,4 @@
-use Rattle.std.proofs.Common.{length, refl, vec_len}
-use Rattle.std.proofs.Props.{props}
-use Rattle.std.proofs.Math.Logic.{∥∥₁_elim}
+use Rattle.segment_invariant.proofs.Prelude.Std.{length, refl, vec_len, props, ∥∥₁_elim}
 use Rattle.hist_core.proofs.Worlds.WorldStates.{is_there}
 use Rattle.hist_core.proofs.BatchCall.Batching.{adds_there, fits_there, item_on, same_on, refused_on}
 use Rattle.hist_core.specs.Add.{IsSomeAdd}

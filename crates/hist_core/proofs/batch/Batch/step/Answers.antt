@@ -1,6 +1,4 @@
-use Rattle.std.proofs.Common.{◌≤◌, sym, subst, arith, vec_len}
-use Rattle.std.proofs.Props.{props}
-use Rattle.std.proofs.Math.Logic.{∥∥₁_elim}
+use Rattle.segment_invariant.proofs.Prelude.Std.{◌≤◌, sym, subst, arith, vec_len, props, ∥∥₁_elim}
 use Rattle.hist_core.specs.Batch.{IsRefusedAt}
 use Rattle.hist_core.proofs.BatchCall.Batching.{not_more}
 use Rattle.hist_core.proofs.batch.Batch.step.Goals as goal

@@ -1,6 +1,5 @@
-use Rattle.std.proofs.Common.{arith, sym, ap, subst, ◌∙◌, ◌<◌, ℕ, length, max}
-use Rattle.std.specs.Prelude.{slice_set}
-use Rattle.segment_image.specs.Words.{word_at}
+use Rattle.segment_invariant.proofs.Prelude.Std.{arith, sym, ap, subst, ◌∙◌, ◌<◌, ℕ, length, max, slice_set}
+use Rattle.segment_invariant.proofs.Prelude.Machine.{word_at}
 use Rattle.hist_core.specs.declared.delta_call.DeltaStage.{DeltaStage}
 use Rattle.hist_core.specs.DeltaCall.{IsTaken}
 use Rattle.hist_core.proofs.DeltaCall.Going.{some_ranges}

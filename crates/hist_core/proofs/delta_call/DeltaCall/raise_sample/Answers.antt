@@ -1,5 +1,4 @@
-use Rattle.std.proofs.Common.{arith, subst, w32, ℤ}
-use Rattle.std.proofs.lemmas.Int.{to_z-of_z}
+use Rattle.segment_invariant.proofs.Prelude.Std.{arith, subst, w32, ℤ, to_z-of_z}
 use Rattle.hist_core.specs.declared.delta_call.DeltaStage.TheVariants.{Walking}
 use Rattle.hist_core.specs.declared.walk.SampleWalk.TheVariants.{LoadingNext}
 use Rattle.hist_core.specs.DeltaCall.{TakesUnits}

@@ -1,7 +1,5 @@
-use Rattle.std.proofs.Common.{rules, sym, ap, ◌∙◌, ◌≡◌, ◌+◌, ℕ}
-use Rattle.std.specs.Int.{cast_signed, cast_unsigned, w64}
-use Rattle.std.specs.Prelude.{slice_set}
-use Rattle.segment_image.specs.Words.{word_at}
+use Rattle.segment_invariant.proofs.Prelude.Std.{rules, sym, ap, ◌∙◌, ◌≡◌, ◌+◌, ℕ, cast_signed, cast_unsigned, w64, slice_set}
+use Rattle.segment_invariant.proofs.Prelude.Machine.{word_at}
 use Rattle.hist_core.proofs.DeltaCall.Sums.{difference, swaps_so}
 use Rattle.hist_core.proofs.delta_call.DeltaCall.swap_sum.Goals as goal
 

@@ -1,6 +1,4 @@
-use Rattle.std.proofs.Common.{sym}
-use Rattle.std.proofs.Props.{props}
-use Rattle.std.proofs.Math.Logic.{∥∥₁_elim}
+use Rattle.segment_invariant.proofs.Prelude.Std.{sym, props, ∥∥₁_elim}
 use Rattle.hist_core.specs.Hist.{wanted_of}
 use Rattle.hist_core.proofs.Parts.Makings.{stood_making, makes_so}
 use Rattle.hist_core.proofs.Parts.Sames.{made_asks}

@@ -1,10 +1,6 @@
-use Rattle.std.proofs.Common.{◌≤◌, ◌+◌, ◌*◌, ℕ, List, [], refl, sym, ap, subst, ◌∙◌, arith}
-use Rattle.bucket_ranges.specs.declared.spec.Spec.{Spec}
-use Rattle.bucket_ranges.specs.Ranges.{boundaries_of}
+use Rattle.segment_invariant.proofs.Prelude.Std.{◌≤◌, ◌+◌, ◌*◌, ℕ, List, [], refl, sym, ap, subst, ◌∙◌, arith}
+use Rattle.segment_invariant.proofs.Prelude.Machine.{Spec, boundaries_of, spec_fault, buckets_of, is_reference, AreNameWords}
 use Rattle.bucket_ranges.specs.Reading.{is_name}
-use Rattle.bucket_ranges.specs.Spec.{spec_fault, buckets_of}
-use Rattle.list_core.specs.Chain.{is_reference}
-use Rattle.segment_machine.specs.Made.{AreNameWords}
 use Rattle.segment_calls.specs.Asked.{payload_words}
 use Rattle.hist_core.proofs.hist.Hist.start.Goals as goal
 

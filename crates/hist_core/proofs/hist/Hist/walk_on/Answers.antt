@@ -1,9 +1,5 @@
-use Rattle.std.proofs.Common.{◌≡◌, ◌≤◌, ◌+◌, ℕ, length, true, sym, subst, ◌∙◌, arith}
-use Rattle.std.proofs.Props.{props}
-use Rattle.std.proofs.Math.Logic.{∥∥₁_elim}
-use Rattle.segment_image.specs.Shape.{Dimensions}
-use Rattle.alloc_core.specs.Layout.{IsShape}
-use Rattle.list_core.specs.Chain.{is_reference}
+use Rattle.segment_invariant.proofs.Prelude.Std.{◌≡◌, ◌≤◌, ◌+◌, ℕ, length, true, sym, subst, ◌∙◌, arith, props, ∥∥₁_elim}
+use Rattle.segment_invariant.proofs.Prelude.Machine.{Dimensions, IsShape, is_reference}
 use Rattle.hist_core.specs.Making.{IsStarted}
 use Rattle.hist_core.proofs.Parts.Walks.{meets, strays, ends}
 use Rattle.hist_core.proofs.Makes.Drafts.{is_wide}

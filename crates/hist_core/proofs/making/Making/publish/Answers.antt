@@ -1,6 +1,4 @@
-use Rattle.std.proofs.Common.{ℕ, subst, ◌∙◌}
-use Rattle.std.proofs.Props.{props}
-use Rattle.std.proofs.Math.Logic.{∥∥₁_elim}
+use Rattle.segment_invariant.proofs.Prelude.Std.{ℕ, subst, ◌∙◌, props, ∥∥₁_elim}
 use Rattle.list_core.specs.Publish.{IsReach}
 use Rattle.hist_core.proofs.Makes.Publishes.{one_way, publishes_so, asks_reach, asks_more}
 use Rattle.hist_core.proofs.making.Making.publish.Goals as goal

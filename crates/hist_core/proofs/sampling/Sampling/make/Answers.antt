@@ -1,6 +1,4 @@
-use Rattle.std.proofs.Common.{◌∷◌, ℕ, [], sym, ap}
-use Rattle.std.proofs.Props.{props}
-use Rattle.std.proofs.Math.Logic.{∥∥₁_elim}
+use Rattle.segment_invariant.proofs.Prelude.Std.{◌∷◌, ℕ, [], sym, ap, props, ∥∥₁_elim}
 use Rattle.hist_core.specs.Sampling.{wanted_of}
 use Rattle.hist_core.proofs.AddCall.Searches.{stood_making, makes_so}
 use Rattle.hist_core.proofs.sampling.Sampling.make.Goals as goal

@@ -1,6 +1,5 @@
-use Rattle.std.proofs.Common.{refl, rules, sym, subst, ◌≡◌, ◌+◌, ℤ}
-use Rattle.std.specs.Int.{cast_signed, cast_unsigned, w64}
-use Rattle.segment_image.specs.Words.{word_at}
+use Rattle.segment_invariant.proofs.Prelude.Std.{refl, rules, sym, subst, ◌≡◌, ◌+◌, ℤ, cast_signed, cast_unsigned, w64}
+use Rattle.segment_invariant.proofs.Prelude.Machine.{word_at}
 use Rattle.hist_core.specs.declared.snapshot_call.SnapshotCallStep.TheVariants.{Done}
 use Rattle.hist_core.specs.StepsBy.{StepsBy}
 use Rattle.hist_core.specs.SnapshotCall.{SnapshotCallGives}

@@ -1,6 +1,5 @@
-use Rattle.std.proofs.Common.{arith, subst, w32, ◌+◌, ℤ}
-use Rattle.std.proofs.lemmas.Int.{to_z-of_z}
-use Rattle.segment_image.specs.Words.{word_at}
+use Rattle.segment_invariant.proofs.Prelude.Std.{arith, subst, w32, ◌+◌, ℤ, to_z-of_z}
+use Rattle.segment_invariant.proofs.Prelude.Machine.{word_at}
 use Rattle.hist_core.specs.declared.snapshot_call.SnapshotStage.TheVariants.{Walking}
 use Rattle.hist_core.specs.declared.walk.SampleWalk.TheVariants.{LoadingNext}
 use Rattle.hist_core.specs.SnapshotCall.{IsListed}

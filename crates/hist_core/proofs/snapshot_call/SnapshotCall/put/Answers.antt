@@ -1,6 +1,5 @@
-use Rattle.std.proofs.Common.{ℕ, ℤ, refl, sym, ap, inl, inr, ⊎_elim, length-set}
+use Rattle.segment_invariant.proofs.Prelude.Std.{ℕ, ℤ, refl, sym, ap, inl, inr, ⊎_elim, length-set, at_set}
 use Rattle.std.proofs.Math.Seq.{map-set_same}
-use Rattle.atomic_table.proofs.Lists.{at_set}
 use Rattle.hist_core.proofs.snapshot_call.SnapshotCall.put.Goals as goal
 
 pub returns : goal.returns

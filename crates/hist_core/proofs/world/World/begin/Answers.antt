@@ -1,5 +1,4 @@
-use Rattle.std.proofs.Math.Logic.{∥∥₁_elim}
-use Rattle.std.proofs.Props.{props}
+use Rattle.segment_invariant.proofs.Prelude.Std.{∥∥₁_elim, props}
 use Rattle.hist_core.proofs.Worlds.Moving.{no_word}
 use Rattle.hist_core.proofs.world.World.begin.Goals as goal
 

@@ -1,5 +1,4 @@
-use Rattle.std.proofs.Common.{◌≡◌, ◌∙◌, ap, arith, rules, sym}
-use Rattle.std.specs.Prelude.{None}
+use Rattle.segment_invariant.proofs.Prelude.Std.{◌≡◌, ◌∙◌, ap, arith, rules, sym, None}
 use Rattle.hist_core.specs.Exchanging.{run_attempt}
 use Rattle.hist_core.proofs.Exchanging.{beyond}
 use Rattle.hist_core.proofs.world.World.next_exchange.Goals as goal

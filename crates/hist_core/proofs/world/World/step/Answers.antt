@@ -1,8 +1,5 @@
-use Rattle.std.proofs.Common.{◌∙◌, true, false, refl, ap, vec_len}
-use Rattle.std.specs.Prelude.{not}
-use Rattle.std.proofs.Math.Logic.{∥∥₁_elim}
-use Rattle.std.proofs.Props.{props}
-use Rattle.std.proofs.lemmas.Bool.{le-leb, lt-leb}
+use Rattle.segment_invariant.proofs.Prelude.Std.{◌∙◌, true, false, refl, ap, vec_len, not, ∥∥₁_elim, props, le-leb}
+use Rattle.std.proofs.lemmas.Bool.{lt-leb}
 use Rattle.hist_core.proofs.Worlds.Moving.{one_word}
 use Rattle.hist_core.proofs.Worlds.Faults.{first_fails, is_busy, none_fails, rests_as, second_fails}
 use Rattle.hist_core.proofs.world.World.step.Goals as goal

@@ -1,6 +1,4 @@
-use Rattle.std.proofs.Common.{◌∙◌, All, sym, subst}
-use Rattle.std.proofs.Math.Logic.{∥∥₁_elim}
-use Rattle.std.proofs.Props.{props}
+use Rattle.segment_invariant.proofs.Prelude.Std.{◌∙◌, All, sym, subst, ∥∥₁_elim, props}
 use Rattle.segment_promises.specs.Calls.{AreUnits}
 use Rattle.hist_core.specs.declared.entry.Taken.{Taken}
 use Rattle.hist_core.proofs.DeltaCall.Deltas.{taken_ascends}

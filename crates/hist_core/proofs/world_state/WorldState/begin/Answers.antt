@@ -1,6 +1,4 @@
-use Rattle.std.proofs.Common.{◌≡◌, ℤ, w32, w64, to_z, of_z, List, ℕ, sym, subst, rules}
-use Rattle.std.specs.Prelude.{Ok, ⊤}
-use mathlib.Core.Option.{none, some}
+use Rattle.segment_invariant.proofs.Prelude.Std.{◌≡◌, ℤ, w32, w64, to_z, of_z, List, ℕ, sym, subst, rules, Ok, ⊤, none, some}
 use Rattle.hist_core.specs.WorldState.{AddBegins, BatchBegins, DeltaBegins, HistBegins, SnapshotBegins}
 use Rattle.hist_core.specs.World.{BeginSays, BeginsCall, TakesMemory, named_by}
 use Rattle.segment_calls.specs.declared.call.Call.{Call}

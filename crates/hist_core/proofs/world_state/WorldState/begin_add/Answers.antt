@@ -1,8 +1,6 @@
-use Rattle.std.proofs.Common.{◌≡◌, ◌<◌, ◌+◌, ◌-◌, [], ◌∷◌, ℤ, w32, refl, subst, arith, rules}
-use Rattle.std.specs.Prelude.{⊤}
-use Rattle.std.proofs.lemmas.Int.{to_z-of_z}
-use Rattle.bucket_ranges.specs.Ranges.{boundaries_of}
-use Rattle.segment_machine.specs.Entry.{key_of, sample_entry}
+use Rattle.segment_invariant.proofs.Prelude.Std.{◌≡◌, ◌<◌, ◌+◌, ◌-◌, [], ◌∷◌, ℤ, w32, refl, subst, arith, rules, ⊤, to_z-of_z}
+use Rattle.segment_invariant.proofs.Prelude.Machine.{boundaries_of, key_of}
+use Rattle.segment_machine.specs.Entry.{sample_entry}
 use Rattle.hist_core.specs.declared.fault.WorldFault.TheVariants.{NoMemory}
 use Rattle.hist_core.specs.ActorRun.{BeginsAdd}
 use Rattle.hist_core.specs.declared.actor_run.Running.TheVariants.{Add}

@@ -1,7 +1,6 @@
-use Rattle.std.proofs.Common.{◌≡◌, ◌+◌, ◌-◌, true, false, true≢false, ℤ, w64, min, refl, sym, ap, subst, ◌∙◌, arith, rules}
-use Rattle.std.specs.Prelude.{⊤}
-use Rattle.std.proofs.lemmas.Int.{to_z-of_z}
-use Rattle.bucket_ranges.specs.Ranges.{boundaries_of}
+use Rattle.segment_invariant.proofs.Prelude.Std.{◌≡◌, ◌+◌, ◌-◌, true, false, true≢false, ℤ, w64, refl, sym, ap, subst, ◌∙◌, arith, rules, ⊤, to_z-of_z}
+use Rattle.segment_invariant.proofs.Prelude.Machine.{boundaries_of}
+use Rattle.std.proofs.Common.{min}
 use Rattle.segment_machine.specs.Entry.{batch_cost, batch_entries}
 use Rattle.hist_core.specs.declared.fault.WorldFault.TheVariants.{NoMemory}
 use Rattle.hist_core.specs.ActorRun.{BeginsBatch}

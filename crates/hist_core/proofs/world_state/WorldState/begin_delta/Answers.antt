@@ -1,5 +1,4 @@
-use Rattle.std.proofs.Common.{refl, rules}
-use Rattle.std.specs.Prelude.{⊤}
+use Rattle.segment_invariant.proofs.Prelude.Std.{refl, rules, ⊤}
 use Rattle.hist_core.specs.declared.fault.WorldFault.TheVariants.{NoMemory}
 use Rattle.hist_core.proofs.DeltaCall.Deltas.{delta_begins, delta_begun}
 use Rattle.hist_core.proofs.Worlds.Beginnings.{IsTurned, begun, knows_at, no_memory, not_begun, others_stay, placed}

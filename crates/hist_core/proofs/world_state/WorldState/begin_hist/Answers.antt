@@ -1,5 +1,4 @@
-use Rattle.std.proofs.Common.{◌∙◌, refl, rules}
-use Rattle.std.specs.Prelude.{Ok, ⊤}
+use Rattle.segment_invariant.proofs.Prelude.Std.{◌∙◌, refl, rules, Ok, ⊤}
 use Rattle.hist_core.specs.declared.fault.WorldFault.TheVariants.{NoMemory}
 use Rattle.hist_core.proofs.HistCall.Asking.{begins_hist}
 use Rattle.hist_core.proofs.Worlds.Beginnings.{IsTurned, answered, as_it_was, begun, checks_alike, hist_begins, no_memory, not_begun, others_stay, rests_there, same_state}

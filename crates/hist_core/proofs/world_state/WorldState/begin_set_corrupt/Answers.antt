@@ -1,5 +1,4 @@
-use Rattle.std.proofs.Common.{◌∙◌, refl, rules}
-use Rattle.std.specs.Prelude.{Some}
+use Rattle.segment_invariant.proofs.Prelude.Std.{◌∙◌, refl, rules, Some}
 use Rattle.hist_core.specs.declared.actor_run.Running.TheVariants.{SetCorrupt}
 use Rattle.hist_core.proofs.Worlds.ActorRuns.{begins_set_corrupt}
 use Rattle.hist_core.proofs.Worlds.Beginnings.{IsTurned, begun, checks_alike, is_now, not_begun, others_stay, rests_there, same_state}

@@ -1,5 +1,4 @@
-use Rattle.std.proofs.Common.{refl, sym, subst, rules}
-use Rattle.std.specs.Prelude.{⊤}
+use Rattle.segment_invariant.proofs.Prelude.Std.{refl, sym, subst, rules, ⊤}
 use Rattle.hist_core.specs.declared.fault.WorldFault.TheVariants.{NoMemory}
 use Rattle.hist_core.specs.ActorRun.{IsAsItWas}
 use Rattle.hist_core.proofs.SnapshotCall.Viewing.{snapshot_begins, snapshot_begun}

@@ -1,5 +1,4 @@
-use Rattle.std.proofs.Common.{ℕ, refl, rules}
-use Rattle.std.specs.Prelude.{Ok}
+use Rattle.segment_invariant.proofs.Prelude.Std.{ℕ, refl, rules, Ok}
 use Rattle.hist_core.specs.declared.fault.WorldFault.TheVariants.{Unknown}
 use Rattle.hist_core.proofs.Worlds.Faults.{err_is, first_still, knows_it, lacks_it, tells_fault, tells_none, the_fault}
 use Rattle.hist_core.proofs.world_state.WorldState.known_place.Goals as goal

@@ -1,7 +1,5 @@
-use Rattle.std.proofs.Common.{◌≡◌, ◌+◌, ℕ, List, length, refl, sym, ap, subst, ◌∙◌, arith, vec_len}
+use Rattle.segment_invariant.proofs.Prelude.Std.{◌≡◌, ◌+◌, ℕ, List, length, refl, sym, ap, subst, ◌∙◌, arith, vec_len, some-injective, set_else, set_here}
 use Rattle.std.proofs.lemmas.List.{with_items_is}
-use mathlib.Core.Option.{some-injective}
-use Rattle.atomic_table.proofs.Lists.{set_else, set_here}
 use Rattle.hist_core.specs.declared.actor_run.ActorRun.{ActorRun}
 use Rattle.hist_core.specs.ActorRun.{Advances, Answers, held_by, returned_by}
 use Rattle.hist_core.proofs.Worlds.WorldStates.{steps, is_there, is_long, some_run, pool_fits}

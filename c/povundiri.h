@@ -213,6 +213,7 @@ uint32_t povundiri_proved_delta(struct povundiri_handle *recorder, size_t hist, 
 uint32_t povundiri_proved_snapshot(struct povundiri_handle *recorder, size_t hist, struct povundiri_count *counts, size_t length,
                                    struct povundiri_totals *totals);
 uint32_t povundiri_proved_set_corrupt(struct povundiri_handle *recorder);
+uint32_t povundiri_proved_limit_indexes(struct povundiri_handle *recorder, size_t entries);
 uint32_t povundiri_proved_records(struct povundiri_handle *recorder, uint64_t *records, size_t length, size_t *needed);
 uint32_t povundiri_proved_next_shared(struct povundiri_handle *recorder, size_t cursor, uint64_t *record);
 uint32_t povundiri_proved_report(const uint64_t *words, size_t words_length, uint8_t *text, size_t text_length, size_t *needed);
@@ -310,10 +311,10 @@ inline uint32_t povundiri_recorder(struct povundiri_handle *segment, uint32_t un
  * and nothing else changes. Its histograms keep their numbers. Also where the segment has 256 recorders. It asks for no memory.
  * Statuses: NULL, EMPTY, OTHER_KIND; REFUSED_NO_UNITS: the segment has fewer, whichever segment the recorder is of; OTHER_SEGMENT. Then
  * the recorder is in its handle as it was. Where two threads each lend or join a recorder of the other's segment at the same moment: a
- * lend that is done leaves a recorder of the segment in the handle, and that may be the one of the other thread; or it is answered
- * ELSEWHERE, and the handle is empty: the recorder was joined to its own segment, or is in the other thread's handle. Either may be
- * answered BUSY, and so may one that lends rightly beside such a thread: nothing has happened. A recorder that is passed with its own
- * segment is never answered OTHER_SEGMENT nor ELSEWHERE. NO_MEMORY is for 2^63 recorders of a segment, which no program has.
+ * lend that is done leaves a recorder of the segment in the handle, and that may be the one of the other thread; or it returns
+ * ELSEWHERE, and the handle is empty: the recorder was joined to its own segment, or is in the other thread's handle. Either may return
+ * BUSY, and so may one that lends rightly beside such a thread: nothing has happened. For a recorder that is passed with its own segment
+ * OTHER_SEGMENT and ELSEWHERE are never returned. NO_MEMORY is for 2^63 recorders of a segment, which no program has.
  * Keep: pointers; handles; turns: those of both; process. */
 POVUNDIRI_CHECKED
 inline uint32_t povundiri_lend(struct povundiri_handle *segment, struct povundiri_handle *recorder, uint32_t units) {
@@ -324,8 +325,8 @@ inline uint32_t povundiri_lend(struct povundiri_handle *segment, struct povundir
 
 /* Takes a recorder back: its handle is empty then, and the units that it has left are the segment's.
  * Statuses: NULL, EMPTY, OTHER_KIND, OTHER_SEGMENT. Where one thread joins a recorder to a segment that is not its own while another
- * joins any to the recorder's own: the first may be answered ELSEWHERE or DONE, and the recorder is joined to its own segment; either may
- * be answered BUSY, and nothing has happened. A recorder that is joined to its own segment is never answered OTHER_SEGMENT nor ELSEWHERE.
+ * joins any to the recorder's own: the first may return ELSEWHERE or DONE, and the recorder is joined to its own segment; either may
+ * return BUSY, and nothing has happened. For a recorder that is passed with its own segment OTHER_SEGMENT and ELSEWHERE are never returned.
  * Keep: pointers; handles; turns: those of both; process. */
 POVUNDIRI_CHECKED
 inline uint32_t povundiri_join(struct povundiri_handle *segment, struct povundiri_handle *recorder) {
@@ -445,6 +446,18 @@ inline uint32_t povundiri_snapshot(struct povundiri_handle *recorder, size_t his
 POVUNDIRI_CHECKED
 inline uint32_t povundiri_set_corrupt(struct povundiri_handle *recorder) {
     return recorder == NULL ? (uint32_t)POVUNDIRI_NULL : povundiri_proved_set_corrupt(recorder);
+}
+
+/* Sets how many entries each of the recorder's three indexes may have: of the histograms that it knows, of the names that it has visited
+ * on the list, and of the samples of sparse histograms that it has visited there. It is for callers that have little memory: calls search
+ * the list for the rest, take longer, and return the same. What is entered already stays. Before the first such call there is no limit but
+ * memory. An index keeps at most 80 bytes for each entry, and 1,000 bytes; that of samples also 110 bytes for each sparse histogram of
+ * which it has a sample.
+ * Statuses: NULL, EMPTY, OTHER_KIND.
+ * Keep: pointers; handles; turns; process. */
+POVUNDIRI_CHECKED
+inline uint32_t povundiri_limit_indexes(struct povundiri_handle *recorder, size_t entries) {
+    return recorder == NULL ? (uint32_t)POVUNDIRI_NULL : povundiri_proved_limit_indexes(recorder, entries);
 }
 
 /* The references of all records of the list, in its order: the words of the image at which they begin. `needed`, which may be null, is

@@ -398,6 +398,14 @@ public:
     }
     void set_corrupt() { detail::need(try_set_corrupt(), "set_corrupt"); }
 
+    // How many entries each of its three indexes may have, for programs with little memory (povundiri.h). Calls take longer, and return the
+    // same.
+    [[nodiscard]] Status try_limit_indexes(std::size_t entries) noexcept {
+        const Status usable = state_.usable();
+        return usable != Status::Done ? usable : static_cast<Status>(povundiri_limit_indexes(&handle_, entries));
+    }
+    void limit_indexes(std::size_t entries) { detail::need(try_limit_indexes(entries), "limit_indexes, entries", entries); }
+
     [[nodiscard]] Status try_records(std::vector<std::uint64_t>& records) {
         const Status usable = state_.usable();
         if (usable != Status::Done) return usable;

@@ -110,6 +110,7 @@ static void nulls_of_recorders(void) {
     ANSWERS(NULL, povundiri_snapshot(&recorder, 0, NULL, 0, NULL));
     ANSWERS(SHORT, povundiri_snapshot(&recorder, 0, NULL, 0, &totals));
     ANSWERS(NULL, povundiri_set_corrupt(NULL));
+    ANSWERS(NULL, povundiri_limit_indexes(NULL, 1));
     ANSWERS(NULL, povundiri_records(NULL, words, 16, NULL));
     ANSWERS(NULL, povundiri_records(&recorder, NULL, 1, NULL));
     ANSWERS(SHORT, povundiri_records(&recorder, NULL, 0, NULL));
@@ -134,6 +135,7 @@ static void asks_for_a_recorder(struct povundiri_handle *it, uint32_t status) {
     HOLDS(povundiri_delta(it, 0, NULL, 0, &totals) == status);
     HOLDS(povundiri_snapshot(it, 0, NULL, 0, &totals) == status);
     HOLDS(povundiri_set_corrupt(it) == status);
+    HOLDS(povundiri_limit_indexes(it, 1) == status);
     HOLDS(povundiri_records(it, words, WORDS, NULL) == status);
     HOLDS(povundiri_next_shared(it, 0, words) == status);
 }
@@ -500,6 +502,36 @@ static void sparse(void) {
     free(counts);
 }
 
+/* Whatever limit its indexes have, a recorder finds its histograms, and counts the values of a sparse one. */
+static void limited_to(size_t entries) {
+    struct povundiri_handle segment, recorder;
+    struct povundiri_count *counts = calloc(WORDS, sizeof *counts);
+    struct povundiri_totals totals = {0, 0, 0};
+    size_t hist = 0, again = 9;
+    int32_t value;
+    made(&segment, &recorder);
+    DONE(povundiri_limit_indexes(&recorder, entries));
+    DONE(povundiri_hist_boolean(&recorder, "b", &hist));
+    DONE(povundiri_hist_sparse(&recorder, "s", &hist));
+    for (value = 0; value < 5; value += 1) DONE(povundiri_add(&recorder, hist, value, 1));
+    for (value = 4; value >= 0; value -= 1) DONE(povundiri_add(&recorder, hist, value, 1));
+    DONE(povundiri_hist_linear(&recorder, "latency", 1, 1000, 10, &again));
+    HOLDS(again == 0);
+    DONE(povundiri_hist_sparse(&recorder, "s", &again));
+    HOLDS(hist == 2 && again == 2);
+    DONE(povundiri_snapshot(&recorder, hist, counts, WORDS, &totals));
+    HOLDS(totals.length == 5 && totals.sum == 20 && totals.redundant == 10);
+    for (value = 0; value < 5; value += 1) HOLDS(counts[value].key == value && counts[value].count == 2);
+    let_go(&segment, &recorder);
+    free(counts);
+}
+
+static void limited(void) {
+    size_t entries;
+    for (entries = 0; entries < 6; entries += 1) limited_to(entries);
+    limited_to(SIZE_MAX);
+}
+
 static void full(void) {
     struct povundiri_handle segment = segment_of(128, 64), recorder = recorder_of(&segment, 1000);
     const struct povundiri_item items[] = {{0, 1}, {1001, 1}};
@@ -710,6 +742,7 @@ static const struct test TESTS[] = {
     {"refused_samples", refused_samples},
     {"samples", samples},
     {"sparse", sparse},
+    {"limited", limited},
     {"full", full},
     {"corrupt", corrupt},
     {"records", records},

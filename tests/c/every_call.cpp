@@ -53,6 +53,7 @@ void statuses() {
     RETURNS(Empty, none.try_recorder(recorder));
     HOLDS(segment.shape().size == kWords && segment.id() == 7 && segment.version() == 2 && none.shape().size == 0);
     DONE(segment.try_recorder(recorder, 100));
+    DONE(recorder.try_limit_indexes(1));
     DONE(segment.try_recorder(other, 1));
     DONE(recorder.try_linear(std::string_view("latency", 1), 1, 1000, 10, linear));
     DONE(recorder.try_boolean(std::string("b"), boolean));
@@ -211,8 +212,10 @@ void exceptions() {
     Segment again = Segment::adopt(image, memory.room(), 1), heap = Segment::adopt(image);
     HOLDS(again.units() == heap.units() && heap.units() == UINT32_MAX - 10);
     Recorder one = heap.recorder();
+    one.limit_indexes(1);
     one.set_corrupt();
     heap.join(one);
+    THROWS(Empty, "limit_indexes, entries 1: EmptyHandle", one.limit_indexes(1));
     HOLDS(povundiri::report(heap.close()) == std::string(kReport) + "!flag,corrupt\n");
     // The system's faults are its own.
     try {

@@ -103,6 +103,7 @@ void is_refused(Home& home) {
     RETURNS(Forked, home.recorder.try_records(words));
     RETURNS(Forked, home.recorder.try_next_shared(0, record));
     RETURNS(Forked, home.recorder.try_set_corrupt());
+    RETURNS(Forked, home.recorder.try_limit_indexes(1));
     RETURNS(Forked, home.recorder.try_units(number));
     RETURNS(Forked, home.segment.try_recorder(more));
     RETURNS(Forked, home.segment.try_join(home.recorder));
@@ -130,6 +131,7 @@ void refused_in(const char* name) {
         moved.recorder = Recorder();
         moved.segment = Segment();
         RETURNS(Empty, moved.recorder.try_set_corrupt());
+        RETURNS(Empty, moved.recorder.try_limit_indexes(1));
     };
     HOLDS(status_of_child(child) == 0);
     is_as_it_was(home);

@@ -4,9 +4,14 @@
 
 #include <stdbool.h>
 #include <stdlib.h>
+#include <string.h>
 
-/* How many blocks the library has. */
+/* What is in front of each block: its size. */
+enum { FRONT = 16 };
+
+/* How many blocks the library has, and how many bytes. */
 static long blocks;
+static size_t kept;
 
 /* What the heap returns. */
 struct tried {
@@ -15,35 +20,50 @@ struct tried {
 };
 
 struct tried rattle_alloc(size_t size, size_t align);
-struct tried rattle_realloc(void *at, size_t kept, size_t size, size_t align);
+struct tried rattle_realloc(void *at, size_t had, size_t size, size_t align);
 void rattle_dealloc(void *at);
 
-struct tried rattle_alloc(size_t size, size_t align) {
-    struct tried given = {false, (void *)16};
-    (void)align;
-    if (is_refused()) return given;
-    given.at = malloc(size != 0 ? size : 1);
-    given.ok = given.at != NULL;
-    blocks += given.ok;
+static struct tried with_size(void *block, size_t size) {
+    struct tried given = {true, (char *)block + FRONT};
+    memcpy(block, &size, sizeof size);
+    kept += size;
     return given;
 }
 
-struct tried rattle_realloc(void *at, size_t kept, size_t size, size_t align) {
-    struct tried given = {false, at};
-    void *moved;
-    (void)kept;
+static size_t size_of(void *at) {
+    size_t size;
+    memcpy(&size, (char *)at - FRONT, sizeof size);
+    return size;
+}
+
+struct tried rattle_alloc(size_t size, size_t align) {
+    const struct tried none = {false, (void *)16};
+    void *block;
     (void)align;
-    if (is_refused()) return given;
-    moved = realloc(at, size != 0 ? size : 1);
-    if (moved == NULL) return given;
-    given.ok = true;
-    given.at = moved;
-    return given;
+    if (is_refused()) return none;
+    block = malloc(FRONT + size);
+    if (block == NULL) return none;
+    blocks += 1;
+    return with_size(block, size);
+}
+
+struct tried rattle_realloc(void *at, size_t had, size_t size, size_t align) {
+    const struct tried none = {false, at};
+    const size_t before = size_of(at);
+    void *moved;
+    (void)had;
+    (void)align;
+    if (is_refused()) return none;
+    moved = realloc((char *)at - FRONT, FRONT + size);
+    if (moved == NULL) return none;
+    kept -= before;
+    return with_size(moved, size);
 }
 
 void rattle_dealloc(void *at) {
     blocks -= 1;
-    free(at);
+    kept -= size_of(at);
+    free((char *)at - FRONT);
 }
 
 #endif

@@ -1,15 +1,19 @@
 /* Each allocation of each call is refused alone: the call says so, and made once more it returns as if nothing had been. Of an add and of a batch
- * to a sparse histogram, which grow an index, the call is done all the same. In the end all blocks were given back. The library's heap is that of heap.h. */
+ * to a sparse histogram, which grow an index, the call is done all the same. Indexes with a limit keep no more than it allows. In the end
+ * all blocks were given back. The library's heap is that of heap.h. */
 #include <stdlib.h>
 
 #include "checks.h"
 
-enum { WORDS = 1024, PAGE = 256 };
+enum { WORDS = 1024, MANY_WORDS = 16384, PAGE = 256 };
 
 static size_t until_refused = SIZE_MAX;
+/* How often memory was asked for. */
+static size_t asked;
 static int refused;
 
 static bool is_refused(void) {
+    asked += 1;
     if (until_refused == SIZE_MAX || until_refused-- > 0) return false;
     until_refused = SIZE_MAX;
     refused += 1;
@@ -113,11 +117,11 @@ struct sparse {
     size_t hist;
 };
 
-static struct sparse made_sparse(void) {
-    const struct povundiri_shape shape = {WORDS, PAGE, 7, 0, 2};
+static struct sparse made_sparse(uint64_t words) {
+    const struct povundiri_shape shape = {words, PAGE, 7, 0, 2};
     struct sparse sparse = {{false, NULL}, {false, NULL}, 0};
     DONE(povundiri_create(shape, &sparse.segment));
-    DONE(povundiri_recorder(&sparse.segment, 100, &sparse.recorder));
+    DONE(povundiri_recorder(&sparse.segment, 1000, &sparse.recorder));
     DONE(povundiri_hist_sparse(&sparse.recorder, "s", &sparse.hist));
     return sparse;
 }
@@ -145,7 +149,7 @@ static void second_value(void) {
     bool asked = true;
     size_t number;
     for (number = 0; asked; number += 1) {
-        struct sparse sparse = made_sparse();
+        struct sparse sparse = made_sparse(WORDS);
         DONE(povundiri_add(&sparse.recorder, sparse.hist, -3, 1));
         asked = adds_without(&sparse.recorder, sparse.hist, 5, number);
         DONE(povundiri_add(&sparse.recorder, sparse.hist, 5, 2));
@@ -162,7 +166,7 @@ static void batch_of_values(void) {
     bool asked = true;
     size_t number;
     for (number = 0; asked; number += 1) {
-        struct sparse sparse = made_sparse();
+        struct sparse sparse = made_sparse(WORDS);
         const int before = refused;
         uint32_t status;
         until_refused = number;
@@ -183,7 +187,7 @@ static void second_recorder(void) {
     bool asked = true;
     size_t number;
     for (number = 0; asked; number += 1) {
-        struct sparse sparse = made_sparse();
+        struct sparse sparse = made_sparse(WORDS);
         struct povundiri_handle other = {false, NULL};
         size_t others = 0;
         DONE(povundiri_add(&sparse.recorder, sparse.hist, -3, 1));
@@ -200,8 +204,150 @@ static void second_recorder(void) {
     HOLDS(number > 1 && blocks == 0);
 }
 
+/* How many bytes an index may keep for each entry, and in any case; and that of samples for each sparse histogram. */
+enum { MOST_OF_ENTRY = 80, MOST_BESIDE = 1000, MOST_OF_SPARSE = 110 };
+
+enum { VALUES_COUNTED = 300, NAMES_ASKED = 200, SPARSE_ASKED = 150 };
+
+static size_t most_of(size_t entries) {
+    return MOST_BESIDE + MOST_OF_ENTRY * entries;
+}
+
+static void ends(struct sparse *sparse) {
+    DONE(povundiri_join(&sparse->segment, &sparse->recorder));
+    DONE(povundiri_drop(&sparse->segment));
+    HOLDS(blocks == 0 && kept == 0);
+}
+
+/* Each of the values from 0 to the last counts once, and the first twice. */
+static void has_all(struct sparse *sparse, int32_t values) {
+    struct povundiri_count *counts = calloc(MANY_WORDS, sizeof *counts);
+    struct povundiri_totals totals = {0, 0, 0};
+    int32_t value;
+    DONE(povundiri_snapshot(&sparse->recorder, sparse->hist, counts, MANY_WORDS, &totals));
+    HOLDS(totals.length == (size_t)values && totals.redundant == (uint64_t)values + 1 && totals.sum == (int64_t)values * (values - 1) / 2);
+    for (value = 0; value < values; value += 1) HOLDS(counts[value].key == value && counts[value].count == (value == 0 ? 2 : 1));
+    free(counts);
+}
+
+/* What a recorder keeps once it has counted many values, if its indexes may have this many entries. When its index is full, it asks for
+ * nothing any more. */
+static size_t kept_of_values(size_t entries) {
+    struct sparse sparse = made_sparse(MANY_WORDS);
+    size_t before = kept, full = 0, found;
+    int32_t value;
+    ASKS_FOR_NONE(povundiri_limit_indexes(&sparse.recorder, entries));
+    for (value = 0; value < VALUES_COUNTED; value += 1) {
+        if ((size_t)value == entries + 2) full = asked;
+        DONE(povundiri_add(&sparse.recorder, sparse.hist, value, 1));
+    }
+    DONE(povundiri_add(&sparse.recorder, sparse.hist, 0, 1));
+    HOLDS(entries >= VALUES_COUNTED || asked == full);
+    found = kept - before;
+    has_all(&sparse, VALUES_COUNTED);
+    HOLDS(kept - before == found);
+    ends(&sparse);
+    return found;
+}
+
+static void limited_values(void) {
+    static const size_t limits[] = {1, 2, 9, 10, 18, 19, 36, 37, 100, 145};
+    const size_t all = kept_of_values(VALUES_COUNTED);
+    size_t i;
+    HOLDS(kept_of_values(0) == 0);
+    HOLDS(all > most_of(100) + MOST_OF_SPARSE && all <= most_of(VALUES_COUNTED) + MOST_OF_SPARSE && kept_of_values(SIZE_MAX - 2) == all);
+    for (i = 0; i < sizeof limits / sizeof limits[0]; i += 1) {
+        const size_t found = kept_of_values(limits[i]);
+        HOLDS(found > 0 && found <= most_of(limits[i]) + MOST_OF_SPARSE);
+    }
+}
+
+/* What a recorder keeps for the samples of many sparse histograms, one of each, if its indexes may have this many entries. */
+static size_t kept_of_sparse(size_t entries) {
+    struct sparse sparse = made_sparse(MANY_WORDS);
+    size_t before, found, hists[SPARSE_ASKED];
+    char name[16];
+    int i;
+    for (i = 0; i < SPARSE_ASKED; i += 1) {
+        snprintf(name, sizeof name, "s%d", i);
+        DONE(povundiri_hist_sparse(&sparse.recorder, name, &hists[i]));
+    }
+    DONE(povundiri_limit_indexes(&sparse.recorder, entries));
+    before = kept;
+    for (i = 0; i < SPARSE_ASKED; i += 1) DONE(povundiri_add(&sparse.recorder, hists[i], i, 1));
+    DONE(povundiri_add(&sparse.recorder, hists[0], 0, 1));
+    found = kept - before;
+    ends(&sparse);
+    return found;
+}
+
+static void limited_sparse(void) {
+    static const size_t limits[] = {1, 2, 9, 10, 18, 19, 36, 37, 72, 73, SPARSE_ASKED};
+    size_t i;
+    HOLDS(kept_of_sparse(0) == 0);
+    for (i = 0; i < sizeof limits / sizeof limits[0]; i += 1) {
+        const size_t found = kept_of_sparse(limits[i]);
+        HOLDS(found > 0 && found <= most_of(limits[i]) + MOST_OF_SPARSE * limits[i]);
+    }
+    HOLDS(kept_of_sparse(SPARSE_ASKED) > most_of(SPARSE_ASKED / 2) + MOST_OF_SPARSE * SPARSE_ASKED / 2);
+}
+
+/* What a recorder keeps once it knows many histograms, if its indexes may have this many entries. It finds each again, without memory. */
+static size_t kept_of_names(size_t entries) {
+    struct sparse sparse = made_sparse(MANY_WORDS);
+    size_t before = kept, found, hist = 0;
+    char name[16];
+    int i;
+    ASKS_FOR_NONE(povundiri_limit_indexes(&sparse.recorder, entries));
+    for (i = 0; i < NAMES_ASKED; i += 1) {
+        snprintf(name, sizeof name, "n%d", i);
+        DONE(povundiri_hist_boolean(&sparse.recorder, name, &hist));
+        HOLDS(hist == (size_t)i + 1);
+    }
+    found = kept - before;
+    for (i = 0; i < NAMES_ASKED; i += 1) {
+        snprintf(name, sizeof name, "n%d", i);
+        ASKS_FOR_NONE(povundiri_hist_boolean(&sparse.recorder, name, &hist));
+        HOLDS(hist == (size_t)i + 1);
+    }
+    ends(&sparse);
+    return found;
+}
+
+/* Two indexes are of names: of those that it knows, and of those on the list. */
+static void limited_names(void) {
+    static const size_t limits[] = {2, 9, 10, 19, 50};
+    const size_t none = kept_of_names(1), all = kept_of_names(NAMES_ASKED + 1);
+    size_t i;
+    HOLDS(all > none + 2 * most_of(50) && all <= none + 2 * most_of(NAMES_ASKED) && kept_of_names(SIZE_MAX) == all);
+    for (i = 0; i < sizeof limits / sizeof limits[0]; i += 1) HOLDS(kept_of_names(limits[i]) <= none + 2 * most_of(limits[i]));
+}
+
+/* What an index has stays when it gets a lower limit, and with a higher one it grows again. */
+static void limits_change(void) {
+    struct sparse sparse = made_sparse(MANY_WORDS);
+    size_t before, full;
+    int32_t value;
+    for (value = 0; value < 30; value += 1) DONE(povundiri_add(&sparse.recorder, sparse.hist, value, 1));
+    before = kept;
+    full = asked;
+    DONE(povundiri_limit_indexes(&sparse.recorder, 1));
+    for (; value < 100; value += 1) DONE(povundiri_add(&sparse.recorder, sparse.hist, value, 1));
+    HOLDS(kept == before && asked == full);
+    DONE(povundiri_limit_indexes(&sparse.recorder, 200));
+    DONE(povundiri_add(&sparse.recorder, sparse.hist, value, 1));
+    HOLDS(kept > before && asked > full);
+    DONE(povundiri_add(&sparse.recorder, sparse.hist, 0, 1));
+    has_all(&sparse, value + 1);
+    ends(&sparse);
+}
+
 int main(void) {
     return group("each allocation", each_allocation) + group("a second value of a sparse histogram", second_value) +
            group("a batch of values of a sparse histogram", batch_of_values) +
-           group("a second recorder of a sparse histogram", second_recorder);
+           group("a second recorder of a sparse histogram", second_recorder) +
+           group("a limit of the entries of samples", limited_values) +
+           group("a limit of the entries of samples of many histograms", limited_sparse) +
+           group("a limit of the entries of names", limited_names) +
+           group("a limit that changes", limits_change);
 }

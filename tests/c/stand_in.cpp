@@ -189,6 +189,8 @@ std::uint32_t povundiri_proved_snapshot(povundiri_handle* recorder, std::size_t 
 
 std::uint32_t povundiri_proved_set_corrupt(povundiri_handle* recorder) { return kind(recorder, false); }
 
+std::uint32_t povundiri_proved_limit_indexes(povundiri_handle* recorder, std::size_t) { return kind(recorder, false); }
+
 std::uint32_t povundiri_proved_records(povundiri_handle* recorder, std::uint64_t*, std::size_t, std::size_t* needed) {
     *needed = 0;
     return kind(recorder, false);

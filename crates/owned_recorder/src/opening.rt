@@ -17,7 +17,7 @@ use segment_calls::Refusal;
 use std::alloc::Global;
 use std::sync::Arc;
 
-/// Makes a recorder with so many units that keeps the segment alive, as [`Opener::recorder`] makes one that borrows
+/// Makes a recorder with this many units that keeps the segment alive, as [`Opener::recorder`] makes one that borrows
 /// it: these units are the opener's no more [mine]; the recorder is of this segment, has done nothing, knows no
 /// histogram, and has seen what the opener has; or the first cause is returned, `NoUnits` or `TooMany` [theirs]. It
 /// records into the segment [into], and the opener stays that of the segment [made].
@@ -36,8 +36,8 @@ pub fn owned_recorder(
     Ok(OwnedRecorder { segment, state })
 }
 
-/// Lends a recorder so many units more while it runs, as [`Opener::lend`] does: the opener has so many fewer [mine]
-/// and the recorder so many more [theirs]; `NoUnits` comes exactly where the opener has fewer, and then both are
+/// Lends a recorder this many more units while it runs, as [`Opener::lend`] does: the opener has as many fewer [mine]
+/// and the recorder as many more [theirs]; `NoUnits` comes exactly where the opener has fewer, and then both are
 /// unchanged [why, mine, theirs]. The recorder keeps its segment [kept] and is still one of the opener's [of], and
 /// the opener stays that of its segment [made].
 pub fn lend(opener: &mut Opener, owned: &mut OwnedRecorder, units: u32) -> Result<(), Refusal>

@@ -37,9 +37,12 @@ impl OwnedRecorder {
     }
 
     /// Sets how many entries each of its three indexes may have in all: of the histograms that it knows, of the names on the list, and of
-    /// the samples of sparse histograms. For a caller that has little memory: an entry takes at most 80 bytes (that is not proved). An index
-    /// that is full finds what it has, and from there on the recorder searches the list, so calls take longer and return the same. What is
-    /// entered already stays. There is no limit but memory before the first such call.
+    /// the samples of sparse histograms. It is for a caller that has little memory. An index that is full finds what it has, and from there
+    /// on the recorder searches the list, so calls take longer and return the same. What is entered already stays. There is no limit but
+    /// memory before the first such call.
+    ///
+    /// An index keeps at most 80 bytes for each entry, and 1,000 bytes; that of samples also 110 bytes for each sparse histogram of which it
+    /// has a sample. (This is measured, and not proved.)
     ///
     /// All else is unchanged: its segment [kept], what it has done and seen [view], and what it knows [same].
     pub fn limit_indexes(&mut self, entries: usize)

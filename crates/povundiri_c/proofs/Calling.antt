@@ -13,14 +13,14 @@ use Rattle.povundiri_c.specs.Calls.{ByRecorder}
 use Rattle.povundiri_c.specs.Joins.{BySegment, Serves, ServesPassed, recorder_in}
 use Rattle.povundiri_c.specs.Recorders.{AtPlaceInRoom, Finds, refused_with}
 
--- a recorder is held
+-- the contents are a recorder
 pub by_recorder : {A : Type 0} (other : A) (Calls : OwnedRecorder → A → OwnedRecorder → Type 0) (it : Contents) (joinable after : JoinableRecorder) (answer : A)
     → it ≡ contents.Recorder joinable → after.mailbox ≡ joinable.mailbox → Calls joinable.owned answer after.owned
     → ByRecorder other Calls it answer (contents.Recorder after)
 by_recorder other Calls it joinable after answer is kept calls =
     subst (λ (one : Contents). ByRecorder other Calls one answer (contents.Recorder after)) (sym is) (after, refl, kept, calls)
 
--- a segment is held
+-- the contents are a segment
 pub by_segment : {A : Type 0} (other : A) (Calls : OwnedSegment → A → OwnedSegment → Type 0) (it : Contents) (owned after : OwnedSegment) (answer : A)
     → it ≡ contents.Segment owned → Calls owned answer after → BySegment other Calls it answer (contents.Segment after)
 by_segment other Calls it owned after answer is calls =

@@ -18,7 +18,7 @@ whole setting words is =
     let size : word_at words 2 ≡ length words = eqb-true (word_at words 2) (length words) (not-false _ (or_parts _ _ passed.1.1.1.1.0).0) in
     sym size ∙ ap (λ (shape : Dimensions). shape.size) is.shape
 
--- what a handle held was closed
+-- the contents of a handle were closed
 pub answers_some : (old new : Option Contents) (it : Contents) (answer : Result (List ℕ) Refused) (status needed needed' : ℕ) (words words' : List ℕ) → old ≡ Some it
     → AnswersClose (length words) it answer → IsClosedWith it answer status needed' words words' new
     → AnswersCloseCall old status needed needed' words words' new

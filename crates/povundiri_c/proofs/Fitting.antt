@@ -18,7 +18,7 @@ use Rattle.povundiri_c.specs.declared.status.Refused.{Refused}
 use Rattle.povundiri_c.specs.Calls.{SizesOfRecorder}
 use Rattle.povundiri_c.specs.Recorders.{AtPlaceInRoom, TakesDelta, TakesSnapshot, known_by, with_refused}
 
--- what is answered is no refusal
+-- what is returned is no refusal
 answered : {A B : Type 0} (value : A) (why : B) → Ok value ≡ Err why → ⊥
 answered value why is = subst (λ (r : Result _ _). MatchResult r (λ _. Unit {0}) (λ _. ⊥)) is tt
 

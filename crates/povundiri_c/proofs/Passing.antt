@@ -61,7 +61,7 @@ decided a b = decided_by a b (is_same_table a b) refl
 
 -- ---- two seats
 
--- they stand as they stood before, or have changed places
+-- they are where they were before, or have changed places
 abbrev Arranged : MailboxSeat → MailboxSeat → MailboxSeat → MailboxSeat → Type 0
 Arranged one other one' other' =
     (one' ≡ cond (is_same_table one.table_id other.table_id) one other) × (other' ≡ cond (is_same_table one.table_id other.table_id) other one)

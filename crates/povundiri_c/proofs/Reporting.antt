@@ -10,10 +10,10 @@ use Rattle.image_reader.specs.Keys.{HasMoreKeys}
 use Rattle.image_reader.specs.declared.reading.Reading.{Reading}
 use Rattle.image_reader.specs.Views.{reading_view}
 use Rattle.reading_texts.specs.Text.{IsTextOf}
-use Rattle.povundiri_c.specs.Reports.{IsReportOfWords, IsSaidOfLawful, SayKeys}
+use Rattle.povundiri_c.specs.Reports.{IsReportOfWords, IsSaidOfValid, SayKeys}
 use Rattle.povundiri_c.specs.Status.{status_of_image_fault}
 
--- words without a reading, for whose header's fault the reader answered another
+-- the status of words that have no reading is that of their header's fault, if it has one
 pub fault_of : {X : Type 0} (outer : Result SegmentHead ImageFault) (result : Result X ImageFault) (why : ImageFault) (status : ℕ) (P : SegmentHead → X → Type 0) (Q : ImageFault → Type 0)
     → MatchResult outer (λ head. MatchResult result (P head) Q) (λ fault. result ≡ Err fault) → result ≡ Err why → status ≡ status_of_image_fault why
     → IfErr outer (λ fault. status ≡ status_of_image_fault fault)
@@ -39,7 +39,7 @@ pub in_front : (text bytes old : List ℕ) (count : ℕ) → bytes ≡ text → 
 in_front text bytes old count same long =
     ap (λ (front : List ℕ). front ++ drop count old) same ∙ ap (λ (n : ℕ). text ++ drop n old) long
 
--- where words are answered with how many keys they have, their header is lawful
+-- if it is returned how many keys words have, their header has no fault
 pub keys_said : (words : List ℕ) (outer : Result SegmentHead ImageFault) (result : Result Bool ImageFault) (most : ℕ) (more : Bool)
     → header_of words ≡ outer
     → MatchResult outer (λ head. MatchResult result (HasMoreKeys words head most) (λ fault. fault ≡ NoMemory)) (λ fault. result ≡ Err fault)
@@ -52,18 +52,18 @@ keys_said words (Err fault) result most more same held is =
 -- so nothing is said of a fault of it
 pub no_fault_of : (words : List ℕ) (most : ℕ) (more : Bool) (status : ℕ) → SayKeys words most more
     → IfErr (header_of words) (λ fault. status ≡ status_of_image_fault fault)
-no_fault_of words most more status (head, lawful, said) =
-    subst (λ (outer : Result SegmentHead ImageFault). IfErr outer (λ fault. status ≡ status_of_image_fault fault)) (sym lawful) tt
+no_fault_of words most more status (head, valid, said) =
+    subst (λ (outer : Result SegmentHead ImageFault). IfErr outer (λ fault. status ≡ status_of_image_fault fault)) (sym valid) tt
 
--- words whose header is lawful are refused for want of memory alone
-pub said_of_lawful : {X : Type 0} (outer : Result SegmentHead ImageFault) (result : Result X ImageFault) (why : ImageFault) (status : ℕ) (P : SegmentHead → X → Type 0)
+-- words whose header has no fault are refused only when memory runs out
+pub said_of_valid : {X : Type 0} (outer : Result SegmentHead ImageFault) (result : Result X ImageFault) (why : ImageFault) (status : ℕ) (P : SegmentHead → X → Type 0)
     → MatchResult outer (λ head. MatchResult result (P head) (λ fault. fault ≡ NoMemory)) (λ fault. result ≡ Err fault) → result ≡ Err why → status ≡ status_of_image_fault why
-    → IfOk outer (λ _. IsSaidOfLawful status)
-said_of_lawful (Ok head) result why status P held is says =
+    → IfOk outer (λ _. IsSaidOfValid status)
+said_of_valid (Ok head) result why status P held is says =
     inr (inr (inr (says ∙ ap status_of_image_fault (MatchResult-at_err (P head) (λ fault. fault ≡ NoMemory) why is held))))
-said_of_lawful (Err fault) result why status P held is says = tt
+said_of_valid (Err fault) result why status P held is says = tt
 
-pub or_lawful : (outer : Result SegmentHead ImageFault) (status : ℕ) → IfOk outer (λ _. IsSaidOfLawful status)
-    → IfOk outer (λ _. (status ≡ 17) ⊎ IsSaidOfLawful status)
-or_lawful (Ok head) status said = inr said
-or_lawful (Err fault) status said = tt
+pub or_valid : (outer : Result SegmentHead ImageFault) (status : ℕ) → IfOk outer (λ _. IsSaidOfValid status)
+    → IfOk outer (λ _. (status ≡ 17) ⊎ IsSaidOfValid status)
+or_valid (Ok head) status said = inr said
+or_valid (Err fault) status said = tt

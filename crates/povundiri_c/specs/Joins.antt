@@ -39,7 +39,7 @@ KeepsSegment old new = (new.segment ≡ old.segment) × (new.mailbox ≡ old.mai
 
 -- ---- a recorder is made
 
--- why there is no recorder with so many units, if anything
+-- why there is no recorder with this many units, if anything
 abbrev pub fault_of_recorder : OwnedSegment → ℕ → Option Refusal
 fault_of_recorder owned units = first_fault (recorder_checks (view_of_opener owned.opener) units)
 
@@ -58,7 +58,7 @@ IsNoRecorder units owned status = ((why : Refusal) × (fault_of_recorder owned u
 abbrev pub GivesRecorder : ℕ → OwnedSegment → Result JoinableRecorder ℕ → OwnedSegment → Type 0
 GivesRecorder units old answer new = MatchResult answer (λ joinable. HasMade units old joinable new) (λ status. (new ≡ old) × IsNoRecorder units old status)
 
--- a recorder stands in the handle that was empty; or the status says why not, and it is empty still
+-- a recorder is in the handle that was empty; or the status says why not, and it is still empty
 abbrev pub IsHanded : Result JoinableRecorder ℕ → ℕ → Option Contents → Type 0
 IsHanded (Ok joinable) status out = (status ≡ 0) × (out ≡ Some (contents.Recorder joinable))
 IsHanded (Err why) status out = (status ≡ why) × (out ≡ None)
@@ -91,7 +91,7 @@ IsSameSegment old new =
     (new.segment ≡ old.segment) × (new.opener ≡ old.opener) × (new.mailbox ≡ old.mailbox) × (new.keeper ≡ old.keeper) × (new.gone ≡ old.gone)
     × (new.cursors ≡ old.cursors)
 
--- it comes back as it was, and the segment is unchanged
+-- it comes back unchanged, and the segment is unchanged
 abbrev pub IsKept : JoinableRecorder → OwnedSegment → Option JoinableRecorder → OwnedSegment → Type 0
 IsKept joinable old back new = (back ≡ Some joinable) × IsSameSegment old new
 
@@ -168,7 +168,7 @@ IsLent units owned old status back new = (status ≡ 0) × ((after : JoinableRec
 abbrev pub units_left : OwnedSegment → ℕ
 units_left owned = (view_of_opener owned.opener).units.share
 
--- What is returned where the segment has the units. It comes back as it was where no more may share its mailbox, or another thread passes
+-- What is returned where the segment has the units. It comes back unchanged if no more may share its mailbox, or another thread passes
 -- one of the same segment at the same moment.
 abbrev pub LendsOrNot : ℕ → JoinableRecorder → OwnedSegment → ℕ → Option JoinableRecorder → OwnedSegment → Type 0
 LendsOrNot units = IsPassed (IsLent units) (λ status. (status ≡ 13) ⊎ (status ≡ 15))
@@ -186,20 +186,20 @@ abbrev pub Serves : Request → JoinableRecorder → OwnedSegment → ℕ → Op
 Serves Join = Joins
 Serves (Lend units) = Lends units
 
--- the recorder that is held, if it is one
+-- the recorder that contents are, if they are one
 abbrev pub recorder_in : Contents → Option JoinableRecorder
 recorder_in (contents.Recorder joinable) = Some joinable
 recorder_in (contents.Segment owned) = None
 recorder_in contents.Nothing = None
 
--- What is passed and is no recorder comes back for that, and the segment is unchanged; else the recorder is served, and may come back. The
--- answer is the status, and what was passed where it comes back.
+-- What is passed and is no recorder comes back for that, and the segment is unchanged; else the recorder is served, and may come back. What
+-- is returned is the status, and what was passed if it comes back.
 abbrev pub ServesPassed : Request → Contents → OwnedSegment → ℕ × Option Contents → OwnedSegment → Type 0
 ServesPassed request passed old answer new =
     MatchOption (recorder_in passed) ((answer ≡ (5, Some passed)) × (new ≡ old))
     (λ joinable. (back : Option JoinableRecorder) × (answer.1 ≡ option_map contents.Recorder back) × Serves request joinable old answer.0 back new)
 
--- the same of what is held, which comes back too from what is no segment
+-- the same by contents: from those that are no segment what is passed comes back too
 abbrev pub ServesContents : Request → Contents → Contents → ℕ × Option Contents → Contents → Type 0
 ServesContents request passed = BySegment (5, Some passed) (ServesPassed request passed)
 

@@ -23,8 +23,8 @@ use Rattle.povundiri_c.specs.Status.{status_of_refusal}
 -- ---- what is unchanged after a call
 
 -- it keeps its segment, knows the same histograms, and was given no fresh records
-abbrev pub GoesOn : OwnedRecorder → OwnedRecorder → Type 0
-GoesOn old new = (new.segment ≡ old.segment) × IsSameRecorder old.state new.state
+abbrev pub IsSameOwned : OwnedRecorder → OwnedRecorder → Type 0
+IsSameOwned old new = (new.segment ≡ old.segment) × IsSameRecorder old.state new.state
 
 -- how many histograms it knows
 abbrev pub known_by : OwnedRecorder → ℕ
@@ -81,18 +81,18 @@ AtPlace unknown Calls place old answer new =
 -- a sample is added as `OwnedRecorder::add` says
 abbrev pub Adds : ℤ → ℕ → Hist → OwnedRecorder → ℕ → OwnedRecorder → Type 0
 Adds value count histogram old status new =
-    (answer : Result (Unit {0}) Refusal) × (status ≡ status_of_answer answer) × GoesOn old new
+    (answer : Result (Unit {0}) Refusal) × (status ≡ status_of_answer answer) × IsSameOwned old new
     × AnswersAdd histogram value count old.state answer new.state × ClaimsAdd histogram value old.state answer new.state
 
 -- a batch is counted as `OwnedRecorder::batch` says
 abbrev pub Batches : List (ℤ × ℕ) → ℤ → Hist → OwnedRecorder → Result (Unit {0}) Refused → OwnedRecorder → Type 0
 Batches items sum histogram old given new =
-    (answer : Result (Unit {0}) BatchRefusal) × (given ≡ with_refused_batch answer) × GoesOn old new
+    (answer : Result (Unit {0}) BatchRefusal) × (given ≡ with_refused_batch answer) × IsSameOwned old new
     × AnswersBatch histogram items sum old.state answer new.state × ClaimsBatch histogram items old.state answer new.state
 
 -- ---- those that want room for all keys of the histogram
 
--- so many keys the histogram may have
+-- how many keys the histogram may have
 abbrev pub AreMost : Hist → OwnedRecorder → ℕ → Type 0
 AreMost histogram owned most = (known : Known) → Means owned.state histogram known → AreMostKeys (arc_value owned.segment) known most
 
@@ -116,14 +116,14 @@ Finds histogram old given new = (given ≡ Ok histogram) × (new ≡ old)
 -- a delta is taken as `OwnedRecorder::delta` says
 abbrev pub TakesDelta : Hist → OwnedRecorder → Result Delta Refused → OwnedRecorder → Type 0
 TakesDelta histogram old given new =
-    (answer : Result Delta Refusal) × (given ≡ with_refused answer) × GoesOn old new
+    (answer : Result Delta Refusal) × (given ≡ with_refused answer) × IsSameOwned old new
     × AnswersDelta histogram old.state answer new.state × TakesEnough (arc_value new.segment) histogram old.state answer new.state
     × TakesFewKeys (arc_value old.segment) histogram old.state answer
 
 -- a snapshot is taken as `OwnedRecorder::snapshot` says
 abbrev pub TakesSnapshot : Hist → OwnedRecorder → Result Snapshot Refused → OwnedRecorder → Type 0
 TakesSnapshot histogram old given new =
-    (answer : Result Snapshot Refusal) × (given ≡ with_refused answer) × GoesOn old new
+    (answer : Result Snapshot Refusal) × (given ≡ with_refused answer) × IsSameOwned old new
     × AnswersSnapshot histogram old.state answer new.state × ShowsEnough histogram old.state answer new.state
     × ShowsUnits histogram old.state answer × ShowsFewKeys (arc_value old.segment) histogram old.state answer
 
@@ -138,19 +138,23 @@ FindsHist name spec old place new =
 
 -- the segment is marked as corrupt
 abbrev pub Marks : OwnedRecorder → ℕ → OwnedRecorder → Type 0
-Marks old status new = (status ≡ 0) × GoesOn old new × (view_of_state new.state ≡ spoiled (view_of_state old.state))
+Marks old status new = (status ≡ 0) × IsSameOwned old new × (view_of_state new.state ≡ spoiled (view_of_state old.state))
+
+-- how many entries its indexes may have is set, and all else is unchanged
+abbrev pub Limits : OwnedRecorder → ℕ → OwnedRecorder → Type 0
+Limits old status new = (status ≡ 0) × IsSameOwned old new × (view_of_state new.state ≡ view_of_state old.state)
 
 -- the references of all records of the list
 abbrev pub WalksAll : OwnedRecorder → Result (Vec ℕ Global) ℕ → OwnedRecorder → Type 0
 WalksAll old given new =
-    (answer : Result (Vec ℕ Global) Refusal) × (given ≡ with_status answer) × GoesOn old new × AnswersRecords old.state answer new.state
+    (answer : Result (Vec ℕ Global) Refusal) × (given ≡ with_status answer) × IsSameOwned old new × AnswersRecords old.state answer new.state
     × AnswersList (arc_value new.segment) answer new.state
 
 -- the next record of a shared cursor, where the segment has that
 abbrev pub TakesNext : ℕ → OwnedRecorder → Result ℕ ℕ → OwnedRecorder → Type 0
 TakesNext cursor old given new =
     (cursors_by old ≤ cursor → (given ≡ Err 9) × (new ≡ old))
-    × (cursor < cursors_by old → (answer : Option ℕ) × (given ≡ next_of answer) × GoesOn old new
+    × (cursor < cursors_by old → (answer : Option ℕ) × (given ≡ next_of answer) × IsSameOwned old new
     × AnswersNext cursor (view_of_state old.state) answer (view_of_state new.state)
     × ((view_of_state new.state).done.given ≡ (view_of_state old.state).done.given ++ gift cursor answer)
     × AnswersFront (arc_value new.segment) cursor answer new.state)

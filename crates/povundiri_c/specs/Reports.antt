@@ -18,15 +18,15 @@ pub record IsReportOfWords (words text : List ℕ) : Type 0 where
 abbrev pub IsReportWritten : List ℕ → List ℕ → List ℕ → ℕ → Type 0
 IsReportWritten words old new needed = (text : List ℕ) × IsReportOfWords words text × (needed ≡ length text) × (new ≡ text ++ drop (length text) old)
 
--- the array has no room for the report of the words, which has so many bytes
+-- the array has no room for the report of the words, which has this many bytes
 abbrev pub IsReportTooLong : List ℕ → List ℕ → ℕ → Type 0
 IsReportTooLong words old needed = (text : List ℕ) × IsReportOfWords words text × (needed ≡ length text) × (length old < length text)
 
--- the header of the words is lawful, and they read as more keys than so many, or as no more
+-- the header of the words has no fault, and they read as more than this many keys, or as no more
 abbrev pub SayKeys : List ℕ → ℕ → Bool → Type 0
 SayKeys words most more = (head : SegmentHead) × (header_of words ≡ Ok head) × HasMoreKeys words head most more
 
--- what is said of words with a lawful header: their report was written, the array is too short for it, or there was no memory for the
+-- what is returned for words whose header has no fault: their report was written, the array is too short for it, or memory ran out for the
 -- text or for the reading
-abbrev pub IsSaidOfLawful : ℕ → Type 0
-IsSaidOfLawful status = (status ≡ 0) ⊎ (status ≡ 7) ⊎ (status ≡ 13) ⊎ (status ≡ 513)
+abbrev pub IsSaidOfValid : ℕ → Type 0
+IsSaidOfValid status = (status ≡ 0) ⊎ (status ≡ 7) ⊎ (status ≡ 13) ⊎ (status ≡ 513)

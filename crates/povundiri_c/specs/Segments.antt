@@ -81,15 +81,15 @@ pub record IsImageFrom (segment : Segment) (opener : Opener) (image : List ℕ) 
   pub goes_on : MayGoOn image
   pub whole : length image ≡ segment.setting.shape.size
 
--- Why what is held was not closed: so many words have no room for its image, and its length is said; or recorders are left. What is no
--- segment is of another kind.
+-- Why contents were not closed: so few words have no room for the image, whose length is returned; or recorders are left. What is no segment
+-- is of another kind.
 abbrev pub IsNotClosed : ℕ → Contents → Refused → Type 0
 IsNotClosed room (contents.Segment owned) why =
     ((room < size_of owned) × (why.status ≡ 7) × (why.length ≡ size_of owned)) ⊎ ((size_of owned ≤ room) × (why.status ≡ 11) × (why.length ≡ 0))
 IsNotClosed room (contents.Recorder joinable) why = (why.status ≡ 5) × (why.length ≡ 0)
 IsNotClosed room contents.Nothing why = (why.status ≡ 5) × (why.length ≡ 0)
 
--- a segment was held whose image fits so many words, and that is returned; or why not
+-- the contents are a segment whose image fits in this many words, and it is returned; or why not
 abbrev pub AnswersClose : ℕ → Contents → Result (List ℕ) Refused → Type 0
 AnswersClose room it (Ok image) =
     (owned : OwnedSegment) × (it ≡ contents.Segment owned) × (size_of owned ≤ room) × IsImageFrom (arc_value owned.segment) owned.opener image

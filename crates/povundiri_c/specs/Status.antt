@@ -1,4 +1,4 @@
--- The numbers that exports answer.
+-- The numbers that exports return.
 use Rattle.std.specs.Prelude.{ℕ, ◌+◌}
 use Rattle.bucket_ranges.specs.Fault.{spec_fault_number}
 use Rattle.segment_calls.specs.declared.refusal.Refusal.{Refusal}
@@ -21,7 +21,7 @@ status_of_refusal why = 100 + refusal_number why
 abbrev pub status_of_open_fault : OpenFault → ℕ
 status_of_open_fault fault = 200 + open_fault_number fault
 
--- of a header that is not lawful
+-- of a header with a fault
 abbrev pub status_of_image_fault : ImageFault → ℕ
 status_of_image_fault fault = 500 + image_fault_number fault
 

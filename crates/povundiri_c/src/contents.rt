@@ -3,7 +3,7 @@
 ghost use Rattle.std.specs.Prelude.{◌≡◌, Err, None, MatchResult, option_map};
 ghost use Rattle.povundiri_c.specs.Calls.{ByRecorder, outstanding_in, units_of};
 ghost use Rattle.povundiri_c.specs.Joins.{BySegment, GivesRecorder, ServesContents, recorder_in};
-ghost use Rattle.povundiri_c.specs.Recorders.{Adds, AtPlace, AtPlaceInRoom, Batches, FindsHist, Marks, refused_with, TakesDelta, TakesNext, TakesSnapshot, WalksAll};
+ghost use Rattle.povundiri_c.specs.Recorders.{Adds, AtPlace, AtPlaceInRoom, Batches, FindsHist, Limits, Marks, refused_with, TakesDelta, TakesNext, TakesSnapshot, WalksAll};
 ghost use Rattle.povundiri_c.specs.Segments.{AnswersClose};
 
 use crate::joinable_recorder::JoinableRecorder;
@@ -12,7 +12,7 @@ use crate::status::{DONE, IN_USE, OTHER_KIND, Refused, SHORT};
 use core::mem::replace_with;
 use live_segment::{Delta, Image, Snapshot, Spec};
 
-/// A segment, or a recorder; or nothing, while it is let go.
+/// A segment, or a recorder; or nothing, while a call takes it out.
 #[derive(Drop)]
 pub enum Contents {
     Segment(OwnedSegment),
@@ -21,7 +21,7 @@ pub enum Contents {
 }
 
 impl Contents {
-    // Its image, where it is a segment without recorders whose words fit so many.
+    // Its image, if it is a segment that has no recorders and at most `room` words.
     fn closed(self, room: usize) -> (Contents, Result<Image, Refused>)
         ensures answer { AnswersClose room self result.1 }
         ensures after { MatchResult result.1 (λ _. result.0 ≡ Contents.Nothing) (λ _. result.0 ≡ self) }
@@ -74,7 +74,7 @@ impl Contents {
         }
     }
 
-    /// Does what a recorder, in its box, is passed to the segment for. The status, and the box where it comes back.
+    /// Does what a recorder is passed to the segment for, in its box. Returns the status, and the box if it comes back.
     pub(crate) fn serve(
         &mut self,
         mut passed: Box<Contents>,
@@ -95,7 +95,7 @@ impl Contents {
         }
     }
 
-    /// Ends the segment, whose image has to fit so many words.
+    /// Ends the segment, and returns its image, if that has at most `room` words.
     pub(crate) fn close(&mut self, room: usize) -> Result<Image, Refused>
         ensures answer { AnswersClose room self.old result }
         ensures after { MatchResult result (λ _. self.new ≡ Contents.Nothing) (λ _. self.new ≡ self.old) }
@@ -178,6 +178,18 @@ impl Contents {
         match self {
             Contents::Recorder(joinable) => {
                 joinable.owned.set_corrupt();
+                DONE
+            }
+            _ => OTHER_KIND,
+        }
+    }
+
+    pub(crate) fn limit_indexes(&mut self, entries: usize) -> u32
+        ensures { ByRecorder 5 Limits self.old result self.new }
+    {
+        match self {
+            Contents::Recorder(joinable) => {
+                joinable.owned.limit_indexes(entries);
                 DONE
             }
             _ => OTHER_KIND,

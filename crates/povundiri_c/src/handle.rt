@@ -61,7 +61,7 @@ impl Handle {
         Ok(boxed.open())
     }
 
-    /// Does what a recorder, in its box, is passed to the segment for. The status, and the box where it comes back.
+    /// Does what a recorder is passed to the segment for, in its box. Returns the status, and the box if it comes back.
     pub(crate) fn serve(
         &mut self,
         passed: Box<Contents>,

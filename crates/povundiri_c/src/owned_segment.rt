@@ -16,7 +16,7 @@ use owned_recorder::owned_recorder;
 use std::alloc::{AllocError, Global};
 use std::sync::Arc;
 
-/// What a recorder is passed to its segment for: to be taken back, or to be lent so many units more.
+/// What a recorder is passed to its segment for: to be taken back, or to be lent this many more units.
 #[derive(Clone, Copy)]
 pub(crate) enum Request {
     Join,
@@ -93,7 +93,7 @@ impl OwnedSegment {
         self.opener.outstanding()
     }
 
-    /// A recorder with so many units; or why there is none.
+    /// A recorder with this many units; or why there is none.
     pub(crate) fn recorder(&mut self, units: u32) -> Result<JoinableRecorder, u32>
         ensures { GivesRecorder units self.old result self.new }
     {

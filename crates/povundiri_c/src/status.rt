@@ -13,7 +13,7 @@ pub(crate) const DONE: u32 = 0;
 /// The handle holds nothing.
 pub(crate) const EMPTY: u32 = 3;
 
-/// The handle that is to be filled, or that is to stand in, holds something.
+/// The handle that is to be filled, or that is to take another's place, holds something.
 pub(crate) const NOT_EMPTY: u32 = 4;
 
 /// A segment's handle where a recorder's is asked for, or the other way round.
@@ -43,7 +43,7 @@ pub(crate) const LIST_ENDS: u32 = 12;
 /// Out of memory.
 pub(crate) const NO_MEMORY: u32 = 13;
 
-/// The recorder's own segment has met it, by another thread, while it was to be joined to another.
+/// The recorder's own segment has found it, by a call of another thread, while it was passed to another segment.
 pub(crate) const ELSEWHERE: u32 = 14;
 
 /// Another thread passes a recorder of the same segment at this moment.
@@ -95,7 +95,7 @@ pub(crate) fn of_adopt_fault(fault: AdoptFault) -> u32
     }
 }
 
-/// That of a header that is not lawful.
+/// That of a header with a fault.
 pub(crate) fn of_image_fault(fault: ImageFault) -> u32
     ensures { result ≡ status_of_image_fault fault }
 {

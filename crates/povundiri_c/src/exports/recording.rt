@@ -3,7 +3,7 @@
 ghost use Rattle.std.specs.Prelude.{◌≡◌, ◌⊎◌, Some, None, IfOk, MatchResult, map};
 ghost use Rattle.povundiri_c.specs.Asking.{AnswersBatchCall, AnswersHistCall, pair_of, spec_asked};
 ghost use Rattle.povundiri_c.specs.Calls.{OfRecorder};
-ghost use Rattle.povundiri_c.specs.Recorders.{Adds, AtPlace, Marks};
+ghost use Rattle.povundiri_c.specs.Recorders.{Adds, AtPlace, Limits, Marks};
 
 use crate::handle::Handle;
 use crate::status::{BAD_KIND, DONE, EMPTY, NO_MEMORY, Refused};
@@ -131,4 +131,13 @@ pub extern "C" fn povundiri_proved_set_corrupt(recorder: &mut Handle) -> u32
     ensures { OfRecorder Marks recorder.old.boxed.held result recorder.new.boxed.held }
 {
     recorder.call(EMPTY, |held| held.set_corrupt())
+}
+
+/// Sets how many entries each of a recorder's three indexes may have, as the library's `limit_indexes` does: 0. 3 where
+/// the handle holds nothing, 5 where it holds no recorder; then it holds the same.
+#[unsafe(no_mangle)]
+pub extern "C" fn povundiri_proved_limit_indexes(recorder: &mut Handle, entries: usize) -> u32
+    ensures { OfRecorder Limits recorder.old.boxed.held result recorder.new.boxed.held }
+{
+    recorder.call(EMPTY, |held| held.limit_indexes(entries))
 }

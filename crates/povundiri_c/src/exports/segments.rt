@@ -66,7 +66,7 @@ fn create_in(alloc: Global, memory: Memory, shape: SegmentShape, out: &mut Handl
     }
 }
 
-// A segment in a memory that goes on with an image.
+// A segment in a memory that continues from an image.
 fn adopt_in(alloc: Global, memory: Memory, words: &[u64], cursors: usize, out: &mut Handle) -> u32
     ensures { IsTakenUp words.now cursors result out.old.boxed.held out.new.boxed.held }
 {
@@ -192,7 +192,7 @@ pub extern "C" fn povundiri_proved_close(
     }
 }
 
-/// Lets a segment or a recorder go: its handle is empty then, and `none` is put in its place. 4 where `none` holds
+/// Gives up a segment or a recorder: its handle is empty then, and `none` is put in its place. 4 where `none` holds
 /// something [full], 3 where the handle holds nothing [empty], and all is unchanged; else 0, and it holds nothing
 /// from then on [done].
 #[unsafe(no_mangle)]
@@ -210,7 +210,7 @@ pub extern "C" fn povundiri_proved_drop(handle: &mut Handle, none: Handle) -> u3
     }
 }
 
-/// Makes a recorder of a segment with so many units, into a handle that is empty, as `owned_recorder` does. 4 where
+/// Makes a recorder of a segment with this many units, into a handle that is empty, as `owned_recorder` does. 4 where
 /// `out` holds something, and both handles are unchanged [full].
 ///
 /// Else, of what the segment's handle holds: 3 where it holds nothing, 5 where it holds no segment, and it holds the
@@ -242,7 +242,7 @@ pub extern "C" fn povundiri_proved_recorder(
     }
 }
 
-// Passes a recorder to a segment. `none` stands in the recorder's place, and the recorder there again where it comes back.
+// Passes a recorder to a segment. `none` takes its place in its handle; if the recorder comes back, it is put there again.
 fn pass(segment: &mut Handle, recorder: &mut Handle, none: Handle, request: Request) -> u32
     ensures full { is_some none.boxed.held ≡ true → (result ≡ 4) × (segment.new ≡ segment.old) × (recorder.new ≡ recorder.old) }
     ensures empty { is_some none.boxed.held ≡ false → recorder.old.boxed.held ≡ None → (result ≡ 3) × (segment.new ≡ segment.old) × (recorder.new ≡ recorder.old) }
@@ -288,16 +288,16 @@ pub extern "C" fn povundiri_proved_lend(
 /// Takes a recorder back: its handle is empty then, and `none` is put in its place. 4 where `none` holds something
 /// [full], 3 where the recorder's handle holds nothing [empty], and all is unchanged. Else [answer], where the
 /// segment's handle holds nothing 3, where it holds no segment or the other no recorder 5, and all is unchanged; and
-/// else by the tray that a segment shares with the recorders that it has made, and with no others:
+/// else by the mailbox that a segment shares with the recorders that it has made, and with no others:
 ///
 /// - A recorder of this segment: 0, its handle is empty, and the segment has joined it, as the library's `join` does.
-///   Or 15, and all is unchanged: the recorder is in its handle as it was. So none is lost, and none is answered 6 or
-///   14.
+///   Or 15, and all is unchanged: the recorder is still in its handle. So none is lost, and 6 and 14 are never returned
+///   for one.
 /// - A recorder of another segment: 6, it is in its handle, the same one, and the segment is unchanged, or has joined
-///   another of its own that a thread was to join elsewhere. Or 15, and all is unchanged. Or the recorder's handle is
-///   empty, and it was laid on its own tray and taken from it by that one's owner, which the segment's handle has a
-///   proof of: with 14 the segment is unchanged otherwise, with 0 it has joined another recorder of its own. The
-///   clause of that owner's call says what it has done with it.
+///   another of its own that a thread passed to another segment. Or 15, and all is unchanged. Or the recorder's handle
+///   is empty: the recorder was put into its own mailbox, and its own segment took it from there, of which the owned
+///   segment has a proof. With 14 the segment is unchanged otherwise, with 0 it has joined another recorder of its own.
+///   What its own segment did with the recorder is said by the clause of the call that took it.
 #[unsafe(no_mangle)]
 pub extern "C" fn povundiri_proved_join(
     segment: &mut Handle,

@@ -107,7 +107,7 @@ impl OwnedSegment {
         (DONE, Some(joinable))
     }
 
-    // Lends a recorder so many units more.
+    // Lends a recorder this many more units.
     fn lend(&mut self, joinable: JoinableRecorder, units: u32) -> (u32, Option<JoinableRecorder>)
         ensures { Lends units joinable self.old result.0 result.1 self.new }
     {
@@ -123,7 +123,7 @@ impl OwnedSegment {
         }
     }
 
-    /// Does what a recorder is passed for. The status, and the recorder where it comes back.
+    /// Does what a recorder is passed for. Returns the status, and the recorder if it comes back.
     pub(crate) fn serve(
         &mut self,
         joinable: JoinableRecorder,

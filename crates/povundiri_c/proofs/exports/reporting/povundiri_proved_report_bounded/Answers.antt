@@ -5,7 +5,7 @@ use Rattle.segment_image.specs.declared.fault.ImageFault.TheVariants.{NoMemory}
 use Rattle.segment_image.specs.declared.head.SegmentHead.{SegmentHead}
 use Rattle.image_reader.specs.Keys.{HasMoreKeys}
 use Rattle.povundiri_c.specs.Reports.{SayKeys}
-use Rattle.povundiri_c.proofs.Reporting.{fault_of, keys_said, no_fault_of, or_lawful, said_of_lawful}
+use Rattle.povundiri_c.proofs.Reporting.{fault_of, keys_said, no_fault_of, or_valid, said_of_valid}
 use Rattle.povundiri_c.proofs.exports.reporting.povundiri_proved_report_bounded.Goals as goal
 
 pub returns-in-Err-clause-fault : goal.returns-in-Err-clause-fault
@@ -14,9 +14,9 @@ returns-in-Err-clause-fault c =
     (λ (head : SegmentHead) (more : Bool). HasMoreKeys c.args.words.now head c.args.most_keys more) (λ fault. fault ≡ NoMemory)
     c.has_more_keys.ensures.answer c.in-Err.is c.of_image_fault.ensures
 
-pub returns-in-Err-clause-lawful : goal.returns-in-Err-clause-lawful
-returns-in-Err-clause-lawful c = or_lawful (header_of c.args.words.now) c.of_image_fault.result (
-    said_of_lawful (header_of c.args.words.now) c.has_more_keys.result c.in-Err.fault c.of_image_fault.result
+pub returns-in-Err-clause-valid : goal.returns-in-Err-clause-valid
+returns-in-Err-clause-valid c = or_valid (header_of c.args.words.now) c.of_image_fault.result (
+    said_of_valid (header_of c.args.words.now) c.has_more_keys.result c.in-Err.fault c.of_image_fault.result
     (λ (head : SegmentHead) (more : Bool). HasMoreKeys c.args.words.now head c.args.most_keys more)
     c.has_more_keys.ensures.answer c.in-Err.is c.of_image_fault.ensures)
 

@@ -5,7 +5,7 @@ use Rattle.segment_image.specs.declared.head.SegmentHead.{SegmentHead}
 use Rattle.segment_image.specs.declared.fault.ImageFault.TheVariants.{NoMemory}
 use Rattle.image_reader.specs.declared.reading.Reading.{Reading}
 use Rattle.image_reader.specs.Views.{reading_view}
-use Rattle.povundiri_c.proofs.Reporting.{fault_of, in_front, report_of, said_of_lawful}
+use Rattle.povundiri_c.proofs.Reporting.{fault_of, in_front, report_of, said_of_valid}
 use Rattle.povundiri_c.proofs.exports.reporting.write_report.Goals as goal
 
 pub returns-in-Err-clause-fault : goal.returns-in-Err-clause-fault
@@ -14,9 +14,9 @@ returns-in-Err-clause-fault c =
     (λ (head : SegmentHead) (reading : Reading). IsReading c.args.words.now head (reading_view reading)) (λ fault. fault ≡ NoMemory)
     c.read.ensures.answer c.in-Err.is c.of_image_fault.ensures
 
-pub returns-in-Err-clause-lawful : goal.returns-in-Err-clause-lawful
-returns-in-Err-clause-lawful c =
-    said_of_lawful (header_of c.args.words.now) c.read.result c.in-Err.fault c.of_image_fault.result
+pub returns-in-Err-clause-valid : goal.returns-in-Err-clause-valid
+returns-in-Err-clause-valid c =
+    said_of_valid (header_of c.args.words.now) c.read.result c.in-Err.fault c.of_image_fault.result
     (λ (head : SegmentHead) (reading : Reading). IsReading c.args.words.now head (reading_view reading))
     c.read.ensures.answer c.in-Err.is c.of_image_fault.ensures
 

@@ -9,11 +9,11 @@ enum { WORDS = 1024, MANY_WORDS = 16384, PAGE = 256 };
 
 static size_t until_refused = SIZE_MAX;
 /* How often memory was asked for. */
-static size_t asked;
+static size_t requests;
 static int refused;
 
 static bool is_refused(void) {
-    asked += 1;
+    requests += 1;
     if (until_refused == SIZE_MAX || until_refused-- > 0) return false;
     until_refused = SIZE_MAX;
     refused += 1;
@@ -238,11 +238,11 @@ static size_t kept_of_values(size_t entries) {
     int32_t value;
     ASKS_FOR_NONE(povundiri_limit_indexes(&sparse.recorder, entries));
     for (value = 0; value < VALUES_COUNTED; value += 1) {
-        if ((size_t)value == entries + 2) full = asked;
+        if ((size_t)value == entries + 2) full = requests;
         DONE(povundiri_add(&sparse.recorder, sparse.hist, value, 1));
     }
     DONE(povundiri_add(&sparse.recorder, sparse.hist, 0, 1));
-    HOLDS(entries >= VALUES_COUNTED || asked == full);
+    HOLDS(entries >= VALUES_COUNTED || requests == full);
     found = kept - before;
     has_all(&sparse, VALUES_COUNTED);
     HOLDS(kept - before == found);
@@ -330,13 +330,13 @@ static void limits_change(void) {
     int32_t value;
     for (value = 0; value < 30; value += 1) DONE(povundiri_add(&sparse.recorder, sparse.hist, value, 1));
     before = kept;
-    full = asked;
+    full = requests;
     DONE(povundiri_limit_indexes(&sparse.recorder, 1));
     for (; value < 100; value += 1) DONE(povundiri_add(&sparse.recorder, sparse.hist, value, 1));
-    HOLDS(kept == before && asked == full);
+    HOLDS(kept == before && requests == full);
     DONE(povundiri_limit_indexes(&sparse.recorder, 200));
     DONE(povundiri_add(&sparse.recorder, sparse.hist, value, 1));
-    HOLDS(kept > before && asked > full);
+    HOLDS(kept > before && requests > full);
     DONE(povundiri_add(&sparse.recorder, sparse.hist, 0, 1));
     has_all(&sparse, value + 1);
     ends(&sparse);

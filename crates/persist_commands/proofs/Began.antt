@@ -1,4 +1,4 @@
--- What the image of a new segment reads as in which a script was run, and that of one which goes on with an image.
+-- What the image of a new segment reads as in which a script was run, and that of one which continues from an image.
 use Rattle.std.proofs.Common.{◌≡◌, ℕ, ◌+◌, ℤ, List, [], map, false, Contains, sym, ap, ◌∙◌, refl, arith, ⊎_elim, inl, inr}
 use Rattle.std.specs.Prelude.{◌+ℤ◌, ◌⊎◌, pos}
 use Rattle.std.proofs.Math.IntN.{+ℤ_idl}
@@ -60,7 +60,7 @@ is_image_of_run script workers setting words shape version id empty image = reco
       };
 }
 
--- ---- a segment that goes on with an image
+-- ---- a segment that continues from an image
 
 module _ (image references : List ℕ) where
   abbrev base : Reading

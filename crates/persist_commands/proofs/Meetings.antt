@@ -18,7 +18,7 @@ use Rattle.live_segment.specs.declared.recorder.Hist.{Hist}
 use Rattle.live_segment.specs.declared.recorder.Recorder.{Recorder}
 use Rattle.live_segment.specs.Add.Sample.{AnswersSample}
 use Rattle.live_segment.specs.Hist.Answer.{IsAnsweredWith}
-use Rattle.live_segment.specs.Holders.{view_of_recorder}
+use Rattle.live_segment.specs.Holders.{table_of, view_of_recorder}
 use Rattle.live_segment.specs.RecorderState.{IsNamed, IsSameRecorder, KnowsOn, Means}
 use Rattle.segment_promises.specs.Onward.{Grows}
 use Rattle.live_segment.proofs.Seating.Callers.{knows_on, knows_same}
@@ -43,7 +43,7 @@ further : {P : Type 0} {X : Type 0} (i j : ℕ) (v y : X) → ((j ≡ i) × (y �
 further i j v y (inl same) = inl (ap suc same.0, same.1)
 further i j v y (inr other) = inr other
 
--- what stands at a place of a list in which one element was set
+-- what is at a place of a list in which one element was set
 got_set : {X : Type 0} (xs : List X) (i j : ℕ) (v y : X) → slice_get (slice_set xs i v) j ≡ Some y → ((j ≡ i) × (y ≡ v)) ⊎ (slice_get xs j ≡ Some y)
 got_set [] i j v y e = inr e
 got_set (x ∷ xs) zero zero v y e = inl (refl, cc e)
@@ -65,6 +65,12 @@ each_pushed P [] x each last (suc k) d below = absurd (omega (arith, below))
 each_pushed P (y ∷ ys) x each last zero d below = each 0 d (omega arith)
 each_pushed P (y ∷ ys) x each last (suc k) d below =
     each_pushed (λ k. P (suc k)) ys x (λ k d here. each (suc k) d (omega (arith, here))) last k d (omega (arith, below))
+
+-- ---- the segment of a recorder
+
+-- one that still has its segment has the same table
+pub table_kept : (old new : Recorder) → new.segment ≡ old.segment → new.state.seat.table_id ≡ old.state.seat.table_id
+table_kept old new kept = new.at.seated.table ∙ ap (λ s. table_of s.now) kept ∙ sym old.at.seated.table
 
 -- ---- what a recorder knows
 
@@ -171,7 +177,7 @@ opened_so hists units old mid recorder asked new made is has joins =
           let before = hands.outstanding in omega (arith, after, before);
     }
 
--- ---- the histograms that a worker has met
+-- ---- the histograms that a worker has asked for
 
 pub met_none : (hists : List HistRecord) (recorder : Recorder) (n : ℕ) → HaveMet hists recorder (replicate n None)
 met_none hists recorder n = λ i histogram e. absurd (cc (got_same n i None (Some histogram) e))
@@ -233,7 +239,7 @@ got_anyway [] i d e below = absurd (omega (arith, below))
 got_anyway (x ∷ xs) zero d e below = refl
 got_anyway (x ∷ xs) (suc i) d e below = got_anyway xs i d e (omega (arith, below))
 
--- the same, where the element is read so
+-- the same, if the element is read so
 pub calls_next_at : (hists : List HistRecord) (calls : List ScriptCall) (number workers part : ℕ) (d : ScriptCall) (old mid new : Actor) → number < length calls
     → HasRecorded hists (deeds_of hists (part_of workers part (take number calls))) old mid
     → HasRecorded hists (deeds_of hists (part_from number workers part (get_or calls number d ∷ []))) mid new

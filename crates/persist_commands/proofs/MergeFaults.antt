@@ -42,7 +42,7 @@ use Rattle.persist_commands.proofs.MergeFilled.{Lacks, counts_long, lacks_room, 
 
 -- ---- one histogram
 
--- It is asked for and counted behind others that are merged, by a recorder that knows histograms of these alone. Since its segment was new and
+-- It is asked for and counted after others that are merged, by a recorder that knows histograms of these alone. Since its segment was new and
 -- only it recorded there, it saw no record of a name that it does not know with another spec, and no corrupt flag. Where a block passed the end,
 -- there was no room.
 module _ (first : SegmentHead) (units : ℕ) (front : List Histogram) (h : Histogram) (old new : Actor)
@@ -130,7 +130,7 @@ stop_among hists report stop old new stopped = stopped_at hists stop.name stop.w
   other = other;
 })
 
--- a stop among some is one among more, which come behind them
+-- a stop among some is one among more that come after them
 pub stop_first : (xs ys : List Histogram) (old new : Actor) (fault : CliFault) → HasStopped xs old new fault → HasStopped (xs ++ ys) old new fault
 stop_first xs ys old new (cli.Merge name why) is = record {
   front = is.front;
@@ -165,7 +165,7 @@ stop_second xs ys old mid new (cli.Merge name why) before is = record {
 stop_second xs ys old mid new cli.NoMemory before is = tt
 stop_second xs ys old mid new fault before is = absurd is
 
--- two readings are merged, one behind the other: how the second ended is how both did
+-- two readings are merged, one after the other: how the second ended is how both did
 pub merged_both : (r : Result ⊤ CliFault) (xs ys : List Histogram) (old mid new : Actor) → IsMerged xs old mid → OnOk r (IsMerged ys mid new)
     → OnOk r (IsMerged (xs ++ ys) old new)
 merged_both (Ok x) xs ys old mid new before after = merged_then xs ys old mid new before after
@@ -176,7 +176,7 @@ pub stop_both : (r : Result ⊤ CliFault) (xs ys : List Histogram) (old mid new 
 stop_both (Ok x) xs ys old mid new before stopped = tt
 stop_both (Err fault) xs ys old mid new before stopped = stop_second xs ys old mid new fault before stopped
 
--- where nothing was known and nobody else records, it has its cause
+-- if nothing was known and nobody else records, it has its cause
 told_in : (first : SegmentHead) (units : ℕ) (hists : List Histogram) (name : Vec ℕ Global) (why : Refusal) (old new : Actor)
     (is : HasStoppedIn hists name.items why old new)
     → old.segment.shape.page ≡ first.shape.page → old.units.share ≡ units → old.answers.names ≡ []

@@ -40,7 +40,7 @@ use Rattle.persist_commands.proofs.MergeClosed.{IsClosed, closing}
 
 -- ---- the words of its blocks
 
--- whether a spec has buckets is told by its fields
+-- whether a spec has buckets depends on its fields
 buckets_told : (s : Spec) → has_buckets s ≡ not (slice_index (spec_fields s) 0 == 4)
 buckets_told (spec.Linear min max n) = refl
 buckets_told spec.Boolean = refl
@@ -84,7 +84,7 @@ Lacks h a block =
 
 -- ---- a segment that is closed
 
--- One recorder had all units of a new segment, has merged some histograms, and has stopped at the next behind so many items. It is joined, and the segment is closed.
+-- One recorder had all units of a new segment, has merged some histograms, and has stopped at the next after this many items. It is joined, and the segment is closed.
 module _ (setting : Setting) (front : List Histogram) (h : Histogram) (items : ℕ) (why : Refusal) (until last : Actor) (words : List ℕ)
     (merged : IsMerged front (newcomer (offering (first_view setting) 4294967295)) until) (stops : StopsAt h items why until last)
     (closed : IsClosed setting last words) where

@@ -59,7 +59,7 @@ written (Ok x) (Some first) (Some second) Holds words head dead_head reading dea
   holds,
 )
 
--- ---- where only the write may fail
+-- ---- when only the write may fail
 
 -- then no reader has failed
 pub reads_well : (r : Result ⊤ CliFault) (base dead : Bool) → IfErr r (λ fault. fault ≡ cli.Write) → (base ≡ true → ⊥) → (dead ≡ true → ⊥)
@@ -67,7 +67,7 @@ pub reads_well : (r : Result ⊤ CliFault) (base dead : Bool) → IfErr r (λ fa
 reads_well (Ok x) base dead err first second = (λ is. absurd (cc is), λ either. elim either [ inl is ↦ absurd (first is) | inr is ↦ absurd (second is) ])
 reads_well (Err fault) base dead err first second = (λ is. absurd (cc (is, err)), λ either. elim either [ inl is ↦ absurd (first is) | inr is ↦ absurd (second is) ])
 
--- the writer has failed where the answer says so
+-- the writer has failed if the result says so
 pub write_told : (r : Result ⊤ CliFault) (failed : Bool) → failed ≡ is_err r → IfErr r (λ fault. fault ≡ cli.Write) → IsErrOf r cli.Write ↔ (failed ≡ true)
 write_told (Ok x) failed is err = (λ other. absurd (cc other), λ e. absurd (cc (is, e)))
 write_told (Err fault) failed is err = (λ _. is, λ _. ap (λ (f : CliFault). Err f) err)
@@ -77,11 +77,11 @@ pub untouched : (r : Result ⊤ CliFault) (P : Type 0) → IfErr r (λ fault. fa
 untouched (Ok x) P err = tt
 untouched (Err fault) P err = λ other. absurd (other err)
 
--- a reader that answered has not failed
+-- a reader that returned has not failed
 pub not_failed : {T : Type 0} (r : Result T CliFault) (x : T) (failed : Bool) → r ≡ Ok x → (IsErrOf r cli.Read ↔ (failed ≡ true)) → failed ≡ true → ⊥
 not_failed r x failed is told e = let other : r ≡ Err cli.Read = told.1 e in cc (is, other)
 
--- so the second reader is read only where the first has not failed, and its bytes are an image
+-- so the second reader is read only if the first has not failed, and its bytes are an image
 pub sound : (failed : Bool) → (failed ≡ true → ⊥) → failed ≡ false
 sound true other = absurd (other refl)
 sound false other = refl

@@ -25,7 +25,7 @@ use Rattle.persist_commands.proofs.MergeOutcomes.{sound}
 
 -- ---- faults of a run
 
--- a fault that a run ends with has its cause in a lawful script
+-- the script has no fault, so the fault is one with which the run of a valid script may end
 told : (fault : CliFault) (meaning : Result Script ScriptFault) (script : Script) → meaning ≡ Ok script → MayEndRun fault
     → MatchResult meaning (λ script. MayEndRun fault) (λ why. fault ≡ fault_of_script why)
 told fault meaning script is may =
@@ -127,7 +127,7 @@ run_so (Ok x) (Some bytes) script workers segment opener A B new is wrote =
       b,
     )
 
--- ---- a segment that goes on with an image
+-- ---- a segment that continues from an image
 
 -- the words of an image that were read, and something of them, by their bytes
 pub based_so : {T F : Type 0} (A : Type 0) (r : Result T F) (remaining : Option (List ℕ)) (words : List ℕ) (P Q : List ℕ → T → Type 0)
@@ -214,7 +214,7 @@ module _ (image : List ℕ) (head : SegmentHead) (segment : Segment) (opener : O
               other,
             )
 
-    -- a reader of a script is read only where BASE was an image that may be adopted
+    -- a reader of a script is read only if BASE was an image that may be adopted
     pub base_sound : (failed : Bool) → (failed ≡ true → ⊥) → (failed ≡ false) × IfSome a IsBase
     base_sound failed well = (sound failed well, by a words_are)
       where

@@ -8,7 +8,7 @@ use Rattle.persist_commands.specs.Parts.{part_from, part_of}
 
 -- ---- one element more
 
--- the first element stands in the part of its number
+-- the first element is in the part of its number
 pub part_first : {X : Type 0} (first parts part : ℕ) (x : X) (xs : List X) (b : Bool) → (first % parts == part) ≡ b
     → part_from first parts part (x ∷ xs) ≡ cond b (x ∷ part_from (first + 1) parts part xs) (part_from (first + 1) parts part xs)
 part_first first parts part x xs true is = rw is refl

@@ -86,7 +86,7 @@ times_more : (name other : List ℕ) (names : List (List ℕ)) → times name (o
 times_more name other names =
     let sums = sum_by-append (λ (o : List ℕ). if bytes_eq o name then 1 else 0) (other ∷ []) names in omega (arith, sums)
 
--- none where the name is not among them
+-- none if the name is not among them
 no_times : (name : List ℕ) (names : List (List ℕ)) → ¬ (Contains names name) → times name names ≡ 0
 no_times name [] none = refl
 no_times name (other ∷ names) none =
@@ -133,7 +133,7 @@ takes_none name key (t ∷ taken) none = by (takes_none name key taken) (bytes_e
 
 -- ---- what was there and what came
 
--- two lists behind the same one are the same
+-- two lists that follow the same one are the same
 same_behind : {X : Type 0} (front xs ys : List X) → front ++ xs ≡ front ++ ys → xs ≡ ys
 same_behind [] xs ys same = same
 same_behind (x ∷ front) xs ys same = same_behind front xs ys (cc same)
@@ -153,7 +153,7 @@ module _ (script : Script) (workers : ℕ) (setting : Setting) (first opened ran
   alone_is : outstanding_of ran.role ≡ 0
   alone_is = runs.back ∙ (opens.back ∙ only.alone)
 
-  -- the opener's log begins with what it was opened with, and goes on with the entries of the script
+  -- the opener's log begins with what it was opened with, and continues with the entries of the script
   began : log_of first ≡ first.entries.first
   began = ap (λ (log : List EntryProgress). first.entries.first ++ entries_logged log) only.log ∙ append-nil first.entries.first
 
@@ -164,7 +164,7 @@ module _ (script : Script) (workers : ℕ) (setting : Setting) (first opened ran
   counted = same_behind first.entries.first (entries_logged ran.entries.log) all
       (sym (ap (λ (l : List Entry). l ++ entries_logged ran.entries.log) went.first) ∙ logged)
 
-  -- it knows what it knew, and all that it knows beside that are the script's
+  -- it knows what it knew, and all else that it knows is the script's
   still_known : (known : Known) → Contains first.answers.names known → Contains ran.answers.names known
   still_known known has =
       let (more, names_are, asked) = went.names in

@@ -41,6 +41,7 @@ use Rattle.persist_commands.specs.Parts.{part_from, part_of}
 use Rattle.persist_commands.specs.Recording.{AreOf, EndedAt, EndedWell, HandsOut, HasEnded, HasOpened, HasRun, HasWorked, IsAskedIn, IsReady, KnowsOf, WentOn, all_joined, deeds_of_all, deeds_of_part, view_of_ended}
 use Rattle.persist_commands.specs.Run.{IsImageOfRun, IsReportOfImage, IsRunOf}
 use Rattle.persist_commands.specs.Stop.{StopTellsWant}
+use Rattle.persist_commands.proofs.Meetings.{table_kept}
 use Rattle.persist_commands.proofs.Parts.{part_first, parts_add_up}
 use Rattle.persist_commands.proofs.Went.{Worked, knows_joining_all, outstanding_joining, went_handing, went_joining_all, went_twice}
 
@@ -69,12 +70,12 @@ module _ {W : Type 0} (part : W → Part) (has : W → code.Script) (recorder : 
   ended_at k e below =
       let here : k < length all = omega (arith, below, same) in
       let d = one_of all k here in
-      (gives k d e here).at ∙ (ready k d here).at
+      table_kept (recorder (get_or all k d)) (get_or ended k e).recorder (gives k d e here).kept ∙ (ready k d here).at
 
   abbrev views : List Actor
   views = map view_of_ended ended
 
-  -- those that ended with a stop tell want of memory as such
+  -- those that ended with a stop report out of memory as such
   pub all_tell : All (λ (e : Ended). IfErr e.outcome StopTellsWant) ended
   all_tell k e below =
       let here : k < length all = omega (arith, below, same) in

@@ -1,4 +1,4 @@
--- How workers ended together, and which of several stops is told.
+-- How workers ended together, and which of several stops is reported.
 use Rattle.std.proofs.Common.{◌≡◌, ◌⊎◌, ⊎_elim, ℕ, zero, suc, ◌≤◌, List, [], ◌∷◌, map, All, Contains, inl, inr, Ok, Err, Result, refl, ap, subst, arith}
 use Rattle.std.specs.Prelude.{⊤, IfErr, OnOk}
 use Rattle.std.proofs.lemmas.List.Elements.{All-cons, All-tail}
@@ -24,13 +24,13 @@ head_or_tail y x rest (suc k, below, is) = inr (k, omega (arith, below), is)
 abbrev Outcome : Type 0
 Outcome = Result ⊤ Stop
 
--- where some ended with a stop, they ended together with one that is told no later
+-- if some ended with a stop, they ended together with one that is reported no later
 told_before : (outcomes : List Outcome) (together : Outcome) → EndTogether outcomes together → (stop : Stop) → Contains outcomes (Err stop)
     → (told : Stop) × (together ≡ Err told) × (rank_of told ≤ rank_of stop)
 told_before outcomes (Ok done) well stop (k, below, is) = absurd (cc (well k (Err stop) below, is))
 told_before outcomes (Err told) (met, first) stop some = (told, refl, first stop some)
 
--- one behind another, and then others
+-- one after another, and then others
 pub told_on : (one other both : Outcome) (rest : List Outcome) (together : Outcome) → EndTogether (one ∷ other ∷ []) both → EndTogether (both ∷ rest) together
     → EndTogether (one ∷ other ∷ rest) together
 told_on one other both rest (Ok done) pair all =
@@ -81,7 +81,7 @@ told_alone (Err stop) = (
     rank_told (Ok done) = 0
     rank_told (Err s) = rank_of s
 
--- where workers ended together well, each has
+-- if workers ended together well, each has
 pub all_well : (all : List Ended) → EndTogether (map (λ ended. ended.outcome) all) (Ok tt) → All EndedWell all
 all_well [] well = λ k d below. absurd (omega (arith, below))
 all_well (ended ∷ rest) well =
@@ -92,7 +92,7 @@ pub where_well : (all : List Ended) (together : Outcome) → EndTogether (map (�
 where_well all (Ok done) well = all_well all well
 where_well all (Err stop) told = tt
 
--- each of some that ended with a stop tells want of memory as such, and so do they together
+-- each of some that ended with a stop reports out of memory as such, and so do they together
 pub tells_together : (all : List Ended) (together : Outcome) → EndTogether (map (λ ended. ended.outcome) all) together
     → All (λ (ended : Ended). IfErr ended.outcome StopTellsWant) all → IfErr together StopTellsWant
 tells_together all (Ok done) well each = tt

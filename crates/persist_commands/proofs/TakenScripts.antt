@@ -1,4 +1,4 @@
--- What a command tells of a script that was read, or was not.
+-- What a command returns for a script that was read, or was not.
 use Rattle.std.proofs.Common.{◌≡◌, ◌≤◌, ℕ, List, length, Option, Some, None, Result, Ok, Err, refl, sym, subst}
 use Rattle.std.specs.Prelude.{MatchResult, ⊤, IfErr, IfOk, IfSome}
 use Rattle.persist_report_core.specs.declared.fault.CliFault.{CliFault}
@@ -9,7 +9,7 @@ use Rattle.persist_report_core.specs.declared.script.fault.ScriptFault.TheVarian
 use Rattle.persist_report_core.specs.Script.{IsFaultOfBytes, Script, script_view}
 use Rattle.persist_commands.specs.Run.{IsFaultOfScript, fault_of_script}
 
--- what the answer to a script says of its bytes
+-- what the result says of the script's bytes
 abbrev Answers : (List ℕ → Result Script ScriptFault) → Result code.Script ScriptFault → List ℕ → Type 0
 Answers meaning read bytes =
     MatchResult read (λ script. (length bytes ≤ 16777216) × (meaning bytes ≡ Ok (script_view script))) (IsFaultOfBytes (meaning bytes) bytes)

@@ -1,4 +1,4 @@
--- How recorders and openers go on, step by step.
+-- What recorders and openers have done, step by step.
 use Rattle.std.proofs.Common.{◌≡◌, ℕ, suc, ◌+◌, ◌-◌, ◌<◌, Bool, true, false, ◌||◌, ℤ, List, [], ◌∷◌, ◌++◌, map, length, slice_index_or, All, Contains, Some, ◌⊎◌, ⊎_elim, inl, inr, refl, sym, ap, ◌∙◌, subst, arith, append_assoc, append-nil}
 use Rattle.std.specs.List.{flat_map, range_with_len}
 use Rattle.std.proofs.lemmas.List.{length-append, map-append}
@@ -37,7 +37,7 @@ one_among : (front behind : List Deed) (one deed : Deed) → one ∷ [] ≡ fron
 one_among [] behind one deed is = (refl, cc is, sym (cc is))
 one_among (x ∷ front) behind one deed is = absurd (none_among front behind deed (cc is))
 
--- one of two lists of deeds stands in the first or in the second
+-- one of two lists of deeds is in the first or in the second
 in_either : (xs ys front behind : List Deed) (deed : Deed) → xs ++ ys ≡ front ++ deed ∷ behind
     → ((more : List Deed) × (xs ≡ front ++ deed ∷ more) × (behind ≡ more ++ ys)) ⊎ ((back : List Deed) × (front ≡ xs ++ back) × (ys ≡ back ++ deed ∷ behind))
 in_either [] ys front behind deed is = inr (front, refl, is)
@@ -152,7 +152,7 @@ went_handing hists n old new hands = record {
 
 -- ---- the calls of a recorder
 
--- it was answered with the histogram of a `hist` record
+-- a call returned the histogram of a `hist` record
 pub went_asking : (hists : List HistRecord) (hist : HistRecord) (histogram : Hist) (old new : Actor) → Contains hists hist
     → IsAnsweredWith hist.name hist.spec histogram old new → WentOn hists [] old new
 went_asking hists hist histogram old new has (inl knew) = let (known, named, same, may, still) = knew in went_nowhere hists old new still
@@ -240,7 +240,7 @@ recorded_twice hists xs ys a b c one two = record {
       (two.own (subst (λ (r : Role). AreOf r b.deltas.taken) (sym one.role) (one.own all)));
 }
 
--- where it took no delta
+-- if it took no delta
 recorded_still : (hists : List HistRecord) (deeds : List Deed) (old new : Actor) → WentOn hists deeds old new → new.role ≡ old.role → new.deltas.taken ≡ old.deltas.taken
     → HasRecorded hists deeds old new
 recorded_still hists deeds old new went role taken = record { went = went; role = role; own = subst (λ (l : List Taken). AreOf old.role old.deltas.taken → AreOf old.role l) (sym taken) (λ all. all) }
@@ -288,7 +288,7 @@ names_shifted : (n : ℕ) (taken : List Taken) → map (λ (t : Taken). t.name) 
 names_shifted n [] = refl
 names_shifted n (t ∷ taken) = ap (λ (l : List (List ℕ)). t.name ∷ l) (names_shifted n taken)
 
--- an opener joins a recorder: it has gone on with what that recorder did
+-- an opener joins a recorder: it has then done what that recorder did
 pub went_joining : (hists : List HistRecord) (deeds : List Deed) (opener fresh recorder : Actor) → IsFresh fresh → WentOn hists deeds fresh recorder
     → WentOn hists deeds opener (joined opener recorder)
 went_joining hists deeds opener fresh recorder is went =
@@ -337,11 +337,11 @@ pub knows_of_recorder : (opener recorder : Actor) (hist : HistRecord) → KnowsO
 knows_of_recorder opener recorder hist knows =
     let (known, has, named, same) = knows in (known, Contains-append_right opener.answers.names recorder.answers.names known has, named, same)
 
--- a recorder that has gone on from nothing with the deeds of a number
+-- a recorder that had done nothing has done the deeds of a number
 abbrev pub Worked : List HistRecord → (ℕ → List Deed) → ℕ → Actor → Type 0
 Worked hists deeds number a = (fresh : Actor) × IsFresh fresh × WentOn hists (deeds number) fresh a
 
--- recorders are joined, one behind the other
+-- recorders are joined, one after the other
 pub went_joining_all : (hists : List HistRecord) (deeds : ℕ → List Deed) (first : ℕ) (opener : Actor) (recorders : List Actor)
     → ((k : ℕ) (d : Actor) → k < length recorders → Worked hists deeds (first + k) (slice_index_or recorders k d))
     → WentOn hists (flat_map deeds (range_with_len first (length recorders))) opener (all_joined opener recorders)

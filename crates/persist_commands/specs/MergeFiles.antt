@@ -1,4 +1,4 @@
--- What is written where two images are merged, and why nothing is.
+-- What is written when two images are merged, or why nothing is.
 use Rattle.std.specs.Prelude.{◌≡◌, ◌≢◌, ◌⊎◌, false, ℕ, ◌+◌, ◌<◌, List, [], ◌∷◌, ◌++◌, map, take, sum_by, Some, Ok, ⊤}
 use Rattle.std.specs.List.{Contains, flat_map}
 use Rattle.std.specs.declared.alloc.Global.{Global}
@@ -51,7 +51,7 @@ pub record AreMerged (base dead words : List ℕ) : Type 0 where
 abbrev pub HaveOtherSpec : List Histogram → Histogram → Type 0
 HaveOtherSpec hists h = (other : Histogram) × Contains hists other × (other.name ≡ h.name) × (¬ (SameSpec other.spec h.spec))
 
--- a histogram needs a block of so many words in a segment that reads so: its record, where none has the name; or, where one has, its counts or a sample
+-- a histogram needs a block of this many words in a segment that reads so: its record, if none has the name; else its counts or a sample
 abbrev pub NeedsBlockOf : List Histogram → Histogram → ℕ → Type 0
 NeedsBlockOf read h block =
     ((block ≡ record_words h.name h.spec) × ((g : Histogram) → Contains read g → g.name ≢ h.name))
@@ -62,8 +62,8 @@ abbrev pub entries_until : List Histogram → Histogram → ℕ → List Entry
 entries_until front h items = flat_map entries_left front ++ map (item_entry h.name (boundaries_of h.spec)) (take items (items_left h))
 
 -- There is no room for a histogram in a segment into which others were merged. The words of that segment are an image of the size and the page
--- of the first one that is merged. They read as exactly these others and, where it had room for so much, a record of the histogram,
--- with what was left of those and of so many of its items. From the free pointer the next block that it needs passes the end.
+-- of the first one that is merged. They read as exactly these others and, if there was room for it, a record of the histogram,
+-- with what was left of those and of as many of its items. From the free pointer the next block that it needs passes the end.
 pub record LacksRoomFor (first : SegmentHead) (front : List Histogram) (h : Histogram) : Type 0 where
   pub words : List ℕ
   pub header : header_of words ≡ Ok (head_of words)
@@ -80,8 +80,8 @@ pub record LacksRoomFor (first : SegmentHead) (front : List Histogram) (h : Hist
   pub needs : NeedsBlockOf reading.hists h block
   pub passes : first.shape.size < (head_of words).free + block
 
--- Why a merge stops at a histogram, in a new segment of the size and the page of the first one that is merged, behind others that are merged
--- and with so many units for all of them: its name or its spec is not lawful; its record or its counts have more words than a page; they cost more
+-- Why a merge stops at a histogram, in a new segment of the size and the page of the first one that is merged, after others that are merged
+-- and with this many units for all of them: its name or its spec is not valid; its record or its counts have more words than a page; they cost more
 -- units than there are; one of those before it has its name and another spec; or there is no room for it. No such segment is corrupt.
 abbrev pub MayStop : SegmentHead → ℕ → List Histogram → Histogram → Refusal → Type 0
 MayStop first units front h refusal.BadName = is_name h.name ≡ false
@@ -101,7 +101,7 @@ pub record StopsIn (first : SegmentHead) (units : ℕ) (hists : List Histogram) 
   pub named : last.name ≡ name
   pub cause : MayStop first units front last why
 
--- A merge of histograms is refused: there is no memory, or it stops at one of them.
+-- A merge of histograms is refused: memory runs out, or it stops at one of them.
 abbrev pub IsStopOf : SegmentHead → ℕ → List Histogram → CliFault → Type 0
 IsStopOf first units hists (Merge name why) = StopsIn first units hists name.items why
 IsStopOf first units hists NoMemory = ⊤
@@ -131,7 +131,7 @@ abbrev pub fault_of_stop : Vec ℕ Global → Refusal → CliFault
 fault_of_stop name refusal.NoMemory = NoMemory
 fault_of_stop name why = Merge name why
 
--- a fault of the merge of two images: one of the first; or of the second, where the first has none; or of the merge of both, in a segment of
+-- a fault of the merge of two images: one of the first; or of the second, if the first has none; or of the merge of both, in a segment of
 -- the shape of the first and with all units
 abbrev pub IsMergeFault : List ℕ → List ℕ → CliFault → Type 0
 IsMergeFault base dead fault =

@@ -16,7 +16,7 @@ use Rattle.live_segment.specs.declared.rule.Setting.{Setting}
 use Rattle.persist_report_core.specs.Script.{HistRecord, Script}
 use Rattle.persist_commands.specs.Entries.{Deed, Takes, deeds_of, deltas_among, deltas_of, entries_among, entries_of}
 
--- a delta of a name is taken, behind which there is none of the name
+-- a delta of a name is taken, and no later one of the name
 pub record LastDelta (deeds : List Deed) (name : List ℕ) : Type 0 where
   pub front : List Deed
   pub behind : List Deed
@@ -35,7 +35,7 @@ pub record HasOnlyOpened (a : Actor) : Type 0 where
   pub filled : a.done.filled ≡ false
   pub alone : outstanding_of a.role ≡ 0
 
--- a histogram has what its opener began with, and what entries add up to behind that
+-- a histogram has what its opener began with, and what entries add up to after that
 pub record IsTallyFrom (first : Actor) (entries : List Entry) (h : Histogram) : Type 0 where
   pub units : (key : ℤ) → units_read h key ≡ tally_units first.entries.first h.name key + tally_units entries h.name key
   pub sum : h.sum ≡ tally_sum first.entries.first h.name +ℤ tally_sum entries h.name
@@ -51,10 +51,10 @@ pub record AreTakenFrom (first : Actor) (entries : List Entry) (h : Histogram) :
   pub marks : (key : ℤ) → mark_read h key ≡ tally_units first.entries.first h.name key + tally_units entries h.name key
   pub sum_mark : h.sum_mark ≡ tally_sum first.entries.first h.name +ℤ tally_sum entries h.name
 
--- A reading of what a script records by so many workers in a segment that was opened so. The names are exactly those that its opener knew and those
+-- A reading of what a script records by this many workers in a segment that was opened so. The names are exactly those that its opener knew and those
 -- of the `hist` records, each once and with their spec. Each histogram has what the opener began with and the tally of the `add` records.
 -- One of which no `delta` record takes has the marks of the opening. Of each other a single worker has taken all that was there, and what the
--- `add` records in front of its last `delta` record add up to.
+-- `add` records before its last `delta` record add up to.
 pub record IsRecordedFrom (setting : Setting) (first : Actor) (script : Script) (workers : ℕ) (reading : Reading) : Type 0 where
   pub lawful : HasNoFault reading
   pub named : (name : List ℕ) → ((h : Histogram) × Contains reading.hists h × (h.name ≡ name))

@@ -37,7 +37,7 @@ pub record IsFresh (a : Actor) : Type 0 where
 abbrev pub IsAskedIn : List HistRecord → Known → Type 0
 IsAskedIn hists known = (hist : HistRecord) × Contains hists hist × (known.name ≡ hist.name) × SameSpec known.spec hist.spec
 
--- It has taken a delta of a name, which began when so many entries stood in its log, and behind it deltas of these names.
+-- It has taken a delta of a name, which began when its log had this many entries, and after it deltas of these names.
 pub record HasDelta (name : List ℕ) (entries : ℕ) (later : List (List ℕ)) (a : Actor) : Type 0 where
   pub front : List Taken
   pub delta : Taken
@@ -51,8 +51,8 @@ pub record HasDelta (name : List ℕ) (entries : ℕ) (later : List (List ℕ)) 
 abbrev pub AreOf : Role → List Taken → Type 0
 AreOf role taken = All (λ t. (t.moment.before ≡ made_of role) × (t.moment.outstanding ≡ outstanding_of role)) taken
 
--- A recorder, or an opener, has gone on and done these deeds: the entries stand at the end of its log, and the deltas behind those that it
--- had taken, each with what stood in the log when it began. All histograms that it came to know are those of `hist` records, and it has set no flag.
+-- A recorder, or an opener, has done these deeds: the entries are at the end of its log, and the deltas after those that it
+-- had taken, each with what was in the log when it began. All histograms that it came to know are those of `hist` records, and it has set no flag.
 pub record WentOn (hists : List HistRecord) (deeds : List Deed) (old new : Actor) : Type 0 where
   pub first : new.entries.first ≡ old.entries.first
   pub first_noted : new.entries.first_noted ≡ old.entries.first_noted
@@ -65,7 +65,7 @@ pub record WentOn (hists : List HistRecord) (deeds : List Deed) (old new : Actor
   pub spoiled : new.done.spoiled ≡ old.done.spoiled
   pub filled : new.done.filled ≡ old.done.filled
 
--- a recorder has gone on so, and is who it was: each delta that it took is its own
+-- a recorder has done these deeds and has the same role: each delta that it took is its own
 pub record HasRecorded (hists : List HistRecord) (deeds : List Deed) (old new : Actor) : Type 0 where
   pub went : WentOn hists deeds old new
   pub role : new.role ≡ old.role
@@ -86,7 +86,7 @@ HasAsked hists old new = WentOn hists [] old new × All (KnowsOf new) hists
 
 -- ---- an opener
 
--- it has made so many recorders, and nothing else has become of it
+-- it has made this many recorders, and nothing else has changed
 pub record HandsOut (recorders : ℕ) (old new : Actor) : Type 0 where
   pub entries : new.entries ≡ old.entries
   pub answers : new.answers ≡ old.answers
@@ -111,8 +111,8 @@ deeds_of_part script workers part = deeds_of script.hists (part_of workers part 
 abbrev pub HasWorked : Script → ℕ → ℕ → Actor → Actor → Type 0
 HasWorked script workers part old new = HasRecorded script.hists (deeds_of_part script workers part) old new
 
--- a worker that is to be started: its number, the script, and a recorder of a segment that has done nothing; so many were made before it
--- and are outstanding, beside those that its opener had made
+-- a worker that is to be started: its number, the script, and a recorder of a segment that has done nothing; as many were made before it
+-- and are outstanding, besides those that its opener had made
 pub record IsReady (segment : TableId) (opener : Actor) (script : code.Script) (workers number : ℕ) (part : Part) (has : code.Script) (recorder : Recorder) : Type 0 where
   pub number_is : part.part ≡ number
   pub workers_are : part.workers ≡ workers
@@ -122,10 +122,10 @@ pub record IsReady (segment : TableId) (opener : Actor) (script : code.Script) (
   pub before : made_of (view_of_recorder recorder).role ≡ made_of opener.role + number
   pub outstanding : outstanding_of (view_of_recorder recorder).role ≡ outstanding_of opener.role + number
 
--- a worker that was started has ended: its recorder is of the same segment, and where it ended well it has made all of its calls; else it
--- tells want of memory as such
+-- a worker that was started has ended: its recorder has the same segment, and if it ended well it has made all of its calls; else it
+-- reports out of memory as such
 pub record HasEnded (script : code.Script) (part : Part) (old : Recorder) (ended : Ended) : Type 0 where
-  pub at : ended.recorder.state.seat.table_id ≡ old.state.seat.table_id
+  pub kept : ended.recorder.segment ≡ old.segment
   pub worked : OnOk ended.outcome (HasWorked (script_view script) part.workers part.part (view_of_recorder old) (view_of_recorder ended.recorder))
   pub tells : IfErr ended.outcome StopTellsWant
 
@@ -143,16 +143,16 @@ EndedWell ended = ended.outcome ≡ Ok tt
 abbrev pub EndedAt : TableId → Ended → Type 0
 EndedAt segment ended = ended.recorder.state.seat.table_id ≡ segment
 
--- recorders are joined, one behind the other
+-- recorders are joined, one after the other
 abbrev pub all_joined : Actor → List Actor → Actor
 all_joined opener [] = opener
 all_joined opener (recorder ∷ rest) = all_joined (joined opener recorder) rest
 
--- what all workers do, the deeds of each behind one another
+-- what all workers do, the deeds of each one after the other
 abbrev pub deeds_of_all : Script → ℕ → List Deed
 deeds_of_all script workers = flat_map (deeds_of_part script workers) (range_with_len 0 workers)
 
--- The calls of a script were made by so many workers, whose recorders are joined. Of a single one each delta is that of the youngest recorder, made
+-- The calls of a script were made by this many workers, whose recorders are joined. Of a single one each delta is that of the youngest recorder, made
 -- when no more were outstanding than before.
 pub record HasRun (script : Script) (workers : ℕ) (old new : Actor) : Type 0 where
   pub recorded : WentOn script.hists (deeds_of_all script workers) old new

@@ -31,9 +31,9 @@ pub record AreTaken (entries : List Entry) (h : Histogram) : Type 0 where
   pub marks : (key : ℤ) → mark_read h key ≡ tally_units entries h.name key
   pub sum_mark : h.sum_mark ≡ tally_sum entries h.name
 
--- A reading of what a script records by so many workers: no record is bad, the list does not stop, and no flag is set. The names are
+-- A reading of what a script records by this many workers: no record is bad, the list does not stop, and no flag is set. The names are
 -- exactly those of the `hist` records, each once and with their spec. Each histogram has the tally of the `add` records. One of which no
--- `delta` record takes has no marks. Of each other a single worker has taken what the `add` records in front of its last `delta` record add up to.
+-- `delta` record takes has no marks. Of each other a single worker has taken what the `add` records before its last `delta` record add up to.
 pub record IsRecordingOf (script : Script) (workers : ℕ) (reading : Reading) : Type 0 where
   pub lawful : HasNoFault reading
   pub named : (name : List ℕ) → ((h : Histogram) × Contains reading.hists h × (h.name ≡ name)) ↔ ((hist : HistRecord) × Contains script.hists hist × (hist.name ≡ name))
@@ -47,7 +47,7 @@ pub record IsRecordingOf (script : Script) (workers : ℕ) (reading : Reading) :
   pub taken : workers ≡ 1 → (h : Histogram) → Contains reading.hists h → (delta : LastDelta (deeds_of script.hists script.calls) h.name)
       → AreTaken (entries_among delta.front) h
 
--- Words are the image of a segment in which a script was run by so many workers: it has the script's shape and id and is of version 2, and is read as what
+-- Words are the image of a segment in which a script was run by this many workers: it has the script's shape and id and is of version 2, and is read as what
 -- the script records.
 pub record IsImageOfRun (script : Script) (workers : ℕ) (words : List ℕ) : Type 0 where
   pub header : header_of words ≡ Ok (head_of words)
@@ -60,7 +60,7 @@ pub record IsImageOfRun (script : Script) (workers : ℕ) (words : List ℕ) : T
 abbrev pub IsReportOfImage : List ℕ → List ℕ → Type 0
 IsReportOfImage words text = (reading : Reading) × IsReading words (head_of words) reading × IsTextOf reading text
 
--- The bytes are a script that was run by so many workers, and not too many: the words are the image of the segment in which it was, and the text is their report.
+-- The bytes are a script, and not too many, that was run by this many workers: the words are the image of the segment in which it was run, and the text is its report.
 pub record IsRunOf (workers : ℕ) (bytes words text : List ℕ) : Type 0 where
   pub few : length bytes ≤ 16777216
   pub script : Script
@@ -79,7 +79,7 @@ fault_of_script (told.BadLine number) = cli.BadLine number
 fault_of_script (told.ZeroCount number) = cli.Refused number refusal.ZeroCount
 fault_of_script (told.NoUnits number) = cli.Refused number refusal.NoUnits
 
--- a fault that the run of a lawful script may end with: its cause is not in the script's bytes alone
+-- a fault that the run of a valid script may end with: its cause is not in the script's bytes alone
 abbrev pub MayEndRun : CliFault → Type 0
 MayEndRun cli.Write = ⊤
 MayEndRun cli.NoThread = ⊤
@@ -89,7 +89,7 @@ MayEndRun (cli.Refused number why) = ⊤
 MayEndRun _ = ⊥
 
 -- A fault of a run has its cause in the bytes of the script, which mean this: they are too many; or it is the first fault that they have as a
--- script; or they have none, and it came later. A device that fails and want of memory have none there.
+-- script; or they have none, and it came later. A device that fails and out of memory have none there.
 abbrev pub IsFaultOfScript : Result Script ScriptFault → List ℕ → CliFault → Type 0
 IsFaultOfScript meaning bytes cli.Read = ⊤
 IsFaultOfScript meaning bytes cli.NoMemory = ⊤

@@ -1,4 +1,4 @@
--- Why a run stops, and which of several stops is told.
+-- Why a run stops, and which of several stops is reported.
 use Rattle.std.specs.Prelude.{◌≡◌, ◌≢◌, ◌+◌, ◌≤◌, ℕ, List, Result, Ok, Err, ⊤}
 use Rattle.std.specs.List.{All, Contains}
 use Rattle.segment_calls.specs.declared.refusal.Refusal.TheVariants as refusal
@@ -14,23 +14,23 @@ fault_of_stop NoMemory = cli.NoMemory
 fault_of_stop Gate = cli.Gate
 fault_of_stop (Refused number why) = cli.Refused number why
 
--- A fault tells want of memory as such: where it refuses a record, the refusal has another cause.
+-- A fault reports out of memory as such: if it refuses a record, the refusal has another cause.
 abbrev pub TellsWant : CliFault → Type 0
 TellsWant (cli.Refused number why) = why ≢ refusal.NoMemory
 TellsWant _ = ⊤
 
--- a stop tells it so
+-- so does a stop
 abbrev pub StopTellsWant : Stop → Type 0
 StopTellsWant stop = TellsWant (fault_of_stop stop)
 
--- where a stop stands in the order in which stops are told: want of a thread, want of memory, the gate, and refusals in the order of their records
+-- the place of a stop in the order in which stops are reported: no thread, out of memory, the gate, and refusals in the order of their records
 abbrev pub rank_of : Stop → ℕ
 rank_of NoThread = 0
 rank_of NoMemory = 1
 rank_of Gate = 2
 rank_of (Refused number why) = 3 + number
 
--- How workers that ended so have ended together: well where all have; else with a stop that one of them met, and none met one that is told
+-- How workers that ended so have ended together: well if all have; else with a stop of one of them, and none has one that is reported
 -- before it.
 abbrev pub EndTogether : List (Result ⊤ Stop) → Result ⊤ Stop → Type 0
 EndTogether outcomes (Ok done) = All (λ outcome. outcome ≡ Ok tt) outcomes

@@ -1,4 +1,4 @@
-//! Jobs that run beside one another, each in a thread of its own.
+//! Jobs that run at the same time, each in a thread of its own.
 
 ghost use Rattle.std.specs.Prelude.{◌≡◌, ◌<◌, ℕ, length, slice_index_or, IfOk, All, ◌+◌, ◌*◌};
 
@@ -10,13 +10,13 @@ use std::thread::{Promise, Scope, Threads};
 
 /// What a thread is to do.
 pub(crate) trait Job {
-    /// What it gives when it has ended.
+    /// What it returns.
     type Output;
 
     /// When it can be done.
     ghost can_run: { Self → Type 0 };
 
-    /// What it may give.
+    /// What it may return.
     ghost gives: { Self → Self.Output → Type 0 };
 
     /// Does it.
@@ -25,7 +25,7 @@ pub(crate) trait Job {
         ensures { gives self result };
 }
 
-// That a thread's result is one that its job may give.
+// That a thread's result is one that its job may return.
 #[derive(Drop)]
 struct Given<J> {
     job: Snapshot<J>,
@@ -54,7 +54,7 @@ impl From<AllocError> for NotRun {
     }
 }
 
-// Starts a thread for the last job, beside it those for the jobs before it, and joins it. There is to be room for the results of all.
+// Starts a thread for the last job, then those for the jobs before it, and joins it. The vector gets room for all results.
 fn run_from<'s, 'e: 's, R: Threads, J: Job<Output = X> + Send + Drop + 's, X: Send + Drop + 's>(
     rt: &R,
     scope: &'s Scope<'s, &'e ()>,
@@ -90,10 +90,10 @@ fn run_from<'s, 'e: 's, R: Threads, J: Job<Output = X> + Send + Drop + 's, X: Se
     }
 }
 
-/// Runs each job in a thread of its own, beside the others, and gives their results in the order of the jobs. All threads that were
-/// started have ended then.
+/// Runs each job in a thread of its own, and returns their results in the order of the jobs. All threads that were started
+/// have ended then.
 ///
-/// `NoThread` where one could not be started: those before it in the list are not started then.
+/// `NoThread` if one could not be started: those before it in the list are then not started.
 pub(crate) fn run_beside<R: Threads + Wait, J: Job<Output = X> + Send + Drop, X: Send + Drop>(
     rt: &R,
     alloc: Global,

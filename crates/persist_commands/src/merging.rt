@@ -55,6 +55,7 @@ fn read_image<R: Read>(alloc: Global, reader: &mut Watched<R>) -> Result<Input, 
 
 // Merges a reading whole.
 fn merge_whole(alloc: Global, recorder: &mut Recorder, reading: &Reading) -> Result<(), CliFault>
+    ensures kept { recorder.new.segment ≡ recorder.old.segment }
     ensures same { KnowsOn recorder.old.state recorder.new.state }
     ensures merged { OnOk result (IsMerged (reading_view reading.now).hists (view_of_recorder recorder.old) (view_of_recorder recorder.new)) }
     ensures fault { IfErr result (HasStopped (reading_view reading.now).hists (view_of_recorder recorder.old) (view_of_recorder recorder.new)) }
@@ -80,14 +81,14 @@ fn fault_of(stop: MergeStop) -> CliFault
     }
 }
 
-// Merges two readings whole, one behind the other.
+// Merges two readings whole, one after the other.
 fn merge_both(
     alloc: Global,
     recorder: &mut Recorder,
     base: &Reading,
     dead: &Reading,
 ) -> Result<(), CliFault>
-    ensures beside { recorder.new.state.seat.table_id ≡ recorder.old.state.seat.table_id }
+    ensures kept { recorder.new.segment ≡ recorder.old.segment }
     ensures merged { OnOk result (IsMerged ((reading_view base.now).hists ++ (reading_view dead.now).hists) (view_of_recorder recorder.old) (view_of_recorder recorder.new)) }
     ensures fault { IfErr result (HasStopped ((reading_view base.now).hists ++ (reading_view dead.now).hists) (view_of_recorder recorder.old) (view_of_recorder recorder.new)) }
 {

@@ -12,7 +12,7 @@ use persist_report_core::ScriptHist;
 
 // Asks for the histograms of `hist` records in their order, up to the first that is refused.
 fn ask_all(recorder: &mut Recorder, hists: &[ScriptHist]) -> Result<(), Stop>
-    ensures beside { recorder.new.state.seat.table_id ≡ recorder.old.state.seat.table_id }
+    ensures kept { recorder.new.segment ≡ recorder.old.segment }
     ensures tells { IfErr result StopTellsWant }
     ensures asked { OnOk result (HasAsked (map hist_view hists.now) (view_of_recorder recorder.old) (view_of_recorder recorder.new)) }
 {

@@ -12,7 +12,7 @@ use segment_image::{Watched, write_words};
 use std::alloc::Global;
 use std::io::Write;
 
-/// The text of the report of an image.
+/// Returns the text of the report of an image.
 pub(crate) fn text_of_image(alloc: Global, words: &[u64]) -> Result<Vec<u8>, CliFault>
     requires { header_of words.now ≡ Ok (head_of words.now) }
     ensures text { IfOk result (λ text. IsReportOfImage words.now text.items) }
@@ -22,7 +22,7 @@ pub(crate) fn text_of_image(alloc: Global, words: &[u64]) -> Result<Vec<u8>, Cli
     Ok(report_text(alloc, &reading)?)
 }
 
-/// Writes the words of an image out to the device itself.
+/// Writes the words of an image to the device itself, and flushes it.
 pub(crate) fn write_image<I: Write>(writer: &mut Watched<I>, words: &[u64]) -> Result<(), CliFault>
     requires { has_failed writer.old ≡ false }
     ensures ok { OnOk result (Appends (I.contents (watched_inner writer.old)) (I.contents (watched_inner writer.new)) (bytes_of_words words.now)) }
@@ -31,17 +31,5 @@ pub(crate) fn write_image<I: Write>(writer: &mut Watched<I>, words: &[u64]) -> R
     ensures flushed { OnOk result (is_flushed writer.new ≡ true) }
 {
     write_words(writer, words).map_err(|_| CliFault::Write)?;
-    writer.flush().map_err(|_| CliFault::Write)
-}
-
-/// Writes a text out to the device itself.
-pub(crate) fn write_text<W: Write>(writer: &mut Watched<W>, text: &[u8]) -> Result<(), CliFault>
-    requires { has_failed writer.old ≡ false }
-    ensures ok { OnOk result (Appends (W.contents (watched_inner writer.old)) (W.contents (watched_inner writer.new)) text.now) }
-    ensures err { IfErr result (λ fault. fault ≡ CliFault.Write) }
-    ensures failed { has_failed writer.new ≡ is_err result }
-    ensures flushed { OnOk result (is_flushed writer.new ≡ true) }
-{
-    writer.write_all(text).map_err(|_| CliFault::Write)?;
     writer.flush().map_err(|_| CliFault::Write)
 }

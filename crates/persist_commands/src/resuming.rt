@@ -1,4 +1,4 @@
-//! A script is run in the segment of an image, which goes on.
+//! A script is run in the segment of an image, which continues.
 
 ghost use Rattle.std.specs.Prelude.{◌≡◌, ◌≢◌, ◌↔◌, ◌⊎◌, ◌≤◌, ℕ, List, false, true, IfOk, IfErr, IfSome, OnOk, IsErrOf};
 ghost use Rattle.std.specs.Io.KnownBytes.{Appends};
@@ -22,7 +22,7 @@ use std::io::{Read, Write};
 use std::sync::Wait;
 use std::thread::Threads;
 
-// An image that was adopted: its header, and the segment that goes on with it.
+// An image that was adopted: its header, and the segment that continues from it.
 #[derive(Drop)]
 struct Base {
     head: SegmentHead,
@@ -30,7 +30,7 @@ struct Base {
     opener: Opener,
 }
 
-// The segment that goes on with the words of an image, without shared cursors.
+// The segment that continues from the words of an image, without shared cursors.
 fn adopt_words(alloc: Global, words: &[u64]) -> Result<Base, CliFault>
     ensures base { IfOk result (λ base. IsAdopted words.now 0 base.segment base.opener × (base.head ≡ head_of words.now) × AreWordsOf (bytes_of_words words.now) words.now) }
     ensures cause { IfErr result (λ fault. IsFaultOfBase (bytes_of_words words.now) fault) }
@@ -51,7 +51,7 @@ fn adopt_words(alloc: Global, words: &[u64]) -> Result<Base, CliFault>
     })
 }
 
-// The segment that goes on with the image that the reader has left.
+// The segment that continues from the image that the reader has left.
 fn read_base<B: Read>(alloc: Global, reader: &mut Watched<B>) -> Result<Base, CliFault>
     requires { has_failed reader.old ≡ false }
     ensures base { IfOk result (λ base. (words : List ℕ) × IsAdopted words 0 base.segment base.opener × (base.head ≡ head_of words) × IfSome (B.remaining (watched_inner reader.old)) (λ bytes. AreWordsOf bytes words)) }

@@ -14,12 +14,12 @@ ghost use Rattle.persist_commands.specs.Stop.{EndTogether, StopTellsWant, TellsW
 use crate::beside::{NotRun, run_beside};
 use crate::gate::Gate;
 use crate::opening::make_histograms;
-use crate::outputs::{text_of_image, write_image, write_text};
+use crate::outputs::{text_of_image, write_image};
 use crate::scripts::take_script;
 use crate::stop::{Stop, both};
 use crate::worker::{Ended, Part, Worker, units_of};
 use live_segment::{Opener, Segment};
-use persist_report_core::{CliFault, Script};
+use persist_report_core::{CliFault, Script, write_and_flush};
 use segment_image::layout::VERSION_FROZEN;
 use segment_image::{Image, Watched};
 use std::alloc::Global;
@@ -65,7 +65,7 @@ fn make_workers<'w, G: Gate>(
     Ok(all)
 }
 
-// Joins the recorders of workers that have ended, and tells how they ended together.
+// Joins the recorders of workers that have ended, and returns how they ended together.
 fn join_all(opener: &mut Opener, all: Vec<Ended>) -> Result<(), Stop>
     requires at { All (EndedAt opener.old.seat.table_id) all.items }
     ensures same { IsSameOpener opener.old opener.new }
@@ -146,11 +146,11 @@ fn write_both<I: Write, W: Write>(
     ensures unbegun { has_failed image_out.new ≡ true → report_out.new ≡ report_out.old }
 {
     write_image(image_out, words)?;
-    write_text(report_out, text)
+    write_and_flush(report_out, text)
 }
 
-/// Runs a script in a segment that was just opened, a new one or one that goes on with an image. Writes the image of that segment, and
-/// then the report of that image.
+/// Runs a script in a segment that was just opened, a new one or one that continues from an image. Writes the image of that
+/// segment, and then the report of that image.
 pub(crate) fn run_in<R: Threads + Wait, I: Write, W: Write, G: Gate + Sync>(
     rt: &R,
     alloc: Global,
@@ -199,8 +199,8 @@ fn new_segment(alloc: Global, script: &Script) -> Result<(Segment, Opener), CliF
 /// segment in which it was run, and then the report of that image. The reader and the writers have not failed before.
 ///
 /// The histograms of the script are made first, in their order. Then each worker makes its calls, those whose number,
-/// from 0, leaves the worker's, less 1, when it is divided by the number of workers. The gate is asked before each,
-/// and told of it afterwards.
+/// from 0, leaves the worker's, less 1, when it is divided by the number of workers. The gate is called before each
+/// and after it.
 ///
 /// On `Ok` the script has at most 16,777,216 bytes and no fault. The bytes of an image were written, of the script's
 /// shape and id and of version 2, and then the report of that image. It reads as exactly the histograms of the

@@ -13,8 +13,8 @@ use segment_image::{SegmentHead, Watched};
 use std::alloc::Global;
 use std::io::Read;
 
-// What a command tells of a script that was read, or was not.
-fn told(read: Result<Script, ScriptFault>) -> Result<Script, CliFault>
+// What a command returns for a script that was read, or was not.
+fn taken(read: Result<Script, ScriptFault>) -> Result<Script, CliFault>
     ensures script { IfOk result (λ script. read ≡ Ok script) }
     ensures fault { IfErr result (λ fault. (why : _) × (read ≡ Err why) × (fault ≡ fault_of_script why)) }
     ensures read { IsErrOf result CliFault.Read ↔ IsErrOf read ScriptFault.Read }
@@ -50,10 +50,10 @@ pub(crate) fn take_script<S: Read>(
     ensures other { IfErr result (λ fault. fault ≢ CliFault.Write) }
     ensures tells { IfErr result TellsWant }
 {
-    told(read_script(alloc, reader, MAX_UNITS))
+    taken(read_script(alloc, reader, MAX_UNITS))
 }
 
-/// The script that the reader has left, for the segment of a header, which has so many units; or its first fault.
+/// The script that the reader has left, for the segment of a header with this number of units; or its first fault.
 pub(crate) fn take_script_for<S: Read>(
     alloc: Global,
     reader: &mut Watched<S>,
@@ -67,5 +67,5 @@ pub(crate) fn take_script_for<S: Read>(
     ensures other { IfErr result (λ fault. fault ≢ CliFault.Write) }
     ensures tells { IfErr result TellsWant }
 {
-    told(read_script_for(alloc, reader, head.shape, head.id, units as u64))
+    taken(read_script_for(alloc, reader, head.shape, head.id, units as u64))
 }

@@ -7,14 +7,15 @@ use persist_report_core::CliFault;
 use segment_calls::Refusal;
 use std::alloc::AllocError;
 
-/// Why nothing is written. The first kind that is met is told, and of refusals that of the record with the least number.
+/// Why nothing is written. If workers stop for several reasons, the first kind of these is reported, and of refusals that of
+/// the record with the least number.
 #[derive(Clone, Copy, Debug, PartialEq, Eq)]
 pub(crate) enum Stop {
     /// A worker could not be started.
     NoThread,
-    /// There was no memory.
+    /// Memory ran out.
     NoMemory,
-    /// The gate let a call not come.
+    /// The gate did not let a call be made.
     Gate,
     /// What the record of this number asks for was refused.
     Refused { number: u32, why: Refusal },
@@ -51,7 +52,7 @@ impl Stop {
     ghost use Rattle.std.specs.Prelude.{◌≡◌};
     ghost use Rattle.persist_commands.specs.Stop.{StopTellsWant, rank_of};
 
-    /// The refusal of what a record asks for.
+    /// Returns the stop for what a record asks for that was refused.
     pub(crate) fn refused(number: u32, why: Refusal) -> Stop
         ensures { StopTellsWant result }
     {
@@ -61,7 +62,7 @@ impl Stop {
         }
     }
 
-    // Those that are told first are least.
+    // Those that are reported first are least.
     fn rank(&self) -> u64
         ensures { result ≡ rank_of self.now }
     {
@@ -74,7 +75,7 @@ impl Stop {
     }
 }
 
-/// How two workers ended together: well where both did, else with the stop that is told first.
+/// Returns how two workers ended together: well if both did, else with the stop that is reported first.
 pub(crate) fn both(one: Result<(), Stop>, other: Result<(), Stop>) -> Result<(), Stop>
     ensures { EndTogether (one ∷ other ∷ []) result }
 {

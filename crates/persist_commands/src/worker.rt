@@ -41,7 +41,7 @@ pub(crate) struct Ended<'w> {
     pub(crate) outcome: Result<(), Stop>,
 }
 
-/// The units of a worker's calls.
+/// Returns the units of a worker's calls.
 pub(crate) fn units_of(calls: &[ScriptCall], part: Part) -> u32
     requires { 0 < part.workers }
 {
@@ -64,7 +64,7 @@ fn is_in(number: usize, part: Part) -> bool
     number % part.workers as usize == part.part as usize
 }
 
-// The histogram of a `hist` record, which is asked for at its first use.
+// The histogram of a `hist` record. The recorder is asked for it at its first use.
 fn meet(
     recorder: &mut Recorder,
     hists: &[ScriptHist],
@@ -73,7 +73,7 @@ fn meet(
 ) -> Result<Hist, Refusal>
     requires len { length met.old ≡ length hists.now }
     requires met { HaveMet (map hist_view hists.now) recorder.old met.old }
-    ensures beside { recorder.new.state.seat.table_id ≡ recorder.old.state.seat.table_id }
+    ensures kept { recorder.new.segment ≡ recorder.old.segment }
     ensures went { OnOk result (HasRecorded (map hist_view hists.now) [] (view_of_recorder recorder.old) (view_of_recorder recorder.new)) }
     ensures met { OnOk result (HaveMet (map hist_view hists.now) recorder.new met.new) }
     ensures found { IfOk result (λ histogram. (hist : HistRecord) × (slice_get (map hist_view hists.now) index ≡ Some hist) × IsNamed hist.name hist.spec recorder.new.state histogram) }
@@ -92,6 +92,7 @@ fn meet(
 // Makes a call on a histogram.
 fn record_call(recorder: &mut Recorder, histogram: Hist, kind: CallKind) -> Result<(), Refusal>
     requires { Knows recorder.old.state histogram }
+    ensures kept { recorder.new.segment ≡ recorder.old.segment }
     ensures same { IsSameRecorder recorder.old.state recorder.new.state }
     ensures went { OnOk result ((hists : List HistRecord) (hist : HistRecord) → IsNamed hist.name hist.spec recorder.old.state histogram → HasRecorded hists (deeds_in (Some hist) kind) (view_of_recorder recorder.old) (view_of_recorder recorder.new)) }
 {
@@ -104,7 +105,7 @@ fn record_call(recorder: &mut Recorder, histogram: Hist, kind: CallKind) -> Resu
     }
 }
 
-// Makes a call of a worker, which are both numbered from 1, between its two calls of the gate.
+// Makes a call of a worker between the two calls of the gate. `place` has the numbers of the worker and the call, from 1.
 fn make_call<G: Gate>(
     recorder: &mut Recorder,
     hists: &[ScriptHist],
@@ -115,7 +116,7 @@ fn make_call<G: Gate>(
 ) -> Result<(), Stop>
     requires len { length met.old ≡ length hists.now }
     requires met { HaveMet (map hist_view hists.now) recorder.old met.old }
-    ensures beside { recorder.new.state.seat.table_id ≡ recorder.old.state.seat.table_id }
+    ensures kept { recorder.new.segment ≡ recorder.old.segment }
     ensures tells { IfErr result StopTellsWant }
     ensures went { OnOk result (HasRecorded (map hist_view hists.now) (deeds_of_call (map hist_view hists.now) call.now) (view_of_recorder recorder.old) (view_of_recorder recorder.new)) }
     ensures met { OnOk result (HaveMet (map hist_view hists.now) recorder.new met.new) }
@@ -148,7 +149,7 @@ fn make_if_own<G: Gate>(
     requires part { part.part < part.workers }
     requires len { length met.old ≡ length hists.now }
     requires met { HaveMet (map hist_view hists.now) recorder.old met.old }
-    ensures beside { recorder.new.state.seat.table_id ≡ recorder.old.state.seat.table_id }
+    ensures kept { recorder.new.segment ≡ recorder.old.segment }
     ensures tells { IfErr result StopTellsWant }
     ensures went { OnOk result (HasRecorded (map hist_view hists.now) (deeds_of (map hist_view hists.now) (part_from number part.workers part.part (call.now ∷ []))) (view_of_recorder recorder.old) (view_of_recorder recorder.new)) }
     ensures met { OnOk result (HaveMet (map hist_view hists.now) recorder.new met.new) }
@@ -163,7 +164,7 @@ fn make_if_own<G: Gate>(
     make_call(recorder, hists, met, gate, place, call)
 }
 
-// No histogram of so many was asked for.
+// No histogram was asked for yet.
 fn none_met(alloc: Global, hists: usize) -> Result<Vec<Option<Hist>>, AllocError>
     ensures { IfOk result (λ met. met.items ≡ replicate hists None) }
 {
@@ -182,7 +183,7 @@ fn make_own<G: Gate>(
     requires part { part.part < part.workers }
     requires len { length met.old ≡ length hists.now }
     requires met { HaveMet (map hist_view hists.now) recorder.old met.old }
-    ensures beside { recorder.new.state.seat.table_id ≡ recorder.old.state.seat.table_id }
+    ensures kept { recorder.new.segment ≡ recorder.old.segment }
     ensures tells { IfErr result StopTellsWant }
     ensures went { OnOk result (HasRecorded (map hist_view hists.now) (deeds_of (map hist_view hists.now) (part_of part.workers part.part calls.now)) (view_of_recorder recorder.old) (view_of_recorder recorder.new)) }
 {
@@ -201,7 +202,7 @@ fn make_calls<G: Gate>(
     part: Part,
 ) -> Result<(), Stop>
     requires { part.part < part.workers }
-    ensures beside { recorder.new.state.seat.table_id ≡ recorder.old.state.seat.table_id }
+    ensures kept { recorder.new.segment ≡ recorder.old.segment }
     ensures tells { IfErr result StopTellsWant }
     ensures worked { OnOk result (HasWorked (script_view script.now) part.workers part.part (view_of_recorder recorder.old) (view_of_recorder recorder.new)) }
 {

@@ -1,4 +1,4 @@
-use Rattle.std.proofs.Common.{rules, ◌≡◌, false, List, ◌++◌, map, refl, ap, ◌∙◌, subst}
+use Rattle.std.proofs.Common.{rules, ◌≡◌, false, List, ◌++◌, map, refl, ap, sym, ◌∙◌, subst}
 use Rattle.std.proofs.lemmas.Result.{err_from_is_err_and}
 use Rattle.bucket_ranges.specs.Reading.{Histogram}
 use Rattle.image_reader.specs.Views.{histogram_view}
@@ -10,10 +10,15 @@ use Rattle.segment_machine.specs.Seats.{newcomer, offering, parent}
 use Rattle.segment_merge.specs.Merge.{IsMerged}
 use Rattle.segment_merge.proofs.MergedImage.{merged_image}
 use Rattle.persist_commands.specs.MergeFiles.{HasStopped}
+use Rattle.persist_commands.proofs.Meetings.{table_kept}
 use Rattle.persist_commands.proofs.MergeClosed.{IsClosed, closed_so}
 use Rattle.persist_commands.proofs.MergeFaults.{stop_told}
 use Rattle.persist_commands.proofs.MergeOutcomes.{all_given}
 use Rattle.persist_commands.proofs.merging.merge_inputs.Goals as goal
+
+pub join-requires : goal.join-requires
+join-requires c =
+    table_kept c.in-Ok-recorder.recorder c.merge_both-merged.new.recorder c.merge_both-merged.ensures.kept ∙ c.in-Ok-recorder.ensures.into ∙ sym c.recorder.ensures.made.table
 
 pub returns-in_err-merged-clause-fault : goal.returns-in_err-merged-clause-fault
 returns-in_err-merged-clause-fault c =

@@ -26,7 +26,7 @@ loop-hist-preserved c =
     (subst (λ (name : List ℕ). IsNamed name x.spec c.hist.new.self.state c.in_default.field-0) c.deref.ensures.value c.in_default.ensures.named)
     (subst (λ (name : List ℕ). IsAnsweredWith name x.spec c.in_default.field-0 (view_of_recorder c.loop-hist.recorder) (view_of_recorder c.hist.new.self)) c.deref.ensures.value
     c.in_default.ensures.answer) in
-    (c.in_default.ensures.same.table ∙ at.0, next.0, next.1)
+    (c.hist.ensures.kept ∙ at.0, next.0, next.1)
 
 pub returns-clause-asked : goal.returns-clause-asked
 returns-clause-asked c =

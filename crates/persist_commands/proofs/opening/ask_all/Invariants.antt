@@ -6,6 +6,6 @@ use Rattle.persist_commands.proofs.opening.ask_all.Given as goal
 
 abbrev pub invariant-loop-hist : goal.invariant-loop-hist
 invariant-loop-hist l =
-    (l.recorder.state.seat.table_id ≡ l.fn.recorder.state.seat.table_id)
+    (l.recorder.segment ≡ l.fn.recorder.segment)
     × WentOn (map hist_view l.hists) [] (view_of_recorder l.fn.recorder) (view_of_recorder l.recorder)
     × All (KnowsOf (view_of_recorder l.recorder)) (map hist_view (take l.hist-index l.hists))

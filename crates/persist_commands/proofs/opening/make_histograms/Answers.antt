@@ -1,12 +1,15 @@
-use Rattle.std.proofs.Common.{◌≡◌, map}
+use Rattle.std.proofs.Common.{◌≡◌, ◌∙◌, sym, map}
 use Rattle.segment_image.specs.Checks.{first_fault}
 use Rattle.segment_machine.specs.Seats.{newcomer, offering}
 use Rattle.live_segment.specs.RecorderState.{given_fresh}
 use Rattle.live_segment.specs.Steps.{recorder_checks}
 use Rattle.live_segment.specs.Holders.{view_of_opener, view_of_recorder}
 use Rattle.persist_report_core.specs.Script.{hist_view}
-use Rattle.persist_commands.proofs.Meetings.{not_refused, opened_so}
+use Rattle.persist_commands.proofs.Meetings.{not_refused, opened_so, table_kept}
 use Rattle.persist_commands.proofs.opening.make_histograms.Goals as goal
+
+pub join-requires : goal.join-requires
+join-requires c = table_kept c.in-Ok.recorder c.ask_all.new.recorder c.ask_all.ensures.kept ∙ c.in-Ok.ensures.into ∙ sym c.recorder.ensures.made.table
 
 pub returns-clause-opened : goal.returns-clause-opened
 returns-clause-opened c =

@@ -5,8 +5,8 @@ use Rattle.persist_commands.proofs.scripts.take_script.Goals as goal
 
 pub returns-clause-script : goal.returns-clause-script
 returns-clause-script g c =
-    taken_so (g.S.Read.remaining (watched_inner c.args.reader.now)) (script_of 4294967295) c.read_script.result c.told.result c.read_script.ensures.answer c.told.ensures.script
+    taken_so (g.S.Read.remaining (watched_inner c.args.reader.now)) (script_of 4294967295) c.read_script.result c.taken.result c.read_script.ensures.answer c.taken.ensures.script
 
 pub returns-clause-cause : goal.returns-clause-cause
 returns-clause-cause g c =
-    untaken_so (g.S.Read.remaining (watched_inner c.args.reader.now)) (script_of 4294967295) c.read_script.result c.told.result c.read_script.ensures.answer c.told.ensures.fault
+    untaken_so (g.S.Read.remaining (watched_inner c.args.reader.now)) (script_of 4294967295) c.read_script.result c.taken.result c.read_script.ensures.answer c.taken.ensures.fault

@@ -17,7 +17,7 @@ pub loop-number-preserved : goal.loop-number-preserved
 loop-number-preserved g c =
     let at = c.loop-number.invariant in
     let one = c.in_ok-make_if_own.ensures in (
-      one.beside ∙ at.0,
+      one.kept ∙ at.0,
       search rules,
       one.met,
       calls_next_at (map hist_view c.args.hists.now) c.args.calls.now c.loop-number.number c.args.part.workers c.args.part.part _

@@ -8,5 +8,5 @@ use Rattle.persist_commands.proofs.worker.make_own.Given as goal
 
 abbrev pub invariant-loop-number : goal.invariant-loop-number
 invariant-loop-number g l =
-    (l.recorder.state.seat.table_id ≡ l.fn.recorder.state.seat.table_id) × (length l.met ≡ length l.hists) × HaveMet (map hist_view l.hists) l.recorder l.met
+    (l.recorder.segment ≡ l.fn.recorder.segment) × (length l.met ≡ length l.hists) × HaveMet (map hist_view l.hists) l.recorder l.met
     × HasRecorded (map hist_view l.hists) (deeds_of (map hist_view l.hists) (part_of l.part.workers l.part.part (take l.number l.calls))) (view_of_recorder l.fn.recorder) (view_of_recorder l.recorder)

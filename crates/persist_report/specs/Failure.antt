@@ -1,4 +1,4 @@
--- Why the program did not do what it was asked to, and the status with which it then ends.
+-- Why the program did not do what it was asked to, and its exit status then.
 use Rattle.std.specs.Prelude.{◌≡◌, ◌≢◌, ◌⊎◌, ⊤, ℕ}
 use Rattle.clap.specs.Words.{kind_of}
 use Rattle.clap.specs.declared.error.Error.{Error}
@@ -11,8 +11,8 @@ use Rattle.persist_report.specs.declared.failure.Failure.TheVariants.{Usage, Fau
 use Rattle.persist_report.specs.declared.lock.Unopened.{Unopened}
 use Rattle.persist_report.specs.declared.lock.Unopened.TheVariants as unopened
 
--- the status of a fault: 3 for bytes that are no image or no script, and for what is refused, as an image that is to be
--- recorded into again; 4 for a device that failed; 5 for want of a thread or of memory
+-- the status of a fault: 3 if the bytes are no image or no script, or what they ask for is refused; 4 if a device failed; 5
+-- if a thread could not be started or memory ran out
 abbrev pub fault_status : CliFault → ℕ
 fault_status Read = 4
 fault_status Write = 4
@@ -28,34 +28,34 @@ fault_status NoMemory = 5
 fault_status (Adopt fault) = 3
 fault_status NoSegment = 3
 
--- the status of a failure: 2 for a command line that asks for nothing that the program does, and 4 for a file that another
--- has locked
+-- the status of a failure: 2 for a command line that the program does not support, and 4 for a file that another process has
+-- locked
 abbrev pub failure_status : Failure → ℕ
 failure_status (Usage error) = 2
 failure_status (Fault fault) = fault_status fault
 failure_status (Explained fault lines) = fault_status fault
 failure_status (Busy lines) = 4
 
--- what an error of the command line's parse comes to: want of memory is no mistake in the words
+-- what the failure is if the command line is not parsed: out of memory is no mistake in the words
 abbrev pub IsFailureOf : Error → Failure → Type 0
 IsFailureOf error failure =
     ((kind_of error ≡ OutOfMemory) × (failure ≡ Fault NoMemory))
     ⊎ ((kind_of error ≢ OutOfMemory) × (failure ≡ Usage error))
 
--- neither help, nor the version, nor want of memory
+-- neither help, nor the version, nor out of memory
 pub record IsMistake (kind : ErrorKind) : Type 0 where
   pub no_help : kind ≢ DisplayHelp
   pub no_version : kind ≢ DisplayVersion
   pub no_want : kind ≢ OutOfMemory
 
--- a failure of usage has a mistake in the words as its cause
+-- a failure of usage is caused by a mistake in the words
 abbrev pub UsageIsMistake : Failure → Type 0
 UsageIsMistake (Usage error) = IsMistake (kind_of error)
 UsageIsMistake (Fault fault) = ⊤
 UsageIsMistake (Explained fault lines) = ⊤
 UsageIsMistake (Busy lines) = ⊤
 
--- why a file is not locked: another has its lock, or the system cannot lock it
+-- why a file is not locked: another process has its lock, or the system cannot lock it
 abbrev pub IsBusyOrWrite : Unopened → Type 0
 IsBusyOrWrite unopened.Busy = ⊤
 IsBusyOrWrite (unopened.Failed cause) = cause.fault ≡ Write

@@ -7,7 +7,7 @@ use persist_report_core::CliFault;
 use std::alloc::AllocError;
 use std::io;
 
-/// A fault, and the reason that the system gave for it, where it gave one.
+/// A fault, and the reason that the system gave for it, if it gave one.
 #[derive(Drop)]
 pub struct Cause {
     pub fault: CliFault,
@@ -15,7 +15,7 @@ pub struct Cause {
 }
 
 impl Cause {
-    /// Returns the cause with this fault, for which the system gave a reason.
+    /// Returns the cause with this fault, for which the system gave this reason.
     pub fn of(fault: CliFault, reason: io::Error) -> Cause
         ensures { result.fault ≡ fault }
     {

@@ -1,8 +1,9 @@
-//! The lines that follow the line of a fault, where they are asked for.
+//! The lines that follow the line of a fault, if they are asked for.
 
 ghost use Rattle.persist_report.specs.Failure.{UsageIsMistake};
 
 use crate::cause::Cause;
+use crate::context::Context;
 use crate::failure::Failure;
 use crate::lock::Unopened;
 use fault_texts::{
@@ -13,20 +14,20 @@ use persist_report_core::CliFault;
 use std::alloc::{AllocError, Global};
 use std::io;
 
-/// What a command knows behind a fault.
+/// What a command knows of a fault.
 #[derive(Clone, Copy)]
 pub struct Known<'a, 'b> {
     /// The input that was read last.
     pub input: Source<'a, 'b>,
-    /// The image that was read before it, of two inputs.
+    /// Of two inputs, the image that was read first.
     pub base: Option<Source<'a, 'b>>,
-    /// What failed, where it is a fault of a device.
+    /// What failed, if it is a fault of a device.
     pub device: Origin<'a>,
     /// The reason that the system gave for it.
     pub reason: Option<io::Error>,
 }
 
-// The lines of a record of a script, and what the image has that is recorded into again, where there is one.
+// The lines of a record of a script, and what BASE has of it, if there is one.
 fn record_lines(
     alloc: Global,
     fault: &CliFault,
@@ -64,22 +65,26 @@ fn lines_of(alloc: Global, fault: &CliFault, known: Known<'_, '_>) -> Result<Str
     Ok(lines)
 }
 
-/// Returns the failure of a fault, with the lines that follow it where the command `explains`. `Usage` comes only for
-/// a mistake on the command line. Where memory runs out for the lines, the fault stands alone.
-pub fn told(alloc: Global, fault: CliFault, explains: bool, known: Known<'_, '_>) -> Failure
+/// Returns the failure of a fault, with the lines that follow it if the command explains its faults. `Usage` comes
+/// only for a mistake on the command line. If memory runs out for the lines, there are none.
+pub fn failure_of<R: AllocGlobal>(
+    context: &Context<'_, R>,
+    fault: CliFault,
+    known: Known<'_, '_>,
+) -> Failure
     ensures { UsageIsMistake result }
 {
-    if !explains {
+    if !context.explains {
         return Failure::Fault(fault);
     }
-    match lines_of(alloc, &fault, known) {
+    match lines_of(context.alloc(), &fault, known) {
         Ok(lines) => Failure::Explained(fault, lines),
         Err(_) => Failure::Fault(fault),
     }
 }
 
-/// Returns the failure where a file could not be opened; `Usage` comes only for a mistake on the command line.
-pub fn unopened(alloc: Global, cause: Cause, explains: bool, path: &str) -> Failure
+/// Returns the failure of a file that could not be opened; `Usage` comes only for a mistake on the command line.
+pub fn unopened<R: AllocGlobal>(context: &Context<'_, R>, cause: Cause, path: &str) -> Failure
     ensures { UsageIsMistake result }
 {
     let Cause { fault, reason } = cause;
@@ -94,10 +99,10 @@ pub fn unopened(alloc: Global, cause: Cause, explains: bool, path: &str) -> Fail
         device,
         reason,
     };
-    told(alloc, fault, explains, known)
+    failure_of(context, fault, known)
 }
 
-// The lines that follow where another has the lock of a file.
+// The lines that follow if another process has the lock of a file.
 fn busy_lines(alloc: Global, path: &str) -> Result<String, AllocError> {
     let mut lines = device_lines(alloc, Origin::File(path), None)?;
     let more = remedy_lines_of(alloc, "Busy")?;
@@ -105,17 +110,17 @@ fn busy_lines(alloc: Global, path: &str) -> Result<String, AllocError> {
     Ok(lines)
 }
 
-/// Returns the failure where the file that a command writes was not opened; `Usage` comes only for a mistake on the
-/// command line.
-pub fn unopened_out(alloc: Global, why: Unopened, explains: bool, path: &str) -> Failure
+/// Returns the failure of a file to be written that was not opened; `Usage` comes only for a mistake on the command
+/// line.
+pub fn unopened_out<R: AllocGlobal>(context: &Context<'_, R>, why: Unopened, path: &str) -> Failure
     ensures { UsageIsMistake result }
 {
     match why {
-        Unopened::Failed(cause) => unopened(alloc, cause, explains, path),
-        Unopened::Busy if explains => match busy_lines(alloc, path) {
+        Unopened::Failed(cause) => unopened(context, cause, path),
+        Unopened::Busy if context.explains => match busy_lines(context.alloc(), path) {
             Ok(lines) => Failure::Busy(lines),
-            Err(_) => Failure::Busy(String::new(alloc)),
+            Err(_) => Failure::Busy(String::new(context.alloc())),
         },
-        Unopened::Busy => Failure::Busy(String::new(alloc)),
+        Unopened::Busy => Failure::Busy(String::new(context.alloc())),
     }
 }

@@ -4,24 +4,21 @@ ghost use Rattle.std.specs.Prelude.{◌≡◌, false, IfErr};
 ghost use Rattle.persist_report.specs.Failure.{UsageIsMistake};
 ghost use Rattle.segment_image.specs.Watched.{has_failed};
 
-use crate::explaining::{Known, told};
+use crate::context::Context;
 use crate::failure::Failure;
-use crate::files::{failed_device, open_copying, open_out, source_of};
-use crate::noted::Noted;
+use crate::files::{end, open, open_out};
 use crate::nth::Nth;
-use fault_texts::Origin;
-use persist_report_core::CliFault;
+use persist_report_core::{CliFault, write_and_flush};
 use segment_image::Watched;
 use segment_search::{SearchFault, extract};
-use std::alloc::{AllocError, Global};
+use std::alloc::Global;
 use std::fs::File;
-use std::io;
 use std::io::{Read, Write};
 use std::random::RandomSource;
 use std::rt::Files;
 use std::time::Clock;
 
-// The fault of the program that a fault of a search is.
+// The fault of the program for a fault of a search.
 fn fault_of(fault: SearchFault) -> CliFault {
     match fault {
         SearchFault::NoMemory => CliFault::NoMemory,
@@ -32,60 +29,45 @@ fn fault_of(fault: SearchFault) -> CliFault {
     }
 }
 
-// Writes a line with a number.
-fn write_line<W: Write>(alloc: Global, writer: &mut W, number: u64) -> Result<(), CliFault> {
-    let line: Result<String, AllocError> = format!(in alloc; "{number}\n");
-    writer
-        .write_all(line?.as_bytes())
-        .map_err(|_| CliFault::Write)?;
-    writer.flush().map_err(|_| CliFault::Write)
-}
-
-// Writes the image of a segment, and then the line that says how many bytes stand before it.
+// Writes the image of a segment, and then a line with the number of bytes before it.
 fn extract_both<I: Read, W: Write, L: Write>(
     alloc: Global,
     reader: &mut Watched<I>,
     nth: Nth,
     image: &mut Watched<W>,
-    line: &mut L,
+    line: &mut Watched<L>,
 ) -> Result<(), CliFault>
-    requires went { has_failed reader.old ≡ false }
-    requires sound { has_failed image.old ≡ false }
+    requires reader { has_failed reader.old ≡ false }
+    requires image { has_failed image.old ≡ false }
+    requires line { has_failed line.old ≡ false }
 {
     let place = extract(alloc, reader, nth.number(), image).map_err(fault_of)?;
-    write_line(alloc, line, place)
+    let text: String = format!(in alloc; "{place}\n")?;
+    write_and_flush(line, text.as_bytes())
 }
 
 /// Finds a segment in a file, writes its image to another, and to standard output how many bytes come before it. The
 /// image takes the other file's place after that line. No copy is kept of what is read: it may be long. `Usage` comes
 /// only for a mistake on the command line.
 pub fn extract_file<'a, R: Files<File = File> + Clock + Print + RandomSource + AllocGlobal>(
-    rt: &R,
+    context: &Context<'_, R>,
     file: &'a str,
     out: &'a str,
     nth: Nth,
-    explains: bool,
 ) -> Result<(), Failure>
     ensures { IfErr result UsageIsMistake }
 {
-    let mut reader = open_copying(rt, file, false, explains)?;
-    let mut image = open_out(rt, out, explains)?;
-    let mut line = Noted::new(io::writer(rt));
-    let outcome = extract_both(rt.alloc(), &mut reader, nth, &mut image, &mut line);
-    let (reader, image) = (reader.into_inner(), image.into_inner());
-    let written = image.reason();
-    let Err(cause) = image.into_inner().end(rt, outcome) else {
-        return Ok(());
-    };
-    let origin = Origin::File(file);
-    let input = (origin, reader.reason());
-    let output = (out, cause.reason.or(written));
-    let (device, reason) = failed_device(&cause.fault, input, line.reason(), output);
-    let known = Known {
-        input: source_of(origin, &reader),
-        base: None,
-        device,
+    let mut reader = open(context, file, None)?;
+    let mut image = open_out(context, out)?;
+    let mut line = context.output();
+    let outcome = extract_both(context.alloc(), &mut reader, nth, &mut image, &mut line);
+    let reason = line.into_inner().reason();
+    end(
+        context,
+        outcome,
+        None,
+        &reader.into_inner(),
+        image.into_inner(),
         reason,
-    };
-    Err(told(rt.alloc(), cause.fault, explains, known))
+    )
 }

@@ -1,4 +1,4 @@
-//! Why the program did not do what it was asked to, and the status with which it then ends.
+//! Why the program did not do what it was asked to, and its exit status then.
 
 ghost use Rattle.std.specs.Prelude.{◌≡◌};
 ghost use Rattle.persist_report.specs.Failure.{IsFailureOf, failure_status, fault_status};
@@ -11,20 +11,20 @@ use std::alloc::AllocError;
 use std::fmt;
 
 /// Why the program did not do what it was asked to. Its text is whole lines for the error stream.
-#[derive(Debug, Drop)]
+#[derive(Drop)]
 pub enum Failure {
-    /// The command line asks for nothing that the program does.
+    /// The command line is not one that the program supports.
     Usage(clap::Error),
     /// What it asks for failed.
     Fault(CliFault),
     /// It failed, and these lines follow the line of the fault.
     Explained(CliFault, String),
-    /// Another has the lock of the file that it writes. These lines follow, where there are any.
+    /// Another process has the lock of the file that it writes. These lines follow, if there are any.
     Busy(String),
 }
 
 impl Failure {
-    /// Returns the status with which the program ends: 2 for `Usage`, 4 for `Busy`, and else that of the fault.
+    /// Returns the exit status: 2 for `Usage`, 4 for `Busy`, else that of the fault.
     pub fn status(&self) -> u8
         ensures { result ≡ failure_status self.now }
     {
@@ -36,8 +36,8 @@ impl Failure {
     }
 }
 
-/// The status of a fault: 3 where the bytes are no image or no script, or what they ask for is refused; 4 where a device
-/// failed; 5 for want of a thread or of memory.
+/// Returns the exit status of a fault: 3 if the bytes are no image or no script, or what they ask for is refused; 4 if a
+/// device failed; 5 if a thread could not be started or memory ran out.
 fn fault_status(fault: &CliFault) -> u8
     ensures { result ≡ fault_status fault.now }
 {
@@ -70,7 +70,7 @@ impl From<AllocError> for Failure {
 impl From<clap::Error> for Failure {
     ghost from_gives = { IsFailureOf };
 
-    // Reading the command line takes memory too, and the want of it is no mistake in the words.
+    // Reading the command line takes memory too. If it runs out, that is no mistake in the words.
     fn from(error: clap::Error) -> Failure {
         if error.kind() == ErrorKind::OutOfMemory {
             Failure::Fault(CliFault::NoMemory)

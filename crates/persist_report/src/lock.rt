@@ -8,7 +8,7 @@ use std::fs::{File, TryLockError};
 use std::thread;
 use std::time::{Clock, Duration};
 
-// For how long a lock is tried: 100 ms, since one who only looks at a file may have it for less.
+// How often a lock is tried: for 100 ms, since a process that only looks at a file may have it for less.
 const MOST_TRIES: u32 = 50;
 
 const NAP_MILLISECONDS: u64 = 2;
@@ -16,9 +16,9 @@ const NAP_MILLISECONDS: u64 = 2;
 /// Why the file that a command writes was not opened.
 #[derive(Drop)]
 pub enum Unopened {
-    /// Another has its lock.
+    /// Another process has its lock.
     Busy,
-    /// Something else was met.
+    /// Something else failed.
     Failed(Cause),
 }
 
@@ -35,8 +35,8 @@ impl From<Cause> for Unopened {
 
 /// Takes the lock of an open file, which has it until it is closed.
 ///
-/// The failure is `Busy` where another has had it for 100 ms, or `Write` where the system cannot lock the file; never
-/// another.
+/// The failure is `Busy` if another process has had it for 100 ms, or `Write` if the system cannot lock the file;
+/// never another.
 pub fn take_lock<R: Clock>(rt: &R, file: &File) -> Result<(), Unopened>
     ensures { IfErr result IsBusyOrWrite }
 {

@@ -1,8 +1,9 @@
-//! The program `persist_report`: writes the histograms of an image as a report, as metrics or for people, runs scripts, in new segments and on in
-//! those of images, merges images, and explains faults.
+//! The program `persist_report`: writes the histograms of an image as a report, as metrics or for people, runs scripts in
+//! new segments and in those of images, merges images, extracts them from any file, and explains faults.
 #![tactic(auto)]
 
 mod cause;
+mod context;
 mod explaining;
 mod extracting;
 mod failure;
@@ -24,7 +25,7 @@ fn main(rt: HostRuntime) -> ExitCode {
         Ok(()) => ExitCode::SUCCESS,
         Err(failure) => {
             let status = failure.status();
-            // Nothing is left to tell where the error stream itself fails.
+            // If the error stream itself fails, nothing can be reported.
             let _ = rt.eprint(failure);
             ExitCode::from(status)
         }

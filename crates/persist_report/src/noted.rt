@@ -1,41 +1,44 @@
-//! A reader or a writer that keeps why it failed, and what it read where this is asked for.
+//! A reader or a writer that keeps why it failed, where it is, and what was read if this is asked for.
 
-ghost use Rattle.std.specs.Prelude.{◌≡◌};
+ghost use Rattle.std.specs.Prelude.{◌≡◌, false};
+ghost use Rattle.segment_image.specs.Watched.{has_failed};
 
-use std::alloc::Global;
+use fault_texts::{Origin, Source};
+use segment_image::Watched;
 use std::io;
 use std::io::{Read, Write};
 
-/// Passes reads and writes on. It keeps the last failure, and a copy of the bytes that were read where it is to.
+/// What a command reads or writes. The library sees whether it failed, the program also why and where.
+pub type Stream<'a, T> = Watched<Noted<'a, T>>;
+
+/// Passes reads and writes on. It keeps the last failure, and puts the bytes that were read into a copy if it has one.
 #[derive(Drop)]
-pub struct Noted<T> {
+pub struct Noted<'a, T> {
     inner: T,
+    origin: Origin<'a>,
     reason: Option<io::Error>,
-    // None also where there was no memory for the copy.
+    // None also if there was no memory for the copy.
     copy: Option<Vec<u8>>,
     is_used: bool,
 }
 
-impl<T> Noted<T> {
-    /// Keeps why it fails.
-    pub fn new(inner: T) -> Noted<T> {
-        Noted {
+impl<'a, T> Noted<'a, T> {
+    /// Returns a stream that leads there and has not failed. What is read is put into the copy, if there is one.
+    pub fn stream(inner: T, origin: Origin<'a>, copy: Option<Vec<u8>>) -> Stream<'a, T>
+        ensures { has_failed result ≡ false }
+    {
+        Watched::new(Noted {
             inner,
-            reason: None,
-            copy: None,
-            is_used: false,
-        }
-    }
-
-    /// Keeps why it fails, and what is read where it `copies`.
-    pub fn copying(alloc: Global, inner: T, copies: bool) -> Noted<T> {
-        let copy = if copies { Some(Vec::new(alloc)) } else { None };
-        Noted {
-            inner,
+            origin,
             reason: None,
             copy,
             is_used: false,
-        }
+        })
+    }
+
+    /// Where it leads.
+    pub fn origin(&self) -> Origin<'a> {
+        self.origin
     }
 
     /// The last failure.
@@ -48,11 +51,11 @@ impl<T> Noted<T> {
         self.is_used
     }
 
-    /// The bytes that were read, where a copy was kept.
-    pub fn bytes(&self) -> &[u8] {
-        match &self.copy {
-            Some(bytes) => bytes.as_slice(),
-            None => &[],
+    /// Where it leads, and the bytes that were read, if a copy was kept.
+    pub fn source(&self) -> Source<'a, '_> {
+        Source {
+            origin: self.origin,
+            bytes: self.copy.as_deref().unwrap_or_default(),
         }
     }
 
@@ -61,7 +64,7 @@ impl<T> Noted<T> {
         self.inner
     }
 
-    // Puts bytes behind those that were read.
+    // Puts bytes after those that were read.
     fn put(&mut self, bytes: &[u8]) {
         let kept = match &mut self.copy {
             Some(copy) => copy.extend_from_slice(bytes).is_ok(),
@@ -83,7 +86,7 @@ impl<T> Noted<T> {
     }
 }
 
-impl<R: Read> Read for Noted<R> {
+impl<R: Read> Read for Noted<'_, R> {
     fn read(&mut self, buf: &mut [u8]) -> io::Result<usize> {
         self.is_used = true;
         let outcome = self.inner.read(buf);
@@ -94,7 +97,7 @@ impl<R: Read> Read for Noted<R> {
     }
 }
 
-impl<W: Write> Write for Noted<W> {
+impl<W: Write> Write for Noted<'_, W> {
     fn write(&mut self, buf: &[u8]) -> io::Result<usize> {
         self.is_used = true;
         let outcome = self.inner.write(buf);

@@ -3,14 +3,14 @@
 ghost use Rattle.std.specs.Prelude.{◌≡◌, ◌≤◌, IfSome, IsSome, ◌↔◌};
 
 /// The number of a segment in a file, from 1.
-#[derive(Clone, Copy, Debug, PartialEq, Eq)]
+#[derive(Clone, Copy)]
 pub struct Nth {
     number: u64,
     ghost any: { 1 ≤ number },
 }
 
 impl Nth {
-    /// Returns the segment with this number [same], where there may be one: from 1 on [all].
+    /// Returns the segment with this number [same]; none for 0 [all].
     pub fn of(number: u64) -> Option<Nth>
         ensures all { IsSome result ↔ (1 ≤ number) }
         ensures same { IfSome result (λ nth. nth.number ≡ number) }

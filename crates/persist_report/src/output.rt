@@ -1,13 +1,14 @@
 //! The file that a command writes. OUT is the old file or the whole new one, whatever happens.
 //!
-//! So no byte is written to OUT itself. The bytes go to a new file in its folder, which has them on its device where it is
-//! flushed. It takes OUT's name behind all else that the command does, and is removed where the command has a fault. A kill
-//! may leave it there, and leaves OUT as it was.
+//! So no byte is written to OUT itself. The bytes go to a new file in its folder, and a flush brings them to the device. The
+//! new file takes OUT's name when all else is done, and is removed if the command fails. A kill may leave it there, and leaves
+//! OUT unchanged.
 //!
-//! What has no bytes to keep is written itself, as a device or a pipe.
+//! An OUT that has no bytes to keep, such as a device or a pipe, is written itself.
 //!
 //! A process that records into a file has its lock. So a command takes the lock of an old OUT before it does anything else, and
-//! has it until the new file has OUT's name. It replaces no file that another has locked, and none that came to OUT meanwhile.
+//! has it until the new file has OUT's name. It replaces no file that another process has locked, and none that appeared at OUT
+//! meanwhile.
 
 ghost use Rattle.std.specs.Prelude.{◌≡◌, IfErr, IsErrAnd, OnOk};
 
@@ -25,19 +26,19 @@ use std::rt::Files;
 use std::time::Clock;
 use std::{fs, io};
 
-// How many names are tried for a new file. They are random, so two that clash are hardly met.
+// How many names are tried for a new file. They are random, so that two hardly ever clash.
 const MOST_NAMES: u32 = 16;
 
-// How often OUT is opened, where another file takes its name each time before it is locked.
+// How often OUT is opened, if another file takes its name each time before it is locked.
 const MOST_OPENINGS: u32 = 16;
 
-// Who may use a new file that has yet to be given the permissions of the old one.
+// Who may use a new file before it gets the permissions of the old one.
 const OWNER_ALONE: u32 = 0o600;
 
 /// The file that a command writes.
 #[derive(Drop)]
 pub enum Output<F> {
-    /// A new file at the path `new`, which takes the path `out`, and the locked file that stands there, where one does.
+    /// A new file at the path `new`, which is to take the path `out`, and the locked file that is there, if there is one.
     New {
         file: F,
         new: PathBuf,
@@ -55,7 +56,7 @@ impl<F: Write + OpenFile> Write for Output<F> {
         }
     }
 
-    // A new file has its bytes on its device behind this.
+    // After this, the bytes of a new file are on its device.
     fn flush(&mut self) -> io::Result<()> {
         match self {
             Output::New { file, .. } => file.sync_all(),
@@ -65,9 +66,9 @@ impl<F: Write + OpenFile> Write for Output<F> {
 }
 
 impl<F: Drop> Output<F> {
-    /// Ends the output of a command, whose outcome is given. Where the command failed, the new file is removed, and
-    /// the fault is that of the command [same]. Else the new file takes OUT's name, and the fault is `Write` where it
-    /// cannot [write].
+    /// Ends the output of a command with this outcome. If the command failed, the new file is removed, and the fault
+    /// is that of the command [same]. Else the new file takes OUT's name, and the fault is `Write` if it cannot
+    /// [write].
     pub fn end<R: Files>(self, rt: &R, outcome: Result<(), CliFault>) -> Result<(), Cause>
         ensures same { IfErr outcome (λ fault. IsErrAnd result (λ cause. cause.fault ≡ fault)) }
         ensures write { OnOk outcome (IfErr result (λ cause. cause.fault ≡ CliFault.Write)) }
@@ -90,7 +91,7 @@ impl<F: Drop> Output<F> {
     }
 }
 
-// Gives a new file OUT's name. What came there meanwhile is not replaced, where it did not stand there at first.
+// Gives a new file OUT's name. If OUT was not there at first, a file that appeared meanwhile is not replaced.
 fn rename<R: Files>(rt: &R, new: &PathBuf, out: &PathBuf, stood: bool) -> Result<(), Cause>
     ensures { IfErr result (λ cause. cause.fault ≡ CliFault.Write) }
 {
@@ -104,10 +105,10 @@ fn rename<R: Files>(rt: &R, new: &PathBuf, out: &PathBuf, stood: bool) -> Result
     }
 }
 
-/// Opens the output for OUT, and leaves OUT as it is.
+/// Opens the output for OUT, which is unchanged.
 ///
-/// `Busy` where another has had the lock of OUT for 100 ms. `Write` where OUT cannot be written, or no new file can be made in
-/// its folder.
+/// `Busy` if another process has had the lock of OUT for 100 ms. `Write` if OUT cannot be written, or no new file can be made
+/// in its folder.
 pub fn open_output<R: Files<File = File> + Clock + RandomSource + AllocGlobal>(
     rt: &R,
     out: &str,
@@ -121,7 +122,7 @@ pub fn open_output<R: Files<File = File> + Clock + RandomSource + AllocGlobal>(
     Err(Unopened::Busy)
 }
 
-// The same; none where another file took the name of the one that was opened before it was locked.
+// The same; none if another file took the name of the one that was opened before it was locked.
 fn try_output<R: Files<File = File> + Clock + RandomSource + AllocGlobal>(
     rt: &R,
     out: &str,
@@ -136,7 +137,7 @@ fn try_output<R: Files<File = File> + Clock + RandomSource + AllocGlobal>(
     }
 }
 
-// The output where OUT is there, as an open file.
+// The output if OUT is there, as this open file.
 fn open_for<R: Files<File = File> + Clock + RandomSource + AllocGlobal>(
     rt: &R,
     out: &str,
@@ -160,7 +161,7 @@ fn open_for<R: Files<File = File> + Clock + RandomSource + AllocGlobal>(
     }
 }
 
-// Whether the file of which this is known stands at a path.
+// Whether the file with this metadata is the one at a path.
 fn stands_at<R: Files>(rt: &R, found: &Metadata, place: &PathBuf) -> Result<bool, Cause> {
     match fs::symlink_metadata(rt, place) {
         Ok(named) => Ok(named.dev() == found.dev() && named.ino() == found.ino()),
@@ -169,7 +170,7 @@ fn stands_at<R: Files>(rt: &R, found: &Metadata, place: &PathBuf) -> Result<bool
     }
 }
 
-// A new file in the folder of `out`, with the permissions of the old one where there is one.
+// A new file in the folder of `out`, with the permissions of the old one if there is one.
 fn create_beside<R: Files + RandomSource + AllocGlobal>(
     rt: &R,
     out: PathBuf,
@@ -199,7 +200,7 @@ fn create_beside<R: Files + RandomSource + AllocGlobal>(
     })
 }
 
-// Removes a new file behind a fault. The fault is told, and nothing is left to do where this fails too.
+// Removes a new file after a fault. The fault is reported; if this fails too, nothing is left to do.
 fn remove<R: Files>(rt: &R, new: &PathBuf) {
     let _ = fs::remove_file(rt, new);
 }

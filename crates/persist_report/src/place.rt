@@ -1,4 +1,4 @@
-//! Where a path leads, behind links.
+//! Where a path leads, when its links are followed.
 
 use crate::cause::Cause;
 use persist_report_core::CliFault;
@@ -12,10 +12,10 @@ use std::{fs, io};
 // How many links are followed in a row: as many as the system follows.
 const MOST_LINKS: u32 = 40;
 
-/// The path to which the links lead that begin at a path. None where one of them is no text but stands for an open file, as
+/// The path to which a path leads when its links are followed. None if one of the links stands for an open file, as
 /// `/dev/stdout` leads to one.
 ///
-/// `Write` where a link cannot be looked at, or too many follow one another.
+/// `Write` if a link cannot be read, or too many follow one another.
 pub fn place_of<R: Files + AllocGlobal>(rt: &R, path: &str) -> Result<Option<PathBuf>, Cause> {
     let mut place = PathBuf::from_str(rt.alloc(), path)?;
     for _ in 0..MOST_LINKS {
@@ -33,7 +33,7 @@ pub fn place_of<R: Files + AllocGlobal>(rt: &R, path: &str) -> Result<Option<Pat
     Err(Cause::from(CliFault::Write))
 }
 
-// Whether a link is one of those by which the system shows open files: these alone stand in /proc.
+// Whether a link is one of those by which the system shows open files: only these are in /proc.
 fn is_open_file<R: Files>(rt: &R, link: &Metadata) -> bool {
     fs::metadata(rt, "/proc").is_ok_and(|proc| proc.dev() == link.dev())
 }

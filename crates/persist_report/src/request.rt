@@ -12,59 +12,61 @@ use std::alloc::{AllocError, Global};
 use std::convert::AsStr;
 
 /// What the program is asked to do.
-#[derive(Debug, Drop)]
-pub enum Request<'a> {
-    /// Write the report of the image in the file, or on standard input where none is named.
+#[derive(Drop)]
+pub struct Request<'a> {
+    pub task: Task<'a>,
+    /// Whether faults are to be explained.
+    pub explains: bool,
+}
+
+/// What a command does. The image in `file` is that on standard input if there is no file.
+#[derive(Drop)]
+pub enum Task<'a> {
+    /// Write the report of an image.
     Report {
         file: Option<&'a str>,
-        explains: bool,
     },
-    /// Write the metrics of the image in the file, or on standard input, under names that begin so.
+    /// Write the metrics of an image, whose names begin with the prefix.
     Export {
         file: Option<&'a str>,
         prefix: &'a str,
-        explains: bool,
     },
-    /// Write the histograms of the image for people, as a text or as a web page: those of the names, those whose name has the part,
-    /// or all.
+    /// Write histograms of an image for people, as text or as a web page: those with the names, those whose name contains
+    /// the part, or all.
     Show {
         file: Option<&'a str>,
         names: Vec<&'a str>,
         part: Option<&'a str>,
         style: Style,
         is_page: bool,
-        explains: bool,
     },
     /// Run a script by workers, and write the image to a file and its report to standard output.
     Run {
         script: &'a str,
         out: &'a str,
         workers: Workers,
-        explains: bool,
     },
-    /// Go on with an image and run a script on it by workers, and write the new image to a file and its report to standard output.
+    /// Continue from an image and run a script on it by workers. Write the new image to a file and its report to standard
+    /// output.
     Resume {
         base: &'a str,
         script: &'a str,
         out: &'a str,
         workers: Workers,
-        explains: bool,
     },
     /// Merge two images into a new segment, and write its image to a file.
     Merge {
         base: &'a str,
         dead: &'a str,
         out: &'a str,
-        explains: bool,
     },
-    /// Find a segment in a file, and write its image to another and where it lay to standard output.
+    /// Find a segment in a file. Write its image to another, and to standard output where it was.
     Extract {
         file: &'a str,
         out: &'a str,
         nth: Nth,
-        explains: bool,
     },
-    /// Write what the fault of a name means, or what each means where none is named.
+    /// Write what the fault of a name means, or what each means if there is no name.
     Explain {
         name: Option<&'a str>,
     },
@@ -252,61 +254,39 @@ fn command<'a>(alloc: Global) -> Result<Command<'a>, AllocError> {
         .subcommand(explain_command(alloc)?)
 }
 
-fn run_request<'a>(run: &ArgMatches<'a>) -> Option<Request<'a>> {
-    let script = run.get_str("SCRIPT")?;
-    let out = run.get_str("OUT")?;
-    let workers = Workers::of(run.get_one::<u32>("workers")?)?;
-    Some(Request::Run {
-        script,
-        out,
-        workers,
-        explains: run.get_flag("explain"),
+fn run_task<'a>(run: &ArgMatches<'a>) -> Option<Task<'a>> {
+    Some(Task::Run {
+        script: run.get_str("SCRIPT")?,
+        out: run.get_str("OUT")?,
+        workers: Workers::of(run.get_one::<u32>("workers")?)?,
     })
 }
 
-fn resume_request<'a>(resume: &ArgMatches<'a>) -> Option<Request<'a>> {
-    let base = resume.get_str("BASE")?;
-    let script = resume.get_str("SCRIPT")?;
-    let out = resume.get_str("OUT")?;
-    let workers = Workers::of(resume.get_one::<u32>("workers")?)?;
-    let explains = resume.get_flag("explain");
-    Some(Request::Resume {
-        base,
-        script,
-        out,
-        workers,
-        explains,
+fn resume_task<'a>(resume: &ArgMatches<'a>) -> Option<Task<'a>> {
+    Some(Task::Resume {
+        base: resume.get_str("BASE")?,
+        script: resume.get_str("SCRIPT")?,
+        out: resume.get_str("OUT")?,
+        workers: Workers::of(resume.get_one::<u32>("workers")?)?,
     })
 }
 
-fn merge_request<'a>(merge: &ArgMatches<'a>) -> Option<Request<'a>> {
-    let base = merge.get_str("BASE")?;
-    let dead = merge.get_str("DEAD")?;
-    let out = merge.get_str("OUT")?;
-    let explains = merge.get_flag("explain");
-    Some(Request::Merge {
-        base,
-        dead,
-        out,
-        explains,
+fn merge_task<'a>(merge: &ArgMatches<'a>) -> Option<Task<'a>> {
+    Some(Task::Merge {
+        base: merge.get_str("BASE")?,
+        dead: merge.get_str("DEAD")?,
+        out: merge.get_str("OUT")?,
     })
 }
 
-fn export_request<'a>(export: &ArgMatches<'a>) -> Option<Request<'a>> {
-    let file = export.get_str("FILE");
-    let prefix = export.get_str("prefix")?;
-    let explains = export.get_flag("explain");
-    Some(Request::Export {
-        file,
-        prefix,
-        explains,
+fn export_task<'a>(export: &ArgMatches<'a>) -> Option<Task<'a>> {
+    Some(Task::Export {
+        file: export.get_str("FILE"),
+        prefix: export.get_str("prefix")?,
     })
 }
 
-fn show_request<'a>(
-    alloc: Global,
-    show: &ArgMatches<'a>,
-) -> Result<Option<Request<'a>>, AllocError> {
+fn show_task<'a>(alloc: Global, show: &ArgMatches<'a>) -> Result<Option<Task<'a>>, AllocError> {
     let Some(width) = show.get_one::<u16>("width") else {
         return Ok(None);
     };
@@ -314,7 +294,7 @@ fn show_request<'a>(
         Some(names) => Vec::from_slice(alloc, names)?,
         None => Vec::new(alloc),
     };
-    Ok(Some(Request::Show {
+    Ok(Some(Task::Show {
         file: show.get_str("FILE"),
         names,
         part: show.get_str("match"),
@@ -324,66 +304,61 @@ fn show_request<'a>(
             shows_all: show.get_flag("all"),
         },
         is_page: show.get_flag("html"),
-        explains: show.get_flag("explain"),
     }))
 }
 
-fn extract_request<'a>(extract: &ArgMatches<'a>) -> Option<Request<'a>> {
-    let file = extract.get_str("FILE")?;
-    let out = extract.get_str("OUT")?;
-    let nth = Nth::of(extract.get_one::<u64>("nth")?)?;
-    Some(Request::Extract {
-        file,
-        out,
-        nth,
-        explains: extract.get_flag("explain"),
+fn extract_task<'a>(extract: &ArgMatches<'a>) -> Option<Task<'a>> {
+    Some(Task::Extract {
+        file: extract.get_str("FILE")?,
+        out: extract.get_str("OUT")?,
+        nth: Nth::of(extract.get_one::<u64>("nth")?)?,
     })
 }
 
-// What a parsed command line asks for; none where something is missing, which the parse refuses.
-fn request_of<'a>(
+// What a command of this name does; none if something is missing, which the parser refuses.
+fn task_of<'a>(
     alloc: Global,
-    matches: &ArgMatches<'a>,
-) -> Result<Option<Request<'a>>, AllocError> {
-    let Some((word, found)) = matches.subcommand() else {
-        return Ok(None);
-    };
-    if word == "show" {
-        return show_request(alloc, found);
+    name: &str,
+    found: &ArgMatches<'a>,
+) -> Result<Option<Task<'a>>, AllocError> {
+    if name == "show" {
+        return show_task(alloc, found);
     }
-    Ok(plain_request(word, found))
+    Ok(plain_task(name, found))
 }
 
-// What a command asks for that takes single words.
-fn plain_request<'a>(word: &str, found: &ArgMatches<'a>) -> Option<Request<'a>> {
-    match (word, found) {
-        ("report", report) => Some(Request::Report {
-            file: report.get_str("FILE"),
-            explains: report.get_flag("explain"),
+// The same, of each command but `show`.
+fn plain_task<'a>(name: &str, found: &ArgMatches<'a>) -> Option<Task<'a>> {
+    match name {
+        "report" => Some(Task::Report {
+            file: found.get_str("FILE"),
         }),
-        ("export", export) => export_request(export),
-        ("run", run) => run_request(run),
-        ("resume", resume) => resume_request(resume),
-        ("merge", merge) => merge_request(merge),
-        ("extract", extract) => extract_request(extract),
-        ("explain", explain) => Some(Request::Explain {
-            name: explain.get_str("NAME"),
+        "export" => export_task(found),
+        "run" => run_task(found),
+        "resume" => resume_task(found),
+        "merge" => merge_task(found),
+        "extract" => extract_task(found),
+        "explain" => Some(Task::Explain {
+            name: found.get_str("NAME"),
         }),
         _ => None,
     }
 }
 
 impl<'a> Request<'a> {
-    /// The request of a command line, whose first word is the program's name.
+    /// Returns what a command line asks for, whose first word is the program's name.
     ///
     /// The error says what is wrong with the words, or has the help or the version that they ask for.
     pub fn of<S: AsStr>(alloc: Global, words: &'a [S]) -> Result<Request<'a>, Error> {
         let mut command = command(alloc)?;
         let matches = command.try_get_matches_from_mut(words)?;
-        match request_of(alloc, &matches)? {
-            Some(request) => Ok(request),
-            None => Err(command.error(ErrorKind::MissingSubcommand, "a subcommand is required")?),
+        if let Some((name, found)) = matches.subcommand()
+            && let Some(task) = task_of(alloc, name, found)?
+        {
+            let explains = found.get_flag("explain");
+            return Ok(Request { task, explains });
         }
+        Err(command.error(ErrorKind::MissingSubcommand, "a subcommand is required")?)
     }
 }
 
@@ -398,16 +373,16 @@ pub fn not_text(alloc: Global) -> Result<Error, AllocError>
     )
 }
 
-/// Returns what is wrong with a command line that asks for a fault that there is not: a wrong value. The one error is
-/// that memory runs out.
+/// Returns what is wrong with a command line that asks for a fault that does not exist: a wrong value. The one error
+/// is that memory runs out.
 pub fn no_fault(alloc: Global) -> Result<Error, AllocError>
     ensures { IfOk result (λ error. kind_of error ≡ ErrorKind.InvalidValue) }
 {
     command(alloc)?.error(ErrorKind::InvalidValue, "no fault has this name")
 }
 
-/// Returns what is wrong with a command line whose prefix is none: a mistake in a value. The one error is that memory
-/// runs out.
+/// Returns what is wrong with a command line whose prefix is invalid: a mistake in a value. The one error is that
+/// memory runs out.
 pub fn no_prefix(alloc: Global) -> Result<Error, AllocError>
     ensures { IfOk result (λ error. kind_of error ≡ ErrorKind.ValueValidation) }
 {

@@ -3,10 +3,11 @@
 ghost use Rattle.std.specs.Prelude.{IfErr};
 ghost use Rattle.persist_report.specs.Failure.{UsageIsMistake};
 
+use crate::context::Context;
 use crate::extracting::extract_file;
 use crate::failure::Failure;
 use crate::files::{merge_files_into, resume_file, run_file, write_file};
-use crate::request::{Request, no_fault, no_prefix, not_text};
+use crate::request::{Request, Task, no_fault, no_prefix, not_text};
 use crate::terminal::is_terminal;
 use fault_texts::{AllTexts, fault_text};
 use persist_report_core::CliFault;
@@ -22,9 +23,9 @@ use std::{env, io};
 
 /// Does what the arguments ask for.
 ///
-/// `Usage` where they ask for nothing that the program does, never for help, the version or where memory runs out;
-/// `Fault` where the request failed, `NoMemory` also where memory ran out when the arguments were read, and `Write`
-/// also where a help or version text could not be written.
+/// `Usage` comes if they ask for nothing that the program does, never for help, the version or if memory runs out;
+/// `Fault` if the request failed, `NoMemory` also if memory ran out when the arguments were read, and `Write` also if
+/// a help or version text could not be written.
 pub fn run<
     R: Env
         + Files<File = File>
@@ -40,7 +41,10 @@ pub fn run<
 {
     let words = words(rt)?;
     match Request::of(rt.alloc(), words.as_slice()) {
-        Ok(request) => meet(rt, request)?,
+        Ok(Request { task, explains }) => {
+            let explains = explains || is_terminal(rt);
+            meet(&Context { rt, explains }, task)?;
+        }
         Err(error) if error.use_stderr() => return Err(Failure::from(error)),
         Err(shown) => rt.print(shown).map_err(|_| CliFault::Write)?,
     }
@@ -59,7 +63,7 @@ fn words<R: Env + AllocGlobal>(rt: &R) -> Result<Vec<String>, Failure>
     }
 }
 
-// Writes what the fault of a name means, or what each means where none is named.
+// Writes what the fault of a name means, or what each means if there is no name.
 fn explain<R: Print + AllocGlobal>(rt: &R, name: Option<&str>) -> Result<(), Failure>
     ensures { IfErr result UsageIsMistake }
 {
@@ -73,22 +77,21 @@ fn explain<R: Print + AllocGlobal>(rt: &R, name: Option<&str>) -> Result<(), Fai
     Ok(())
 }
 
-// Writes the metrics of an image, where their names may begin so.
+// Writes the metrics of an image, if names may begin with the prefix.
 fn export<R: Files + Input + Print + AllocGlobal>(
-    rt: &R,
+    context: &Context<'_, R>,
     file: Option<&str>,
     prefix: &str,
-    explains: bool,
 ) -> Result<(), Failure>
     ensures { IfErr result UsageIsMistake }
 {
     if !is_prefix(prefix.as_bytes()) {
-        return Err(Failure::Usage(no_prefix(rt.alloc())?));
+        return Err(Failure::Usage(no_prefix(context.alloc())?));
     }
-    write_file(rt, Form::Export { prefix }, file, explains)
+    write_file(context, Form::Export { prefix }, file)
 }
 
-// Which histograms are meant: those of the names, those whose name has the part, or all.
+// Which histograms are meant: those with the names, those whose name contains the part, or all.
 fn choice_of<'a>(names: &'a [&'a str], part: Option<&'a str>) -> Choice<'a> {
     match part {
         Some(part) => Choice::Part(part),
@@ -111,59 +114,35 @@ fn form_of<'a>(style: Style, is_page: bool, choice: Choice<'a>) -> Form<'a> {
 
 fn meet<
     R: Files<File = File> + Clock + Input + Print + RandomSource + AllocGlobal + Threads + Wait,
->(rt: &R, request: Request<'_>) -> Result<(), Failure>
+>(context: &Context<'_, R>, task: Task<'_>) -> Result<(), Failure>
     ensures { IfErr result UsageIsMistake }
 {
-    match request {
-        Request::Report { file, explains } => {
-            write_file(rt, Form::Report, file, explains || is_terminal(rt))
-        }
-        Request::Export {
-            file,
-            prefix,
-            explains,
-        } => export(rt, file, prefix, explains || is_terminal(rt)),
-        Request::Show {
+    match task {
+        Task::Report { file } => write_file(context, Form::Report, file),
+        Task::Export { file, prefix } => export(context, file, prefix),
+        Task::Show {
             file,
             names,
             part,
             style,
             is_page,
-            explains,
         } => {
             let choice = choice_of(names.as_slice(), part);
-            write_file(
-                rt,
-                form_of(style, is_page, choice),
-                file,
-                explains || is_terminal(rt),
-            )
+            write_file(context, form_of(style, is_page, choice), file)
         }
-        Request::Run {
+        Task::Run {
             script,
             out,
             workers,
-            explains,
-        } => run_file(rt, script, out, workers, explains || is_terminal(rt)),
-        Request::Resume {
+        } => run_file(context, script, out, workers),
+        Task::Resume {
             base,
             script,
             out,
             workers,
-            explains,
-        } => resume_file(rt, base, script, out, workers, explains || is_terminal(rt)),
-        Request::Merge {
-            base,
-            dead,
-            out,
-            explains,
-        } => merge_files_into(rt, base, dead, out, explains || is_terminal(rt)),
-        Request::Extract {
-            file,
-            out,
-            nth,
-            explains,
-        } => extract_file(rt, file, out, nth, explains || is_terminal(rt)),
-        Request::Explain { name } => explain(rt, name),
+        } => resume_file(context, base, script, out, workers),
+        Task::Merge { base, dead, out } => merge_files_into(context, base, dead, out),
+        Task::Extract { file, out, nth } => extract_file(context, file, out, nth),
+        Task::Explain { name } => explain(context.rt, name),
     }
 }

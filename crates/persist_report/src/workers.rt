@@ -3,7 +3,7 @@
 ghost use Rattle.std.specs.Prelude.{◌≡◌, ◌≤◌, IfSome, IsSome, ◌↔◌};
 
 /// A number of workers that may run a script: from 1 to 16.
-#[derive(Clone, Copy, Debug, PartialEq, Eq)]
+#[derive(Clone, Copy)]
 pub struct Workers {
     count: u32,
     ghost any: { 1 ≤ count },
@@ -11,7 +11,7 @@ pub struct Workers {
 }
 
 impl Workers {
-    /// Returns so many workers [same], where a script may be run by them: 1 to 16 [all].
+    /// Returns this number of workers [same], if it is from 1 to 16 [all].
     pub fn of(count: u32) -> Option<Workers>
         ensures all { IsSome result ↔ (1 ≤ count) × (count ≤ 16) }
         ensures same { IfSome result (λ workers. workers.count ≡ count) }

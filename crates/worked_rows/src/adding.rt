@@ -1,8 +1,9 @@
 //! Samples and batches of one histogram: packed, then mounted, up to a full segment.
 
+ghost use Rattle.std.specs.Prelude.{◌≡◌};
 ghost use Rattle.live_segment.specs.RecorderState.{IsSameRecorder, Knows};
 
-use crate::images::{THREE_SAMPLES, stand};
+use crate::images::{OFF, stand, three_samples};
 use bucket_ranges::Spec;
 use live_segment::{Hist, Recorder, Segment};
 use segment_calls::{BatchRefusal, Refusal};
@@ -10,16 +11,14 @@ use segment_image::Image;
 use std::alloc::Global;
 use std::test::Fail;
 
-// The highest bit of a single word: it is disabled or frozen.
-const OFF: u64 = 1 << 63;
-
 // One unit in bucket 1, in a single word.
 const IN_BUCKET_1: u64 = 1 << 32;
 
 // Adds samples to a histogram.
 fn add_all(recorder: &mut Recorder, histogram: Hist, samples: &[(i32, u32)]) -> Result<(), Refusal>
     requires { Knows recorder.old.state histogram }
-    ensures { IsSameRecorder recorder.old.state recorder.new.state }
+    ensures kept { recorder.new.segment ≡ recorder.old.segment }
+    ensures same { IsSameRecorder recorder.old.state recorder.new.state }
 {
     for (value, count) in samples {
         recorder.add(histogram, *value, *count)?;
@@ -78,9 +77,9 @@ fn packed_then_mounted(rt: HostRuntime) -> Result<(), Fail> {
 }
 
 #[test]
-fn three_samples(rt: HostRuntime) -> Result<(), Fail> {
+fn image_of_three_samples(rt: HostRuntime) -> Result<(), Fail> {
     let image = image_of(rt.alloc(), 1, &[(1, 1), (1, 1), (0, 1)])?;
-    assert!(rt; stand(image.words(), 0, &THREE_SAMPLES) && stand(image.words(), 38, &[0; 90]));
+    assert!(rt; image.words() == three_samples(&[]).as_slice());
     Ok(())
 }
 

@@ -1,14 +1,11 @@
-//! An image is recorded into again: which image may be, and what its segment has then.
+//! A segment continues from an image: which image may be adopted, and what its segment has then.
 
-use crate::images::{THREE_SAMPLES, stand};
+use crate::images::{OFF, Words, changed, stand, three_samples};
 use bucket_ranges::Spec;
 use image_reader::read;
 use live_segment::{AdoptFault, Segment};
 use segment_image::ImageFault;
 use std::test::Fail;
-
-// The highest bit of a single word: it is frozen.
-const OFF: u64 = 1 << 63;
 
 const BLOCK: u64 = 0xC879_9269;
 
@@ -74,7 +71,7 @@ const SHARED_COUNTS: [u64; 58] = [
     0,
 ];
 
-// A sparse histogram `S` with three samples -5: two recorders made a block for the value at once, and that at 40 stands first on the list.
+// A sparse histogram `S` with three samples -5: two recorders made a block for the value at once, and that at 40 is first on the list.
 const RACED: [u64; 48] = [
     0x4083_05DC,
     2,
@@ -126,28 +123,10 @@ const RACED: [u64; 48] = [
     0,
 ];
 
-/// The image of three samples in version 2, in which these words are others: two units stay in the single word.
-pub(crate) fn image_with(changes: &[(usize, u64)]) -> [u64; 128] {
-    let mut words = [0; 128];
-    words[..38].copy_from_slice(&THREE_SAMPLES);
-    for (at, word) in [(1, 2), (25, OFF + (1 << 32) + 2), (37, 0)] {
-        words[at] = word;
-    }
-    for (at, word) in changes {
-        if let Some(changed) = words.get_mut(*at) {
-            *changed = *word;
-        }
-    }
-    words
-}
-
-// The words of an image that begins with these, and is 0 behind them.
-fn whole(front: &[u64]) -> [u64; 128] {
-    let mut words = [0; 128];
-    for (place, word) in words.iter_mut().zip(front.iter()) {
-        *place = *word;
-    }
-    words
+/// The image of three samples in version 2, but for some words: two units stay in the single word.
+pub(crate) fn image_with(changes: &[(usize, u64)]) -> Words {
+    let frozen = three_samples(&[(1, 2), (25, OFF + (1 << 32) + 2), (37, 0)]);
+    changed(&frozen, changes)
 }
 
 #[test]
@@ -172,7 +151,7 @@ fn goes_on(rt: HostRuntime) -> Result<(), Fail> {
     Ok(())
 }
 
-// A recorder stopped behind the event that froze the single word, with its sample still to be counted.
+// A recorder stopped after the event that froze the single word, with its sample still to be counted.
 #[test]
 fn goes_on_behind_a_stop(rt: HostRuntime) -> Result<(), Fail> {
     let words = image_with(&[(29, 2), (36, 0)]);
@@ -217,9 +196,9 @@ fn refused_images(rt: HostRuntime) -> Result<(), Fail> {
 // Each block is of one record, but a value may have more than one, of which the first counts.
 #[test]
 fn shared_blocks(rt: HostRuntime) -> Result<(), Fail> {
-    let made = Segment::adopt(rt.alloc(), &whole(&SHARED_COUNTS), 0);
+    let made = Segment::adopt(rt.alloc(), &changed(&SHARED_COUNTS, &[]), 0);
     assert_eq!(rt; made.err(), Some(AdoptFault::Damaged));
-    let mut words = whole(&RACED);
+    let mut words = changed(&RACED, &[]);
     let (segment, mut opener) = Segment::adopt(rt.alloc(), &words, 0)?;
     let mut recorder = opener.recorder(&segment, 1)?;
     let histogram = recorder.hist(b"S", &Spec::Sparse)?;
@@ -233,7 +212,7 @@ fn shared_blocks(rt: HostRuntime) -> Result<(), Fail> {
     Ok(())
 }
 
-// The sum and what deltas took of it are far apart, and what is used stands for both.
+// The sum and what deltas took of it are far apart, and the units that are used pay for both.
 #[test]
 fn used_for_sums(rt: HostRuntime) -> Result<(), Fail> {
     let (segment, mut opener) = Segment::create(rt.alloc(), 128, 64, 7, 0, 2)?;

@@ -1,5 +1,6 @@
 //! What deltas take of a histogram, the marks that they leave, and what the image then reads as.
 
+ghost use Rattle.std.specs.Prelude.{◌≡◌};
 ghost use Rattle.live_segment.specs.RecorderState.{IsSameRecorder, Knows};
 
 use crate::images::{THREE_SAMPLES, stand};
@@ -20,7 +21,8 @@ fn takes(
     sum: i64,
 ) -> Result<bool, Refusal>
     requires { Knows recorder.old.state histogram }
-    ensures { IsSameRecorder recorder.old.state recorder.new.state }
+    ensures kept { recorder.new.segment ≡ recorder.old.segment }
+    ensures same { IsSameRecorder recorder.old.state recorder.new.state }
 {
     let delta = recorder.delta(histogram)?;
     Ok(delta.counts.as_slice() == counts && delta.sum == sum)
@@ -29,7 +31,8 @@ fn takes(
 // Two samples, a delta, a third sample, and two more deltas. Whether they, and a snapshot, are as they should be.
 fn takes_by_turns(recorder: &mut Recorder, histogram: Hist) -> Result<bool, Refusal>
     requires { Knows recorder.old.state histogram }
-    ensures { IsSameRecorder recorder.old.state recorder.new.state }
+    ensures kept { recorder.new.segment ≡ recorder.old.segment }
+    ensures same { IsSameRecorder recorder.old.state recorder.new.state }
 {
     recorder.add(histogram, 1, 1)?;
     recorder.add(histogram, 1, 1)?;
@@ -42,7 +45,7 @@ fn takes_by_turns(recorder: &mut Recorder, histogram: Hist) -> Result<bool, Refu
     Ok(first && second && third && all)
 }
 
-// The image behind those, of a segment that was marked as corrupt. None where they are not so.
+// The image after those, of a segment that was marked as corrupt. None if they did not take this.
 fn image_of_deltas(alloc: Global, version: u64) -> Result<Option<Image>, Fail> {
     let (segment, mut opener) = Segment::create(alloc, 128, 64, 7, 0, version)?;
     let mut recorder = opener.recorder(&segment, 3)?;

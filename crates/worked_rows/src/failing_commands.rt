@@ -1,4 +1,4 @@
-//! The commands, where each call of each of their readers and writers fails in turn: the fault comes, and nothing more is asked of
+//! The commands, of which each call of each reader and writer fails in turn: the fault is returned, and nothing more is asked of
 //! that device. After a failed read nothing was written, and after a failed write of the image no report is begun.
 
 use crate::adopting::image_with;
@@ -28,7 +28,7 @@ enum Command {
 }
 
 // A device of a command, and whether it is read: the script or the first image, the report or the second image, the image
-// that is written, and the image that goes on.
+// that is written, and the image from which a script continues.
 #[derive(Clone, Copy)]
 enum Device {
     First,
@@ -225,7 +225,7 @@ impl Command {
     }
 }
 
-// Whether what was written before a fault is right, beside what is written without one.
+// Whether what was written before a fault is right, compared with what is written without one.
 fn is_rightly_written(device: Device, failed: &Outcome, whole: &Outcome) -> bool {
     let (image, report) = (failed.image.as_slice(), failed.report.as_slice());
     if device.is_read() {

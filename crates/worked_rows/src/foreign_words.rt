@@ -15,7 +15,7 @@ fn blank(alloc: Global) -> Result<[u64; 128], Fail> {
     Ok(words)
 }
 
-// Fewer than five words are left in the page behind the free pointer.
+// Fewer than five words are left in the page after the free pointer.
 #[test]
 fn free_pointer_of_no_segment(rt: HostRuntime) -> Result<(), Fail> {
     let mut words = blank(rt.alloc())?;

@@ -4,6 +4,15 @@ use live_segment::Segment;
 use segment_image::{ImageFault, Watched, header, read_words, write_words};
 use std::test::Fail;
 
+/// The words of a segment of 128 words.
+pub(crate) type Words = [u64; 128];
+
+/// The highest bit of a single word: it is disabled or frozen.
+pub(crate) const OFF: u64 = 1 << 63;
+
+// The cookie of a claimed block.
+const CLAIMED: u64 = 0xC879_9269;
+
 /// The words up to the last that is not 0 of a segment of 128 words in version 1: the boolean histogram `A` has two samples
 /// 1, which were packed in its single word, and then a sample 0.
 pub(crate) const THREE_SAMPLES: [u64; 38] = [
@@ -24,7 +33,7 @@ pub(crate) const THREE_SAMPLES: [u64; 38] = [
     0,
     16,
     16,
-    0xC879_9269,
+    CLAIMED,
     1,
     12,
     2,
@@ -32,7 +41,7 @@ pub(crate) const THREE_SAMPLES: [u64; 38] = [
     2,
     3,
     32,
-    (1 << 63) + 1,
+    OFF + 1,
     0,
     2,
     0,
@@ -40,12 +49,31 @@ pub(crate) const THREE_SAMPLES: [u64; 38] = [
     1,
     65,
     10,
-    0xC879_9269,
+    CLAIMED,
     2,
     0,
     1,
     2,
 ];
+
+/// The words of three samples, but for these.
+pub(crate) fn three_samples(changes: &[(usize, u64)]) -> Words {
+    changed(&THREE_SAMPLES, changes)
+}
+
+/// The words that begin with these and are 0 after them, but for some.
+pub(crate) fn changed(front: &[u64], changes: &[(usize, u64)]) -> Words {
+    let mut words = [0; 128];
+    for (word, value) in words.iter_mut().zip(front) {
+        *word = *value;
+    }
+    for (at, value) in changes {
+        if let Some(word) = words.get_mut(*at) {
+            *word = *value;
+        }
+    }
+    words
+}
 
 /// Whether words have these from an index on.
 pub(crate) fn stand(words: &[u64], from: usize, wanted: &[u64]) -> bool {

@@ -1,7 +1,7 @@
 //! The tests of the libraries through their public calls: worked examples with the words that the format gives them, calls that
 //! no program makes, texts that no program prints, and calls whose devices fail.
 //!
-//! They stand above all libraries, so that no other crate is proved once more for its tests.
+//! They are above all libraries, so that no other crate is proved once more for its tests.
 #![tactic(auto)]
 
 #[cfg(test)]
@@ -19,6 +19,10 @@ mod foreign_words;
 #[cfg(test)]
 mod images;
 #[cfg(test)]
+mod readings;
+#[cfg(test)]
+mod recorders;
+#[cfg(test)]
 mod records;
 #[cfg(test)]
 mod resuming;
@@ -30,3 +34,5 @@ mod tallies;
 mod turns;
 #[cfg(test)]
 mod workers;
+#[cfg(test)]
+mod worlds;

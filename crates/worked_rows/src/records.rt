@@ -1,4 +1,4 @@
-//! Who may record, the records of the list, and what a corrupt segment answers.
+//! Who may record, the records of the list, and what the calls of a corrupt segment return.
 
 use bucket_ranges::Spec;
 use live_segment::{OpenFault, Segment};

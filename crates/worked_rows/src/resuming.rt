@@ -3,7 +3,7 @@
 ghost use Rattle.std.specs.Prelude.{◌≤◌};
 
 use crate::adopting::image_with;
-use crate::images::THREE_SAMPLES;
+use crate::images::{Words, three_samples};
 use crate::workers::{Meeting, SCRIPT};
 use live_segment::AdoptFault;
 use persist_commands::{Gate, OpenGate, resume_script};
@@ -22,7 +22,7 @@ const ONE_MORE_REPORT: &[u8] = b"A,boolean,0,1,2\nA,boolean,1,2,2\nA,total,4,2\n
 const THREE_MORE_REPORT: &[u8] = b"A,boolean,0,1,2\nA,boolean,1,2,4\nA,total,6,4\n";
 
 /// The bytes of an image.
-pub(crate) fn bytes_of(alloc: Global, words: &[u64; 128]) -> Result<Vec<u8>, Fail> {
+pub(crate) fn bytes_of(alloc: Global, words: &Words) -> Result<Vec<u8>, Fail> {
     let mut bytes = Watched::new(Vec::new(alloc));
     write_words(&mut bytes, words)?;
     Ok(bytes.into_inner())
@@ -32,7 +32,7 @@ pub(crate) fn bytes_of(alloc: Global, words: &[u64; 128]) -> Result<Vec<u8>, Fai
 fn resume<R: Threads + Wait, G: Gate + Sync>(
     rt: &R,
     alloc: Global,
-    image: &[u64; 128],
+    image: &Words,
     script: &[u8],
     workers: u32,
     gate: &G,
@@ -70,7 +70,7 @@ fn goes_on_with_a_script(rt: HostRuntime) -> Result<(), Fail> {
     Ok(())
 }
 
-// The first calls of two workers wait for each other, so both run beside one another.
+// The first calls of two workers wait for each other, so both run at the same time.
 #[test]
 fn two_workers_go_on(rt: HostRuntime) -> Result<(), Fail> {
     let image = image_with(&[]);
@@ -83,8 +83,7 @@ fn two_workers_go_on(rt: HostRuntime) -> Result<(), Fail> {
 // Each fault leaves both outputs alone. The 4,294,967,292 units that the image has not used are measured before anything is run.
 #[test]
 fn refused_resumes(rt: HostRuntime) -> Result<(), Fail> {
-    let mut old = [0; 128];
-    old[..38].copy_from_slice(&THREE_SAMPLES);
+    let old = three_samples(&[]);
     let image = image_with(&[]);
     let why = Refusal::OtherSpec;
     let linear = b"segment,128,64,7\nhist,A,linear,1,2,3\n".as_slice();

@@ -1,9 +1,9 @@
-//! A reader and a writer that fail once in mid-stream: the fault comes, and what was written is the beginning of the answer.
+//! A reader and a writer that fail once in mid-stream: the fault is returned, and what was written is the beginning of the text.
 
 ghost use Rattle.std.specs.Prelude.{◌≡◌, false};
 ghost use Rattle.segment_image.specs.Watched.{has_failed};
 
-use crate::images::THREE_SAMPLES;
+use crate::images::{THREE_SAMPLES, three_samples};
 use persist_report_core::CliFault;
 use reading_shows::{Form, write_text};
 use segment_image::{ReadFault, Watched, WriteFault, read_bytes, read_words, write_words};
@@ -41,7 +41,7 @@ impl FailAt {
     }
 }
 
-/// Gives at most so many bytes a call.
+/// Gives at most `most` bytes a call.
 #[derive(Drop)]
 pub(crate) struct Source<'a> {
     pub(crate) bytes: &'a [u8],
@@ -122,8 +122,7 @@ fn limit_of_two_words(rt: HostRuntime) -> Result<(), Fail> {
 /// The bytes of an image of three samples.
 pub(crate) fn image(alloc: Global) -> Result<Vec<u8>, Fail> {
     let mut bytes = Watched::new(Vec::new(alloc));
-    write_words(&mut bytes, &THREE_SAMPLES)?;
-    write_words(&mut bytes, &[0; 90])?;
+    write_words(&mut bytes, &three_samples(&[]))?;
     Ok(bytes.into_inner())
 }
 

@@ -1,5 +1,5 @@
-//! Each call of a worker comes between its two calls of the gate: the delta of a second worker, which the gate lets come while the
-//! first worker is in one of the two calls beside its `add`, takes what was added before.
+//! Each call of a worker is made between its two calls of the gate: the delta of a second worker, which the gate lets through while
+//! the first worker is in the call of the gate before or after its `add`, takes what was added before.
 
 use image_reader::read;
 use persist_commands::{Gate, run_script};
@@ -25,7 +25,7 @@ const AFTER_DELTA: usize = 3;
 // How often a call of the gate looks for another.
 const LOOKS: u32 = 1_000_000;
 
-// A gate each of whose calls returns once another call of it has come.
+// A gate each of whose calls returns once another call of it was made.
 #[derive(Drop)]
 struct Turns {
     come: [AtomicU64; 4],
@@ -33,7 +33,7 @@ struct Turns {
 }
 
 impl Turns {
-    // A call comes, and returns once the one has come for which it waits. Whether that one has.
+    // A call, which returns once the one was made for which it waits. Returns whether that one was.
     fn take(&self, call: usize) -> bool {
         let (Some(mine), Some(&other)) = (self.come.get(call), self.waits_for.get(call)) else {
             return false;
@@ -66,7 +66,7 @@ impl Gate for Turns {
     }
 }
 
-// The mark that a run by two workers leaves of the value that was added. None where it is refused.
+// The mark that a run by two workers leaves of the value that was added. None if the run is refused.
 fn mark_of_run<R: Threads + Wait>(
     rt: &R,
     alloc: Global,
@@ -96,7 +96,7 @@ fn mark_of_run<R: Threads + Wait>(
     Ok(histogram.marks.get(1).copied())
 }
 
-// The delta is let come and is made before the first call of the gate returns to the worker that adds: it takes nothing.
+// The delta is made before the first call of the gate returns to the worker that adds: it takes nothing.
 #[test]
 fn delta_before_an_add(rt: HostRuntime) -> Result<(), Fail> {
     let waits_for = [AFTER_DELTA, AFTER_ADD, BEFORE_ADD, AFTER_ADD];
@@ -105,7 +105,7 @@ fn delta_before_an_add(rt: HostRuntime) -> Result<(), Fail> {
     Ok(())
 }
 
-// It is let come once the second call has come of the worker that adds, and is made before that returns: it takes what was added.
+// The delta is made after the worker that adds has made its second call of the gate, before that returns: it takes what was added.
 #[test]
 fn delta_behind_an_add(rt: HostRuntime) -> Result<(), Fail> {
     let waits_for = [BEFORE_DELTA, AFTER_DELTA, AFTER_ADD, AFTER_DELTA];

@@ -1,4 +1,4 @@
-//! Workers beside one another: they meet at a gate, a gate lets one not go on, and of two refusals the first record's is answered.
+//! Workers at the same time: they wait for each other at a gate, a gate stops one, and of two refusals the first record's is returned.
 
 use persist_commands::{Gate, OpenGate, run_script};
 use persist_report_core::CliFault;
@@ -31,7 +31,7 @@ pub(crate) struct Meeting {
 }
 
 impl Meeting {
-    /// No call has come yet.
+    /// No call was made yet.
     pub(crate) fn new() -> Meeting {
         Meeting {
             first: AtomicU64::new(0),
@@ -67,7 +67,7 @@ impl Gate for Meeting {
     fn after(&self, _worker: u32, _call: u64) {}
 }
 
-// A gate that does not let the first call of the second worker come.
+// A gate that refuses the first call of the second worker.
 #[derive(Clone, Copy)]
 struct Shut;
 

@@ -13,4 +13,5 @@ loop-value-preserved c =
         names = same.names ∙ before.names;
         fresh = same.fresh ∙ before.fresh;
       },
+      c.add.ensures.kept ∙ c.loop-value.invariant.2,
     )

@@ -3,7 +3,7 @@
 ghost use Rattle.std.specs.Prelude.{◌<◌, IfOk};
 ghost use Rattle.live_segment.specs.Holders.{HasCursor, IsMadeWith, SharesSegment};
 
-use crate::words::stand;
+use crate::images::stand;
 use bucket_ranges::Spec;
 use image_reader::read;
 use live_segment::{OpenFault, Opener, Recorder, Segment};
@@ -21,7 +21,7 @@ const MINUS_3: u64 = 0xFFFF_FFFF_FFFF_FFFD;
 
 const MINUS_5: u64 = 0xFFFF_FFFF_FFFF_FFFB;
 
-// A call of a recorder, and what it has to answer: why it is refused, where it is. Those that name no histogram are for the first that
+// A call of a recorder, and what it has to return: why it is refused, if it is. Those that name no histogram are for the first that
 // the recorder knows.
 #[derive(Clone, Copy)]
 enum Act<'a> {
@@ -31,13 +31,13 @@ enum Act<'a> {
     Linear(&'a [u8], u32, u32, u32, Option<Refusal>),
     // It asks for a sparse one.
     Sparse(&'a [u8]),
-    // It adds a value, so many units.
+    // It adds this many units of a value.
     Add(i32, u32, Option<Refusal>),
-    // It adds a batch with this sum, and counts nothing where it is refused.
+    // It adds a batch with this sum, and counts nothing if it is refused.
     Batch(&'a [(i32, u32)], i64, Option<Refusal>),
     // A delta takes these units, and this of the sum.
     Delta(&'a [(i32, u64)], i64),
-    // So many units are left of its share.
+    // This many units are left of its share.
     Units(u32),
     // These records are on the list.
     Records(&'a [u64]),
@@ -60,7 +60,7 @@ fn is_list(answer: Result<Vec<u64>, Refusal>, list: &[u64]) -> bool {
     }
 }
 
-// Makes the call, and says whether it answers what it has to.
+// Makes the call, and returns whether it returns what it has to.
 fn does(recorder: &mut Recorder, act: &Act<'_>) -> bool
     ensures { SharesSegment recorder.old recorder.new }
 {
@@ -111,7 +111,7 @@ fn expect_acts(rt: &impl Abort, recorder: &mut Recorder, acts: &[Act<'_>])
     }
 }
 
-// The image of a new segment with so many words, into which one recorder with so many units has recorded.
+// The image of a new segment of this size, into which one recorder with these units has recorded.
 fn recorded(
     rt: &impl Abort,
     alloc: Global,

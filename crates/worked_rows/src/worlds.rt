@@ -1,6 +1,6 @@
-//! Actors of a world: who is refused a move, who makes a record first, and what two takers of the same units are answered.
+//! Actors of a world: who is refused a move, who makes a record first, and what is returned to two takers of the same units.
 
-use crate::words::stand;
+use crate::images::stand;
 use bucket_ranges::Spec;
 use hist_core::{Answer, Begun, Call, Move, Stepped, World, WorldFault, run_schedule};
 use image_reader::read;
@@ -20,23 +20,23 @@ enum Asks {
 // What is done with a world, and what has to be then.
 #[derive(Clone, Copy)]
 enum Act<'a> {
-    // An actor's call begins, and goes on.
+    // An actor's call begins, and has not ended.
     Begins(usize, Asks),
-    // It goes on by so many events.
+    // It performs this many events.
     Goes(usize, u32),
-    // It goes on to its end. It was asked for the histogram, which has this reference.
+    // It performs the rest of its events. The call returns the histogram, which has this reference.
     Finds(usize, u64),
-    // It goes on to its end, and has counted what it was to count.
+    // It performs the rest of its events, and has counted what it was to count.
     Counts(usize),
-    // It goes on to its end, and has taken these units, and this of the sum.
+    // It performs the rest of its events, and has taken these units, and this of the sum.
     Takes(usize, &'a [(i32, u64)], i64),
     // An actor knows that the boolean histogram has this reference.
     Knows(usize, u64),
     // An actor's call may not begin, for this fault.
     Fails(usize, Asks, WorldFault),
-    // No call of an actor is going on.
+    // An actor has no call.
     Rests(usize),
-    // These words stand from an index on.
+    // The words have these from an index on.
     Words(usize, &'a [u64]),
     // The words read as one histogram with this reference, these counts and this sum.
     Reads(u64, &'a [(i32, u64)], i64),
@@ -52,7 +52,7 @@ fn call_of(alloc: Global, name: &[u8], asks: &Asks) -> Result<Call, AllocError> 
     })
 }
 
-// What an actor's call answers, which goes on for 100 events at most.
+// What an actor's call returns after 100 events at most.
 fn end_of(world: &mut World, actor: usize) -> Result<Option<Answer>, WorldFault> {
     for _ in 0..100 {
         if let Stepped::Done(answer) = world.step(actor)? {
@@ -62,7 +62,7 @@ fn end_of(world: &mut World, actor: usize) -> Result<Option<Answer>, WorldFault>
     Ok(None)
 }
 
-// An actor goes on by so many events.
+// An actor performs this many events.
 fn go(world: &mut World, actor: usize, events: u32) -> Result<bool, WorldFault> {
     for _ in 0..events {
         world.step(actor)?;
@@ -86,7 +86,7 @@ fn reads(world: &World, alloc: Global, hist: (u64, &[(i32, u64)], i64)) -> Resul
     })
 }
 
-// Does this, and says whether all is as it has to be.
+// Does this, and returns whether all is as it has to be.
 fn does(world: &mut World, alloc: Global, name: &[u8], act: &Act<'_>) -> Result<bool, Fail> {
     Ok(match act {
         Act::Begins(actor, asks) => {
@@ -208,7 +208,7 @@ fn world_with_a(rt: &impl Abort, alloc: Global, version: u64) -> Result<World, F
     Ok(world)
 }
 
-// One taker loads the single word, and goes on when its units were moved, or frozen, and another taker has them.
+// One taker loads the single word, and continues when its units were moved, or frozen, and another taker has them.
 #[test]
 fn two_takers_of_a_packed_word(rt: HostRuntime) -> Result<(), Fail> {
     let alloc = rt.alloc();

@@ -1,6 +1,6 @@
 //! What words read as, and what a merge adds of it.
 
-use crate::words::{OFF, Words, three_samples};
+use crate::images::{OFF, Words, three_samples};
 use image_reader::read;
 use live_segment::Segment;
 use segment_calls::Refusal;
@@ -31,7 +31,7 @@ fn merged(alloc: Global, words: &Words) -> Result<(MergeReport, Image), Fail> {
     Ok((report, segment.close(opener)))
 }
 
-// Whether a merge reached `A` alone, and added so many units to it.
+// Whether a merge reached `A` alone, and added this many units to it.
 fn added_to_a(report: &MergeReport, units: u64) -> bool {
     match report.added.as_slice() {
         [(name, added)] => name.as_slice() == b"A".as_slice() && *added == units,

@@ -15,7 +15,7 @@ pub is_newcomer : (opener : Opener) (units : ℕ) (recorder : Recorder) (S Q : T
 is_newcomer opener units recorder S Q None told = told.1
 is_newcomer opener units recorder S Q (Some why) refused = absurd (cc refused)
 
--- where the segment has a shared cursor, the recorder has the first
+-- if the segment has a shared cursor, the recorder has the first
 pub first_cursor : (segment : Segment) (opener : Opener) (units : ℕ) (recorder : Recorder)
     → IsMadeWith segment opener → 0 < segment.setting.cursors
     → view_of_recorder recorder ≡ newcomer (offering (view_of_opener opener) units) → HasCursor recorder 0

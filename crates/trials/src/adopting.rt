@@ -1,15 +1,15 @@
 //! Images are adopted, recorded into, and read again.
 //!
-//! Of each image stands the line `image,PATH`. Where it may not be adopted, the line `fault,WHY` follows and nothing else. Else come
+//! Each image has the line `image,PATH`. If it may not be adopted, the line `fault,WHY` follows and nothing else. Else follow
 //!
 //!     units,UNITS                                the units that are left
 //!     hist,NAME                                  for each histogram of the image, in the order of its records, and then for new ones
 //!     delta,NAME,SUM,KEY,UNITS..                 what deltas have not taken yet
 //!     sample,NAME,VALUE,COUNT                    for each sample
 //!     batch,NAME,SUM,VALUE,COUNT..               for each batch
-//!     refused,NAME,CALL,WHY                      for each call that was refused, and for a batch behind it how many items were counted
+//!     refused,NAME,CALL,WHY                      for each call that was refused, and for a batch after it how many items were counted
 //!     left,UNITS                                 the units that are left then
-//!     report                                     and behind this line the report of the image of its segment
+//!     report                                     and after this line the report of the image of its segment
 //!     end
 
 mod recording;
@@ -47,8 +47,8 @@ fn record(
     Ok(())
 }
 
-// Records into a segment that goes on with these words, and shows what it reads as then.
-fn go_on(
+// Records into a segment that continues from these words, and shows what it reads as then.
+fn proceed(
     rt: &(impl Print + AllocGlobal),
     segment: Segment,
     mut opener: Opener,
@@ -71,7 +71,7 @@ fn show_image(rt: &(impl Files + Print + AllocGlobal), path: &str, turn: usize) 
     let mut file = Watched::new(fs::open(rt, path)?);
     let words = read_words(rt.alloc(), &mut file, MAX_SIZE as usize)?;
     match Segment::adopt(rt.alloc(), &words, 0) {
-        Ok((segment, opener)) => go_on(rt, segment, opener, &words, turn),
+        Ok((segment, opener)) => proceed(rt, segment, opener, &words, turn),
         Err(fault) => Ok(println!(rt; "fault,{fault}")?),
     }
 }

@@ -1,4 +1,4 @@
-//! Runs that tests and measurements look at: of threads that record beside one another, of calls whose memory is refused from
+//! Runs that tests and measurements look at: of threads that record at the same time, of calls whose memory is refused from
 //! outside, and of calls that are timed.
 //!
 //! `trials record THREADS SEED ROUNDS [ENTRIES]`: each round is a new segment, in which each of THREADS threads makes some
@@ -10,13 +10,13 @@
 //!     batch,NAME,SUM,VALUE,COUNT..            for each batch, those of a thread in their order
 //!     delta,NAME,SUM,KEY,UNITS..              for each delta
 //!     snapshot,NAME,SUM,REDUNDANT,KEY,UNITS.. for each snapshot
-//!     report                                  and behind this line the report of the image
+//!     report                                  and after this line the report of the image
 //!
-//! `trials walk THREADS RECORDS ROUNDS`: each round is a new segment with so many records, along which THREADS
+//! `trials walk THREADS RECORDS ROUNDS`: each round is a new segment with RECORDS records, along which THREADS
 //! threads go by one cursor that they share. It prints `round,NUMBER` and then `given,THREAD,REFERENCE` for each record that
 //! a thread was given, those of a thread in their order.
 //!
-//! `trials growths`: each call that takes memory is made, and once more where it is refused. The module `growths` has what it prints.
+//! `trials growths`: each call that takes memory is made, and again if it is refused. The module `growths` has what it prints.
 //!
 //! `trials adopt IMAGES..`: each image is adopted and recorded into, and its segment is read again. The module `adopting` has what it prints.
 //!

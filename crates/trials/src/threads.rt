@@ -1,4 +1,4 @@
-//! Threads record beside one another into one segment, and what they recorded is printed beside what the image tells.
+//! Threads record into one segment at the same time. What they recorded is printed, and then what the image says.
 
 pub(crate) mod calls;
 pub(crate) mod lines;

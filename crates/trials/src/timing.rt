@@ -10,7 +10,7 @@ use anyhow::{Result, bail};
 use std::rt::{Clock, Files};
 use std::thread::Threads;
 
-/// Measures what the first word says, with the parameters behind it.
+/// Measures what the first word says, with the parameters after it.
 pub(crate) fn run<R: Threads + Clock + Files + Print + AllocGlobal + Sync>(
     rt: &R,
     words: &[String],

@@ -1,5 +1,6 @@
 //! The calls of the recorder of an adopted segment.
 
+ghost use Rattle.std.specs.Prelude.{◌≡◌};
 ghost use Rattle.live_segment.specs.Holders.{SharesSegment};
 ghost use Rattle.live_segment.specs.RecorderState.{IsSameRecorder, Knows};
 
@@ -30,7 +31,8 @@ fn add(
     turn: usize,
 ) -> io::Result<()>
     requires { Knows recorder.old.state histogram }
-    ensures { IsSameRecorder recorder.old.state recorder.new.state }
+    ensures kept { recorder.new.segment ≡ recorder.old.segment }
+    ensures same { IsSameRecorder recorder.old.state recorder.new.state }
 {
     let (value, count) = SAMPLES[turn % SAMPLES.len()];
     match recorder.add(histogram, value, count) {
@@ -41,7 +43,8 @@ fn add(
 
 fn batch(rt: &impl Print, recorder: &mut Recorder, name: &str, histogram: Hist) -> io::Result<()>
     requires { Knows recorder.old.state histogram }
-    ensures { IsSameRecorder recorder.old.state recorder.new.state }
+    ensures kept { recorder.new.segment ≡ recorder.old.segment }
+    ensures same { IsSameRecorder recorder.old.state recorder.new.state }
 {
     match recorder.batch(histogram, &[(0, 1), (3, 2)], 5) {
         Ok(()) => println!(rt; "batch,{name},5,0,1,3,2"),
@@ -54,14 +57,15 @@ fn batch(rt: &impl Print, recorder: &mut Recorder, name: &str, histogram: Hist) 
 
 fn delta(rt: &impl Print, recorder: &mut Recorder, name: &str, histogram: Hist) -> Result<()>
     requires { Knows recorder.old.state histogram }
-    ensures { IsSameRecorder recorder.old.state recorder.new.state }
+    ensures kept { recorder.new.segment ≡ recorder.old.segment }
+    ensures same { IsSameRecorder recorder.old.state recorder.new.state }
 {
     let delta = recorder.delta(histogram)?;
     show_delta(rt, name, &delta)?;
     Ok(())
 }
 
-// Takes what is left to be taken, records, takes that, and records once more.
+// Takes what is left to be taken, records, takes that, and records again.
 fn record_into(
     rt: &impl Print,
     recorder: &mut Recorder,
@@ -82,7 +86,7 @@ fn record_into(
     Ok(())
 }
 
-// Asks for a histogram and records into it, where it is not refused.
+// Asks for a histogram and records into it, if it is not refused.
 fn record(
     rt: &impl Print,
     recorder: &mut Recorder,

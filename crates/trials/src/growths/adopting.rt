@@ -1,4 +1,4 @@
-//! A segment goes on with an image, or may not.
+//! A segment continues from an image, or may not.
 
 ghost use Rattle.std.specs.Prelude.{IfOk};
 ghost use Rattle.live_segment.specs.Holders.{IsMadeWith, SharesSegment};
@@ -42,8 +42,8 @@ fn record(rt: &impl Print, recorder: &mut Recorder) -> Result<()>
     Ok(())
 }
 
-// Goes on with an image.
-fn go_on(rt: &impl Print, segment: Segment, mut opener: Opener) -> Result<()>
+// Continues from an image.
+fn proceed(rt: &impl Print, segment: Segment, mut opener: Opener) -> Result<()>
     requires { IsMadeWith segment opener }
 {
     println!(rt; "{} units", opener.units())?;
@@ -74,7 +74,7 @@ fn with_word(alloc: Global, words: &[u64], at: usize, word: u64) -> Result<Vec<u
 
 pub(super) fn show(rt: &(impl Print + AllocGlobal), words: &[u64]) -> Result<()> {
     let (segment, opener) = adopt(rt, words, 1)??;
-    go_on(rt, segment, opener)?;
+    proceed(rt, segment, opener)?;
     show_fault(rt, words, 9)?;
     show_fault(rt, &with_word(rt.alloc(), words, TAIL, 13)?, 1)?;
     show_fault(rt, &with_word(rt.alloc(), words, REDUNDANT, 1 << 32)?, 1)?;

@@ -1,4 +1,4 @@
-//! A call is made again where it is refused.
+//! A call is made again if it is refused.
 
 use std::fmt::Display;
 use std::io;
@@ -13,7 +13,7 @@ pub(super) fn show_refused(rt: &impl Print, name: &str, why: &impl Display) -> i
     println!(rt; "refused {name} {why}")
 }
 
-/// What a call answers; where it is refused, what it answers when it is made once more.
+/// What a call returns; if it is refused, what it returns when it is made again.
 macro_rules! again {
     ($rt:expr, $name:literal, $call:expr) => {{
         show_try($rt, $name)?;

@@ -1,6 +1,6 @@
 //! The calls of a segment, its opener and its recorders.
 
-ghost use Rattle.std.specs.Prelude.{◌<◌, IfOk};
+ghost use Rattle.std.specs.Prelude.{◌≡◌, ◌<◌, IfOk};
 ghost use Rattle.live_segment.specs.Holders.{HasCursor, IsMadeWith, SharesSegment};
 ghost use Rattle.live_segment.specs.RecorderState.{IsSameRecorder, Knows, KnowsOn};
 
@@ -31,6 +31,7 @@ fn create(rt: &(impl Print + AllocGlobal)) -> io::Result<Result<(Segment, Opener
 }
 
 fn hist(rt: &impl Print, recorder: &mut Recorder, name: &str, spec: &Spec) -> Result<Hist>
+    ensures kept { recorder.new.segment ≡ recorder.old.segment }
     ensures same { KnowsOn recorder.old.state recorder.new.state }
     ensures knows { IfOk result (λ histogram. Knows recorder.new.state histogram) }
 {
@@ -46,7 +47,8 @@ fn hist(rt: &impl Print, recorder: &mut Recorder, name: &str, spec: &Spec) -> Re
 
 fn delta(rt: &impl Print, recorder: &mut Recorder, histogram: Hist) -> Result<Delta>
     requires { Knows recorder.old.state histogram }
-    ensures { IsSameRecorder recorder.old.state recorder.new.state }
+    ensures kept { recorder.new.segment ≡ recorder.old.segment }
+    ensures same { IsSameRecorder recorder.old.state recorder.new.state }
 {
     show_try(rt, "delta")?;
     match recorder.delta(histogram) {
@@ -60,7 +62,8 @@ fn delta(rt: &impl Print, recorder: &mut Recorder, histogram: Hist) -> Result<De
 
 fn snapshot(rt: &impl Print, recorder: &mut Recorder, histogram: Hist) -> Result<Snapshot>
     requires { Knows recorder.old.state histogram }
-    ensures { IsSameRecorder recorder.old.state recorder.new.state }
+    ensures kept { recorder.new.segment ≡ recorder.old.segment }
+    ensures same { IsSameRecorder recorder.old.state recorder.new.state }
 {
     show_try(rt, "snapshot")?;
     match recorder.snapshot(histogram) {
@@ -101,7 +104,8 @@ fn fresh_records(rt: &impl Print, recorder: &mut Recorder) -> Result<Vec<u64>>
 // Counts what fits into a single word, what does not, and a batch.
 fn show_counting(rt: &impl Print, recorder: &mut Recorder, histogram: Hist) -> io::Result<()>
     requires { Knows recorder.old.state histogram }
-    ensures { IsSameRecorder recorder.old.state recorder.new.state }
+    ensures kept { recorder.new.segment ≡ recorder.old.segment }
+    ensures same { IsSameRecorder recorder.old.state recorder.new.state }
 {
     show_try(rt, "add")?;
     let small = recorder.add(histogram, 1, 2);

@@ -7,7 +7,7 @@ use bucket_ranges::Spec;
 use hist_core::{Answer, Begun, Call, Move, Stepped, World, WorldFault, run_schedule};
 use std::alloc::{AllocError, Global};
 
-// No call has so many events.
+// No call has more events.
 const MOST_EVENTS: u32 = 100;
 
 fn bytes(alloc: Global, name: &str) -> Result<Vec<u8>, AllocError> {
@@ -27,7 +27,7 @@ fn calls_of(alloc: Global, name: &str, spec: Spec) -> Result<Vec<Call>, AllocErr
     ]?)
 }
 
-// The actor begins a call, once more where it is refused.
+// The actor begins a call, again if it is refused.
 fn begin(rt: &impl Print, world: &mut World, call: &Call) -> Result<Begun> {
     println!(rt; "try begin {call:?}")?;
     match world.begin(0, call) {
@@ -39,8 +39,8 @@ fn begin(rt: &impl Print, world: &mut World, call: &Call) -> Result<Begun> {
     }
 }
 
-// The actor goes on with a call to its end.
-fn go_on(world: &mut World) -> Result<Option<Answer>, WorldFault> {
+// The actor's call is stepped to its end.
+fn finish(world: &mut World) -> Result<Option<Answer>, WorldFault> {
     for _ in 0..MOST_EVENTS {
         if let Stepped::Done(answer) = world.step(0)? {
             return Ok(Some(answer));
@@ -54,7 +54,7 @@ fn show_call(rt: &impl Print, world: &mut World, call: &Call) -> Result<()> {
         Begun::Ended(answer) => println!(rt; "{answer:?}")?,
         Begun::Going => {
             show_try(rt, "step")?;
-            let answer = go_on(world)?.context("a call has no end")?;
+            let answer = finish(world)?.context("a call has no end")?;
             println!(rt; "{answer:?}")?;
         }
     }

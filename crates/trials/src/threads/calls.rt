@@ -13,7 +13,7 @@ const CALLS: u32 = 120;
 /// The units of a thread. No call asks for more than it has left.
 pub(crate) const UNITS: u32 = CALLS * MOST_ITEMS * MOST_COUNT;
 
-// The greatest count of a sample: no single word holds so many.
+// The greatest count of a sample: no single word holds as many.
 const MOST_COUNT: u32 = 70_000;
 
 // The most items of a batch.
@@ -38,7 +38,7 @@ pub(crate) struct Batch {
     pub(crate) sum: i64,
 }
 
-/// What a thread did: its recorder, its samples and batches, and what it was answered.
+/// What a thread did: its recorder, its samples and batches, and what its deltas and snapshots returned.
 #[derive(Drop)]
 pub(crate) struct Done<'a> {
     pub(crate) recorder: Recorder<'a>,
@@ -98,7 +98,7 @@ struct Worker<'a> {
     numbers: Numbers,
 }
 
-// All histograms, which a recorder meets in an order of its own.
+// All histograms, for which a recorder asks in an order of its own.
 fn meet_all(
     alloc: Global,
     recorder: &mut Recorder,

@@ -4,7 +4,7 @@ use crate::threads::calls::{Batch, Sample};
 use live_segment::{Delta, Snapshot};
 use std::io;
 
-// Keys and their units, each behind a comma.
+// Keys and their units, each after a comma.
 fn show_units(rt: &impl Print, counts: &[(i32, u64)]) -> io::Result<()> {
     for (key, units) in counts {
         print!(rt; ",{key},{units}")?;

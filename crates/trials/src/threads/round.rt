@@ -24,7 +24,7 @@ pub(crate) struct Job<'a> {
     pub(crate) seed: u32,
 }
 
-// A recorder whose indexes have at most so many entries, if there is a limit.
+// A recorder whose indexes have at most this many entries, if there is a limit.
 fn recorder_for<'a>(
     segment: &'a Segment,
     opener: &mut Opener,
@@ -63,7 +63,7 @@ fn prepare<'a>(
     Ok(jobs)
 }
 
-// What all threads did, one beside the other.
+// What all threads did, at the same time.
 fn run_all<'a, R: Threads + Sync>(
     rt: &R,
     alloc: Global,

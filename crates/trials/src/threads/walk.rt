@@ -13,7 +13,7 @@ const SIZE: u64 = 16_384;
 
 const PAGE: u64 = 1024;
 
-// Makes so many records.
+// Makes this many records.
 fn make_records(alloc: Global, recorder: &mut Recorder, records: u32) -> Result<()>
     ensures { SharesSegment recorder.old recorder.new }
 {
@@ -42,7 +42,7 @@ fn prepare<'a>(
     Ok(recorders)
 }
 
-// The records that a thread is given, up to the end of the list. There are at most so many.
+// The records that a thread is given, up to the end of the list or this many.
 fn walk(alloc: Global, mut recorder: Recorder, records: u32) -> Result<Vec<u64>, AllocError>
     requires { HasCursor recorder 0 }
 {

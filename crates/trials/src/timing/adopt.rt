@@ -1,4 +1,4 @@
-//! Measures how long an image takes to be adopted, beside the same words being read.
+//! Measures how long an image takes to be adopted, and the same words to be read.
 //!
 //! It prints how many words the image has, and for each of TURNS turns of all ways the time of each, in microseconds: of the
 //! reading alone, of the reading and its report in memory, and of the adoption. The time of a reading ends when its memory is given back.

@@ -1,4 +1,4 @@
-//! One burst: threads record beside one another, and the time from their start to the end of the last.
+//! One burst: threads record at the same time, and the time from their start to the end of the last.
 
 ghost use Rattle.live_segment.specs.Holders.{IsMadeWith};
 ghost use Rattle.live_segment.specs.RecorderState.{Knows};
@@ -22,8 +22,8 @@ struct Job<'a> {
     histograms: Vec<Hist>,
 }
 
-// A recorder that knows the histograms of a thread. Where they are to have counts, it has counted a sample that no single
-// word holds.
+// A recorder that knows the histograms of a thread. If they are to have counts, it has counted a sample that no single word
+// holds.
 fn prepare<'a>(
     alloc: Global,
     plan: Plan,
@@ -64,7 +64,7 @@ fn prepare_all<'a>(
     Ok(jobs)
 }
 
-// Records so many samples, whose values come again and again.
+// Records this many samples, whose values are repeated.
 fn record_into(
     recorder: &mut Recorder,
     histogram: Hist,

@@ -6,7 +6,7 @@ const MOST_PACKED: u32 = 65_535;
 
 const MOUNTED_SAMPLES: u32 = 1_000_000;
 
-/// How many values come again and again.
+/// How many values are repeated.
 pub(crate) const VALUES: usize = 4096;
 
 /// What a burst records.

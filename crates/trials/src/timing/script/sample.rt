@@ -4,8 +4,8 @@ use std::alloc::{AllocError, Global};
 
 const NAMES: usize = 1000;
 
-// A script of about so many bytes: a segment, the histograms, and then `add` records over all of their names, each
-// for the histogram `step` places behind that of the record before.
+// A script of about this many bytes: a segment, the histograms, and then `add` records over all of their names, each
+// for the histogram `step` places after that of the record before.
 pub(crate) fn script(alloc: Global, bytes: usize, step: usize) -> Result<Vec<u8>, AllocError> {
     let mut script = Vec::with_capacity(alloc, bytes)?;
     script.extend_from_slice(b"segment,1048576,65536,7\n")?;

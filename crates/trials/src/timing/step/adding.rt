@@ -18,7 +18,7 @@ pub(crate) struct Adding {
     state: u32,
 }
 
-// The call that begins now goes on to its end. How many events that takes.
+// Steps the call that began to its end. Returns how many events that takes.
 fn finish(world: &mut World) -> Result<u64> {
     let mut events: u64 = 0;
     for _ in 0..u64::MAX {
@@ -59,7 +59,7 @@ impl Adding {
         })
     }
 
-    /// It adds so many samples, of values that fall into the buckets in no order. How many events that takes.
+    /// Adds this many samples, of values that fall into the buckets in no order. Returns how many events that takes.
     pub(crate) fn add(&mut self, samples: u32) -> Result<u64> {
         let mut events: u64 = 0;
         for _ in 0..samples {

@@ -6,11 +6,11 @@ use std::alloc::Global;
 use std::rt::Clock;
 use std::time::Instant;
 
-// The adds are timed in so many parts.
+// How many parts of the adds are timed.
 const PARTS: u32 = 10;
 
 /// Picoseconds an add.
-#[derive(Clone, Copy, Debug, PartialEq, Eq)]
+#[derive(Clone, Copy)]
 pub(crate) struct Times {
     /// Of all adds.
     pub(crate) all: u128,
@@ -38,12 +38,12 @@ impl Times {
     }
 }
 
-/// How many events so many adds take.
+/// Returns how many events this many adds take.
 pub(crate) fn count_events(alloc: Global, adds: u32) -> Result<u64> {
     Adding::new(alloc)?.add(adds / PARTS * PARTS)
 }
 
-// Nanoseconds for so many adds, as picoseconds for each.
+// Nanoseconds for this many adds, as picoseconds for each.
 fn for_each(nanoseconds: u128, adds: u32) -> u128 {
     nanoseconds.saturating_mul(1000) / u128::from(adds.max(1))
 }

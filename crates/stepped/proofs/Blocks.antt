@@ -36,13 +36,13 @@ spot_rises words n (suc m) near =
     dite (ℕ_discrete n (suc m)) (λ same. let here : spot words n ≤ spot words n = omega arith in subst (λ (k : ℕ). spot words n ≤ spot words k) same here)
     (λ apart. let before : spot words n ≤ spot words m = spot_rises words n m (omega (arith, near, apart)) in omega (arith, before))
 
--- behind the end of the words there is no block
+-- after the end of the words there is no block
 pub none_behind : (words : List ℕ) (sought : Sought) (n : ℕ) → length words ≤ spot words n → (k : ℕ) → n ≤ k → is_at words sought k ≡ false
 none_behind words sought n ended k near =
     let rises : spot words n ≤ spot words k = spot_rises words n k near in
     let far : nat_lt (spot words k) (length words) ≡ false = grind (arith, rises, ended) in ap (λ (b : Bool). b && is_sought words sought (spot words k)) far
 
--- nor from the last one on, where that is not the one
+-- nor from the last one on, if that is not the one
 pub none_from : (words : List ℕ) (sought : Sought) (n : ℕ) → is_at words sought n ≡ false → length words ≤ spot words (suc n) → (k : ℕ) → n ≤ k
     → is_at words sought k ≡ false
 none_from words sought n fails ended k near =

@@ -46,7 +46,7 @@ pub appends_none : (a : Option (List ℕ)) → Appends a a []
 appends_none None = tt
 appends_none (Some old) = sym (append-nil old)
 
--- what holds where a result is Ok leads to more there
+-- what holds if a result is Ok leads to more then
 pub on_ok : {X E : Type 0} (made : Result X E) {A B : Type 0} → (A → B) → OnOk made A → OnOk made B
 on_ok (Ok x) f held = f held
 on_ok (Err e) f held = tt
@@ -56,7 +56,7 @@ pub fields_both : (a b c : Option (List ℕ)) (xs ys : List (List ℕ)) → Appe
 fields_both a b c xs ys first second =
     subst (Appends a c) (sym (flat_map-append (λ (field : List ℕ). 44 ∷ field) xs ys)) (appends_both a b c (behind xs) (behind ys) first second)
 
--- what stands behind all that was done
+-- what comes after all that was done
 pub form_both : (form : Form) (xs ys : List (Place × Deed)) → form_behind form (xs ++ ys) ≡ form_behind (form_behind form xs) ys
 form_both form [] ys = refl
 form_both form (x ∷ xs) ys = form_both (form_after x.1 form) xs ys
@@ -67,7 +67,7 @@ texts_both form (x ∷ xs) ys =
     ap (λ (s : List ℕ). text_of form x.0 x.1 ++ s) (texts_both (form_after x.1 form) xs ys)
     ∙ sym (append_assoc (text_of form x.0 x.1) (texts (form_after x.1 form) xs) (texts (form_behind (form_after x.1 form) xs) ys))
 
--- what is written behind what was done is the text of both
+-- what is written after what was done is the text of both
 pub texts_behind : (f g : Form) (a b c : Option (List ℕ)) (xs ys : List (Place × Deed)) → Writes f g a b xs → Appends b c (texts g ys)
     → Appends a c (texts f (xs ++ ys))
 texts_behind f g a b c xs ys (is, first) second =
@@ -136,7 +136,7 @@ same_length old new changes = ∥∥₁_elim changes (hlevel props) (λ (at, wor
 abbrev pub ok_beside : {A : Type 0} (F : Type 0) → A → Result A F
 ok_beside F said = Ok said
 
--- where one of two results with other errors is Ok, so is the other
+-- if one of two results with other errors is Ok, so is the other
 pub same_ok : {A E : Type 0} (F : Type 0) (made : Result A E) (said : A) → MatchResult made (λ x. ok_beside F said ≡ Ok x) (λ e. ⊥) → made ≡ Ok said
 same_ok {A} F (Ok x) said is = ap Ok (sym (ap value_or is))
   where
@@ -186,7 +186,7 @@ pub goes_next : (actor events : ℕ) (old mid new : WorldState) (before last : L
 goes_next actor events old mid new before last goes shows =
     subst (λ (n : ℕ). GoesBy actor n old new (before ++ last)) (sym (add-one events)) (mid, before, last, goes, shows, refl)
 
--- the answer that stands last stands last behind others
+-- the answer that is last is last after others
 pub ends_behind : (before last : List Deed) → EndsCall last → EndsCall (before ++ last)
 ends_behind before last (its, answer, is) =
     (before ++ its, answer, ap (λ (l : List Deed). before ++ l) is ∙ sym (append_assoc before its (Ends answer ∷ [])))
@@ -223,7 +223,7 @@ replays_more number at (first ∷ done) order (suc left) old mid new left_then t
   ap (λ (s : List (Place × Deed)). s ++ placed at order.actor deeds) is ∙ append_assoc (placed number first.actor its) later (placed at order.actor deeds),
 )
 
--- where no event is left, other records behind do nothing
+-- if no event is left, later records do nothing
 pub replays_no_more : (number : ℕ) (done rest : List Order) (left : ℕ) (old mid : WorldState) (shown : List (Place × Deed)) → Replays number done left old mid 0 shown
     → Replays number (done ++ rest) left old mid 0 shown
 replays_no_more number [] [] left old mid shown replays = replays

@@ -1,4 +1,4 @@
--- What is written behind a replay.
+-- What is written after a replay.
 use Rattle.std.proofs.Common.{◌≡◌, ℕ, List, subst}
 use Rattle.std.specs.Prelude.{Result, Ok, Err, OnOk, ⊤}
 

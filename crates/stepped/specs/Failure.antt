@@ -14,13 +14,13 @@ abbrev pub failure_status : Failure → ℕ
 failure_status (Usage error) = 2
 failure_status (Fault fault) = replay_status fault
 
--- what an error of the command line's parse comes to: want of memory is no mistake in the words
+-- what the failure is if the command line is not parsed: out of memory is no mistake in the words
 abbrev pub IsFailureOf : Error → Failure → Type 0
 IsFailureOf error failure =
     ((kind_of error ≡ OutOfMemory) × (failure ≡ Fault NoMemory))
     ⊎ ((kind_of error ≢ OutOfMemory) × (failure ≡ Usage error))
 
--- neither help, nor the version, nor want of memory
+-- neither help, nor the version, nor out of memory
 pub record IsMistake (kind : ErrorKind) : Type 0 where
   pub no_help : kind ≢ DisplayHelp
   pub no_version : kind ≢ DisplayVersion

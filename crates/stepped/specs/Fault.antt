@@ -9,7 +9,7 @@ use Rattle.segment_image.specs.declared.fault.ReadFault.TheVariants as of_read
 use Rattle.stepped.specs.declared.fault.ReplayFault.{ReplayFault}
 use Rattle.stepped.specs.declared.fault.ReplayFault.TheVariants.{Read, Write, TooLong, NotWords, BadLine, World, NoMemory}
 
--- 3 for bytes that are no schedule or no words, and for what a world does not take; 4 for a device that failed; 5 for want of memory
+-- 3 if the bytes are no schedule or no words, or a world does not take it; 4 if a device failed; 5 if memory ran out
 abbrev pub replay_status : ReplayFault → ℕ
 replay_status Read = 4
 replay_status Write = 4
@@ -19,7 +19,7 @@ replay_status (BadLine number) = 3
 replay_status (World number fault) = 3
 replay_status NoMemory = 5
 
--- what a fault of the world at the record of a number comes to: want of memory is no fault of the record
+-- what a fault of the world at the record of a number comes to: out of memory is no fault of the record
 abbrev pub fault_of_world : ℕ → WorldFault → ReplayFault
 fault_of_world number of_world.NoMemory = NoMemory
 fault_of_world number fault = World number fault

@@ -9,7 +9,7 @@ use Rattle.stepped.specs.Lines.{Deed, deed_line}
 use Rattle.stepped.specs.Lines.Deed.{Begins, AtOnce, Steps, Ends}
 use Rattle.stepped.specs.Picture.{answer_cell, begin_cell, event_cell, row}
 
--- the number of the event behind so many: it stays at the greatest of its type
+-- the number of the event after this many: it stays at the greatest of its type
 abbrev pub next_number : ℕ → ℕ
 next_number events = min (events + 1) 18446744073709551615
 
@@ -18,7 +18,7 @@ abbrev pub counted : Form → Form
 counted Lines = Lines
 counted (Picture events) = Picture (next_number events)
 
--- how the next is shown behind what was done
+-- how the next is shown after what was done
 abbrev pub form_after : Deed → Form → Form
 form_after (Begins call) form = form
 form_after (AtOnce call answer) form = form
@@ -33,16 +33,16 @@ text_of (Picture events) place (AtOnce call answer) = row [] place.actor (begin_
 text_of (Picture events) place (Steps words effect) = row (decimal (next_number events)) place.actor (event_cell words effect)
 text_of (Picture events) place (Ends answer) = row [] place.actor (answer_cell answer)
 
--- how the next is shown behind all that was done, each at its place
+-- how the next is shown after all that was done, each at its place
 abbrev pub form_behind : Form → List (Place × Deed) → Form
 form_behind form [] = form
 form_behind form (done ∷ rest) = form_behind (form_after done.1 form) rest
 
--- the text of all that was done, one behind the other
+-- the text of all that was done, one after the other
 abbrev pub texts : Form → List (Place × Deed) → List ℕ
 texts form [] = []
 texts form (done ∷ rest) = text_of form done.0 done.1 ++ texts (form_after done.1 form) rest
 
--- all that was done is written, and the next is shown behind it
+-- all that was done is written, and the next is shown after it
 abbrev pub Writes : Form → Form → Option (List ℕ) → Option (List ℕ) → List (Place × Deed) → Type 0
 Writes old new before behind done = (new ≡ form_behind old done) × Appends before behind (texts old done)

@@ -47,7 +47,7 @@ refusal_fields why = refusal_word why ∷ []
 
 -- ---- what is shown of a call
 
--- what an event did that changed this, where it missed that if it changed nothing
+-- what an event did that changed this, or, if it changed nothing, that missed this
 abbrev pub effect_of : Option Change → Option Miss → Effect
 effect_of (Some change) miss = Changed change
 effect_of None (Some miss) = Missed miss
@@ -82,7 +82,7 @@ step_fields Quiet = codes "step" ∷ []
 step_fields (Missed miss) = codes "step" ∷ []
 step_fields (Changed change) = codes "step" ∷ decimal change.at ∷ decimal change.old ∷ decimal change.new ∷ []
 
--- the fields behind those of the place
+-- the fields after those of the place
 abbrev pub deed_fields : Deed → List (List ℕ)
 deed_fields (Begins call) = codes "begin" ∷ []
 deed_fields (AtOnce call answer) = codes "answer" ∷ answer_fields answer
@@ -91,7 +91,7 @@ deed_fields (Ends answer) = codes "answer" ∷ answer_fields answer
 
 -- ---- texts
 
--- fields, each behind a comma
+-- fields, each after a comma
 abbrev pub behind : List (List ℕ) → List ℕ
 behind fields = flat_map (λ field. 44 ∷ field) fields
 

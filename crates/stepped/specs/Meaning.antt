@@ -1,4 +1,4 @@
--- What a word of a segment means, by the header's layout and the blocks that stand in the words.
+-- What a word of a segment means, by the header's layout and the blocks in the words.
 use Rattle.std.specs.Prelude.{ℕ, zero, suc, ◌<◌, ◌+◌, ◌-◌, ◌/◌, ◌%◌, max, min, Bool, ◌&&◌, if◌then◌else◌, nat_lt, nat_le, ◌==◌, List, [], ◌∷◌, ◌++◌, length, slice_index, codes, Option, Some, None, option_map, ⊤}
 use Rattle.std.specs.Fmt.{decimal, signed_decimal}
 use Rattle.std.specs.Int.{w64, cast_signed, to_le_bytes}
@@ -10,7 +10,7 @@ use Rattle.stepped.specs.declared.meaning.Role.TheVariants.{Histogram, Sample, C
 
 -- ---- blocks
 
--- Where a block may begin: behind the header, and then behind each block, whose first word is its size. Words that are claimed are 0 until
+-- Where a block may begin: after the header, and then after each block, whose first word is its size. Words that are claimed are 0 until
 -- their size is stored, so one that is 0 is passed by itself.
 abbrev pub spot : List ℕ → ℕ → ℕ
 spot words zero = 16
@@ -26,7 +26,7 @@ is_sought words (CountingIn counts) block =
 abbrev pub is_at : List ℕ → Sought → ℕ → Bool
 is_at words sought n = nat_lt (spot words n) (length words) && is_sought words sought (spot words n)
 
--- the one, or the other where there is none
+-- the one, or the other if there is none
 abbrev pub or_else : Option ℕ → Option ℕ → Option ℕ
 or_else None other = other
 or_else (Some n) other = Some n
@@ -66,7 +66,7 @@ IsInside words role = ⊤
 abbrev pub letter : List ℕ → ℕ → ℕ → ℕ
 letter words block i = slice_index (to_le_bytes w64 (word_at words (block + (15 + i / 8)))) (i % 8)
 
--- so many of them, in order
+-- this many of them, in order
 abbrev pub letters : List ℕ → ℕ → ℕ → List ℕ
 letters words block zero = []
 letters words block (suc n) = letters words block n ++ letter words block n ∷ []
@@ -93,7 +93,7 @@ header_field place =
     else (if place == 2 then codes "type"
     else codes "next"))
 
--- the word for a place in a histogram's record behind the single word: the boundaries of a custom one are beside the name
+-- the word for a place in a histogram's record after the single word: the boundaries of a custom one belong to the name
 abbrev pub later_field : ℕ → List ℕ
 later_field place =
     if place == 10 then codes "single_mark"
@@ -135,12 +135,12 @@ field_word tag place =
 abbrev pub numbered : ℕ → List ℕ
 numbered place = codes "word[" ++ decimal place ++ codes "]"
 
--- a field by its word, or by its number where it has none
+-- a field by its word, or by its number if it has none
 abbrev pub field_text : Option (List ℕ) → ℕ → List ℕ
 field_text None place = numbered place
 field_text (Some word) place = word
 
--- a place behind the header of a block of counts: as many counts as there are buckets, and then their marks
+-- a place after the header of a block of counts: as many counts as there are buckets, and then their marks
 abbrev pub count_text : ℕ → ℕ → List ℕ
 count_text buckets place =
     if nat_lt place buckets then codes "count[" ++ decimal place ++ codes "]" else codes "mark[" ++ decimal (place - buckets) ++ codes "]"
@@ -167,6 +167,6 @@ meaning_in words at None = header_text at
 meaning_in words at (Some block) =
     owner_text words block (role_of words block) ++ codes "." ++ place_text words block (role_of words block) (at - block)
 
--- what a word means, as the words stand
+-- what a word means, as the words are
 abbrev pub meaning : List ℕ → ℕ → List ℕ
 meaning words at = meaning_in words at (block_of words (Holding at))

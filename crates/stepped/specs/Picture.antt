@@ -22,7 +22,7 @@ call_text SetCorrupt = codes "set_corrupt"
 abbrev pub begin_cell : ℕ → Call → List ℕ
 begin_cell actor call = codes "actor " ++ decimal actor ++ codes ": " ++ call_text call
 
--- An event: what the word that it changed means as the words then stand, what it was and what it is; or what the word means of an exchange
+-- An event: what the word that it changed means as the words are then, what it was and what it is; or what the word means of an exchange
 -- that did not go through, what that wanted and what it found; or that it changed none.
 abbrev pub event_cell : List ℕ → Effect → List ℕ
 event_cell words Quiet = codes "-"
@@ -42,6 +42,6 @@ column (suc actor) = column actor ++ codes "                                "
 abbrev pub row_start : List ℕ → ℕ → List ℕ
 row_start number actor = number ++ codes "\t" ++ column actor
 
--- a row, with what stands in the column
+-- a row, with what is in the column
 abbrev pub row : List ℕ → ℕ → List ℕ → List ℕ
 row number actor cell = row_start number actor ++ cell ++ codes "\n"

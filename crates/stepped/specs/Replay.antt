@@ -48,7 +48,7 @@ pub record IsDifference (old new : List ℕ) (change : Change) : Type 0 where
   pub is : slice_index new change.at ≡ change.new
   pub other : change.old ≢ change.new
 
--- what an exchange of a word misses, where it comes to these words: the word is another than it wants
+-- what an exchange of a word misses, if it finds these words: the word is another than it wants
 abbrev pub miss_in : List ℕ → Option Attempt → Option Miss
 miss_in words None = None
 miss_in words (Some attempt) =
@@ -59,12 +59,12 @@ miss_in words (Some attempt) =
 abbrev pub next_miss : WorldState → ℕ → Option Miss
 next_miss world_state actor = miss_in world_state.words.items (next_attempt world_state actor)
 
--- what is done at a begin: the call begins, or it has ended with its answer, where it needs no event
+-- what is done at a begin: the call begins, or it has ended with its answer, if it needs no event
 abbrev pub begin_deeds : Call → Begun → List Deed
 begin_deeds call Going = Begins call ∷ []
 begin_deeds call (Ended answer) = AtOnce call answer ∷ []
 
--- what is done at an event: it happens, and behind it comes the answer of a call that it ended
+-- what is done at an event: it happens, and after it comes the answer of a call that it ended
 abbrev pub step_deeds : List ℕ → Effect → Stepped → List Deed
 step_deeds words effect More = Steps words effect ∷ []
 step_deeds words effect (Done answer) = Steps words effect ∷ Ends answer ∷ []
@@ -88,7 +88,7 @@ GoesBy actor (suc events) old new deeds =
 abbrev pub EndsCall : List Deed → Type 0
 EndsCall deeds = (before : List Deed) × (answer : Answer) × (deeds ≡ before ++ Ends answer ∷ [])
 
--- A call goes on by events. They are as many as the record says, fewer only where the call ends or where no event is left.
+-- A call performs events. They are as many as the record says, fewer only if the call ends or if no event is left.
 pub record GoesOn (actor times left : ℕ) (old new : WorldState) (then_left : ℕ) (deeds : List Deed) : Type 0 where
   pub events : ℕ
   pub goes : GoesBy actor events old new deeds

@@ -1,4 +1,4 @@
-//! Why the program did not do what it was asked to, and the status with which it then ends.
+//! Why the program did not do what it was asked to, and its exit status then.
 
 ghost use Rattle.std.specs.Prelude.{◌≡◌};
 ghost use Rattle.stepped.specs.Failure.{IsFailureOf, failure_status};
@@ -11,16 +11,16 @@ use std::alloc::AllocError;
 use std::fmt;
 
 /// Why the program did not do what it was asked to. Its text is whole lines for the error stream.
-#[derive(Debug, Drop)]
+#[derive(Drop)]
 pub enum Failure {
-    /// The command line asks for nothing that the program does.
+    /// The command line is not one that the program supports.
     Usage(clap::Error),
     /// What it asks for failed.
     Fault(ReplayFault),
 }
 
 impl Failure {
-    /// Returns the status with which the program ends: 2 for `Usage`, and that of the fault for `Fault`.
+    /// Returns the exit status: 2 for `Usage`, and that of the fault for `Fault`.
     pub fn status(&self) -> u8
         ensures { result ≡ failure_status self.now }
     {
@@ -50,7 +50,7 @@ impl From<AllocError> for Failure {
 impl From<clap::Error> for Failure {
     ghost from_gives = { IsFailureOf };
 
-    // Reading the command line takes memory too, and the want of it is no mistake in the words.
+    // Reading the command line takes memory too. If it runs out, that is no mistake in the words.
     fn from(error: clap::Error) -> Failure {
         if error.kind() == ErrorKind::OutOfMemory {
             Failure::Fault(ReplayFault::NoMemory)

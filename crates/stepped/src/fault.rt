@@ -11,7 +11,7 @@ use std::alloc::AllocError;
 use thiserror::Error;
 
 /// Why a schedule is not replayed to its end, or what it leads to is not shown.
-#[derive(Clone, Copy, Debug, PartialEq, Eq, Error)]
+#[derive(Clone, Copy, Debug, Error)]
 pub enum ReplayFault {
     /// The schedule or the image cannot be opened, or a read of it failed.
     #[error("Read")]
@@ -25,20 +25,20 @@ pub enum ReplayFault {
     /// The number of the image's bytes is no multiple of eight.
     #[error("NotWords")]
     NotWords,
-    /// The record of this number, from 1, has no lawful form, or a number out of its type.
+    /// The record of this number, from 1, has no valid form, or a number out of its type.
     #[error("BadLine {0}")]
     BadLine(u64),
-    /// The world is not made, or takes no move of the record of this number; never for want of memory.
+    /// The world is not made, or refuses a move of the record of this number; never because memory ran out.
     #[error("World {0} {1}")]
     World(u64, WorldFault),
-    /// There was no memory for the schedule, for the image, for the world, for a call, or for what is shown.
+    /// Memory ran out for the schedule, for the image, for the world, for a call, or for what is shown.
     #[error("NoMemory")]
     NoMemory,
 }
 
 impl ReplayFault {
-    /// Returns the status with which the program ends: 3 where the bytes are no schedule or no words, or the world
-    /// does not take it; 4 where a device failed; 5 where memory runs out.
+    /// Returns the exit status: 3 if the bytes are no schedule or no words, or the world does not take it; 4 if a
+    /// device failed; 5 if memory ran out.
     pub fn status(&self) -> u8
         ensures { result ≡ replay_status self.now }
     {

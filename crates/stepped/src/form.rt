@@ -12,11 +12,11 @@ use std::io;
 use std::io::Write;
 
 /// How what is done is shown.
-#[derive(Clone, Copy, Debug, PartialEq, Eq)]
+#[derive(Clone, Copy)]
 pub enum Form {
     /// By a line each.
     Lines,
-    /// By the rows of a picture, behind those of so many events.
+    /// By the rows of a picture, after those of this many events.
     Picture(u64),
 }
 
@@ -50,7 +50,7 @@ impl Form {
         }
     }
 
-    /// Shows an event, with what it did, as the words then stand [text]. A picture numbers its events: the form has
+    /// Shows an event, with what it did, as the words are then [text]. A picture numbers its events: the form has
     /// counted this one [form]. The error is the writer's.
     pub fn show_event<W: Write>(
         &mut self,

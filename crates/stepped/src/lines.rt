@@ -11,7 +11,7 @@ use std::io;
 use std::io::Write;
 
 /// Which record a line belongs to, and whose call.
-#[derive(Clone, Copy, Debug, PartialEq, Eq)]
+#[derive(Clone, Copy)]
 pub struct Place {
     /// The number of the record, from 1.
     pub number: u64,
@@ -20,7 +20,7 @@ pub struct Place {
 }
 
 /// A word that an event changed.
-#[derive(Clone, Copy, Debug, PartialEq, Eq)]
+#[derive(Clone, Copy)]
 pub struct Change {
     /// Its number.
     pub at: usize,
@@ -30,8 +30,8 @@ pub struct Change {
     pub new: u64,
 }
 
-/// An exchange of a word that was not what it wanted, so that it did not go through.
-#[derive(Clone, Copy, Debug, PartialEq, Eq)]
+/// An exchange that failed, since the word was not what it wanted.
+#[derive(Clone, Copy)]
 pub struct Miss {
     /// The number of the word.
     pub at: usize,
@@ -42,20 +42,20 @@ pub struct Miss {
 }
 
 /// What an event did.
-#[derive(Clone, Copy, Debug, PartialEq, Eq)]
+#[derive(Clone, Copy)]
 pub enum Effect {
     /// It changed no word.
     Quiet,
     /// It changed a word.
     Changed(Change),
-    /// It was an exchange that did not go through.
+    /// It was an exchange that failed.
     Missed(Miss),
 }
 
 impl Effect {
     ghost use Rattle.stepped.specs.Lines.{effect_of};
 
-    /// What an event did that changed this, where it missed that if it changed nothing.
+    /// Returns what an event did that changed this, or, if it changed nothing, that missed this.
     pub fn of(change: Option<Change>, miss: Option<Miss>) -> Effect
         ensures { result ≡ effect_of change miss }
     {
@@ -75,7 +75,7 @@ fn put_place<W: Write>(writer: &mut W, place: Place) -> io::Result<()>
     write!(writer, "{number},{actor}")
 }
 
-// A word behind a comma.
+// A word after a comma.
 fn put_word<W: Write>(writer: &mut W, word: &[u8]) -> io::Result<()>
     ensures { OnOk result (Appends (W.contents writer.old) (W.contents writer.new) (behind (word.now ∷ []))) }
 {
@@ -83,14 +83,14 @@ fn put_word<W: Write>(writer: &mut W, word: &[u8]) -> io::Result<()>
     writer.write_all(word)
 }
 
-// A number behind a comma.
+// A number after a comma.
 fn put_number<W: Write>(writer: &mut W, number: u64) -> io::Result<()>
     ensures { OnOk result (Appends (W.contents writer.old) (W.contents writer.new) (behind (decimal number ∷ []))) }
 {
     write!(writer, ",{number}")
 }
 
-// A number with its sign behind a comma.
+// A number with its sign after a comma.
 fn put_signed<W: Write>(writer: &mut W, number: i64) -> io::Result<()>
     ensures { OnOk result (Appends (W.contents writer.old) (W.contents writer.new) (behind (signed_decimal number ∷ []))) }
 {
@@ -144,7 +144,7 @@ pub fn show_answer<W: Write>(writer: &mut W, place: Place, answer: &Answer) -> i
     end_line(writer)
 }
 
-/// Writes the fields of an answer, each behind a comma. The error is the writer's.
+/// Writes the fields of an answer, each after a comma. The error is the writer's.
 pub fn put_answer<W: Write>(writer: &mut W, answer: &Answer) -> io::Result<()>
     ensures { OnOk result (Appends (W.contents writer.old) (W.contents writer.new) (behind (answer_fields answer.now))) }
 {

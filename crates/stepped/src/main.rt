@@ -19,7 +19,7 @@ fn main(rt: HostRuntime) -> ExitCode {
         Ok(()) => ExitCode::SUCCESS,
         Err(failure) => {
             let status = failure.status();
-            // Nothing is left to tell where the error stream itself fails.
+            // If the error stream itself fails, nothing can be reported.
             let _ = rt.eprint(failure);
             ExitCode::from(status)
         }

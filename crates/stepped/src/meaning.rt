@@ -1,4 +1,4 @@
-//! What a word of a segment means, by the header's layout and the blocks that stand in the words.
+//! What a word of a segment means, by the header's layout and the blocks in the words.
 
 ghost use Rattle.std.specs.Prelude.{◌≡◌, ◌<◌, ◌≤◌, length, true, IfSome, OnOk, option_map};
 ghost use Rattle.std.specs.Io.KnownBytes.{Appends};
@@ -18,7 +18,7 @@ use std::io;
 use std::io::Write;
 
 /// Which block is looked for.
-#[derive(Clone, Copy, Debug, PartialEq, Eq)]
+#[derive(Clone, Copy)]
 pub enum Sought {
     /// The one that has this word.
     Holding(usize),
@@ -27,7 +27,7 @@ pub enum Sought {
 }
 
 /// What a block is.
-#[derive(Clone, Copy, Debug, PartialEq, Eq)]
+#[derive(Clone, Copy)]
 pub enum Role {
     /// A histogram's record, with all that it has.
     Histogram,
@@ -181,7 +181,7 @@ fn header_field(place: usize) -> &'static [u8]
     }
 }
 
-// The word for a place in a histogram's record, behind the block's header.
+// The word for a place in a histogram's record, after the block's header.
 fn histogram_field(place: usize) -> &'static [u8]
     ensures { result.now ≡ histogram_field_of place }
 {
@@ -202,7 +202,7 @@ fn histogram_field(place: usize) -> &'static [u8]
     }
 }
 
-// The word for a place behind the single word.
+// The word for a place after the single word.
 fn later_field(place: usize) -> &'static [u8]
     ensures { result.now ≡ later_field_of place }
 {
@@ -221,7 +221,7 @@ fn later_field(place: usize) -> &'static [u8]
     }
 }
 
-// The word for a place in a sample's record, behind the block's header.
+// The word for a place in a sample's record, after the block's header.
 fn sample_field(place: usize) -> Option<&'static [u8]>
     ensures { option_map (λ word. word.now) result ≡ sample_field_of place }
 {
@@ -238,7 +238,7 @@ fn sample_field(place: usize) -> Option<&'static [u8]>
     }
 }
 
-// A place among the counts of a histogram, and their marks behind them.
+// A place among the counts of a histogram, and their marks after them.
 fn put_count<W: Write>(writer: &mut W, buckets: u64, place: u64) -> io::Result<()>
     ensures { OnOk result (Appends (W.contents writer.old) (W.contents writer.new) (count_text buckets place)) }
 {
@@ -290,7 +290,7 @@ fn put_header_word<W: Write>(writer: &mut W, at: usize) -> io::Result<()>
     }
 }
 
-/// Writes what a word means, as these words stand: the first block that has it, by the sizes of all blocks before it;
+/// Writes what a word means, as these words are: the first block that has it, by the sizes of all blocks before it;
 /// what that block is; and of counts the first histogram's record that has their reference. The error is the
 /// writer's.
 pub fn put_meaning<W: Write>(writer: &mut W, words: &[u64], at: usize) -> io::Result<()>

@@ -11,7 +11,7 @@ use hist_core::{Answer, Call};
 use std::io;
 use std::io::Write;
 
-// What stands to the left of a column for each actor before.
+// What is to the left of a column for each actor before.
 const GAP: &[u8] = b"                                ";
 
 // Goes to the column of an actor.
@@ -80,8 +80,8 @@ pub fn draw_begin<W: Write>(writer: &mut W, actor: usize, call: &Call) -> io::Re
     writer.write_all(b"\n")
 }
 
-/// Writes the row of an event, with the word that it changed, or with the exchange that failed, as the words then
-/// stand. The error is the writer's.
+/// Writes the row of an event, with the word that it changed, or with the exchange that failed, as the words are
+/// then. The error is the writer's.
 pub fn draw_event<W: Write>(
     writer: &mut W,
     event: u64,

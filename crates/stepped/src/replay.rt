@@ -12,7 +12,7 @@ use std::alloc::{AllocError, Global};
 use std::io::Write;
 
 /// A world in which a schedule is replayed, to its end or to where it is to stop.
-#[derive(Debug, Drop)]
+#[derive(Drop)]
 pub struct Replay {
     /// The world as it is.
     world: World,
@@ -53,9 +53,9 @@ fn change_of(old: &[u64], new: &[u64]) -> Option<Change>
 }
 
 impl Replay {
-    /// Returns a new world [world] in which so many events may happen [left], which are shown in this form [form].
-    /// Else the fault is `World` of record 1 with the first reason why there can be no such world, or `NoMemory`
-    /// where memory runs out [faults].
+    /// Returns a new world [world] in which this many events may happen [left], which are shown in this form [form].
+    /// Else the fault is `World` of record 1 with the first reason why there can be no such world, or `NoMemory` if
+    /// memory runs out [faults].
     pub fn new(
         alloc: Global,
         opening: NewWorld,
@@ -80,9 +80,9 @@ impl Replay {
         Ok(Replay::of(alloc, world, events, form)?)
     }
 
-    /// Returns a world that continues from the words of an image [world], in which so many events may happen [left],
+    /// Returns a world that continues from the words of an image [world], in which this many events may happen [left],
     /// which are shown in this form [form]. Else the fault is `World` of record 1, with `BadShape` of the number of
-    /// actors, or with `Adopt` and the first fault of the image; or `NoMemory` where memory runs out [faults].
+    /// actors, or with `Adopt` and the first fault of the image; or `NoMemory` if memory runs out [faults].
     pub fn adopt(
         alloc: Global,
         words: &[u64],
@@ -101,7 +101,7 @@ impl Replay {
         Ok(Replay::of(alloc, world, events, form)?)
     }
 
-    // In a world so many events may happen, which are shown so.
+    // A world in which this many events may happen, which are shown in this form.
     fn of(alloc: Global, world: World, events: u64, form: Form) -> Result<Replay, AllocError>
         ensures { IfOk result (λ replay. (replay.world ≡ world) × (replay.left ≡ events) × (replay.form ≡ form)) }
     {
@@ -187,7 +187,7 @@ impl Replay {
         }
     }
 
-    // Goes on by one event. Whether the call goes on.
+    // Performs one event. Returns whether the call has more.
     fn step<W: Write>(&mut self, writer: &mut W, place: Place) -> Result<bool, ReplayFault>
         ensures left { self.new.left ≡ self.old.left }
         ensures ok { IfOk result (λ more. (deeds : List Deed) × Shows (Step place.actor) self.old.world.world_state self.new.world.world_state deeds × Writes self.old.form self.new.form (W.contents writer.old) (W.contents writer.new) (placed place.number place.actor deeds) × (more ≡ false → EndsCall deeds)) }
@@ -210,7 +210,7 @@ impl Replay {
         }
     }
 
-    // Goes on by so many events at most, fewer where the call ends or where it is to stop.
+    // Performs this many events, fewer if the call ends or if it is to stop.
     fn steps<W: Write>(
         &mut self,
         writer: &mut W,
@@ -256,13 +256,13 @@ impl Replay {
     /// is as `new` or `adopt` made it, or as an earlier `run` left it.
     ///
     /// On `Ok` the world made the moves of the records: a record begins a call, or its actor performs as many events
-    /// as it says, and fewer only where the call ends or no event is left; once none is left, nothing more is done.
-    /// Exactly what was done is written, as lines or as a picture: each begin, with its answer where it needs no
+    /// as it says, and fewer only if the call ends or no event is left; once none is left, nothing more is done.
+    /// Exactly what was done is written, as lines or as a picture: each begin, with its answer if it needs no
     /// event; each event, with the one word that it changed, from what to what, or none; and after it the answer of a
-    /// call that it ended. A picture says of an event that changed no word, where the world says that it is an
-    /// exchange which wants another number there than the word has, both numbers [replays].
+    /// call that it ended. If an event changed no word and the world says that it is an
+    /// exchange which wants another number than the word has, a picture says both numbers [replays].
     ///
-    /// `Write` comes where a write failed. Else the fault is the first one that the world has at a move of a record,
+    /// `Write` comes if a write failed. Else the fault is the first one that the world has at a move of a record,
     /// `World` with the record's number, or `NoMemory`; and what was done before it is written [stops].
     pub fn run<W: Write>(&mut self, writer: &mut W, orders: &[Order]) -> Result<(), ReplayFault>
         ensures replays { OnOk result ((done : List (Place × Deed)) × Replays 2 orders.now self.old.left self.old.world.world_state self.new.world.world_state self.new.left done × Writes self.old.form self.new.form (W.contents writer.old) (W.contents writer.new) done) }

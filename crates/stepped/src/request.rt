@@ -9,7 +9,7 @@ use std::alloc::{AllocError, Global};
 use std::convert::AsStr;
 
 /// What is shown of a world.
-#[derive(Clone, Copy, Debug, PartialEq, Eq)]
+#[derive(Clone, Copy)]
 pub enum Show {
     /// A line for each begin, each event and each answer.
     Lines,
@@ -22,7 +22,7 @@ pub enum Show {
 }
 
 /// What the program is asked to do.
-#[derive(Clone, Copy, Debug, PartialEq, Eq)]
+#[derive(Clone, Copy)]
 pub struct Request<'a> {
     /// The file with the schedule.
     pub schedule: &'a str,

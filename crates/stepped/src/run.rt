@@ -28,9 +28,9 @@ use std::{env, fs, io};
 
 /// Does what the arguments ask for.
 ///
-/// `Usage` where they ask for nothing that the program does, never for help, the version or where memory runs out;
-/// `Fault` where the request failed, `NoMemory` also where memory ran out when the arguments were read, and `Write`
-/// also where a help or version text could not be written.
+/// `Usage` comes if they ask for nothing that the program does, never for help, the version or if memory runs out;
+/// `Fault` if the request failed, `NoMemory` also if memory ran out when the arguments were read, and `Write` also if
+/// a help or version text could not be written.
 pub fn run<R: Env + Files + Print + AllocGlobal>(rt: &R) -> Result<(), Failure>
     ensures { IfErr result UsageIsMistake }
 {

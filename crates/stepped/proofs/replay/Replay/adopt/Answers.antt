@@ -22,13 +22,13 @@ returns-clause-world c =
     (is_fine checks world _ (subst (λ (made : Result World WorldFault). MatchOption checks (MatchResult made goes_on (IsAdoptFault words)) (λ fault. made ≡ Err fault))
     (same_ok ReplayFault c.adopt.result world c.in_ok-world.ensures.cases) c.adopt.ensures.world))
 
--- what stops behind a world that was made
+-- what stops after a world was made
 stops_later : {A : Type 0} (first : Option WorldFault) (a : A) (Fine Stops : Type 0) (Bad : WorldFault → Type 0)
     → MatchOption first Fine (λ fault. Ok a ≡ Err fault) → Stops → MatchOption first Stops Bad
 stops_later None a Fine Stops Bad fine stops = stops
 stops_later (Some fault) a Fine Stops Bad fine stops = absurd (cc fine)
 
--- what is told of a fault is told in other words
+-- what is said of a fault is said in other words
 told_else : {X E : Type 0} (made : Result X E) (Is Told : E → Type 0) → ((fault : E) → Is fault → Told fault) → IfErr made Is → IfErr made Told
 told_else (Ok x) Is Told f is = tt
 told_else (Err fault) Is Told f is = f fault is

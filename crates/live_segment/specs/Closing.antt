@@ -45,7 +45,7 @@ pub record IsTally (opener : Actor) (h : Histogram) : Type 0 where
   pub marks : (key : ℤ) → mark_read h key ≡ taken_units (taken_of opener) h.name key
   pub sum_mark : h.sum_mark ≡ taken_sum (taken_of opener) h.name
 
--- No record is bad, and the list does not stop. The names are exactly those that the segment was opened with and those that a `hist` was
+-- No record is bad, and the list does not stop. The names are exactly those that the segment was opened with and those that a `hist`
 -- returned, each once, with the spec of each answer. A flag is set where a call has set it; the full one also where the segment was opened with it.
 pub record IsJoinedReading (setting : Setting) (opener : Actor) (reading : Reading) : Type 0 where
   pub lawful : HasNoFault reading

@@ -1,4 +1,4 @@
--- A segment that goes on with the words of an image, and which images it can go on with.
+-- A segment that continues with the words of an image, and which images it can continue with.
 use Rattle.std.specs.Prelude.{◌≡◌, false, ℕ, ◌≤◌, List}
 use Rattle.segment_image.specs.Head.{head_of}
 use Rattle.segment_image.specs.declared.head.SegmentHead.{SegmentHead}

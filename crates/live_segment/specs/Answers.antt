@@ -32,7 +32,7 @@ use Rattle.live_segment.specs.RecorderState.{GivesFresh, IsSameIfBucketed, Means
 
 -- ---- `hist`
 
--- it is answered with a histogram of the name, or refused
+-- it returns a histogram of the name, or is refused
 abbrev pub AnswersHist : List ℕ → Spec → RecorderState → Result Hist Refusal → RecorderState → Type 0
 AnswersHist name spec old result new =
     MatchResult result (λ histogram. IsAnsweredWith name spec histogram (view_of_state old) (view_of_state new))
@@ -44,14 +44,14 @@ ClaimsHist name spec old result new =
     MatchResult result (λ _. NamesAtMostOne name spec (record_words name spec) (view_of_state old) (view_of_state new))
     (λ why. why ≡ OtherSpec → NamesAtMostOne name spec (record_words name spec) (view_of_state old) (view_of_state new))
 
--- the histogram that it answers with is the first of its name on the list
+-- the histogram that it returns is the first of its name on the list
 abbrev pub AnswersFirst : Segment → Result Hist Refusal → RecorderState → Type 0
 AnswersFirst segment result new =
     IfOk result (λ histogram. (known : Known) → Means new histogram known → HasFirst (opened_with segment) new.seat.id (view_of_state new) known)
 
 -- ---- `add`
 
--- the first check that fails is answered, and the state is the same; else the sample is counted, or refused
+-- it returns the first check that fails, and the state is the same; else the sample is counted, or refused
 abbrev pub AnswersAdd : Hist → ℤ → ℕ → RecorderState → Result (Unit {0}) Refusal → RecorderState → Type 0
 AnswersAdd histogram value count old result new =
     MatchOption (first_fault (add_checks (view_of_state old) count))
@@ -65,7 +65,7 @@ ClaimsAdd histogram value old result new =
 
 -- ---- `batch`
 
--- the first check that fails is answered, and the state is the same; else all is counted, or the items before one
+-- it returns the first check that fails, and the state is the same; else all is counted, or the items before one
 abbrev pub AnswersBatch : Hist → List (ℤ × ℕ) → ℤ → RecorderState → Result (Unit {0}) BatchRefusal → RecorderState → Type 0
 AnswersBatch histogram items sum old result new =
     MatchOption (first_fault (batch_checks (view_of_state old) items sum))

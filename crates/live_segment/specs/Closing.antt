@@ -22,7 +22,7 @@ use Rattle.live_segment.specs.Rule.{Closes}
 
 -- ---- the words
 
--- the header of words is lawful and says what the segment was made as, and the words have a reading
+-- the header of words is valid and says what the segment was made as, and the words have a reading
 pub record IsImageOf (setting : Setting) (words : List ℕ) : Type 0 where
   pub header : header_of words ≡ Ok (head_of words)
   pub shape : (head_of words).shape ≡ setting.shape
@@ -45,8 +45,8 @@ pub record IsTally (opener : Actor) (h : Histogram) : Type 0 where
   pub marks : (key : ℤ) → mark_read h key ≡ taken_units (taken_of opener) h.name key
   pub sum_mark : h.sum_mark ≡ taken_sum (taken_of opener) h.name
 
--- No record is bad, and the list does not stop. The names are exactly those that the segment was opened with and those that a `hist` was
--- answered Ok with, each once, with the spec of each answer. A flag is set where a call has set it; the full one also where the segment was opened with it.
+-- No record is bad, and the list does not stop. The names are exactly those that the segment was opened with and those that a `hist`
+-- returned, each once, with the spec of each answer. A flag is set where a call has set it; the full one also where the segment was opened with it.
 pub record IsJoinedReading (setting : Setting) (opener : Actor) (reading : Reading) : Type 0 where
   pub lawful : HasNoFault reading
   pub answers : ReadsAnswers opener.answers.names reading
@@ -89,7 +89,7 @@ abbrev pub units_out : Actor → ℕ
 units_out opener = 4294967295 - units_of opener
 
 -- What is read of the words of a state that holds between two steps: exactly the histograms that were published, with all units but those
--- in transit. Each histogram that a joined recorder was answered with is among them. Of each key the total, in version 1 with its units
+-- in transit. Each histogram that a `hist` of a joined recorder returned is among them. Of each key the total, in version 1 with its units
 -- in transit, is at least what the log has; and all units beyond the log are at most those handed out that have not come back. The opener
 -- knows the redundant counts that the segment was opened with.
 pub record IsStoppedReading (setting : Setting) (opened : Anatomy) (opener : Actor) (state : State) (records : List Listed) (reading : Reading) : Type 0 where

@@ -54,7 +54,7 @@ abbrev pub IsNew : Setting → Segment → Opener → Type 0
 IsNew setting =
     IsOpened setting (slice_set (blank_words setting.shape.size setting.shape.page setting.id) VERSION_WORD setting.version) (first_view setting)
 
--- an opener goes on with the same segment
+-- an opener continues with the same segment
 pub record IsSameOpener (old new : Opener) : Type 0 where
   pub table : new.seat.table_id ≡ old.seat.table_id
 

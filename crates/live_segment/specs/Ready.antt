@@ -19,7 +19,7 @@ use Rattle.live_segment.specs.Seated.{IsSeated}
 use Rattle.live_segment.specs.Steps.{IsAtRest, Pass}
 use Rattle.live_segment.specs.Steps.GhostNotes.{KnowsAlone}
 
--- a recorder's seat where no call goes on, and a histogram that it knows: a call on the histogram may begin
+-- a recorder's seat in no call, and a histogram that it knows: a call on the histogram may begin
 pub record IsReadyFor (segment : Segment) (histogram : KnownHistogram) (seat : Pass) : Type 0 where
   pub seated : IsSeated segment seat
   pub rests : IsAtRest seat.me.0
@@ -63,7 +63,7 @@ pub record WalksWith (kind : KeyKind) (segment : Segment) (index : RecordIndex) 
   pub free : MayTurn seat.me.0
   pub indexed : IsIndexed kind segment.setting.shape.size seat.me.0.seen index
 
--- a recorder's seat where no call goes on, its index of names, and what a `hist` asks for
+-- a recorder's seat in no call, its index of names, and what a `hist` asks for
 pub record AsksFor (segment : Segment) (request : Asked) (names : RecordIndex) (seat : Pass) : Type 0 where
   pub seated : IsSeated segment seat
   pub indexed : IsIndexed Name segment.setting.shape.size seat.me.0.seen names

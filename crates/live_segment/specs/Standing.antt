@@ -53,7 +53,7 @@ pub record HasFirst (opening : Opening) (number : ℕ) (a : Actor) (known : Know
   pub same : SameSpec (spec_of standing.state.words known.reference) known.spec
 
 -- In such a state a shared cursor gave all recorders together a front of the list, each record once, and stands behind it; and each recorder
--- what it gave that one in the order of the list. Where it has just answered none, that front is all of the list.
+-- what it gave that one in the order of the list. Where it has just returned none, that front is all of the list.
 pub record HasShared (opening : Opening) (number : ℕ) (a : Actor) (cursor : ℕ) (answer : Option ℕ) : Type 0 where
   pub standing : Standing opening number a
   pub front : List ℕ

@@ -1,4 +1,4 @@
--- What steps tell whoever makes them.
+-- What steps report to their caller.
 pub mod Answering
 pub mod GhostNotes
 pub mod Listing
@@ -67,7 +67,7 @@ Bounds st me found me' = (me'.0 ≡ me.0) × (me'.1 ≡ me.1) × (me.0.units.sha
 abbrev pub recorder_checks : Actor → ℕ → List (Bool × Refusal)
 recorder_checks opener units = (nat_lt opener.units.share units, NoUnits) ∷ (outstanding_of opener.role == 256, TooMany) ∷ []
 
--- No call of a recorder goes on. It holds no free pointer, no single word and no counts of a histogram: a call goes on with those alone that it
+-- A recorder is in no call. It holds no free pointer, no single word and no counts of a histogram: a call continues with those alone that it
 -- has loaded itself.
 pub record IsAtRest (a : Actor) : Type 0 where
   pub recorder : is_opener a.role ≡ false

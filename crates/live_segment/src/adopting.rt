@@ -1,4 +1,4 @@
-//! How a segment goes on with the words of an image.
+//! How a segment continues with the words of an image.
 
 ghost use Rattle.std.specs.Prelude.{◌≡◌, ◌≤◌, ◌∷◌, ◌++◌, replicate, length, IfOk};
 ghost use Rattle.segment_image.specs.declared.layout.TheConstants.{MAX_SIZE, QUEUE};
@@ -80,7 +80,7 @@ impl Segment {
         Ok(made)
     }
 
-    // The segment that goes on with the words of an image that may be adopted, and its opener, which has all units but those that the image
+    // The segment that continues with the words of an image that may be adopted, and its opener, which has all units but those that the image
     // has used.
     fn adopted(
         alloc: Global,

@@ -53,7 +53,7 @@ impl Segment {
         }
     }
 
-    // A delta of a histogram. There is room for as many keys as are listed of it at most. It answers what it took of the sum.
+    // A delta of a histogram. There is room for as many keys as are listed of it at most. It returns what it took of the sum.
     pub(crate) fn take_delta(
         &self,
         seat: &mut Pass,

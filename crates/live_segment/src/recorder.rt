@@ -28,7 +28,7 @@ impl Hist {
     }
 }
 
-/// A histogram that a recorder was answered with.
+/// A histogram that a `hist` of a recorder returned.
 #[derive(Debug, Drop)]
 pub(crate) struct KnownHistogram {
     pub(crate) name: Vec<u8>,
@@ -73,7 +73,7 @@ ghost use Rattle.bucket_ranges.specs.Spec.{spec_fault, SameSpec};
 ghost use Rattle.bucket_ranges.specs.declared.spec.Spec.{Spec as SomeSpec};
 ghost use Rattle.bucket_ranges.specs.declared.spec.SpecFault.TheVariants.{TooMany};
 
-// Whether a spec, which is the same as a lawful one, has a fault: it may have too many values, of which some repeat.
+// Whether a spec, which is the same as a valid one, has a fault: it may have too many values, of which some repeat.
 fn has_too_many_values(spec: &Spec) -> bool
     ensures fault { result ≡ true → spec_fault spec.now ≡ Some TooMany }
     ensures lawful { result ≡ false → (other : SomeSpec) → spec_fault other ≡ None → SameSpec other spec.now → spec_fault spec.now ≡ None }
@@ -102,9 +102,10 @@ impl<'a> Recorder<'a> {
     }
 
     /// Sets how many entries each of its three indexes may have in all: of the histograms that it knows, of the names on the list, and of
-    /// the samples of sparse histograms. For a caller that has little memory: an entry takes at most 80 bytes (that is not proved). An index
-    /// that is full finds what it has, and from there on the recorder searches the list, so calls take longer and return the same. What is
-    /// entered already stays. There is no limit but memory before the first such call.
+    /// the samples of sparse histograms. For a caller that has little memory: an entry takes at most 80 bytes, and the first sample of each
+    /// sparse histogram up to 94 more, for the group of its samples (neither is proved). An index that is full finds what it has, and from
+    /// there on the recorder searches the list, so calls take longer and return the same. What is entered already stays. There is no limit
+    /// but memory before the first such call.
     ///
     /// All else is unchanged: its segment [kept], what it has done and seen [view], and what it knows [same].
     pub fn limit_indexes(&mut self, entries: usize)

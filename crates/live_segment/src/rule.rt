@@ -16,7 +16,7 @@ pub(crate) struct Setting {
     pub(crate) full: bool,
 }
 
-/// What a segment is opened with: a new one, or an image that goes on.
+/// What a segment is opened with: a new one, or an image in which it continues.
 #[derive(Debug, Drop)]
 pub(crate) struct Opening {
     pub(crate) setting: Setting,
@@ -26,18 +26,18 @@ pub(crate) struct Opening {
     pub(crate) references: Vec<u64>,
 }
 
-/// What a step says that its word cannot tell.
+/// What a step says that cannot be seen from its word.
 #[derive(Debug, Drop)]
 pub(crate) enum Announcement {
     /// The units that the next recorder is to have.
     Units(u32),
     /// The words that a block wants for which the free pointer is raised.
     Wanted(u64),
-    /// A histogram that a record is to hold, or that a `hist` was answered with or refused.
+    /// A histogram that a record is to hold, or that a `hist` returned or was refused.
     Histogram(Asked),
     /// The sample of a sparse histogram that a record is to hold.
     Sample { histogram: u64, value: i32 },
-    /// What a snapshot of the histogram whose record has this reference is answered.
+    /// What a snapshot of the histogram whose record has this reference returns.
     Answer { histogram: u64, snapshot: Snapshot },
 }
 

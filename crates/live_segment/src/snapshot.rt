@@ -1,4 +1,4 @@
-//! How a recorder answers a snapshot: it looks at all that is counted of a histogram, and notes what it saw.
+//! How a recorder takes a snapshot: it looks at all that is counted of a histogram, and notes what it saw.
 
 mod buckets;
 mod counts;
@@ -71,8 +71,8 @@ impl Segment {
         snapshot_said(said)
     }
 
-    // A snapshot that has looked at all buckets, or at all samples, loads the sum and the redundant count, and is answered with what it
-    // listed.
+    // A snapshot that has looked at all buckets, or at all samples, loads the sum and the redundant count, and returns these with what
+    // it listed.
     fn finish_snapshot(
         &self,
         seat: &mut Pass,

@@ -51,17 +51,17 @@ pub record IsCutShort (known : Known) (items : List (ℤ × ℕ)) (refusal : Bat
   pub lacks : LacksBlock refusal.why known item.0 item.1 at new
   pub onward : GoesOn old new
 
--- a batch has stopped at an item, and no call goes on
+-- a batch has stopped at an item, and its recorder is in no call
 abbrev pub StopsAt : Known → List (ℤ × ℕ) → BatchRefusal → Actor → Actor → Type 0
 StopsAt known items refusal old new = IsCutShort known items refusal old new × IsAtRest new
 
--- ---- while it goes on
+-- ---- while it continues
 
 -- the running entry that is next is noted
 abbrev pub noted_next : Entries → Entries
 noted_next e = record e { running = note_next e.running }
 
--- the units of an entry are counted and noted, by a call that goes on
+-- the units of an entry are counted and noted, by a call that continues
 pub record HasNoted (entry : Entry) (old new : Actor) : Type 0 where
   pub proceeds : FrameOfCall old new
   pub units_are : new.units ≡ (noted_by old (entry_notes old entry)).units
@@ -78,7 +78,7 @@ holding name [] units = units
 holding name (item ∷ rest) units =
     record units { share = units.share - units_of (item ∷ rest); held = record { name = name; units = units_of (item ∷ rest) } ∷ [] }
 
--- These items are counted and noted, in order, by a call that goes on.
+-- These items are counted and noted, in order, by a call that continues.
 pub record HasItems (known : Known) (items : List (ℤ × ℕ)) (old new : Actor) : Type 0 where
   pub proceeds : FrameOfCall old new
   pub units_are : new.units ≡ holding known.name items old.units

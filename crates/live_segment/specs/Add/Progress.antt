@@ -20,7 +20,7 @@ use Rattle.segment_promises.specs.Onward.{DoesOn, SeesOn}
 use Rattle.live_segment.specs.Alloc.Claims.{KeepsBlocks}
 use Rattle.live_segment.specs.Steps.GhostNotes.{KnowsAlone, bucket_entry, entry_notes}
 
--- A call of a recorder goes on: what only an ended call changes is as it was, and it has seen and done no less.
+-- A call of a recorder continues: what only an ended call changes is as it was, and it has seen and done no less.
 pub record FrameOfCall (old new : Actor) : Type 0 where
   pub same : new ≡ record old { units = new.units; entries = new.entries; hand = new.hand; done = new.done; seen = new.seen }
   pub free : is_bound new.hand.place ≡ false
@@ -42,7 +42,7 @@ pub record HaveEnded (entries : List EntryProgress) : Type 0 where
   pub ended : All (λ c. has_ended c ≡ true) entries
   pub unsummed : All (λ c. c.summed ≡ false) entries
 
--- All that runs has ended, and its call may go on with this entry: it holds units for those of the same name, and the share has more.
+-- All that runs has ended, and its call may continue with this entry: it holds units for those of the same name, and the share has more.
 pub record MayGoOn (a : Actor) (entry : Entry) : Type 0 where
   pub runs : a.entries.running ≢ []
   pub ended : HaveEnded a.entries.running
@@ -57,7 +57,7 @@ pub record Waits (a : Actor) (entry : Entry) : Type 0 where
   pub ended : HaveEnded before
   pub runs : a.entries.running ≡ before ++ fresh entry ∷ []
 
--- a call may begin with an entry, may go on with it, or has begun with it and it waits
+-- a call may begin with an entry, may continue with it, or has begun with it and it waits
 abbrev pub IsOpenTo : Actor → Entry → Type 0
 IsOpenTo a entry = HasNotBegun a entry.units ⊎ MayGoOn a entry ⊎ Waits a entry
 
@@ -98,7 +98,7 @@ CountsWithin a known counts = (counts ≢ 0) × (counts + (BLOCK_HEADER + 2 * bu
 abbrev pub counted_next : Entries → Entries
 counted_next e = record e { running = count_next e.running }
 
--- the units of an entry were counted, by a call that began with it or went on
+-- the units of an entry were counted, by a call that began with it or continued
 pub record HasCounted (entry : Entry) (old new : Actor) : Type 0 where
   pub proceeds : FrameOfCall old new
   pub units_are : new.units ≡ (noted_by old (entry_notes old entry)).units

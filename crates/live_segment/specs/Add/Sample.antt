@@ -81,7 +81,7 @@ HasNoRoom _ words old new = ⊥
 abbrev pub LacksBlock : Refusal → Known → ℤ → ℕ → Actor → Actor → Type 0
 LacksBlock why known value count old new = NeedsBlock known value count old new × HasNoRoom why (block_words known) old new
 
--- ---- how a sample is answered
+-- ---- what adding a sample returns
 
 -- it is added, or a block was needed and could not be claimed
 abbrev pub AnswersSample : Known → ℤ → ℕ → Actor → Result ⊤ Refusal → Actor → Type 0

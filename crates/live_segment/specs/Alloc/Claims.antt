@@ -1,4 +1,4 @@
--- What a call of a recorder has claimed where it is answered Ok: for each record that it made, and for the counts that it needed, one block
+-- What a call of a recorder has claimed where it returns Ok: for each record that it made, and for the counts that it needed, one block
 -- at most; and what became of that. The rests of pages that an allocation wastes are no claims, but rises of the free pointer.
 use Rattle.std.specs.Prelude.{◌≡◌, ◌⊎◌, true, ℕ, ◌+◌, ◌<◌, ◌≤◌, ℤ, List, [], ◌∷◌, ◌++◌, None}
 use Rattle.std.specs.List.{All, Contains}

@@ -39,7 +39,7 @@ units_of_key key units = if nat_lt 0 units then (key, units) ∷ [] else []
 abbrev pub with_units : List (ℤ × ℕ) → Taken → Taken
 with_units more taken = record taken { counts = taken.counts ++ more }
 
--- A recorder's delta goes on and takes these units. The recorder has seen no less, and otherwise is as it was.
+-- A recorder's delta continues and takes these units. The recorder has seen no less, and otherwise is as it was.
 pub record TakesOn (more : List (ℤ × ℕ)) (old new : Actor) : Type 0 where
   pub view : new ≡ record old {
     hand = record old.hand { place = new.hand.place };
@@ -155,7 +155,7 @@ pub record HasTakenSome (known : Known) (units : List (ℤ × ℕ)) (old new : A
 abbrev pub taken_as : Actor → Known → List (ℤ × ℕ) → ℤ → Taken
 taken_as a known counts sum = record { name = known.name; counts = counts; sum = sum; swapped = true; moment = moment_of a }
 
--- A delta of a histogram has taken all that its recorder saw since it began, and is noted behind those before. It is answered with keys and
+-- A delta of a histogram has taken all that its recorder saw since it began, and is noted behind those before. It returns keys and
 -- units, of each key as many as it took. Its recorder has seen no less, and all else that it has is as before.
 pub record HasTaken (known : Known) (delta : List (ℤ × ℕ)) (sum : ℤ) (old new : Actor) : Type 0 where
   pub counts : List (ℤ × ℕ)

@@ -1,4 +1,4 @@
--- What a recorder's `hist` is answered.
+-- What a recorder's `hist` returns.
 use Rattle.std.specs.Prelude.{◌≡◌, ◌≢◌, ◌⊎◌, true, ℕ, List, length, None}
 use mathlib.Core.Option.{some}
 use lib.ListN.{get_elem?}
@@ -40,7 +40,7 @@ KnowsNone name a = (index : ℕ) (known : Known) → KnowsNamed name a index kno
 abbrev pub KnowsNoSame : List ℕ → Spec → Actor → Type 0
 KnowsNoSame name spec a = (index : ℕ) (known : Known) → KnowsNamed name a index known → ¬ (SameSpec known.spec spec)
 
--- a histogram may be asked for in a segment of a shape: name and spec are lawful, and its record and its counts fit in a page
+-- a histogram may be asked for in a segment of a shape: name and spec are valid, and its record and its counts fit in a page
 abbrev pub MayBeAsked : Dimensions → List ℕ → Spec → Type 0
 MayBeAsked shape name spec = (is_name name ≡ true) × (spec_fault spec ≡ None) × ¬ (IsTooLarge shape.page name spec)
 
@@ -52,7 +52,7 @@ IsAnsweredWith name spec histogram old new =
     ⊎ (KnowsNone name old × (histogram.index ≡ length old.answers.names)
     × ((asked : Asked) × (reference : ℕ) × IsAskedFor old.segment.shape name spec asked × ComesToKnow asked reference old new))
 
--- Nothing has happened: name or spec are not lawful, there was no memory and it knew none of the name with the same spec, or the record is too
+-- Nothing has happened: name or spec are not valid, there was no memory and it knew none of the name with the same spec, or the record is too
 -- large; or it may be asked for, and the histogram of the name that it knew has another spec. Or it knew none of the name, and has looked around:
 -- the first record of the name has another spec, or none has the name and no block could be claimed. It knows no more then, and owes no answer.
 abbrev pub IsRefusedWith : List ℕ → Spec → Refusal → Actor → Actor → Type 0

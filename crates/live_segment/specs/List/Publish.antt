@@ -13,7 +13,7 @@ use Rattle.live_segment.specs.declared.rule.Announcement.{Announcement}
 use Rattle.live_segment.specs.Steps.Listing.{asked_for}
 use Rattle.segment_promises.specs.Onward.{Grows}
 
--- Its block at a word has all that it needs to be published as this: the words of its payload, and a lawful type and size. Its next is not
+-- Its block at a word has all that it needs to be published as this: the words of its payload, and a valid type and size. Its next is not
 -- stored yet, and nobody has said what it is to hold.
 pub record IsFilledAs (a : Actor) (at : ℕ) (made : Made) : Type 0 where
   pub own : Own

@@ -117,7 +117,7 @@ pub record IsAtEnd (cursor : ℕ) (old new : Actor) : Type 0 where
   pub ends : stands_behind chain ≡ at
   pub met : All (Contains chain) (records_met new)
 
--- what a call on a shared cursor answers: a record, or none at the end
+-- what a call on a shared cursor returns: a record, or none at the end
 abbrev pub AnswersNext : ℕ → Actor → Option ℕ → Actor → Type 0
 AnswersNext cursor old (Some reference) new = IsGivenNext cursor old reference new
 AnswersNext cursor old None new = IsAtEnd cursor old new

@@ -1,4 +1,4 @@
--- Where a walk along the list stands, and how it goes on.
+-- Where a walk along the list stands, and how it continues.
 use Rattle.std.specs.Prelude.{◌≡◌, ℕ, ◌+◌, ◌≤◌, List, length, slice_index, take, drop}
 use Rattle.std.specs.List.{All}
 use Rattle.segment_image.specs.declared.layout.TheConstants.{BLOCK_LEAST, HEADER_WORDS}

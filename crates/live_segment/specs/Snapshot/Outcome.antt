@@ -1,4 +1,4 @@
--- What a snapshot makes of the recorder that answers it: it has looked at a histogram anew, and notes what it saw.
+-- What a snapshot makes of its recorder: it has looked at a histogram anew, and notes what it saw.
 use Rattle.std.specs.Prelude.{◌≡◌, false, ℕ, ◌+◌, ℤ, List, [], ◌∷◌, ◌++◌, length, map}
 use mathlib.Core.Option.{some}
 use lib.ListN.{get_elem?}
@@ -51,7 +51,7 @@ pub record HasSeenAll (known : Known) (old : Actor) (counts : List (ℤ × ℕ))
   pub saw : SamplesStandBehind new → NoRepeats new.seen.chain → (snapshot : Snapshot) → snapshot.counts.items ≡ counts
       → let summed = saw_sum new known.reference snapshot.sum snapshot.redundant in SawAll summed known (answered_as summed known snapshot)
 
--- ---- what is answered
+-- ---- what is returned
 
 -- A snapshot of a histogram is what its recorder saw since it began, and is noted behind those before. It has seen no less, and all else
 -- that it has is as before.

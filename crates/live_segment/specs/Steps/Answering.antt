@@ -1,4 +1,4 @@
--- What the steps tell that say how a `hist` was answered.
+-- What the steps report that say what a `hist` returned.
 use Rattle.std.specs.Prelude.{◌≡◌, false, ℕ, map, Some}
 use Rattle.std.specs.List.{All}
 use mathlib.Core.Option.{some}
@@ -22,7 +22,7 @@ IsSaid reference said known = (asked_for said ≡ Some (Histogram known.name kno
 abbrev pub HaveOneName : Known → Actor → Type 0
 HaveOneName mine a = All (λ (known : Known). known.reference ≡ mine.reference → known.name ≡ mine.name) a.answers.names
 
--- a `hist` is answered with what is said of the record at a word
+-- a `hist` returns what is said of the record at a word
 abbrev pub Knows : Step Announcement → Sat → ℕ → Sat → Type 0
 Knows st me found me' =
     (said : Announcement) (known : Known) → st.said ≡ some said → IsSaid st.first said known

@@ -29,7 +29,7 @@ bucket_entry known bucket units = record { name = known.name; key = bucket_key (
 abbrev pub value_entry : Known → ℤ → ℕ → Entry
 value_entry known value units = record { name = known.name; key = value; units = units; amount = pos 0 }
 
--- A call begins with an entry, or goes on with it where all of its entries have ended, and holds what it costs. An entry that has begun
+-- A call begins with an entry, or continues with it where all of its entries have ended, and holds what it costs. An entry that has begun
 -- and waits to be counted is not noted again.
 abbrev pub opening_notes : List EntryProgress → Entry → ℕ → List Note
 opening_notes [] entry cost = begins entry.name cost (entry ∷ []) ∷ []
@@ -89,11 +89,11 @@ IsSampled a sample units x =
 abbrev pub IsSummed : Actor → ℕ → ℕ → InSum → Type 0
 IsSummed a histogram word x = (x.known.reference ≡ histogram) × KnowsAlone a x.known × (cast_unsigned w64 x.amount ≡ word) × FitsSigned w64 x.amount
 
--- an addition to a sum adds an amount that is told to its step as it is
+-- an addition to a sum adds an amount that is passed to its step as it is
 abbrev pub IsSumOf : Actor → ℕ → ℤ → InSum → Type 0
 IsSumOf a histogram amount x = (x.known.reference ≡ histogram) × KnowsAlone a x.known × (x.amount ≡ amount)
 
--- ---- what steps tell
+-- ---- what steps report
 
 -- the notes with which an entry begins whose call holds its units for it, those of units of a bucket, of a value, and of a sum
 abbrev pub entry_notes : Actor → Entry → List Note

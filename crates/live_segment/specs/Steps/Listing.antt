@@ -1,4 +1,4 @@
--- What the steps that walk along the list, fill a block and publish it tell whoever makes them.
+-- What the steps that walk along the list, fill a block and publish it report to their caller.
 use Rattle.std.specs.Prelude.{◌≡◌, ℕ, ◌+◌, List, [], ◌∷◌, Option, Some, None}
 use mathlib.Core.Option.{some}
 use mathlib.Core.Option as core
@@ -51,7 +51,7 @@ asking_notes (Some own) at made = asking_unless own.made
     asking_unless None = asks at made ∷ []
     asking_unless (Some before) = []
 
--- what a link tells before it: what its block is to hold, where that is not said yet
+-- what a link reports before it: what its block is to hold, where that is not said yet
 abbrev pub link_notes : Actor → ℕ → Made → List Note
 link_notes a at made = asking_notes (own_at a.hand.own at) at made
 

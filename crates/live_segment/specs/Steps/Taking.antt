@@ -1,4 +1,4 @@
--- What the steps of deltas and snapshots tell whoever makes them: that a call begins at its first load, and that a delta ends at its last event.
+-- What the steps of deltas and snapshots report to their caller: that a call begins at its first load, and that a delta ends at its last event.
 use Rattle.std.specs.Prelude.{◌≡◌, false, ℕ, ◌+◌, [], ◌∷◌}
 use mathlib.Core.Option.{some}
 use Rattle.std.specs.Int.{cast_signed, w64}
@@ -40,7 +40,7 @@ HasBegunDelta seat histogram event found after =
 
 -- ---- a snapshot begins
 
--- the same of a snapshot, which does not note of which histogram it is before it is answered
+-- the same of a snapshot, which does not note of which histogram it is before it returns
 abbrev pub BeginsSnapshot : ℕ → (ℕ → Event) → ℕ → Sat → ℕ → Sat → Type 0
 BeginsSnapshot offset event word me =
     TellsOf ℕ (λ histogram. word ≡ histogram + offset + 1) (λ histogram. looks ∷ []) event [] me

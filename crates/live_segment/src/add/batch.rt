@@ -98,7 +98,7 @@ impl Segment {
         Ok(())
     }
 
-    // Counts items of a histogram, in order. Their call goes on.
+    // Counts items of a histogram, in order. Their call continues.
     //
     // `Corrupt` or `Full` where a block was needed for one and none could be claimed: then the call has ended with those before it.
     fn count_items(
@@ -124,7 +124,7 @@ impl Segment {
         Ok(())
     }
 
-    // Counts an item, and notes its units. Its call goes on.
+    // Counts an item, and notes its units. Its call continues.
     fn count_item(
         &self,
         seat: &mut Pass,

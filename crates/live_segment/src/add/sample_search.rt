@@ -22,7 +22,7 @@ pub(crate) enum SampleSearch {
     End(u64),
 }
 
-// Where a walk goes on for a sample that the index has not: at its place, where it has passed all that was met, or else at the record of the
+// Where a walk continues for a sample that the index does not have: at its place, where it has passed all that was met, or else at the record of the
 // histogram.
 fn start_behind(index: &RecordIndex, has_passed_all: bool, histogram: u64) -> u64
     ensures { result ≡ (if has_passed_all then index.now.place.at else histogram) }

@@ -131,7 +131,7 @@ impl Segment {
         }
     }
 
-    // A delta of a histogram with buckets. There is room for all of them. It answers what it took of the sum.
+    // A delta of a histogram with buckets. There is room for all of them. It returns what it took of the sum.
     pub(crate) fn delta_of_buckets(
         &self,
         seat: &mut Pass,

@@ -1,4 +1,4 @@
-//! How a `hist` of a recorder is answered.
+//! What a `hist` of a recorder returns.
 
 ghost use Rattle.std.specs.Prelude.{◌≡◌, [], IfOk, MatchResult};
 ghost use Rattle.live_segment.specs.Hist.Prelude.{IsAnnouncedOf, IsAsked, LooksUp, MakesFor, MayTurn, OtherSpec, SaysAsked, Settles};

@@ -142,7 +142,7 @@ impl RecorderState {
         self.names.find(known, name)
     }
 
-    // What a `hist` of a name that it knows is answered, by the histogram at a place. It takes memory only where the spec is
+    // What a `hist` of a name that it knows returns, by the histogram at a place. It takes memory only where the spec is
     // another: then name and spec are looked at whole, since `BadSpec` and `TooLarge` come first.
     fn known_at(
         &self,

@@ -1,4 +1,4 @@
-//! The steps that say what a `hist` was answered: that a histogram is known, or that the call was refused.
+//! The steps that say what a `hist` returned: that a histogram is known, or that the call was refused.
 
 ghost use Rattle.std.specs.Prelude.{◌≡◌, false, map};
 ghost use Rattle.live_segment.specs.Steps.Prelude.{Declines, declines, HasKnown, is_opener, Knows, MayKnow, MayNoteAll, noted_by};
@@ -23,7 +23,7 @@ impl Play<Announcement, Actor> for Declining {
 impl Segment {
     ghost use Rattle.live_segment.specs.Steps.Prelude.{IsSame, table_of};
 
-    // What is said is the histogram of the record at a word: the `hist` is answered with it.
+    // What is said is the histogram of the record at a word: the `hist` returns it.
     pub(crate) fn know(&self, seat: &mut Pass, reference: u64, said: &Announcement)
         requires table { seat.old.table_id ≡ table_of self.now }
         requires may { MayKnow reference said.now seat.old }

@@ -112,7 +112,7 @@ impl Segment {
             .load::<TakeNext>(seat, FIRST + histogram as usize + BLOCK_NEXT)
     }
 
-    // A delta of a sparse histogram begins whose samples were all met: the type of its record is loaded, which tells nothing new. So of the
+    // A delta of a sparse histogram begins whose samples were all met: the type of its record is loaded, which shows nothing new. So of the
     // list no more is seen.
     pub(crate) fn take_type(&self, seat: &mut Pass, histogram: u64)
         requires reach { MayReach self.now seat.old (histogram + 15) }

@@ -29,7 +29,6 @@ use Rattle.live_segment.specs.Steps.GhostNotes.{bucket_entry, entry_notes, openi
 use Rattle.live_segment.specs.Add.Progress.{CountsAlone, HaveEnded, IsOpenTo, LooksOn, MayCount, MayGoOn, HasNotBegun, Waits, HasBegun, LooksFor, HasCounted, counted_next}
 use Rattle.live_segment.proofs.lemmas.Add.Ended.{goes_on_with, next_behind, notes_nothing}
 use Rattle.live_segment.proofs.lemmas.Steps.Proceeding.{does_not, proceeds_on, sees_single}
-use Rattle.segment_promises.proofs.Growing.{grows_by, grows_not}
 
 -- ---- what is known
 

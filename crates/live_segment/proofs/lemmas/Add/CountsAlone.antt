@@ -8,8 +8,6 @@ use Rattle.segment_machine.specs.declared.actor.Known.{Known}
 use Rattle.segment_machine.specs.declared.entry.EntryProgress.{EntryProgress}
 use Rattle.segment_machine.specs.declared.entry.Entry.{Entry}
 use Rattle.segment_machine.specs.declared.place.Place.TheVariants.{Idle}
-use Rattle.segment_machine.specs.declared.seen.Seen.{Seen}
-use Rattle.segment_machine.specs.declared.seen.Sighting.{Sighting}
 use Rattle.segment_machine.specs.Calls.{CountsNext, sight}
 use Rattle.segment_machine.specs.Counting.{add_count}
 use Rattle.segment_machine.specs.Entry.{fresh, has_ended}
@@ -23,7 +21,6 @@ use Rattle.live_segment.specs.Steps.GhostNotes.{Noted, entry_notes}
 use Rattle.live_segment.specs.Add.Progress.{CountsAlone, HasCounted, HaveEnded, IsOpenTo}
 use Rattle.live_segment.proofs.lemmas.Add.Beginning.{counted, is_next, only_begun}
 use Rattle.live_segment.proofs.lemmas.Add.Ended.{how_many, how_many_before, still_open}
-use Rattle.segment_promises.proofs.Growing.{grows_by, grows_not}
 use Rattle.live_segment.proofs.lemmas.Add.Refusing.{may_at_rest}
 use Rattle.live_segment.proofs.lemmas.Steps.Proceeding.{sees_count}
 

@@ -1,5 +1,5 @@
 -- A call that takes or looks, behind a search along the list: what is said of it holds from before the search on.
-use Rattle.std.proofs.Common.{◌∙◌, false, ℕ, ℤ, List, [], ◌∷◌, ◌++◌, ap, sym, subst, arith}
+use Rattle.std.proofs.Common.{◌∙◌, false, ℕ, ℤ, List, [], ◌∷◌, ◌++◌, ap, sym, subst}
 use Rattle.segment_calls.specs.declared.answer.Snapshot.{Snapshot}
 use Rattle.segment_machine.specs.declared.actor.Actor.{Actor}
 use Rattle.segment_machine.specs.declared.actor.Known.{Known}

@@ -17,7 +17,6 @@ use Rattle.segment_machine.specs.declared.place.Look.{Look}
 use Rattle.segment_machine.specs.declared.place.Place.{Place}
 use Rattle.segment_machine.specs.declared.place.Place.TheVariants.{CountLoaded, Looking}
 use Rattle.segment_machine.specs.declared.seen.Seen.{Seen}
-use Rattle.segment_machine.specs.declared.seen.Sighting.{Sighting}
 use Rattle.segment_machine.specs.Actor.{Buckets, SawCount, bucket_key, is_opener, known_at, known_buckets}
 use Rattle.segment_machine.specs.Calls.{back, change_last, form_seen, sight}
 use Rattle.segment_machine.specs.Event.{taking_event}
@@ -33,7 +32,6 @@ use Rattle.live_segment.specs.Holders.{MayStep}
 use Rattle.live_segment.specs.Snapshot.Counts.{StandsAt}
 use Rattle.segment_promises.specs.Onward.{SeesOn}
 use Rattle.live_segment.specs.Steps.{IsSame, Pass, Stepped}
-use Rattle.segment_promises.proofs.Growing.{grows_by, grows_not}
 use Rattle.live_segment.proofs.lemmas.Steps.Proceeding.{sees_count, sees_on, sees_not}
 use Rattle.segment_promises.proofs.Calls.Sights.{began_still, seen_here, saw_bucket, saw_single, saw_word}
 use Rattle.live_segment.proofs.lemmas.Snapshot.Seeing.{began, takes_sees}

@@ -1,6 +1,5 @@
 -- A delta of a sparse histogram has gone through all samples: it may take of the sum, and ends.
-use Rattle.std.proofs.Common.{◌≡◌, ℕ, ◌≤◌, ℤ, true≢false, if◌then◌else◌, List, sym, ap, ◌∙◌}
-use Rattle.std.specs.List.{All}
+use Rattle.std.proofs.Common.{ℕ, ◌≤◌, ℤ, true≢false, if◌then◌else◌, List, sym, ap, ◌∙◌}
 use Rattle.std.specs.Ordering.{int_eq}
 use Rattle.std.proofs.lemmas.List.Sorted.{All-permutation, sum_by-IsPermutation}
 use Rattle.segment_machine.specs.declared.actor.Actor.{Actor}

@@ -1,7 +1,6 @@
 -- A delta or a snapshot of a sparse histogram begins, and has gone through all samples.
-use Rattle.std.proofs.Common.{◌≡◌, ℕ, ◌+◌, ◌-◌, ◌*◌, ◌/◌, ◌<◌, ◌≤◌, ◌^◌, false, true, true≢false, ℤ, List, [], ◌∷◌, ◌++◌, length, length-append, refl, sym, subst, ap, ◌∙◌, arith}
+use Rattle.std.proofs.Common.{◌≡◌, ℕ, ◌<◌, ◌≤◌, ◌^◌, false, true, true≢false, ℤ, List, [], ◌∷◌, ◌++◌, length, length-append, refl, sym, subst, ap, ◌∙◌, arith}
 use Rattle.std.specs.List.{Contains}
-use Rattle.std.proofs.Math.ListN.{get_or}
 use Rattle.std.proofs.lemmas.List.Elements.{Contains-append_right}
 use Rattle.bucket_ranges.specs.declared.spec.Spec.TheVariants as spec
 use Rattle.segment_image.specs.Shape.{Dimensions}
@@ -14,15 +13,14 @@ use Rattle.segment_machine.specs.Note.{looks, noted, nothing_taken, takes}
 use Rattle.segment_machine.specs.Taking.{Takes}
 use Rattle.segment_machine.specs.Walking.{load_next, load_published}
 use Rattle.segment_invariant.proofs.Lists.Maps.{contains_map}
-use Rattle.segment_promises.specs.Onward.{Grows, SeesOn, is_holding}
-use Rattle.segment_promises.specs.Values.{ComesTo, NoRepeats}
+use Rattle.segment_promises.specs.Onward.{SeesOn, is_holding}
+use Rattle.segment_promises.specs.Values.{ComesTo}
 use Rattle.segment_promises.proofs.Calls.Places.{behind_apart, behind_free}
 use Rattle.segment_promises.proofs.Calls.SampleLists.{all_passed}
 use Rattle.segment_promises.proofs.Calls.Sights.{long_still}
 use Rattle.segment_promises.proofs.ValueWalks.{comes_first, stands_there}
 use Rattle.live_segment.specs.declared.recorder.KnownHistogram.{KnownHistogram}
 use Rattle.live_segment.specs.declared.segment.Segment.{Segment}
-use Rattle.live_segment.specs.Delta.Outcome.{HasTakenSome}
 use Rattle.live_segment.specs.Known.{KnowsRight, known_view}
 use Rattle.live_segment.specs.List.IndexedValues.{AreOwn, HasGone, ListsIndexed, ListsThrough}
 use Rattle.live_segment.specs.List.Values.{Goes, ListsAlong, ListsOn, SampleCall}

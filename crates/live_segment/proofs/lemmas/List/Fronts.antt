@@ -1,5 +1,5 @@
 -- What is true in a state of a segment in which a call ends: what its list has, which record is the first of a name, and what a shared cursor gave.
-use Rattle.std.proofs.Common.{◌≡◌, ◌≢◌, ℕ, ◌+◌, ◌<◌, ◌≤◌, true, false, true≢false, List, [], ◌++◌, length, slice_index, refl, sym, ap, subst, ◌∙◌, length-append, arith, Option, Some, None, Result, Ok, Err, IfOk}
+use Rattle.std.proofs.Common.{◌≡◌, ◌≢◌, ℕ, ◌+◌, ◌<◌, ◌≤◌, false, true≢false, List, ◌++◌, length, slice_index, sym, ap, subst, ◌∙◌, length-append, arith, Option, Some, None, Result, Ok, Err, IfOk}
 use Rattle.std.specs.Prelude.{take, drop}
 use Rattle.std.specs.List.{Contains}
 use mathlib.Core.Option.{some}

@@ -1,5 +1,5 @@
 -- What a delta and a snapshot of a sparse histogram have in common: step by step they go on, and what they did with samples stays done.
-use Rattle.std.proofs.Common.{◌≡◌, ℕ, ◌+◌, ◌≤◌, false, ℤ, map, List, [], ◌∷◌, ◌++◌, length, Option, Some, None, inl, inr, ⊎_elim, refl, sym, ap, subst, ◌∙◌, arith}
+use Rattle.std.proofs.Common.{◌≡◌, ℕ, ◌+◌, false, ℤ, map, List, [], ◌∷◌, ◌++◌, Option, Some, None, inl, inr, ⊎_elim, refl, sym, ap, subst, ◌∙◌, arith}
 use Rattle.std.specs.List.{Contains}
 use Rattle.std.proofs.lemmas.List.{map-append}
 use Rattle.std.proofs.lemmas.List.Elements.{Contains-append_left, Contains-push}
@@ -14,7 +14,6 @@ use Rattle.segment_promises.specs.Values.{ListsOf, listed_of}
 use Rattle.segment_promises.proofs.Growing.{grows_not}
 use Rattle.segment_promises.proofs.Calls.Sights.{began_still, saw_count, sees_more, took_sample}
 use Rattle.live_segment.specs.declared.segment.Segment.{Segment}
-use Rattle.live_segment.specs.Delta.Outcome.{TakesOn}
 use Rattle.live_segment.specs.List.Values.{Goes, HasDone, HasUnitsOf, ListsOn, SampleCall, SeesMore, TakesValue}
 use Rattle.live_segment.specs.List.Values.SampleCall.{OfDelta, OfSnapshot}
 use Rattle.live_segment.specs.List.SampleRecords.{CountsSample, SeesSample}

@@ -1,16 +1,12 @@
 -- That the rule of a segment's table allows the announcement of a snapshot's answer.
-use Rattle.std.proofs.Common.{◌≡◌, ◌≢◌, ℕ, false, ◌==◌, [], ◌∷◌, refl, sym, ap, ◌∙◌}
+use Rattle.std.proofs.Common.{◌≡◌, ℕ, false, ◌==◌, [], ◌∷◌, refl, sym, ap, ◌∙◌}
 use mathlib.Core.Option.{some, some-injective}
 use prog.Atomic.{either}
 use Rattle.atomic_table.specs.Table.{step, Allows}
-use Rattle.atomic_table.proofs.Lists.{set_here}
 use Rattle.segment_calls.specs.declared.answer.Snapshot.{Snapshot}
-use Rattle.segment_machine.specs.declared.actor.Actor.{Actor}
 use Rattle.segment_machine.specs.declared.actor.Known.{Known}
-use Rattle.segment_machine.specs.declared.place.Place.TheVariants.{Spent}
 use Rattle.segment_machine.specs.Actor.{is_opener}
 use Rattle.segment_machine.specs.Note.{Note, answers, noted, MayNote}
-use Rattle.segment_invariant.proofs.Lists.Elements.{below_length}
 use Rattle.live_segment.specs.declared.rule.Announcement.{Announcement}
 use Rattle.live_segment.specs.declared.rule.Announcement.TheVariants.{Answer}
 use Rattle.live_segment.specs.declared.rule.Opening.{Opening}
@@ -21,7 +17,6 @@ use Rattle.live_segment.specs.Steps.GhostNotes.{KnowsAlone}
 use Rattle.live_segment.proofs.Seating.Openings.{announces}
 use Rattle.live_segment.proofs.Seating.Seated.{nothing_exchanged}
 use Rattle.live_segment.proofs.lemmas.Steps.GhostNoted.{one_known}
-use Rattle.live_segment.proofs.Seating.Standing.{stands_kept}
 
 -- what is said is the answer of one histogram alone
 module _ (histogram : ℕ) (snapshot : Snapshot) where

@@ -29,7 +29,6 @@ use Rattle.live_segment.specs.Known.{KnowsRight, known_view}
 use Rattle.live_segment.proofs.lemmas.Add.Beginning.{known_there}
 use Rattle.segment_promises.specs.Totals.{blank_totals}
 use Rattle.segment_promises.proofs.Calls.BlankTotals.{keys_of_buckets}
-use Rattle.segment_promises.proofs.Growing.{grows_by, grows_not}
 use Rattle.live_segment.proofs.lemmas.Steps.Proceeding.{sees_count, sees_on}
 
 -- what it had seen since it began to look it has still seen, where it sees more counts

@@ -1,5 +1,5 @@
 -- A snapshot of a sparse histogram has gone through all samples, and is answered.
-use Rattle.std.proofs.Common.{◌≡◌, ◌≢◌, ℕ, ◌+◌, ◌≤◌, ℤ, true, true≢false, map, List, length, Some, inl, inr, ⊎_elim, refl, sym, ap, subst, ◌∙◌}
+use Rattle.std.proofs.Common.{◌≡◌, ◌≢◌, ℕ, ◌+◌, ◌≤◌, ℤ, true, true≢false, map, List, Some, inl, inr, ⊎_elim, refl, sym, ap, subst, ◌∙◌}
 use Rattle.std.specs.Int.{cast_signed, cast_unsigned, w64}
 use Rattle.std.specs.List.{All, Contains}
 use Rattle.std.proofs.Math.ListN.{get_or}

@@ -3,7 +3,6 @@ use Rattle.std.proofs.lemmas.Int.{to_z-of_z}
 use Rattle.segment_machine.specs.declared.actor.Actor.{Actor}
 use Rattle.segment_machine.specs.Actor.{SawCount}
 use Rattle.segment_machine.specs.Made.{SawSample}
-use Rattle.live_segment.specs.Known.{known_view}
 use Rattle.live_segment.specs.List.SampleRecords.{SamplesAreFew}
 use Rattle.live_segment.proofs.lemmas.Delta.SampleCounts.{may_count, saw_sample, saw_found, not_later, loaded}
 use Rattle.live_segment.proofs.segment.Segment.sample_at.Goals as goal

@@ -1,5 +1,4 @@
-use Rattle.std.proofs.Common.{ap, sym, subst}
-use Rattle.segment_calls.specs.declared.answer.Snapshot.{Snapshot}
+use Rattle.std.proofs.Common.{sym, subst}
 use Rattle.live_segment.specs.Known.{known_view}
 use Rattle.live_segment.specs.Delta.Outcome.{AreUnits}
 use Rattle.live_segment.specs.List.Values.{AreFewKeys}

@@ -1,4 +1,4 @@
-use Rattle.std.proofs.Common.{to_z, of_z, ◌≡◌, ◌∙◌, None, Some, ℤ, refl, sym, subst, w64, arith}
+use Rattle.std.proofs.Common.{to_z, of_z, ◌≡◌, None, Some, ℤ, refl, sym, subst, w64, arith}
 use Rattle.std.proofs.lemmas.Int.{to_z-of_z}
 use Rattle.std.proofs.lemmas.List.{length-take-le}
 use Rattle.segment_image.specs.Checks.{first_fault}

@@ -1,4 +1,4 @@
-use Rattle.std.proofs.Common.{List, [], map, ap, sym, subst, ◌∙◌, arith, rules}
+use Rattle.std.proofs.Common.{List, map, ap, sym, subst, ◌∙◌, arith, rules}
 use Rattle.std.specs.List.{All}
 use Rattle.live_segment.specs.declared.recorder.KnownHistogram.{KnownHistogram}
 use Rattle.live_segment.specs.Hist.KnownNames.{HasNames}

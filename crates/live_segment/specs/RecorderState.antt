@@ -8,6 +8,7 @@ use Rattle.bucket_ranges.specs.Spec.{SameSpec}
 use Rattle.segment_machine.specs.declared.actor.Actor.{Actor}
 use Rattle.segment_machine.specs.declared.actor.Known.{Known}
 use Rattle.segment_machine.specs.Actor.{has_buckets}
+use Rattle.list_index.specs.Firsts.{limit_of}
 use Rattle.segment_promises.specs.Onward.{Grows}
 use Rattle.live_segment.specs.declared.recorder.Hist.{Hist}
 use Rattle.live_segment.specs.declared.recorder.state.RecorderState.{RecorderState}
@@ -37,6 +38,11 @@ pub record IsRecorderAt (segment : Segment) (state : RecorderState) : Type 0 whe
 -- what its recorder has done and seen
 abbrev pub view_of_state : RecorderState → Actor
 view_of_state state = state.seat.me.0
+
+-- each of its three indexes may have so many entries in all
+abbrev pub HasLimit : ℕ → RecorderState → Type 0
+HasLimit entries state =
+    (limit_of state.names.places ≡ entries) × (limit_of state.index.firsts ≡ entries) × (limit_of state.samples.firsts ≡ entries)
 
 -- ---- the histograms that it knows
 

@@ -91,7 +91,7 @@ impl<'a> Recorder<'a> {
     ghost use Rattle.live_segment.specs.List.SharedCursors.{AnswersNext, gift};
     ghost use Rattle.live_segment.specs.List.Values.{AreMostKeys};
     ghost use Rattle.live_segment.specs.Holders.{view_of_recorder};
-    ghost use Rattle.live_segment.specs.RecorderState.{IsNamed, IsSameRecorder, Knows, KnowsOn, Means};
+    ghost use Rattle.live_segment.specs.RecorderState.{HasLimit, IsNamed, IsSameRecorder, Knows, KnowsOn, Means};
     ghost use Rattle.live_segment.specs.Answers.{AnswersAdd, AnswersBatch, AnswersDelta, AnswersFirst, AnswersFresh, AnswersFront, AnswersHist, AnswersList, AnswersRecords, AnswersSnapshot, ClaimsAdd, ClaimsBatch, ClaimsHist, ShowsEnough, ShowsFewKeys, ShowsUnits, TakesEnough, TakesFewKeys};
 
     /// Returns the units that it may still spend.
@@ -101,17 +101,19 @@ impl<'a> Recorder<'a> {
         self.state.units()
     }
 
-    /// Sets how many entries each of its three indexes may have in all: of the histograms that it knows, of the names on the list, and of
-    /// the samples of sparse histograms. For a caller that has little memory: an entry takes at most 80 bytes, and the first sample of each
-    /// sparse histogram up to 94 more, for the group of its samples (neither is proved). An index that is full finds what it has, and from
-    /// there on the recorder searches the list, so calls take longer and return the same. What is entered already stays. There is no limit
-    /// but memory before the first such call.
+    /// Sets how many entries each of its three indexes may have in all: of the histograms that it knows, of the names on the list, and of the
+    /// samples of sparse histograms. For a caller that has little memory: an index that is full finds what it has, and from there on the
+    /// recorder searches the list, so calls take longer and return the same. What is entered already stays. There is no limit but memory
+    /// before the first such call. An index keeps at most 80 bytes for each entry, and 1,000 bytes; that of samples also 110 bytes for each
+    /// sparse histogram of which it has a sample. (This is measured, and not proved.)
     ///
-    /// All else is unchanged: its segment [kept], what it has done and seen [view], and what it knows [same].
+    /// Each has that limit then [limits], and all else is unchanged: its segment [kept], what it has done and seen [view], and what it knows
+    /// [same].
     pub fn limit_indexes(&mut self, entries: usize)
         ensures kept { self.new.segment ≡ self.old.segment }
         ensures same { IsSameRecorder self.old.state self.new.state }
         ensures view { view_of_recorder self.new ≡ view_of_recorder self.old }
+        ensures limits { HasLimit entries self.new.state }
     {
         self.state.limit_indexes(entries);
     }

@@ -2,6 +2,7 @@
 
 ghost use Rattle.std.specs.Prelude.{◌≡◌, ◌++◌, ◌∷◌, [], List, length, None, MatchOption};
 ghost use Rattle.live_segment.specs.Hist.Prelude.{byte_key_of, first_of};
+ghost use Rattle.list_index.specs.Firsts.{limit_of};
 
 use crate::recorder::KnownHistogram;
 use list_index::{Firsts, next_byte_key};
@@ -42,7 +43,8 @@ impl KnownNames {
 
     // Sets how many names it may enter in all. What is entered stays.
     pub(crate) fn set_limit(&mut self, names: usize)
-        ensures { (known : List KnownHistogram) → HasNames known self.old → HasNames known self.new }
+        ensures still { (known : List KnownHistogram) → HasNames known self.old → HasNames known self.new }
+        ensures limit { limit_of self.new.places ≡ names }
     {
         self.places.set_limit(names);
     }

@@ -2,6 +2,7 @@
 
 ghost use Rattle.std.specs.Prelude.{◌≡◌, ◌+◌, ◌*◌, ◌<◌, ◌≤◌, ◌^◌, true, false, ℕ, [], length, MatchOption};
 ghost use Rattle.live_segment.specs.List.Prelude.{HasSearched, Holds, is_grouping, MayTurn, Sample};
+ghost use Rattle.list_index.specs.Firsts.{limit_of};
 ghost use Rattle.segment_image.specs.declared.layout.TheConstants.{BLOCK_LEAST, HEADER_WORDS};
 
 use crate::list::walk::WalkPlace;
@@ -59,7 +60,8 @@ impl RecordIndex {
 
     // Sets how many records with keys it may pass in all. What it has passed stays.
     pub(crate) fn set_limit(&mut self, records: usize)
-        ensures { (kind : KeyKind) (size : ℕ) (seen : Seen) → IsIndexed kind size seen self.old → IsIndexed kind size seen self.new }
+        ensures still { (kind : KeyKind) (size : ℕ) (seen : Seen) → IsIndexed kind size seen self.old → IsIndexed kind size seen self.new }
+        ensures limit { limit_of self.new.firsts ≡ records }
     {
         self.firsts.set_limit(records);
     }

@@ -44,7 +44,7 @@ impl RecorderState {
     ghost use Rattle.live_segment.specs.List.SharedCursors.{AnswersNext, gift};
     ghost use Rattle.live_segment.specs.Hist.Answer.{IsAnsweredWith, IsKnownAt, IsRefusedWith, NoneHasName};
     ghost use Rattle.live_segment.specs.List.Values.{AreMostKeys};
-    ghost use Rattle.live_segment.specs.RecorderState.{given_fresh, IsNamed, IsSameRecorder, Knows, KnowsOn, Means, view_of_state};
+    ghost use Rattle.live_segment.specs.RecorderState.{given_fresh, HasLimit, IsNamed, IsSameRecorder, Knows, KnowsOn, Means, view_of_state};
     ghost use Rattle.live_segment.specs.Answers.{AnswersAdd, AnswersBatch, AnswersDelta, AnswersFirst, AnswersFresh, AnswersFront, AnswersHist, AnswersList, AnswersRecords, AnswersSnapshot, ClaimsAdd, ClaimsBatch, ClaimsHist, ShowsEnough, ShowsFewKeys, ShowsUnits, TakesEnough, TakesFewKeys};
 
     // That of a recorder that has done nothing, at a seat with these units.
@@ -88,16 +88,19 @@ impl RecorderState {
         self.units
     }
 
-    /// Sets how many entries each of its three indexes may have in all: of the histograms that it knows, of the names on the list, and of
-    /// the samples of sparse histograms. For a caller that has little memory: an entry takes at most 80 bytes (that is not proved). An index
-    /// that is full finds what it has, and from there on the recorder searches the list, so calls take longer and return the same. What is
-    /// entered already stays. There is no limit but memory before the first such call.
+    /// Sets how many entries each of its three indexes may have in all: of the histograms that it knows, of the names on the list, and of the
+    /// samples of sparse histograms. For a caller that has little memory: an index that is full finds what it has, and from there on the
+    /// recorder searches the list, so calls take longer and return the same. What is entered already stays. There is no limit but memory
+    /// before the first such call. An index keeps at most 80 bytes for each entry, and 1,000 bytes; that of samples also 110 bytes for each
+    /// sparse histogram of which it has a sample. (This is measured, and not proved.)
     ///
-    /// All else is unchanged: what it has done and seen [view], and what it knows [same]. It stays one of each segment that it is of [at].
+    /// Each has that limit then [limits], and all else is unchanged: what it has done and seen [view], and what it knows [same]. It stays one
+    /// of each segment that it is of [at].
     pub fn limit_indexes(&mut self, entries: usize)
         ensures at { (segment : SomeSegment) → IsRecorderAt segment self.old → IsRecorderAt segment self.new }
         ensures same { IsSameRecorder self.old self.new }
         ensures view { view_of_state self.new ≡ view_of_state self.old }
+        ensures limits { HasLimit entries self.new }
     {
         self.names.set_limit(entries);
         self.index.set_limit(entries);

@@ -10,7 +10,7 @@ returns-clause-at c = λ segment at. record {
   right = at.right;
   free = at.free;
   come = at.come;
-  named = c.set_limit.ensures _ at.named;
-  indexed = c.set_limit-2.ensures Name _ _ at.indexed;
-  sampled = c.set_limit-3.ensures Sample _ _ at.sampled;
+  named = c.set_limit.ensures.still _ at.named;
+  indexed = c.set_limit-2.ensures.still Name _ _ at.indexed;
+  sampled = c.set_limit-3.ensures.still Sample _ _ at.sampled;
 }

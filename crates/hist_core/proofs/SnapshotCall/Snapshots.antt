@@ -401,7 +401,16 @@ module _ (shape : Dimensions) (known : Known) (snapshot_call : SnapshotCall) (a 
           refl,
           subst (λ (stage : SnapshotStage). LooksAnew stage a (noted loaded (answers answered))) (sym loads) refl,
           record {
-            beside = seen_alike a (noted loaded (answers answered)) refl refl refl refl refl refl refl refl;
+            beside = record {
+              role = refl;
+              segment = refl;
+              units = refl;
+              entries = refl;
+              deltas = refl;
+              names = refl;
+              chain = ([], sym (append-nil a.seen.chain));
+              words = ([], sym (append-nil a.seen.words));
+            };
             answered = answered;
             deltas = refl;
             name = refl;

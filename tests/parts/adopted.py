@@ -11,19 +11,24 @@ forge.py in version 2, and those of forge_adoption.py, which may be adopted but 
 reason has to come into play.
 """
 
+from __future__ import annotations
+
+import argparse
 import collections
 import concurrent.futures
 import os
 import pathlib
 import random
 import tempfile
+from collections.abc import Callable, Iterable, Iterator, Sequence
+from typing import Optional
 
 from parts.schedules import FOLDER, replayed
 from parts.threads import SPECS as NEW
-from parts.threads import pairs
+from parts.threads import Pairs, pairs
 from support import forge, forge_adoption, plain_adoption, plain_tally, seeded_schedules, worked_schedules
-from support.plain_reader import KINDS, MOST_BYTES, MOST_UNITS, words_of
-from support.program import answer, built
+from support.plain_reader import KINDS, MOST_BYTES, MOST_UNITS, ReadHistogram, Words, words_of
+from support.program import Case, answer, built
 
 PROGRAM = "trials"
 STEPPED = "stepped"
@@ -35,18 +40,22 @@ ENOUGH_IMAGES = 1000
 FAULTS = ("OldVersion", "Corrupt", "Damaged", "NoUnits", "Image Deleted", None)
 FULL = 2
 
+Seen = collections.Counter[Optional[str]]
+# The name of an image, and its bytes.
+Image = tuple[str, bytes]
+
 
 class Histogram(plain_tally.Histogram):
     """What a histogram's samples add up to, what was counted a second time, and what deltas have taken."""
 
-    def __init__(self, kind, boundaries):
+    def __init__(self, kind: str, boundaries: list[int]) -> None:
         super().__init__(kind, boundaries)
         self.redundant = 0
-        self.taken = collections.Counter()
+        self.taken: collections.Counter[int] = collections.Counter()
         self.taken_sum = 0
 
     @classmethod
-    def read(cls, found):
+    def read(cls, found: ReadHistogram) -> Histogram:
         """What the plain reader found."""
         one = cls(KINDS[found["kind"]], found["boundaries"])
         one.counts.update({low: count for low, (_, count) in found["buckets"].items()})
@@ -55,12 +64,12 @@ class Histogram(plain_tally.Histogram):
         one.taken_sum = found["sum mark"]
         return one
 
-    def count(self, items):
+    def count(self, items: Pairs) -> None:
         for value, count in items:
             self.counts[self.key(value)] += count
             self.redundant += count
 
-    def delta(self):
+    def delta(self) -> tuple[int, Pairs]:
         """What a delta takes: an amount, and units by their keys in order."""
         units = [
             (key, self.counts[key] - self.taken[key])
@@ -76,51 +85,52 @@ class Histogram(plain_tally.Histogram):
 class Going:
     """A segment that continues with the words of an image, as the lines of `trials adopt` say it does."""
 
-    def __init__(self, words):
+    def __init__(self, words: Words) -> None:
         read = plain_adoption.Read(words)
         self.histograms = {name.decode(): Histogram.read(found) for name, found in read.histograms.items()}
         self.order = [*self.histograms, *NEW]
-        self.met = []
+        self.met: list[str] = []
         self.left = MOST_UNITS - plain_adoption.used_of(read)
         self.is_full = bool(words[6] & FULL)
-        self.wrong = None
+        self.wrong: str | None = None
 
-    def require(self, holds, what):
+    def require(self, holds: bool, what: str) -> None:
         if not holds and self.wrong is None:
             self.wrong = what
 
-    def meet(self, line):
+    def meet(self, line: str) -> None:
         what, *fields = line.split(",")
-        {
+        kinds: dict[str, Callable[..., None]] = {
             "units": self.units, "left": self.units, "hist": self.hist, "delta": self.delta, "sample": self.sample,
             "batch": self.batch, "refused": self.refused,
-        }[what](*fields)
+        }
+        kinds[what](*fields)
 
-    def units(self, number):
+    def units(self, number: str) -> None:
         self.require(int(number) == self.left, f"{number} units are left, wanted {self.left}")
 
-    def hist(self, name):
+    def hist(self, name: str) -> None:
         self.met.append(name)
         if name not in self.histograms:
             self.histograms[name] = Histogram.of(NEW[name])
 
-    def delta(self, name, amount, *units):
+    def delta(self, name: str, amount: str, *units: str) -> None:
         wanted = self.histograms[name].delta()
         came = int(amount), pairs(units)
         self.require(came == wanted, f"a delta of {name} took {came}, wanted {wanted}")
 
-    def sample(self, name, value, count):
+    def sample(self, name: str, value: str, count: str) -> None:
         self.histograms[name].count([(int(value), int(count))])
         self.histograms[name].sum += self.histograms[name].clamped(int(value)) * int(count)
         self.left -= int(count)
 
-    def batch(self, name, amount, *items):
+    def batch(self, name: str, amount: str, *items: str) -> None:
         counted = pairs(items)
         self.histograms[name].count(counted)
         self.histograms[name].sum += int(amount)
         self.left -= sum(count for _, count in counted)
 
-    def refused(self, name, call, why, *more):
+    def refused(self, name: str, call: str, why: str, *more: str) -> None:
         """A call was refused; of a batch the first items may be counted. What it asks for is more than there is."""
         self.require(why in ("Full", "NoUnits"), f"{call} of {name} is refused by {why}")
         if call == "hist":
@@ -138,7 +148,7 @@ class Going:
         )
         self.is_full = self.is_full or why == "Full"
 
-    def report(self):
+    def report(self) -> bytes:
         flags = b"!flag,full\n" * self.is_full
         differing = [
             (name, one.redundant)
@@ -152,7 +162,7 @@ class Going:
         )
 
 
-def wrong_going(words, lines):
+def wrong_going(words: Words, lines: Sequence[str]) -> str | None:
     """What is wrong with the lines of an image that was adopted, or None."""
     if "report" not in lines or lines[-1] != "end":
         return f"came {lines}"
@@ -166,7 +176,7 @@ def wrong_going(words, lines):
     return going.wrong or (None if came == wanted else f"the report is {came}, wanted {wanted}")
 
 
-def wrong_image(data, lines, seen):
+def wrong_image(data: bytes, lines: Sequence[str], seen: Seen) -> str | None:
     """What is wrong with what came of an image, or None."""
     words = words_of(data, collections.Counter())
     fault = plain_adoption.fault_of(words, 0, seen)
@@ -175,13 +185,14 @@ def wrong_image(data, lines, seen):
     return wrong_going(words, lines)
 
 
-def adopted(program, folder, images):
+def adopted(program: pathlib.Path, folder: pathlib.Path, images: Sequence[bytes]) -> list[list[str]]:
     """The lines of each image, by its place; `images` has their bytes."""
     paths = [folder / f"{place}.img" for place in range(len(images))]
     for path, data in zip(paths, images):
         path.write_bytes(data)
     came = answer(program, ["adopt", *paths])
-    every, lines = [], came.output.decode().splitlines()
+    lines = came.output.decode().splitlines()
+    every: list[list[str]] = []
     for line in lines:
         if line.startswith("image,"):
             every.append([])
@@ -195,7 +206,7 @@ def adopted(program, folder, images):
     return every
 
 
-def wrongs_of(program, images, seen):
+def wrongs_of(program: pathlib.Path, images: Sequence[Image], seen: Seen) -> Iterator[Case]:
     """What is wrong with each image, or None. `images` has the name and the bytes of each."""
     for first in range(0, len(images), TOGETHER):
         some = images[first : first + TOGETHER]
@@ -210,7 +221,7 @@ def wrongs_of(program, images, seen):
             yield name, wrong
 
 
-def stops(stepped, path, name, events):
+def stops(stepped: pathlib.Path, path: pathlib.Path, name: str, events: Iterable[int]) -> list[Image]:
     """The images of the schedule in a file where it stops."""
     return [
         (f"{name} after {event} events", answer(stepped, [path, "--stop", str(event), "--image"]).output)
@@ -218,14 +229,16 @@ def stops(stepped, path, name, events):
     ]
 
 
-def worked_stops(stepped, folder, number, name, schedule):
+def worked_stops(
+    stepped: pathlib.Path, folder: pathlib.Path, number: int, name: str, schedule: seeded_schedules.Schedule
+) -> list[Image]:
     """The images of a worked example at every event."""
     path = folder / f"worked-{number}.csv"
     came = replayed(stepped, path, schedule.text())
     return stops(stepped, path, name, range(came.output.count(b",step,") + 1))
 
 
-def seeded_stops(stepped, folder, seed, number_of_stops):
+def seeded_stops(stepped: pathlib.Path, folder: pathlib.Path, seed: str, number_of_stops: int) -> list[Image]:
     """The images of the schedule of a seed at its end and at some events, or at each where their number is 0."""
     chance = random.Random(f"{seed} adopted")
     path = folder / f"{seed}.csv"
@@ -237,17 +250,17 @@ def seeded_stops(stepped, folder, seed, number_of_stops):
     return stops(stepped, path, f"schedule {seed}", events)
 
 
-def is_frozen(data):
+def is_frozen(data: bytes) -> bool:
     return data[8:16] == VERSION.to_bytes(8, "little")
 
 
-def known_stops():
+def known_stops() -> list[Image]:
     """The images of the known schedules of version 2 where they stop."""
     images = [(f"known {path.stem}", path.read_bytes()) for path in sorted(FOLDER.glob("*.words"))]
     return [(name, data) for name, data in images if is_frozen(data)]
 
 
-def stopped_images(stepped, options):
+def stopped_images(stepped: pathlib.Path, options: argparse.Namespace) -> list[Image]:
     """The images of schedules of version 2 where they stop, each with a name."""
     with tempfile.TemporaryDirectory() as scratch, concurrent.futures.ThreadPoolExecutor(os.cpu_count()) as pool:
         folder = pathlib.Path(scratch)
@@ -258,7 +271,7 @@ def stopped_images(stepped, options):
         return known_stops() + [image for images in every for image in images.result()]
 
 
-def wrong_stopped(data, wrong):
+def wrong_stopped(data: bytes, wrong: str | None) -> str | None:
     """What is wrong with an image of a stop, or None: it is adopted, but where the segment was found corrupt."""
     words = words_of(data, collections.Counter())
     fault = plain_adoption.fault_of(words, 0, collections.Counter())
@@ -266,9 +279,10 @@ def wrong_stopped(data, wrong):
     return wrong if fault == wanted else f"wanted {wanted}, and {fault} is reckoned"
 
 
-def forged_images(seed, count):
+def forged_images(seed: str, count: int) -> list[Image]:
     """Forged images of version 2 that are words, each with a name."""
-    found, number = [], 0
+    found: list[Image] = []
+    number = 0
     while len(found) < count:
         data = forge.image_of(random.Random(f"{seed} {number}"))
         if len(data) % 8 == 0 and len(data) <= MOST_BYTES and is_frozen(data):
@@ -277,7 +291,7 @@ def forged_images(seed, count):
     return found
 
 
-def adoptable_images(seed, count):
+def adoptable_images(seed: str, count: int) -> list[Image]:
     """Forged images that may be adopted but for a reason or two, each with a name."""
     return [
         (f"adoptable image {number} of seed {seed}", forge_adoption.image_of(random.Random(f"{seed} {number}")))
@@ -285,21 +299,22 @@ def adoptable_images(seed, count):
     ]
 
 
-def never_seen(seen):
+def never_seen(seen: Seen) -> str | None:
     never = [str(fault) for fault in FAULTS if not seen[fault]] + [
         damage for damage in plain_adoption.DAMAGES if not seen[damage]
     ]
     return f"wanted each fault and each reason, came none of: {'; '.join(never)}" if never else None
 
 
-def cases(program, options):
+def cases(program: pathlib.Path, options: argparse.Namespace) -> Iterator[Case]:
     if not built(STEPPED).is_file():
         yield STEPPED, f"{built(STEPPED)}: no such program; 'rt run' in crates/{STEPPED} builds it"
         return
     images = stopped_images(built(STEPPED), options)
     for (_, data), (name, wrong) in zip(images, wrongs_of(program, images, collections.Counter())):
         yield name, wrong_stopped(data, wrong)
-    seen, count = collections.Counter(), -(-options.images // 6)
+    seen: Seen = collections.Counter()
+    count = -(-options.images // 6)
     yield from wrongs_of(program, forged_images(options.seed, count), seen)
     yield from wrongs_of(program, adoptable_images(options.seed, count), seen)
     print(f"adopted: {len(images)} images of stops; of forged ones {seen[None]} were adopted")

@@ -3,15 +3,20 @@ report in as much, by a C program that counts what the library has from its heap
 it says, under a limit of memory, as README.md has it.
 """
 
+from __future__ import annotations
+
+import argparse
 import pathlib
 import resource
 import subprocess
 import tempfile
+from collections.abc import Collection, Iterator
+from typing import Any
 
 from parts.explained import both
 from support import layout, native
 from support.layout import COUNTS, FIRST, HISTOGRAM, LINEAR, PAGE, SAMPLE, SPARSE
-from support.program import answer, difference, fault
+from support.program import Case, answer, difference, fault
 
 PROGRAM = "persist_report"
 VERSION = 2
@@ -28,7 +33,7 @@ MOST_KILOBYTES = 400 * 1024
 SCRIPT = f"segment,{SIZE},{PAGE},7\n".encode()
 
 
-def linear(at, counts, name, size=RECORD_WORDS):
+def linear(at: int, counts: int, name: bytes, size: int = RECORD_WORDS) -> layout.Listed:
     """A linear histogram of 1,000 buckets that nobody counted in, with a name of eight bytes."""
     return (
         at, size, HISTOGRAM,
@@ -36,40 +41,40 @@ def linear(at, counts, name, size=RECORD_WORDS):
     )
 
 
-def names(references):
+def names(references: Collection[int]) -> list[bytes]:
     return [f"h{number:07x}".encode() for number in range(len(references))]
 
 
-def unused():
+def unused() -> bytes:
     """As many histograms as fit, none of which has a block of counts: 65,535."""
     references = range(FIRST, SIZE, RECORD_WORDS)
     return layout.image_of(SIZE, VERSION, [linear(at, 0, name) for at, name in zip(references, names(references))])
 
 
-def one_block():
+def one_block() -> bytes:
     """As many histograms as fit, all of which name one block of counts."""
     references = range(PAGE, SIZE, RECORD_WORDS)
-    counts = (FIRST, COUNTS_WORDS, COUNTS, [])
+    counts: layout.Listed = (FIRST, COUNTS_WORDS, COUNTS, [])
     return layout.image_of(
         SIZE, VERSION, [linear(at, FIRST, name) for at, name in zip(references, names(references))], [counts]
     )
 
 
-def overlapping():
+def overlapping() -> bytes:
     """More than 98,000 records, each of which shares six words with the next one, and all of which name one block of
     counts."""
     references = [
         at for page in range(PAGE, SIZE, PAGE) for at in range(page, page + PAGE - RECORD_WORDS, OVERLAPPING_WORDS)
     ]
-    counts = (FIRST, COUNTS_WORDS, COUNTS, [])
+    counts: layout.Listed = (FIRST, COUNTS_WORDS, COUNTS, [])
     assert len(references) > 98_000
     return layout.image_of(SIZE, VERSION, [linear(at, FIRST, b"A") for at in references], [counts])
 
 
-def values():
+def values() -> bytes:
     """A sparse histogram and as many samples as fit, each of a value of its own."""
     references = range(FIRST + RECORD_WORDS, SIZE, 8)
-    record = (FIRST, RECORD_WORDS, HISTOGRAM, [SPARSE, 0, 0, 0, 0, 0, 0, 0, 0, 0, 1, ord("S")])
+    record: layout.Listed = (FIRST, RECORD_WORDS, HISTOGRAM, [SPARSE, 0, 0, 0, 0, 0, 0, 0, 0, 0, 1, ord("S")])
     return layout.image_of(
         SIZE, VERSION, [record, *((at, 8, SAMPLE, [FIRST, number, 1, 0]) for number, at in enumerate(references))]
     )
@@ -79,7 +84,7 @@ def values():
 IMAGES = ((unused, "Done"), (one_block, "Damaged"), (overlapping, "Damaged"), (values, "Done"))
 
 
-def within(program, path, wanted):
+def within(program: pathlib.Path, path: pathlib.Path, wanted: list[str]) -> str | None:
     """What is wrong with what the calls of the C program answer and take of an image, or None."""
     try:
         done = subprocess.run([program, path], capture_output=True, text=True, timeout=MOST_SECONDS)
@@ -95,7 +100,7 @@ def within(program, path, wanted):
     return None if taken <= allowed else f"wanted at most {allowed:,} bytes of memory, came {taken:,}"
 
 
-def calls(program, folder):
+def calls(program: pathlib.Path, folder: pathlib.Path) -> Iterator[Case]:
     for make, wanted in IMAGES:
         path = folder / f"{make.__name__}.img"
         path.write_bytes(make())
@@ -103,12 +108,12 @@ def calls(program, folder):
         path.unlink()
 
 
-def limited(kilobytes):
+def limited(kilobytes: int) -> dict[str, Any]:
     """The setting under which a program has so many kilobytes of addresses, as with `ulimit -v`."""
     return {"preexec_fn": lambda: resource.setrlimit(resource.RLIMIT_AS, (1024 * kilobytes, 1024 * kilobytes))}
 
 
-def commands(program, folder):
+def commands(program: pathlib.Path, folder: pathlib.Path) -> Iterator[Case]:
     """Commands of the program under a limit of memory."""
     base, script, out = (folder / name for name in ("base.img", "script.csv", "out.img"))
     script.write_bytes(SCRIPT)
@@ -121,7 +126,7 @@ def commands(program, folder):
     yield "resume of an image whose blocks overlap", wrong or (None if not out.exists() else "OUT was written")
 
 
-def cases(program, _options):
+def cases(program: pathlib.Path, _options: argparse.Namespace) -> Iterator[Case]:
     yield from native.cases_of("adopt_within.c", calls)
     with tempfile.TemporaryDirectory() as scratch:
         yield from commands(program, pathlib.Path(scratch))

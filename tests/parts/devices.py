@@ -1,5 +1,8 @@
 """Files, streams and devices that fail, each fault with its line and its status, and the words of a command line."""
 
+from __future__ import annotations
+
+import argparse
 import itertools
 import os
 import pathlib
@@ -10,9 +13,11 @@ import stat
 import struct
 import subprocess
 import tempfile
+from collections.abc import Iterator, Sequence
+from typing import Any
 
 from parts import explained
-from support.program import EXAMPLE, SCRIPT, Answer, answer, content, difference, fault
+from support.program import EXAMPLE, SCRIPT, Answer, Case, Path, Word, answer, content, difference, fault
 
 PROGRAM = "persist_report"
 REPORT = Answer(b"A,boolean,0,1,1\nA,boolean,1,2,2\nA,total,3,2\n")
@@ -184,7 +189,9 @@ Usage: persist_report <COMMAND>
 
 For more information, try '--help'.
 """
-MISTAKES = [
+RUN: list[Word] = ["run", SCRIPT, "out"]
+RESUME: list[Word] = ["resume", EXAMPLE, SCRIPT, "out"]
+MISTAKES: list[list[Word]] = [
     [],
     [""],
     ["reports"],
@@ -196,15 +203,15 @@ MISTAKES = [
     ["export", "--prefix", "a", "--prefix", "b"],
     ["run"],
     ["run", SCRIPT],
-    ["run", SCRIPT, "out", "more"],
-    *[["run", SCRIPT, "out", "--workers", count] for count in ("0", "17", "-1", "", "two", "4294967297")],
-    ["run", SCRIPT, "out", "--workers"],
-    ["run", SCRIPT, "out", "--workers", "1", "--workers", "2"],
+    [*RUN, "more"],
+    *[[*RUN, "--workers", count] for count in ("0", "17", "-1", "", "two", "4294967297")],
+    [*RUN, "--workers"],
+    [*RUN, "--workers", "1", "--workers", "2"],
     ["resume"],
     ["resume", EXAMPLE],
     ["resume", EXAMPLE, SCRIPT],
-    ["resume", EXAMPLE, SCRIPT, "out", "more"],
-    *[["resume", EXAMPLE, SCRIPT, "out", "--workers", count] for count in ("0", "17", "two")],
+    [*RESUME, "more"],
+    *[[*RESUME, "--workers", count] for count in ("0", "17", "two")],
     ["merge"],
     ["merge", EXAMPLE],
     ["merge", EXAMPLE, EXAMPLE],
@@ -217,7 +224,7 @@ MISTAKES = [
 ]
 
 
-def images(program):
+def images(program: pathlib.Path) -> Iterator[Case]:
     """Bytes on standard input that are no image."""
     example = EXAMPLE.read_bytes()
     faults = {
@@ -233,10 +240,10 @@ def images(program):
         yield text, difference(fault(text, 3), answer(program, ["report"], data))
 
 
-def files(program, folder):
+def files(program: pathlib.Path, folder: pathlib.Path) -> Iterator[Case]:
     """Files that can be read, and others."""
     (folder / "-image").write_bytes(EXAMPLE.read_bytes())
-    wanted = {
+    wanted: dict[str, tuple[list[Word], Answer]] = {
         "an image": ([EXAMPLE], REPORT),
         "a name with a hyphen": (["--", "-image"], REPORT),
         "a file without bytes": (["/dev/null"], fault("Image TooShort", 3)),
@@ -250,18 +257,19 @@ def files(program, folder):
         yield name, difference(right, answer(program, ["report", *words], cwd=folder))
 
 
-def answer_to_pieces(program, data):
+def answer_to_pieces(program: pathlib.Path, data: bytes) -> Answer:
     """The answer to an image that comes through a pipe in two pieces, of which the first ends within a word."""
     running = subprocess.Popen(
         [program, "report"], stdin=subprocess.PIPE, stdout=subprocess.PIPE, stderr=subprocess.PIPE
     )
+    assert running.stdin is not None
     running.stdin.write(data[:7])
     running.stdin.flush()
     output, error = running.communicate(data[7:])
     return Answer(output, error, running.returncode)
 
 
-def inputs(program, folder):
+def inputs(program: pathlib.Path, folder: pathlib.Path) -> Iterator[Case]:
     """Standard inputs that can be read, and others."""
     example = EXAMPLE.read_bytes()
     yield "an image on standard input", difference(REPORT, answer(program, ["report"], example))
@@ -273,16 +281,16 @@ def inputs(program, folder):
     os.close(directory)
 
 
-def pipe_without_reader():
+def pipe_without_reader() -> int:
     reading, writing = os.pipe()
     os.close(reading)
     return writing
 
 
-def answer_to_short_file(program, path, most):
+def answer_to_short_file(program: pathlib.Path, path: pathlib.Path, most: int) -> Answer:
     """The answer where standard output is a file that may have so many bytes; its output is what the file then has."""
 
-    def limited():
+    def limited() -> None:
         signal.signal(signal.SIGXFSZ, signal.SIG_IGN)
         resource.setrlimit(resource.RLIMIT_FSIZE, (most, most))
 
@@ -291,10 +299,13 @@ def answer_to_short_file(program, path, most):
     return Answer(path.read_bytes(), came.error, came.status)
 
 
-def outputs(program, folder):
+def outputs(program: pathlib.Path, folder: pathlib.Path) -> Iterator[Case]:
     """Outputs that cannot be written: what is asked for, and each is a fault of the device."""
     example = EXAMPLE.read_bytes()
-    asked = [["report"], ["report", EXAMPLE], ["--help"], ["report", "--help"], ["run", "--help"], ["--version"]]
+    asked: list[list[Word]] = [
+        ["report"], ["report", EXAMPLE], ["--help"], ["report", "--help"], ["run", "--help"], ["--version"],
+    ]
+    faulty: list[tuple[list[Word], int]] = [(["report", folder], 4), ([], 2)]
     for name, output in (
         ("a full device", os.open("/dev/full", os.O_WRONLY)),
         ("a closed pipe", pipe_without_reader()),
@@ -308,19 +319,19 @@ def outputs(program, folder):
     wanted = Answer(REPORT.output[:20], WRITE_FAULT.error, WRITE_FAULT.status)
     yield "a file that ends in the middle", difference(wanted, answer_to_short_file(program, folder / "short", 20))
     with open("/dev/full", "wb") as full:
-        for words, status in ((["report", folder], 4), ([], 2)):
+        for words, status in faulty:
             yield f"{words} with a full error stream", difference(
                 Answer(status=status), answer(program, words, stderr=full)
             )
 
 
-def inputs_of_commands(program, folder):
+def inputs_of_commands(program: pathlib.Path, folder: pathlib.Path) -> Iterator[Case]:
     """Inputs of `run`, `merge` and `resume`: all files are opened in the order of the arguments, and last OUT, which
     stays unchanged."""
     out, base = folder / "out", base_of(program, folder)
     no_words = folder / "no-words"
     no_words.write_bytes(b"1234567")
-    cases_of = {
+    cases_of: dict[str, tuple[list[Word], Answer]] = {
         "no script": (["run", "missing", out], READ_FAULT),
         "no script and no folder": (["run", "missing", folder / "missing" / "out"], READ_FAULT),
         "no folder": (["run", SCRIPT, folder / "missing" / "out"], WRITE_FAULT),
@@ -364,7 +375,9 @@ def inputs_of_commands(program, folder):
     out.unlink()
 
 
-def wrong_folder(folder, beside, out, wanted):
+def wrong_folder(
+    folder: pathlib.Path, beside: set[pathlib.Path], out: pathlib.Path, wanted: bytes | None
+) -> str | None:
     """What is wrong where OUT is wanted with these bytes, and these files in its folder; or None."""
     if content(out) != wanted:
         return f"{(content(out) or b'')[:50]!r} stands in OUT"
@@ -372,7 +385,7 @@ def wrong_folder(folder, beside, out, wanted):
     return f"files were made or removed: {sorted(map(str, strays))}" if strays else None
 
 
-def base_of(program, folder):
+def base_of(program: pathlib.Path, folder: pathlib.Path) -> pathlib.Path:
     """The image of the script, with which `resume` continues."""
     path = folder / "base"
     if not path.exists():
@@ -380,18 +393,19 @@ def base_of(program, folder):
     return path
 
 
-def images_of(program, folder):
+def images_of(program: pathlib.Path, folder: pathlib.Path) -> Iterator[bytes]:
     """The images that `run`, `merge` and `resume` make of the examples."""
     paths = [folder / name for name in ("run-image", "merge-image", "resume-image")]
-    for path, words in zip(
-        paths, (["run", SCRIPT], ["merge", EXAMPLE, EXAMPLE], ["resume", base_of(program, folder), SCRIPT])
-    ):
+    commands: list[list[Word]] = [
+        ["run", SCRIPT], ["merge", EXAMPLE, EXAMPLE], ["resume", base_of(program, folder), SCRIPT],
+    ]
+    for path, words in zip(paths, commands):
         answer(program, [*words, path])
         yield path.read_bytes()
         path.unlink()
 
 
-def inputs_as_outputs(program, folder):
+def inputs_as_outputs(program: pathlib.Path, folder: pathlib.Path) -> Iterator[Case]:
     """OUT is an input too: that is read whole before OUT is another, and stays where the command has a fault."""
     run_image, merged, resumed = images_of(program, folder)
     script, example, bad = SCRIPT.read_bytes(), EXAMPLE.read_bytes(), b"no script and no image"
@@ -427,12 +441,14 @@ def inputs_as_outputs(program, folder):
         shutil.rmtree(room)
 
 
-def links(program, folder):
+def links(program: pathlib.Path, folder: pathlib.Path) -> Iterator[Case]:
     """OUT is a link: it stays one, and what it leads to is replaced, or made where it leads to nothing."""
     run_image, *_ = images_of(program, folder)
     room = folder / "links"
     (room / "other").mkdir(parents=True)
-    leads_to = {"near": "file", "far": "other/file", "there": room / "other" / "file", "twice": "other/back"}
+    leads_to: dict[str, Path] = {
+        "near": "file", "far": "other/file", "there": room / "other" / "file", "twice": "other/back",
+    }
     for name, target in leads_to.items():
         (room / name).symlink_to(target)
     (room / "other" / "back").symlink_to("../file")
@@ -445,7 +461,7 @@ def links(program, folder):
             wrong = difference(REPORT, answer(program, ["run", SCRIPT, name], cwd=room))
             wrong = wrong or (None if (room / name).is_symlink() else "the link is gone")
             wrong = wrong or (None if content(place) == run_image else "no image behind the link")
-            yield f"a link {name} to {stood}", wrong
+            yield f"a link {name} to {stood!r}", wrong
     (room / "round").symlink_to("round")
     yield "a link to itself", difference(WRITE_FAULT, answer(program, ["run", SCRIPT, room / "round"]))
     (room / "null").symlink_to("/dev/null")
@@ -453,7 +469,7 @@ def links(program, folder):
     yield "a link to a device", wrong or (None if (room / "null").is_char_device() else "the device is gone")
 
 
-def permissions(program, folder):
+def permissions(program: pathlib.Path, folder: pathlib.Path) -> Iterator[Case]:
     """A new file has the permissions of the old one; without an old one, those that the user grants to any new file."""
     out = folder / "out"
     for mode in (0o600, 0o640, 0o666, 0o755, 0o700):
@@ -468,12 +484,12 @@ def permissions(program, folder):
         out.unlink()
 
 
-def wrong_mode(path, mode):
+def wrong_mode(path: pathlib.Path, mode: int) -> str | None:
     came = stat.S_IMODE(path.stat().st_mode)
     return None if came == mode else f"wanted the permissions {mode:o}, came {came:o}"
 
 
-def guarded(program, folder):
+def guarded(program: pathlib.Path, folder: pathlib.Path) -> Iterator[Case]:
     """A folder and a file that may not be written: no input is read. A user who may write anything becomes another
     first."""
     room, own = folder / "guarded", folder / "program"
@@ -481,7 +497,7 @@ def guarded(program, folder):
     room.mkdir()
     (room / "out").write_bytes(STOOD)
     folder.chmod(0o755)
-    another = {"preexec_fn": lambda: os.setuid(65534)} if os.geteuid() == 0 else {}
+    another: dict[str, Any] = {"preexec_fn": lambda: os.setuid(65534)} if os.geteuid() == 0 else {}
     for name, mode_of_folder, mode_of_out in (("a folder", 0o555, 0o666), ("a file", 0o777, 0o444)):
         (room / "out").chmod(mode_of_out)
         room.chmod(mode_of_folder)
@@ -491,10 +507,11 @@ def guarded(program, folder):
         yield f"{name} that may not be written", wrong
 
 
-def open_files(program, folder):
+def open_files(program: pathlib.Path, folder: pathlib.Path) -> Iterator[Case]:
     """OUT is an open file of the program, by the name that the system gives it: that file is written itself."""
     run_image, merged, resumed = images_of(program, folder)
-    merge, resume = ["merge", EXAMPLE, EXAMPLE], ["resume", base_of(program, folder), SCRIPT]
+    merge: list[Word] = ["merge", EXAMPLE, EXAMPLE]
+    resume: list[Word] = ["resume", base_of(program, folder), SCRIPT]
     yield "a pipe as standard output", difference(Answer(merged), answer(program, [*merge, "/dev/stdout"]))
     yield "the image and the report on a pipe", difference(
         Answer(run_image + REPORT.output), answer(program, ["run", SCRIPT, "/dev/stdout"])
@@ -502,10 +519,11 @@ def open_files(program, folder):
     yield "the new image and the report on a pipe", difference(
         Answer(resumed + RESUMED.output), answer(program, [*resume, "/dev/stdout"])
     )
-    for words, data in (
+    lent: list[tuple[list[Word], bytes]] = [
         (["resume", "/dev/stdin", SCRIPT], run_image),
         (["resume", base_of(program, folder), "/dev/stdin"], SCRIPT.read_bytes()),
-    ):
+    ]
+    for words, data in lent:
         yield f"{words} with standard input", difference(RESUMED, answer(program, [*words, folder / "lent"], data))
     for name in ("/dev/stdout", "/dev/fd/1", "/proc/self/fd/1"):
         for file in (open(folder / "lent", "w+b"), tempfile.TemporaryFile()):
@@ -516,7 +534,7 @@ def open_files(program, folder):
     (folder / "lent").unlink()
 
 
-def answer_behind_closed_pipe(program, folder):
+def answer_behind_closed_pipe(program: pathlib.Path, folder: pathlib.Path) -> Answer:
     """The answer of `run` whose OUT is a pipe that is closed before the script comes."""
     script, out = folder / "script-pipe", folder / "out-pipe"
     os.mkfifo(script)
@@ -529,45 +547,49 @@ def answer_behind_closed_pipe(program, folder):
     return Answer(output, error, running.returncode)
 
 
-def answer_to_short_out(program, words, most):
+def answer_to_short_out(program: pathlib.Path, words: Sequence[Word], most: int) -> Answer:
     """The answer where files may have so many bytes."""
 
-    def limited():
+    def limited() -> None:
         signal.signal(signal.SIGXFSZ, signal.SIG_IGN)
         resource.setrlimit(resource.RLIMIT_FSIZE, (most, most))
 
     return answer(program, words, preexec_fn=limited)
 
 
-def outputs_of_commands(program, folder):
+def outputs_of_commands(program: pathlib.Path, folder: pathlib.Path) -> Iterator[Case]:
     """Outputs of `run`, `merge` and `resume` that cannot be written: OUT stays unchanged, and no report is begun after
     a fault of the image."""
     out = folder / "out"
-    run, merge, resume = ["run", SCRIPT], ["merge", EXAMPLE, EXAMPLE], ["resume", base_of(program, folder), SCRIPT]
-    for words, image, right in zip((run, merge, resume), images_of(program, folder), (REPORT, Answer(), RESUMED)):
-        yield f"{words[0]} into a full device", difference(WRITE_FAULT, answer(program, [*words, "/dev/full"]))
+    commands: dict[str, list[Word]] = {
+        "run": ["run", SCRIPT],
+        "merge": ["merge", EXAMPLE, EXAMPLE],
+        "resume": ["resume", base_of(program, folder), SCRIPT],
+    }
+    rights = (REPORT, Answer(), RESUMED)
+    for (command, words), image, right in zip(commands.items(), images_of(program, folder), rights):
+        yield f"{command} into a full device", difference(WRITE_FAULT, answer(program, [*words, "/dev/full"]))
         for most in (0, 1, 8, 511, 1023):
             for stood in (STOOD, None):
-                wrong = wrong_short_out(program, [*words, out], most, stood, WRITE_FAULT, stood)
-                yield f"{words[0]} into a file of {most} bytes", wrong
-        yield f"{words[0]} into a file of 1024 bytes", wrong_short_out(
-            program, [*words, out], 1024, STOOD, right, image
-        )
+                wrong = wrong_short_out(program, words, out, most, stood, WRITE_FAULT, stood)
+                yield f"{command} into a file of {most} bytes", wrong
+        wrong = wrong_short_out(program, words, out, 1024, STOOD, right, image)
+        yield f"{command} into a file of 1024 bytes", wrong
     yield "run into a closed pipe", difference(WRITE_FAULT, answer_behind_closed_pipe(program, folder))
     for name, output in (
         ("a full device", os.open("/dev/full", os.O_WRONLY)),
         ("a closed pipe", pipe_without_reader()),
     ):
-        for words, stood in itertools.product((run, resume), (STOOD, None)):
+        for command, stood in itertools.product(("run", "resume"), (STOOD, None)):
             beside = prepared(out, stood)
-            wrong = difference(WRITE_FAULT, answer(program, [*words, out], stdout=output))
-            yield f"the report of {words[0]} on {name}", wrong or wrong_folder(folder, beside, out, stood)
-        yield f"merge beside {name}", difference(Answer(), answer(program, [*merge, out], stdout=output))
+            wrong = difference(WRITE_FAULT, answer(program, [*commands[command], out], stdout=output))
+            yield f"the report of {command} on {name}", wrong or wrong_folder(folder, beside, out, stood)
+        yield f"merge beside {name}", difference(Answer(), answer(program, [*commands["merge"], out], stdout=output))
         os.close(output)
     out.unlink()
 
 
-def prepared(out, stood):
+def prepared(out: pathlib.Path, stood: bytes | None) -> set[pathlib.Path]:
     """Puts these bytes into OUT, or removes it; the files that its folder then has."""
     out.unlink(missing_ok=True)
     if stood is not None:
@@ -575,16 +597,24 @@ def prepared(out, stood):
     return set(out.parent.iterdir())
 
 
-def wrong_short_out(program, words, most, stood, wanted, left):
-    """What is wrong where files may have so many bytes, or None."""
-    out = words[-1]
+def wrong_short_out(
+    program: pathlib.Path,
+    words: Sequence[Word],
+    out: pathlib.Path,
+    most: int,
+    stood: bytes | None,
+    wanted: Answer,
+    left: bytes | None,
+) -> str | None:
+    """What is wrong where files may have so many bytes, or None. OUT follows these words."""
     beside = prepared(out, stood)
-    return difference(wanted, answer_to_short_out(program, words, most)) or wrong_folder(out.parent, beside, out, left)
+    wrong = difference(wanted, answer_to_short_out(program, [*words, out], most))
+    return wrong or wrong_folder(out.parent, beside, out, left)
 
 
-def words(program):
+def words(program: pathlib.Path) -> Iterator[Case]:
     """Help, the version, and command lines that ask for nothing that the program does."""
-    shown = {
+    shown: dict[tuple[str, ...], bytes] = {
         ("--version",): b"persist_report 0.1.0\n", ("--help",): HELP, ("help",): HELP,
         ("report", "--help"): REPORT_HELP,
     }
@@ -592,9 +622,11 @@ def words(program):
     shown |= {("extract", "--help"): EXTRACT_HELP}
     shown |= {("run", "--help"): RUN_HELP, ("merge", "--help"): MERGE_HELP, ("help", "merge"): MERGE_HELP}
     shown |= {("resume", "--help"): RESUME_HELP, ("help", "resume"): RESUME_HELP}
+    asked: Sequence[Word]
     for asked, text in shown.items():
         yield f"{list(asked)}", difference(Answer(text), answer(program, asked))
-    for asked in ([b"\xc3", "report"], ["report", b"\xff\xfe"]):
+    no_text: list[list[Word]] = [[b"\xc3", "report"], ["report", b"\xff\xfe"]]
+    for asked in no_text:
         yield f"{asked}, which is not text", difference(Answer(error=NOT_TEXT, status=2), answer(program, asked))
     for asked in MISTAKES:
         came = answer(program, asked, EXAMPLE.read_bytes())
@@ -603,7 +635,7 @@ def words(program):
         yield f"{asked}", None if is_right else f"wanted 'error: ' and where to find more, with status 2, came {came}"
 
 
-def cases(program, options):
+def cases(program: pathlib.Path, options: argparse.Namespace) -> Iterator[Case]:
     with tempfile.TemporaryDirectory() as scratch:
         folder = pathlib.Path(scratch)
         yield from images(program)

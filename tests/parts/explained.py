@@ -1,15 +1,21 @@
 """Faults with `--explain`: the line of a fault is unchanged, and lines follow it. `devices` runs these cases."""
 
+from __future__ import annotations
+
+import argparse
 import errno
 import itertools
 import os
+import pathlib
 import pty
 import random
 import struct
 import subprocess
+from collections.abc import Iterator, Mapping, Sequence
+from typing import Any
 
 from support import faults, tracer
-from support.program import EXAMPLE, SCRIPT, Answer, answer, difference, explained, fault, untried
+from support.program import EXAMPLE, SCRIPT, Answer, Case, Word, answer, difference, explained, fault, untried
 
 SEGMENT = "segment,256,64,7\n"
 # A record after a segment and a histogram, and what is said of it.
@@ -107,15 +113,17 @@ BAD_STARTS_ON = {
 }
 
 
-def both(program, words, text, status, lines, **settings):
+def both(
+    program: pathlib.Path, words: Sequence[Word], text: str, status: int, lines: Sequence[str], **settings: Any
+) -> str | None:
     """What is wrong with the answer without `--explain` and then with it, or None."""
     without = difference(fault(text, status), answer(program, words, **settings))
     return without or difference(explained(text, status, lines), answer(program, [*words, "--explain"], **settings))
 
 
-def scripts(program, folder):
+def scripts(program: pathlib.Path, folder: pathlib.Path) -> Iterator[Case]:
     script, out = folder / "script.csv", folder / "out"
-    words = ["run", script, out]
+    words: list[Word] = ["run", script, out]
     for bad, said in BAD_RECORDS.items():
         # Before it: an empty line, a name with a line end in it, and a line that ends in both signs.
         script.write_bytes(f'{SEGMENT}\nhist,"A\nA",sparse\r\nhist,A,sparse\n{bad}\n'.encode())
@@ -137,7 +145,7 @@ def scripts(program, folder):
     )
 
 
-def lines_of_random_scripts(program, folder):
+def lines_of_random_scripts(program: pathlib.Path, folder: pathlib.Path) -> Iterator[Case]:
     """Scripts with empty lines, fields in quotes and ends of lines of all sorts: the line of the record is that of a
     plain count."""
     chance, script = random.Random(7), folder / "script.csv"
@@ -157,12 +165,12 @@ def lines_of_random_scripts(program, folder):
         )
 
 
-def images(program, folder):
+def images(program: pathlib.Path, folder: pathlib.Path) -> Iterator[Case]:
     image, example = folder / "bad.img", EXAMPLE.read_bytes()
+    both_inputs: dict[str, list[Word]] = {"BASE": ["merge", image, EXAMPLE], "DEAD": ["merge", EXAMPLE, image]}
     for at, word, name, said in WORDS:
         image.write_bytes(example[: 8 * at] + struct.pack("<Q", word) + example[8 * at + 8 :])
         yield f"{name} of a file", both(program, ["report", image], f"Image {name}", 3, [f'"{image}", {said}'])
-        both_inputs = {"BASE": ["merge", image, EXAMPLE], "DEAD": ["merge", EXAMPLE, image]}
         for role, words in both_inputs.items():
             yield f"{name} of {role}", both(
                 program, [*words, folder / "out"], f"Image {name}", 3, [f'"{image}", {said}']
@@ -175,7 +183,7 @@ def images(program, folder):
         program, ["report", image], "Image TooShort", 3, [f'"{image}" has 64 bytes; an image has 128 or more']
     )
     image.write_bytes(b"")
-    for words in (["merge", image, EXAMPLE], ["merge", EXAMPLE, image]):
+    for words in both_inputs.values():
         wrong = both(
             program, [*words, folder / "out"], "Image TooShort", 3, [f'"{image}" has 0 bytes; an image has 128 or more']
         )
@@ -189,9 +197,10 @@ def images(program, folder):
     )
 
 
-def merges(program, folder):
+def merges(program: pathlib.Path, folder: pathlib.Path) -> Iterator[Case]:
     """Two images that give one name two specs, and one that has no room."""
-    images, specs = [], ["linear,1,100,10", f"custom,{','.join(map(str, range(1, 21)))}"]
+    images: list[pathlib.Path] = []
+    specs = ["linear,1,100,10", f"custom,{','.join(map(str, range(1, 21)))}"]
     for number, spec in enumerate(specs):
         script, image = folder / "script.csv", folder / f"{number}.img"
         script.write_bytes(
@@ -200,7 +209,7 @@ def merges(program, folder):
         )
         answer(program, ["run", script, image])
         images.append(image)
-    words = ["merge", *images, folder / "out"]
+    words: list[Word] = ["merge", *images, folder / "out"]
     said = [
         f'BASE "{images[0]}" has `load` as linear,1,100,10',
         f'DEAD "{images[1]}" has `load` as custom,{",".join(map(str, range(1, 17)))},...',
@@ -215,7 +224,7 @@ def merges(program, folder):
     yield "no room", both(program, words, "Merge S Full", 3, [f'DEAD "{folder / "large.img"}" has `S` as sparse'])
 
 
-def with_words(image, stored):
+def with_words(image: bytes, stored: Mapping[int, int]) -> bytes:
     """An image with these words in it."""
     words = list(struct.unpack(f"<{len(image) // 8}Q", image))
     for at, word in stored.items():
@@ -223,12 +232,12 @@ def with_words(image, stored):
     return struct.pack(f"<{len(words)}Q", *words)
 
 
-def bases(program, folder):
+def bases(program: pathlib.Path, folder: pathlib.Path) -> Iterator[Case]:
     """Images that may not be recorded into again."""
     image, out = folder / "base.img", folder / "out"
     answer(program, ["run", SCRIPT, image])
     right = image.read_bytes()
-    words = ["resume", image, SCRIPT, out]
+    words: list[Word] = ["resume", image, SCRIPT, out]
     for stored, name, said in DAMAGES:
         image.write_bytes(with_words(right, stored))
         yield f"{name} of {stored}", both(program, words, f"Adopt {name}", 3, [f'"{image}"{said}'])
@@ -248,11 +257,11 @@ def bases(program, folder):
     yield "no end to record into", both(program, words, "TooLong", 3, ['"/dev/zero": 8388609 bytes were read'])
 
 
-def scripts_on(program, folder):
+def scripts_on(program: pathlib.Path, folder: pathlib.Path) -> Iterator[Case]:
     """Scripts that are not recorded on in an image."""
     base, script, out = folder / "base.img", folder / "script.csv", folder / "out"
     answer(program, ["run", SCRIPT, base])
-    words = ["resume", base, script, out]
+    words: list[Word] = ["resume", base, script, out]
     for records, why, said in REFUSED_ON:
         script.write_bytes("\n".join(["segment,128,64,7", *records]).encode())
         last = 1 + len(records) if why != "Full" else refused_at(answer(program, words))
@@ -273,15 +282,15 @@ def scripts_on(program, folder):
     yield "a script on an image", difference(answer(program, words), answer(program, [*words, "--explain"]))
 
 
-def refused_at(came):
+def refused_at(came: Answer) -> int:
     """The number of the record that was refused."""
     return int(came.error.split()[2])
 
 
-def devices(program, folder):
+def devices(program: pathlib.Path, folder: pathlib.Path) -> Iterator[Case]:
     out, base, missing = folder / "out", folder / "base.img", "No such file or directory (os error 2)"
     answer(program, ["run", SCRIPT, base])
-    reads = {
+    reads: dict[str, tuple[list[Word], str]] = {
         "a missing image": (["report", "no\nfile"], f'"no\\nfile": {missing}'),
         "a folder as an image": (["report", folder], f'"{folder}": Is a directory (os error 21)'),
         "a missing script": (["run", "missing", out], f'"missing": {missing}'),
@@ -303,27 +312,33 @@ def devices(program, folder):
     for name, (words, said) in reads.items():
         yield name, both(program, words, "Read", 4, [said], cwd=folder)
     nowhere = folder / "missing" / "out"
-    for words in (["run", SCRIPT], ["merge", EXAMPLE, EXAMPLE], ["resume", base, SCRIPT]):
-        yield f"{words[0]} into no folder", both(program, [*words, nowhere], "Write", 4, [f'"{nowhere}": {missing}'])
-        yield f"{words[0]} into a folder", both(
+    writes: dict[str, list[Word]] = {
+        "run": ["run", SCRIPT], "merge": ["merge", EXAMPLE, EXAMPLE], "resume": ["resume", base, SCRIPT],
+    }
+    for name, words in writes.items():
+        yield f"{name} into no folder", both(program, [*words, nowhere], "Write", 4, [f'"{nowhere}": {missing}'])
+        yield f"{name} into a folder", both(
             program, [*words, folder], "Write", 4, [f'"{folder}": Is a directory (os error 21)']
         )
-        yield f"{words[0]} into a full device", both(
+        yield f"{name} into a full device", both(
             program, [*words, "/dev/full"], "Write", 4, ['"/dev/full": No space left on device (os error 28)']
         )
     full = os.open("/dev/full", os.O_WRONLY)
-    for words in (["report", EXAMPLE], ["run", SCRIPT, out], ["resume", base, SCRIPT, out]):
-        said = ["standard output: No space left on device (os error 28)"]
-        yield f"the report of {words[0]} on a full device", both(program, words, "Write", 4, said, stdout=full)
+    reports: dict[str, list[Word]] = {
+        "report": ["report", EXAMPLE], "run": ["run", SCRIPT, out], "resume": ["resume", base, SCRIPT, out],
+    }
+    for name, words in reports.items():
+        lines = ["standard output: No space left on device (os error 28)"]
+        yield f"the report of {name} on a full device", both(program, words, "Write", 4, lines, stdout=full)
     os.close(full)
 
 
-def wants(program, folder, options):
+def wants(program: pathlib.Path, folder: pathlib.Path, options: argparse.Namespace) -> Iterator[Case]:
     """A worker that cannot be started, and memory that is refused from some allocation on."""
     if not tracer.can_trace():
         yield untried(tracer.NOT_ALLOWED, options)
         return
-    words = ["run", SCRIPT, folder / "out", "--explain"]
+    words: list[Word] = ["run", SCRIPT, folder / "out", "--explain"]
     came = tracer.answer(program, words, tracer.Fault((tracer.CLONE, tracer.CLONE_3), at=0, error=errno.EAGAIN))
     yield "no thread", difference(explained("NoThread", 5, []), came)
     wanted = (fault("NoMemory", 5), explained("NoMemory", 5, []))
@@ -339,7 +354,7 @@ def wants(program, folder, options):
     yield "no memory", None if came in wanted else difference(wanted[0], came)
 
 
-def on_terminal(program, words):
+def on_terminal(program: pathlib.Path, words: Sequence[Word]) -> Answer:
     """What a program writes to an error stream that is a terminal."""
     mine, its = pty.openpty()
     done = subprocess.run([program, *words], stdin=subprocess.DEVNULL, stdout=subprocess.PIPE, stderr=its)
@@ -354,7 +369,7 @@ def on_terminal(program, words):
     return Answer(done.stdout, text.replace(b"\r\n", b"\n"), done.returncode)
 
 
-def told(program, folder):
+def told(program: pathlib.Path, folder: pathlib.Path) -> Iterator[Case]:
     """A terminal, and the command `explain`."""
     wanted = explained("Read", 4, ['"/missing": No such file or directory (os error 2)'])
     yield "a terminal", difference(wanted, on_terminal(program, ["report", "/missing"]))
@@ -373,7 +388,7 @@ def told(program, folder):
         yield f"explain {name!r}", None if is_right else f"wanted that no fault has this name, came {came}"
 
 
-def cases(program, folder, options):
+def cases(program: pathlib.Path, folder: pathlib.Path, options: argparse.Namespace) -> Iterator[Case]:
     for part in (scripts, lines_of_random_scripts, images, merges, bases, scripts_on, devices, told):
         yield from part(program, folder)
     yield from wants(program, folder, options)

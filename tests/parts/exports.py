@@ -5,14 +5,19 @@ The parser is that of Debian's python3-prometheus-client. Where it is not instal
 says so.
 """
 
+from __future__ import annotations
+
+import argparse
 import pathlib
 import random
 import sys
 import tempfile
+from collections.abc import Callable, Iterable, Iterator, Sequence
+from typing import Any
 
 from parts import known
 from support import command_faults, forge, plain_export
-from support.program import EXAMPLE, Answer, answer, difference
+from support.program import EXAMPLE, Answer, Case, Word, answer, difference
 
 PROGRAM = "persist_report"
 DEBIAN = "/usr/lib/python3/dist-packages"
@@ -54,11 +59,14 @@ x_histogram_sum{histogram="a\\b{c=d}"} 4294967290
 x_sparse_total{histogram="~s",value="-2147483648"} 1
 x_sparse_total{histogram="~s",value="2147483647"} 2
 """.split(b"\n")[1:-1]
+# The parser of a text, which gives its families.
+Parse = Callable[[str], Iterable[Any]]
+
 PREFIXES = ["x", "_", ":a:b", "Zz_09"]
 NO_PREFIXES = ["", "9a", "a-b", "a b", "a.b", "\u00e9", "a{"]
 
 
-def parser():
+def parser() -> Parse | None:
     """The parser, or None if it is not installed."""
     try:
         from prometheus_client.parser import text_string_to_metric_families  # type: ignore[import]
@@ -70,7 +78,9 @@ def parser():
     return text_string_to_metric_families
 
 
-def complaint(parse, text, families, prefix=plain_export.PREFIX):
+def complaint(
+    parse: Parse, text: bytes, families: plain_export.Families, prefix: str = plain_export.PREFIX
+) -> str | None:
     """What the parser says of a text, or where it reads other samples than were meant; None if all is well."""
     wanted = {}
     for family, samples in families.items():
@@ -80,9 +90,9 @@ def complaint(parse, text, families, prefix=plain_export.PREFIX):
         )
     came = {}
     try:
-        for family in parse(text.decode()):
+        for read in parse(text.decode()):
             came.update(
-                {(family.type, sample.name, *sorted(sample.labels.items())): sample.value for sample in family.samples}
+                {(read.type, sample.name, *sorted(sample.labels.items())): sample.value for sample in read.samples}
             )
     except ValueError as error:
         return f"the parser refuses it: {error}"
@@ -90,7 +100,7 @@ def complaint(parse, text, families, prefix=plain_export.PREFIX):
     return f"the parser reads other samples: {wrong[:2]}" if wrong else None
 
 
-def beside(program, parse, data, words=()):
+def beside(program: pathlib.Path, parse: Parse | None, data: bytes, words: Sequence[Word] = ()) -> str | None:
     """Where the export of an image is not what the plain renderer says, or is not read back."""
     wanted = Answer(*plain_export.answer(data))
     wrong = difference(wanted, answer(program, ["export", *words], data))
@@ -99,10 +109,11 @@ def beside(program, parse, data, words=()):
     return wrong
 
 
-def worked(program, parse, folder):
+def worked(program: pathlib.Path, parse: Parse | None, folder: pathlib.Path) -> Iterator[Case]:
     """The example as a file and on standard input, prefixes, and names that are escaped."""
     wanted = Answer(EXAMPLE_TEXT)
-    for words in ([EXAMPLE], ["-"], []):
+    inputs: list[list[Word]] = [[EXAMPLE], ["-"], []]
+    for words in inputs:
         data = b"" if words == [EXAMPLE] else EXAMPLE.read_bytes()
         yield f"the example, {words}", difference(wanted, answer(program, ["export", *words], data))
     for prefix in PREFIXES:
@@ -121,7 +132,7 @@ def worked(program, parse, folder):
     yield "escapes and signs", wrong
 
 
-def cases(program, options):
+def cases(program: pathlib.Path, options: argparse.Namespace) -> Iterator[Case]:
     """Worked examples; the known images; and forged ones, a thousand at most."""
     parse = parser()
     if parse is None:

@@ -4,14 +4,18 @@ A segment stands at each multiple of eight bytes at which a valid header stands,
 inside the words of another segment.
 """
 
+from __future__ import annotations
+
+import argparse
 import pathlib
 import random
 import struct
 import tempfile
+from collections.abc import Iterator
 
 from parts import refused
 from support import forge
-from support.program import EXAMPLE, Answer, answer, content, difference, fault
+from support.program import EXAMPLE, Answer, Case, Word, answer, content, difference, fault
 
 PROGRAM = "persist_report"
 NO_SEGMENT = fault("NoSegment", 3)
@@ -22,6 +26,8 @@ MOST_WORDS = 1_048_576
 MIB = 2**20
 BLOCK = 65_536
 STOOD = b"what stood there before"
+# The name of an image, and its bytes.
+Image = tuple[str, bytes]
 # What is stored at a word of a header so that it is not valid.
 FAULTS = [
     (1, 0), (1, 3), (2, 0), (2, 63), (2, 65), (2, 2**63), (3, 0), (3, 48), (3, 72), (3, 131_072), (5, 0), (5, 2),
@@ -29,7 +35,7 @@ FAULTS = [
 ]
 
 
-def size_at(data, at):
+def size_at(data: bytes, at: int) -> int | None:
     """The words of the segment that stands at a place, or None."""
     if len(data) < at + 8 * HEADER:
         return None
@@ -48,9 +54,10 @@ def size_at(data, at):
     return size if lawful and at + 8 * size <= len(data) else None
 
 
-def segments(data):
+def segments(data: bytes) -> list[tuple[int, bytes]]:
     """The place of each segment in a file and the bytes of its words, in the order of the places."""
-    found, at = [], data.find(COOKIE)
+    found: list[tuple[int, bytes]] = []
+    at = data.find(COOKIE)
     while at >= 0:
         size = size_at(data, at) if at % 8 == 0 else None
         if size:
@@ -59,7 +66,7 @@ def segments(data):
     return found
 
 
-def wrong_of(program, folder, data):
+def wrong_of(program: pathlib.Path, folder: pathlib.Path, data: bytes) -> str | None:
     """What is wrong with what comes of a file for each number, or None."""
     file, out = folder / "file", folder / "out"
     file.write_bytes(data)
@@ -75,9 +82,9 @@ def wrong_of(program, folder, data):
     return None
 
 
-def noise(chance, size):
+def noise(chance: random.Random, size: int) -> bytes:
     """Bytes in which cookies stand now and then, and lengths of zeros."""
-    parts = []
+    parts: list[bytes] = []
     while sum(map(len, parts)) < size:
         parts.append(
             chance.choice(
@@ -90,7 +97,7 @@ def noise(chance, size):
     return b"".join(parts)
 
 
-def blank(size, page=64, fault_at=None):
+def blank(size: int, page: int = 64, fault_at: tuple[int, int] | None = None) -> bytes:
     """The bytes of a segment without blocks, with one word of its header changed if this is asked for."""
     words = [0x408305DC, 2, size, page, 7, 1, 0, 16, 12, 0, 0, 0, 4, 1, 0, 12] + [0] * (size - HEADER)
     if fault_at is not None:
@@ -98,7 +105,7 @@ def blank(size, page=64, fault_at=None):
     return struct.pack(f"<{size}Q", *words)
 
 
-def nested(sizes):
+def nested(sizes: tuple[int, int, int]) -> bytes:
     """Three segments, of which each begins four words after the one before, inside its header."""
     first, second, third = sizes
     words = [0] * (max(first, second + 4, third + 8))
@@ -108,7 +115,7 @@ def nested(sizes):
     return struct.pack(f"<{len(words)}Q", *words)
 
 
-def made(chance):
+def made(chance: random.Random) -> bytes:
     """A file of several MiB with images at random places, some of them cut short, and one at the end or cut there."""
     parts = []
     for _ in range(chance.randrange(2, 7)):
@@ -119,7 +126,7 @@ def made(chance):
     return b"".join(parts) + chance.choice([b"", bytes(chance.randrange(1, 8)), noise(chance, 9_000)])
 
 
-def small():
+def small() -> Iterator[Image]:
     """Small files by what is in them."""
     image = blank(64)
     yield "nothing", b""
@@ -139,7 +146,7 @@ def small():
             yield f"segments of {sizes} words in one another without {cut} bytes", whole[: len(whole) - cut]
 
 
-def at_blocks(chance):
+def at_blocks(chance: random.Random) -> Iterator[Image]:
     """Images about the ends of the blocks in which a file may be read, and of the greatest size."""
     for before in (BLOCK - 128, BLOCK - 64, BLOCK - 8, BLOCK, 8_192 - 8):
         yield f"a segment behind {before} bytes", chance.randbytes(before) + blank(64)
@@ -151,33 +158,36 @@ def at_blocks(chance):
     yield "the greatest, cut, with a small one in its words", whole[: 4 * MIB] + blank(128) + whole[5 * MIB : 6 * MIB]
 
 
-def devices(program, folder):
+def devices(program: pathlib.Path, folder: pathlib.Path) -> Iterator[Case]:
     """Files and devices that fail, and words that ask for nothing."""
     file, out = folder / "file", folder / "out"
     file.write_bytes(bytes(8) + blank(64))
-    for name, words, wanted in (
+    failing: list[tuple[str, list[Word], Answer]] = [
         ("no FILE", [folder / "none", out], READ_FAULT),
         ("FILE is a folder", [folder, out], READ_FAULT),
         ("OUT in no folder", [file, folder / "none" / "out"], WRITE_FAULT),
         ("OUT is a folder", [file, folder], WRITE_FAULT),
         ("OUT has no room", [file, "/dev/full"], WRITE_FAULT),
-    ):
+    ]
+    for name, words, wanted in failing:
         yield name, difference(wanted, answer(program, ["extract", *words]))
     yield "a pipe", difference(Answer(b"8\n"), answer(program, ["extract", "/dev/stdin", out], file.read_bytes()))
     out.write_bytes(STOOD)
     with open("/dev/full", "wb") as full:
         wrong = difference(WRITE_FAULT, answer(program, ["extract", file, out], stdout=full))
     yield "standard output has no room", wrong if wrong or content(out) == STOOD else "OUT is not as it was"
-    for words in (
-        [], [file], [file, out, "more"],
-        *([file, out, "--nth", number] for number in ("0", "-1", "", "two", str(2**64))),
-    ):
+    both: list[Word] = [file, out]
+    mistakes: list[list[Word]] = [
+        [], [file], [*both, "more"],
+        *([*both, "--nth", number] for number in ("0", "-1", "", "two", str(2**64))),
+    ]
+    for words in mistakes:
         came = answer(program, ["extract", *words])
         wrong = None if came.status == 2 and not came.output else f"wanted status 2, came {came.status}"
         yield f"extract {words[1:]}", wrong
 
 
-def memory(program, folder):
+def memory(program: pathlib.Path, folder: pathlib.Path) -> Iterator[Case]:
     """A long file is searched in the memory of an image and a block; and memory that is refused."""
     least = refused.least_pages(program)
     file, out = folder / "file", folder / "out"
@@ -201,7 +211,7 @@ def memory(program, folder):
     )
 
 
-def cases(program, options):
+def cases(program: pathlib.Path, options: argparse.Namespace) -> Iterator[Case]:
     with tempfile.TemporaryDirectory() as scratch:
         folder = pathlib.Path(scratch)
         for name, data in small():

@@ -5,24 +5,31 @@ file: OUT is the old file or the whole new one.
 For this the program is traced (tracer.py).
 """
 
+from __future__ import annotations
+
+import argparse
 import errno
 import os
 import pathlib
 import shutil
 import signal
 import tempfile
+from collections.abc import Callable, Iterable, Iterator, Sequence
+from typing import Any, Optional
 
 from support import tracer
-from support.program import EXAMPLE, Answer, answer, difference, fault, untried
+from support.program import EXAMPLE, Answer, Case, Path, Word, answer, difference, fault, untried
 
 PROGRAM = "persist_report"
+# The bytes of files by their names.
+Files = dict[str, bytes]
 READ_FAULT, WRITE_FAULT, BUSY = fault("Read", 4), fault("Write", 4), fault("Busy", 4)
 NO_MEMORY, NO_THREAD = fault("NoMemory", 5), fault("NoThread", 5)
 # What comes where the program is not even loaded.
 NOT_LOADED = (127, -signal.SIGSEGV)
 # What stands in OUT before a command; None if there is no OUT.
 STOOD = b"what stood there before"
-BEFORE = (STOOD, None)
+BEFORE: tuple[bytes | None, ...] = (STOOD, None)
 # Of three workers the second alone makes blocks, and each histogram is one worker's: so any run writes the same image.
 SCRIPT = b"""\
 segment,256,64,7
@@ -60,7 +67,14 @@ add,S,9,1
 class Command:
     """A command line with its files, and what it returns if nothing fails. OUT has a folder of its own."""
 
-    def __init__(self, program, name, words, inputs=(), out=None):
+    def __init__(
+        self,
+        program: pathlib.Path,
+        name: str,
+        words: Sequence[Word],
+        inputs: Iterable[Path] = (),
+        out: pathlib.Path | None = None,
+    ) -> None:
         self.program = program
         self.name = name
         self.words = words
@@ -70,7 +84,7 @@ class Command:
         self.right = answer(program, words)
         self.made = self.left()
 
-    def prepare(self, stood):
+    def prepare(self, stood: bytes | None) -> None:
         """Puts OUT into its folder with what stood there, and nothing else."""
         if self.out:
             shutil.rmtree(self.out.parent, ignore_errors=True)
@@ -78,17 +92,17 @@ class Command:
             for name, data in folder_of(stood).items():
                 (self.out.parent / name).write_bytes(data)
 
-    def left(self):
+    def left(self) -> Files:
         """What stands in OUT's folder: the bytes of each file by its name."""
         return {path.name: path.read_bytes() for path in self.out.parent.iterdir()} if self.out else {}
 
-    def failing(self, made, stood=STOOD):
+    def failing(self, made: tracer.Fault, stood: bytes | None = STOOD) -> tuple[Answer, Files]:
         """What it returns where calls fail, and what then stands in OUT's folder."""
         self.prepare(stood)
         settings = {"env": {**os.environ, **tracer.EACH_BY_ITSELF}}
         return tracer.answer(self.program, self.words, made, **settings), self.left()
 
-    def each(self, stood=STOOD, **which):
+    def each(self, stood: bytes | None = STOOD, **which: Any) -> Iterator[tuple[int, Answer, Files]]:
         """The place of each call that is meant, the answer if it fails, and what then stands in OUT's folder."""
         place = 0
         while True:
@@ -99,24 +113,30 @@ class Command:
             yield place, came, left
             place += 1
 
-    def untouched(self, wanted, came, left, stood=STOOD):
+    def untouched(self, wanted: Answer, came: Answer, left: Files, stood: bytes | None = STOOD) -> str | None:
         """What is wrong where a fault was wanted and OUT's folder as it was, or None."""
         right = folder_of(stood) if self.out else {}
         return difference(wanted, came) or (None if left == right else f"{told(left)} stand in OUT's folder")
 
-    def is_done(self, came, left):
+    def is_done(self, came: Answer, left: Files) -> bool:
         return (came, left) == (self.right, self.made)
 
 
-def folder_of(stood):
+# Says what is wrong with a command, or None.
+Check = Callable[[Command], Optional[str]]
+
+
+def folder_of(stood: bytes | None) -> Files:
     return {} if stood is None else {"out": stood}
 
 
-def told(left):
+def told(left: Files) -> list[str] | str:
     return [f"{len(data)} bytes as {name}" for name, data in left.items()] or "no files"
 
 
-def wrong_where(command, wanted, what, before=(STOOD,), **fault):
+def wrong_where(
+    command: Command, wanted: Answer, what: str, before: Iterable[bytes | None] = (STOOD,), **fault: Any
+) -> str | None:
     """What is wrong where each such call fails in turn, and a fault is wanted and OUT unchanged; or None."""
     for stood in before:
         tried = 0
@@ -130,7 +150,7 @@ def wrong_where(command, wanted, what, before=(STOOD,), **fault):
     return None
 
 
-def wrong_where_some(command, faults, what, **fault):
+def wrong_where_some(command: Command, faults: Sequence[Answer], what: str, **fault: Any) -> str | None:
     """What is wrong where each such call fails in turn, and one of these faults is wanted and OUT unchanged, or the
     right answer; or None. The last of the faults has to come."""
     for stood in BEFORE:
@@ -148,20 +168,21 @@ def wrong_where_some(command, faults, what, **fault):
     return None
 
 
-def wrong_reads(command):
+def wrong_reads(command: Command) -> str | None:
     return wrong_where(command, READ_FAULT, "read", numbers=(tracer.READ,), files=command.inputs)
 
 
-def wrong_image_writes(command):
+def wrong_image_writes(command: Command) -> str | None:
+    assert command.out is not None
     files = (str(command.out.parent),)
     return wrong_where(command, WRITE_FAULT, "write of the image", BEFORE, numbers=(tracer.WRITE,), files=files)
 
 
-def wrong_syncs(command):
+def wrong_syncs(command: Command) -> str | None:
     return wrong_where(command, WRITE_FAULT, "sync", BEFORE, numbers=(tracer.SYNC,))
 
 
-def wrong_locks(command):
+def wrong_locks(command: Command) -> str | None:
     """The lock of OUT is taken where OUT stands, and tried again where another has it."""
     wrong = wrong_where(command, WRITE_FAULT, "lock", numbers=(tracer.LOCK,), error=errno.ENOLCK)
     never = tracer.Fault((tracer.LOCK,), at=0, lasting=True, error=errno.EWOULDBLOCK)
@@ -180,28 +201,28 @@ def wrong_locks(command):
     return wrong
 
 
-def wrong_modes(command):
+def wrong_modes(command: Command) -> str | None:
     return wrong_where(command, WRITE_FAULT, "change of permissions", numbers=(tracer.CHANGE_MODE,))
 
 
-def wrong_renames(command):
+def wrong_renames(command: Command) -> str | None:
     """The renaming comes after all else, so the report is whole."""
     wanted = Answer(command.right.output, WRITE_FAULT.error, WRITE_FAULT.status)
     return wrong_where(command, wanted, "renaming", BEFORE, numbers=tracer.RENAMES)
 
 
-def wrong_openings(command):
+def wrong_openings(command: Command) -> str | None:
     return wrong_where_some(
         command, (READ_FAULT, WRITE_FAULT), "opening", numbers=(tracer.OPEN_AT,), error=errno.EACCES
     )
 
 
-def wrong_random_bytes(command):
+def wrong_random_bytes(command: Command) -> str | None:
     """Without them the new file has no name."""
     return wrong_where_some(command, (WRITE_FAULT,), "call for random bytes", numbers=(tracer.RANDOM,))
 
 
-def wrong_clashes(command):
+def wrong_clashes(command: Command) -> str | None:
     """Where the new file's name is taken, another is tried."""
     for stood in BEFORE:
         refused, taken = (fatal_openings(command, stood, error) for error in (errno.EACCES, errno.EEXIST))
@@ -212,13 +233,13 @@ def wrong_clashes(command):
     return wrong_where_some(command, (READ_FAULT, WRITE_FAULT), "clash", numbers=(tracer.OPEN_AT,), error=errno.EEXIST)
 
 
-def fatal_openings(command, stood, error):
+def fatal_openings(command: Command, stood: bytes | None, error: int) -> list[int]:
     """The openings after whose error comes `Write`: that of OUT, and then that of the new file."""
     tried = command.each(stood, numbers=(tracer.OPEN_AT,), error=error)
     return [place for place, came, _ in tried if came == WRITE_FAULT]
 
 
-def wrong_kill(command, came, left, stood):
+def wrong_kill(command: Command, came: Answer, left: Files, stood: bytes | None) -> str | None:
     """What is wrong where the program was killed, or None. The new file may be beside OUT, which is unchanged."""
     if came.status != -signal.SIGKILL:
         return f"wanted a kill, came the status {came.status}"
@@ -230,7 +251,7 @@ def wrong_kill(command, came, left, stood):
     return None
 
 
-def wrong_kills(command):
+def wrong_kills(command: Command) -> str | None:
     """The program is killed at each call by which it makes a file, and at its end."""
     numbers = (
         tracer.OPEN_AT, tracer.WRITE, tracer.SYNC, tracer.CHANGE_MODE, *tracer.RENAMES, tracer.CLOSE, tracer.EXIT,
@@ -247,7 +268,7 @@ def wrong_kills(command):
     return None
 
 
-def wrong_report_writes(command):
+def wrong_report_writes(command: Command) -> str | None:
     tried = 0
     for place, came, left in command.each(numbers=(tracer.WRITE,), files=(tracer.OUTPUT,)):
         tried += 1
@@ -260,7 +281,7 @@ def wrong_report_writes(command):
     return None if tried else "no write was met"
 
 
-def wrong_growths(command):
+def wrong_growths(command: Command) -> str | None:
     """Each allocation and all after it are refused."""
     tried = 0
     for place, came, left in command.each(numbers=tracer.GROWTHS, lasting=True, error=errno.ENOMEM):
@@ -274,18 +295,18 @@ def wrong_growths(command):
     return None if tried else "NoMemory never came"
 
 
-def wrong_threads(command):
+def wrong_threads(command: Command) -> str | None:
     return wrong_where(command, NO_THREAD, "thread", numbers=(tracer.CLONE, tracer.CLONE_3), error=errno.EAGAIN)
 
 
-def wrong_pieces(command):
+def wrong_pieces(command: Command) -> str | None:
     """Each read and write moves one byte."""
     files = (*command.inputs, *([str(command.out.parent)] if command.out else []), tracer.OUTPUT)
     came, left = command.failing(tracer.Fault((tracer.READ, tracer.WRITE), files, most=1))
     return difference(command.right, came) or (None if left == command.made else "another image was written")
 
 
-def commands(program, folder):
+def commands(program: pathlib.Path, folder: pathlib.Path) -> Iterator[Command]:
     """The commands that are tried."""
     script, more, base, dead, out = (folder / name for name in ("script", "more", "base", "dead", "outs/out"))
     script.write_bytes(SCRIPT)
@@ -302,7 +323,7 @@ def commands(program, folder):
     yield Command(program, "merge", ["merge", EXAMPLE, dead, out], [EXAMPLE, dead], out)
 
 
-def checks(command):
+def checks(command: Command) -> Iterator[Check]:
     """The checks of a command."""
     yield wrong_reads
     yield wrong_growths
@@ -316,7 +337,7 @@ def checks(command):
         yield wrong_threads
 
 
-def cases(program, options):
+def cases(program: pathlib.Path, options: argparse.Namespace) -> Iterator[Case]:
     if not tracer.can_trace():
         yield untried(tracer.NOT_ALLOWED, options)
         return

@@ -8,18 +8,25 @@ The commands and `stepped` report `NoMemory`, with no output but what `stepped` 
 Of them each growth is refused for which the C library asks the system (tracer.py).
 """
 
+from __future__ import annotations
+
+import argparse
 import collections
 import errno
 import pathlib
 import re
 import tempfile
+from collections.abc import Callable, Iterator, Sequence
+from typing import Any, Optional
 
 from parts import failing
 from support import allocations, native, tracer
-from support.program import ROOT, Answer, answer, built, difference, untried
+from support.program import ROOT, Answer, Case, answer, built, difference, untried
 
 PROGRAM = "trials"
-GROWTH = {"numbers": tracer.GROWTHS, "growth": True, "error": errno.ENOMEM}
+# Says what is wrong with the answer of a command and with what then stands in OUT's folder, or None.
+WrongAnswer = Callable[[failing.Command, Answer, failing.Files], Optional[str]]
+GROWTH: dict[str, Any] = {"numbers": tracer.GROWTHS, "growth": True, "error": errno.ENOMEM}
 SCHEDULE = ROOT / "examples" / "pack_before_disabling.csv"
 # A world that goes on with an image, in which an actor finds a histogram and adds to it.
 IMAGE = ROOT / "examples" / "crash.img"
@@ -29,6 +36,8 @@ step,0,1000
 add,0,cache.hit,1,1
 step,0,1000
 """
+# What `stepped` is asked to show.
+SHOWN: list[list[str]] = [[], ["--report"], ["--image"]]
 STEPPED_OUT_OF_MEMORY = b"stepped: NoMemory\n"
 
 # The calls that `trials` makes, those that take memory and those that take none.
@@ -85,12 +94,12 @@ TABLE = 8 * (SIZE + 2)
 FIRST_HISTS = 8
 
 
-def name_of(call):
+def name_of(call: str) -> str:
     """The name of a call that `trials` makes: without what it is passed."""
     return call.split("(")[0]
 
 
-def wrong_list(asked, lines):
+def wrong_list(asked: Sequence[allocations.Asked], lines: Sequence[str]) -> str | None:
     """What is wrong with the calls that a run makes in which nothing is refused, or None."""
     made = {name_of(line[len("try "):]) for line in lines if line.startswith("try ")}
     if made != {*TAKING, *TAKING_NONE}:
@@ -102,10 +111,10 @@ def wrong_list(asked, lines):
     return f"came {refused} where nothing was refused" if refused else None
 
 
-def wrong_sizes(asked):
+def wrong_sizes(asked: Sequence[allocations.Asked]) -> str | None:
     """What is wrong with what calls ask for, or None."""
     sizes = collections.defaultdict(list)
-    hists = collections.Counter()
+    hists: collections.Counter[int] = collections.Counter()
     for one in asked:
         sizes[name_of(one.call)].append(one.size)
         if one.call == "hist":
@@ -127,7 +136,7 @@ def wrong_sizes(asked):
     return wrong_hists(list(hists.values()))
 
 
-def wrong_hists(asked):
+def wrong_hists(asked: Sequence[int]) -> str | None:
     """What is wrong with how many bytes each `hist` asks for that asks for some, or None."""
     if len(asked) != FIRST_HISTS:
         return f"{len(asked)} hists ask for memory, wanted {FIRST_HISTS}"
@@ -138,17 +147,17 @@ def wrong_hists(asked):
     return None
 
 
-def refused_line(name):
+def refused_line(name: str) -> str:
     return f"refused {name.split()[0]} {OTHER_WORDS.get(name, NO_MEMORY)}"
 
 
-def with_line(lines, place, line):
+def with_line(lines: Sequence[str], place: int, line: str) -> list[str]:
     """The lines of a run, and a line behind the line `try` of this place."""
     tries = [at for at, one in enumerate(lines) if one.startswith("try ")]
     return [*lines[:tries[place] + 1], line, *lines[tries[place] + 1:]]
 
 
-def wrong_refusal(lines, one, came):
+def wrong_refusal(lines: list[str], one: allocations.Asked, came: Answer) -> str | None:
     """What is wrong with a run in which an allocation of a call was refused, or None."""
     name = name_of(one.call)
     if name == "merge":
@@ -157,17 +166,24 @@ def wrong_refusal(lines, one, came):
     return difference(Answer("".join(f"{line}\n" for line in right).encode()), came)
 
 
-def merges_of(lines):
+def merges_of(lines: list[str]) -> tuple[list[str], list[list[str]], list[str]]:
     """The lines before the merges of a run, those of each merge, and those behind them."""
     tries = [at for at, line in enumerate(lines) if line.startswith("try ")] + [len(lines)]
     merges = [(start, end) for start, end in zip(tries, tries[1:]) if lines[start] == "try merge"]
     return lines[:merges[0][0]], [lines[start + 1:end] for start, end in merges], lines[merges[-1][1]:]
 
 
-def stopped_merge(whole, reached):
+def added_by(line: str) -> tuple[str, str]:
+    """The name of the histogram that a line says was added to, and the units."""
+    found = re.fullmatch(r"added (\[.*\]) (\d+)", line)
+    assert found is not None, line
+    return found[1], found[2]
+
+
+def stopped_merge(whole: Sequence[str], reached: int) -> list[str]:
     """The lines of a merge that was refused when it had reached so many histograms, where these are the lines of a
     whole one: what it added before stays, and of the one where it stopped nothing is added."""
-    added = [re.fullmatch(r"added (\[.*\]) (\d+)", line).groups() for line in whole if line.startswith("added ")]
+    added = [added_by(line) for line in whole if line.startswith("added ")]
     if not reached:
         return [refused_line("merge"), f"{UNITS} units"]
     before, (name, _) = added[:reached - 1], added[reached - 1]
@@ -181,7 +197,7 @@ def stopped_merge(whole, reached):
     ]
 
 
-def wrong_merge(lines, came):
+def wrong_merge(lines: list[str], came: Answer) -> str | None:
     """What is wrong with a run in which a merge was refused and made once more, or None."""
     before, (whole,), behind = merges_of(lines)
     came_before, merges, came_behind = merges_of(came.output.decode().splitlines())
@@ -192,7 +208,9 @@ def wrong_merge(lines, came):
     return None if merges[0] == right else f"wanted {right}, came {merges[0]}"
 
 
-def wrong_allocation(program, refuser, plain, place, one):
+def wrong_allocation(
+    program: pathlib.Path, refuser: allocations.Refuser, plain: Answer, place: int, one: allocations.Asked
+) -> str | None:
     """What is wrong where an allocation of a call is refused, or None. A call may do with another one in its place;
     then that is refused too."""
     lines = plain.output.decode().splitlines()
@@ -204,7 +222,9 @@ def wrong_allocation(program, refuser, plain, place, one):
     return wrong_refusal(lines, one, came)
 
 
-def library_cases(program, refuser, refused):
+def library_cases(
+    program: pathlib.Path, refuser: allocations.Refuser, refused: collections.Counter[str]
+) -> Iterator[Case]:
     """Each allocation of the calls of the libraries is refused; `refused` counts those of each call."""
     plain = answer(program, ["growths"])
     seen, asked = refuser.answer(program, ["growths"])
@@ -217,7 +237,7 @@ def library_cases(program, refuser, refused):
         yield f"allocation {place}, {one.size} bytes of {name_of(one.call)}", wrong
 
 
-def wrong_command(command, wrong_answer):
+def wrong_command(command: failing.Command, wrong_answer: WrongAnswer) -> tuple[str | None, int]:
     """What is wrong where each growth of a command is refused in turn, or None; and how many were."""
     tried = 0
     for place, came, left in command.each(**GROWTH):
@@ -230,29 +250,31 @@ def wrong_command(command, wrong_answer):
     return (None if tried else "NoMemory never came"), tried
 
 
-def wrong_of_command(command, came, left):
+def wrong_of_command(command: failing.Command, came: Answer, left: failing.Files) -> str | None:
     return command.untouched(failing.NO_THREAD if came == failing.NO_THREAD else failing.NO_MEMORY, came, left)
 
 
-def wrong_of_stepped(command, came, _):
+def wrong_of_stepped(command: failing.Command, came: Answer, _: failing.Files) -> str | None:
     """What is wrong with the answer of `stepped`, or None: it may have told what was done before."""
     if not command.right.output.startswith(came.output) or ("--image" in command.words and came.output):
         return f"came {came.output[:200]!r}"
     return difference(Answer(came.output, STEPPED_OUT_OF_MEMORY, 5), came)
 
 
-def commands(program, stepped, folder):
+def commands(
+    program: pathlib.Path, stepped: pathlib.Path, folder: pathlib.Path
+) -> Iterator[tuple[failing.Command, WrongAnswer]]:
     """The commands that are tried, each with what tells what is wrong with its answer."""
     for command in failing.commands(program, folder):
         yield command, wrong_of_command
     adopted = folder / "adopted.csv"
     adopted.write_text(ADOPTED)
     for name, schedule in (("stepped", SCHEDULE), ("stepped, of an image", adopted)):
-        for words in ([], ["--report"], ["--image"]):
+        for words in SHOWN:
             yield failing.Command(stepped, " ".join([name, *words]), [schedule, *words]), wrong_of_stepped
 
 
-def command_cases(refused):
+def command_cases(refused: collections.Counter[str]) -> Iterator[Case]:
     """Each growth of the commands is refused; `refused` counts those of each."""
     with tempfile.TemporaryDirectory() as scratch:
         for command, wrong_answer in commands(
@@ -263,16 +285,16 @@ def command_cases(refused):
             yield name, wrong
 
 
-def told(refused):
+def told(refused: collections.Counter[str]) -> str:
     return ", ".join(f"{count} of {name}" for name, count in refused.items())
 
 
-def cases(program, options):
+def cases(program: pathlib.Path, options: argparse.Namespace) -> Iterator[Case]:
     for name in (failing.PROGRAM, "stepped"):
         if not built(name).is_file():
             yield name, f"{built(name)}: no such program; 'rt run' in crates/{name} builds it"
             return
-    refused = collections.Counter()
+    refused: collections.Counter[str] = collections.Counter()
     with tempfile.TemporaryDirectory() as folder:
         try:
             refuser = allocations.Refuser(folder)

@@ -6,6 +6,9 @@ Another process holds a lock where the test does: the lock belongs to what was o
 itself.
 """
 
+from __future__ import annotations
+
+import argparse
 import contextlib
 import fcntl
 import os
@@ -15,8 +18,12 @@ import subprocess
 import tempfile
 import threading
 import time
+from collections.abc import Iterator, Mapping, Sequence
+from typing import BinaryIO
 
-from support.program import EXAMPLE, MOST_SECONDS, SCRIPT, Answer, answer, difference, explained, fault
+from support.program import (
+    EXAMPLE, MOST_SECONDS, SCRIPT, Answer, Case, Path, Word, answer, difference, explained, fault,
+)
 
 PROGRAM = "persist_report"
 BUSY, WRITE_FAULT = fault("Busy", 4), fault("Write", 4)
@@ -29,14 +36,14 @@ TRIES = 10
 
 
 @contextlib.contextmanager
-def locked(path, how=fcntl.LOCK_EX):
+def locked(path: Path, how: int = fcntl.LOCK_EX) -> Iterator[BinaryIO]:
     """While a file is locked."""
     with open(path, "rb") as file:
         fcntl.flock(file, how)
         yield file
 
 
-def is_locked(path):
+def is_locked(path: pathlib.Path) -> bool:
     """Whether somebody else has the lock of a file."""
     with open(path, "rb") as file:
         try:
@@ -46,15 +53,15 @@ def is_locked(path):
     return False
 
 
-def commands(base, out):
-    """The command lines that write a file; `base` is an image that may be continued."""
-    yield ["run", SCRIPT, out]
-    yield ["resume", base, SCRIPT, out]
-    yield ["merge", EXAMPLE, EXAMPLE, out]
-    yield ["extract", EXAMPLE, out]
+def commands(base: pathlib.Path, out: Path) -> Iterator[tuple[str, list[Word]]]:
+    """The commands that write a file, each with its words; `base` is an image that may be continued."""
+    yield "run", [SCRIPT, out]
+    yield "resume", [base, SCRIPT, out]
+    yield "merge", [EXAMPLE, EXAMPLE, out]
+    yield "extract", [EXAMPLE, out]
 
 
-def renewed(folder):
+def renewed(folder: pathlib.Path) -> pathlib.Path:
     """OUT with what stood there, in a folder with nothing else."""
     out = folder / "out"
     for path in folder.iterdir():
@@ -63,7 +70,7 @@ def renewed(folder):
     return out
 
 
-def touched(folder, wanted):
+def touched(folder: pathlib.Path, wanted: Mapping[str, bytes]) -> str | None:
     """What is wrong where other files stand in a folder than were wanted, or None."""
     left = {path.name: path.read_bytes() for path in folder.iterdir() if not path.is_fifo()}
     return (
@@ -73,7 +80,9 @@ def touched(folder, wanted):
     )
 
 
-def wrong_while_locked(program, folder, words, wanted):
+def wrong_while_locked(
+    program: pathlib.Path, folder: pathlib.Path, words: Sequence[Word], wanted: Answer
+) -> str | None:
     """What is wrong if OUT is locked, and then if it is not, or None."""
     out = renewed(folder)
     before = out.stat().st_ino
@@ -97,7 +106,7 @@ def wrong_while_locked(program, folder, words, wanted):
     )
 
 
-def wrong_behind_link(program, folder):
+def wrong_behind_link(program: pathlib.Path, folder: pathlib.Path) -> str | None:
     """A link to a locked file, and an open file of one, are locked too."""
     out, link = renewed(folder), folder / "link"
     link.symlink_to("out")
@@ -110,7 +119,7 @@ def wrong_behind_link(program, folder):
     )
 
 
-def wrong_for_a_moment(program, folder):
+def wrong_for_a_moment(program: pathlib.Path, folder: pathlib.Path) -> str | None:
     """Who looks at a file for 50 ms keeps no command from it; tried again where a busy machine makes that longer."""
     for _ in range(TRIES):
         out = renewed(folder)
@@ -127,18 +136,18 @@ def wrong_for_a_moment(program, folder):
     return f"{TRIES} times it was Busy"
 
 
-def wrong_of_inputs(program, out):
+def wrong_of_inputs(program: pathlib.Path, out: pathlib.Path) -> str | None:
     """A command reads what is locked."""
     image = out.with_name("image")
     image.write_bytes(EXAMPLE.read_bytes())
+    readers: dict[str, list[Word]] = {
+        "report": [image], "show": [image], "export": [image], "extract": [image, out], "merge": [image, image, out],
+    }
     with locked(image):
-        for words in (
-            ["report", image], ["show", image], ["export", image], ["extract", image, out],
-            ["merge", image, image, out],
-        ):
-            came = answer(program, words)
+        for name, words in readers.items():
+            came = answer(program, [name, *words])
             if came.status != 0:
-                return f"{words[0]}: status {came.status} with {came.error!r}"
+                return f"{name}: status {came.status} with {came.error!r}"
     return None
 
 
@@ -146,7 +155,7 @@ class Waiting:
     """A command whose script comes by a pipe, as far as it gets before that: it has opened OUT, and made its new
     file."""
 
-    def __init__(self, program, folder):
+    def __init__(self, program: pathlib.Path, folder: pathlib.Path) -> None:
         self.folder = folder
         pipe = folder / "script"
         os.mkfifo(pipe)
@@ -158,7 +167,7 @@ class Waiting:
         while not any(path.name.startswith(NEW) for path in folder.iterdir()) and time.monotonic() < end:
             time.sleep(0.001)
 
-    def answer(self):
+    def answer(self) -> Answer:
         """What it returns once the script has come."""
         self.script.write(SCRIPT.read_bytes())
         self.script.close()
@@ -166,7 +175,7 @@ class Waiting:
         return Answer(output, error, self.command.returncode)
 
 
-def wrong_meanwhile(program, folder):
+def wrong_meanwhile(program: pathlib.Path, folder: pathlib.Path) -> str | None:
     """The lock of OUT is had until the new file has its name."""
     out = renewed(folder)
     waiting = Waiting(program, folder)
@@ -184,7 +193,7 @@ def wrong_meanwhile(program, folder):
     )
 
 
-def wrong_newcomer(program, folder):
+def wrong_newcomer(program: pathlib.Path, folder: pathlib.Path) -> str | None:
     """What comes to OUT where nothing stood is not replaced."""
     out = renewed(folder)
     out.unlink()
@@ -194,7 +203,7 @@ def wrong_newcomer(program, folder):
     return difference(Answer(came.output, WRITE_FAULT.error, 4), came) or touched(folder, {"out": STOOD})
 
 
-def has_open(process, path):
+def has_open(process: int, path: pathlib.Path) -> bool:
     """Whether a process has a file open."""
     try:
         return any(
@@ -206,7 +215,7 @@ def has_open(process, path):
         return False
 
 
-def wrong_other_file(program, folder):
+def wrong_other_file(program: pathlib.Path, folder: pathlib.Path) -> str | None:
     """While the lock is tried, another file takes OUT's name, which is locked too, and the old one is free: the new one
     stays."""
     for _ in range(TRIES):
@@ -228,16 +237,16 @@ def wrong_other_file(program, folder):
     return None
 
 
-def cases(program, _options):
+def cases(program: pathlib.Path, _options: argparse.Namespace) -> Iterator[Case]:
     with tempfile.TemporaryDirectory() as scratch:
         base = pathlib.Path(scratch).resolve() / "base"
         answer(program, ["run", SCRIPT, base])
-        for place, words in enumerate(commands(base, "out")):
+        for place, (name, words) in enumerate(commands(base, "out")):
             folder = pathlib.Path(scratch).resolve() / str(place)
             folder.mkdir()
-            words = [*words[:-1], folder / "out"]
+            words = [name, *words[:-1], folder / "out"]
             wanted = answer(program, words)
-            yield f"{words[0]}, OUT is locked", wrong_while_locked(program, folder, words, wanted)
+            yield f"{name}, OUT is locked", wrong_while_locked(program, folder, words, wanted)
         tries = (wrong_behind_link, wrong_for_a_moment, wrong_meanwhile, wrong_newcomer, wrong_other_file)
         for check in tries:
             folder = pathlib.Path(scratch).resolve() / check.__name__

@@ -1,16 +1,21 @@
 """`show --html`: the pages of known and forged images say what the plain renderer of `show` says, and are well formed;
 names that need escapes."""
 
+from __future__ import annotations
+
+import argparse
 import fractions
 import html
 import math
 import pathlib
 import random
 import tempfile
+from collections.abc import Iterable, Iterator, Sequence
+from typing import Any
 
 from parts import known, shows
 from support import command_faults, forge, page_text, plain_show
-from support.program import EXAMPLE, Answer, answer, difference
+from support.program import EXAMPLE, Answer, Case, Word, answer, difference
 
 PROGRAM = "persist_report"
 MOST_IMAGES = 1000
@@ -23,7 +28,7 @@ NAMES = [
 HISTS = "".join(f"hist,{name},boolean\n" for name in NAMES)
 ADDS = "".join(f"add,{name},{at % 2},{at + 1}\n" for at, name in enumerate(NAMES))
 SCRIPT = f"segment,4096,64,7\n{HISTS}{ADDS}".encode()
-CHOICES = [
+CHOICES: list[shows.Choice] = [
     ([], {}),
     *(choice for choice in shows.CHOICES if "--width" not in choice[0][0] and "--ascii" not in choice[0]),
 ]
@@ -33,12 +38,13 @@ USAGES = [
 ]
 
 
-def complaint(data, page, **options):
+def complaint(data: bytes, page: bytes, **options: Any) -> str | None:
     """Where a page is not well formed, or does not say what the plain renderer says of the image, in its order; None if
     all is well."""
     read, wrong = page_text.read(page)
     if wrong is not None:
         return wrong
+    assert read is not None
     wanted = page_text.words_of(plain_show.text_of(data, width=0, is_ascii=True, **options).decode().split("\n"))
     for number, words in enumerate(wanted):
         came = read.lines[number] if number < len(read.lines) else "no more"
@@ -49,24 +55,24 @@ def complaint(data, page, **options):
     return contents_complaint(read, wanted) or widths_complaint(read, plain_show.bars_of(data, **options))
 
 
-def contents_complaint(read, wanted):
+def contents_complaint(read: page_text.Page, wanted: Sequence[Sequence[str]]) -> str | None:
     """Where the table of contents does not lead to each histogram, by its name."""
     places = [f"h{number}" for number in range(len(read.places))]
     names = [words[0] for words, below in zip(wanted, wanted[1:]) if len(words) == 1 and below[1:2] == ["units"]]
     if read.places != places:
         return f"the places are {read.places}"
-    if read.links != [(f"#{place}", name) for place, name in zip(places, names, strict=True)]:
-        return f"the table of contents is {read.links}"
+    if len(names) != len(places) or read.links != [(f"#{place}", name) for place, name in zip(places, names)]:
+        return f"the table of contents is {read.links}, and the names are {names}"
     return None
 
 
-def widths_complaint(read, bars):
+def widths_complaint(read: page_text.Page, bars: Iterable[tuple[int, int]]) -> str | None:
     """Where a bar is not as long as its units want, in thousandths of the longest one, rounded up."""
     wanted = [math.ceil(fractions.Fraction(units * WIDEST, most)) for units, most in bars]
     return None if read.widths == wanted else f"wanted bars of {wanted[:9]}, came {read.widths[:9]}"
 
 
-def beside(program, data, words=(), **options):
+def beside(program: pathlib.Path, data: bytes, words: Sequence[Word] = (), **options: Any) -> str | None:
     """Where the page of an image is not what the plain renderer wants; of what is no image the fault is wanted."""
     output, error, status = plain_show.answer(data, **options)
     came = answer(program, ["show", "-", *words, "--html"], data)
@@ -75,16 +81,17 @@ def beside(program, data, words=(), **options):
     return complaint(data, came.output, **options)
 
 
-def escaped(name):
+def escaped(name: str) -> str:
     """A name as a page has it: in an apostrophe's place the decimal number of the sign."""
     return html.escape(name).replace("&#x27;", "&#39;")
 
 
-def worked(program, folder):
+def worked(program: pathlib.Path, folder: pathlib.Path) -> Iterator[Case]:
     """The example as a file and on standard input; names that need escapes; each choice of a script's histograms."""
     wanted = answer(program, ["show", "--html", EXAMPLE])
     yield "the example", complaint(EXAMPLE.read_bytes(), wanted.output)
-    for words in (["-"], []):
+    inputs: list[list[Word]] = [["-"], []]
+    for words in inputs:
         yield f"the example, {words}", difference(
             wanted, answer(program, ["show", "--html", *words], EXAMPLE.read_bytes())
         )
@@ -93,18 +100,18 @@ def worked(program, folder):
         script.write_bytes(text)
         ran = answer(program, ["run", script, image])
         yield f"{name}, run", None if ran.status == 0 else f"came {ran}"
-        for words, options in CHOICES:
-            yield f"{name}, {words}", beside(program, image.read_bytes(), words, **options)
+        for choice, options in CHOICES:
+            yield f"{name}, {choice}", beside(program, image.read_bytes(), choice, **options)
         if name == "escapes":
             page = answer(program, ["show", "--html", image]).output.decode()
             missing = [one for one in NAMES if page.count(f">{escaped(one)}</") != 2]
             yield "escapes, twice each", f"{missing} do not stand twice in the page" if missing else None
-    for words in USAGES:
-        came = answer(program, ["show", EXAMPLE, *words])
-        yield f"{words}", None if came.status == 2 and came.output == b"" else f"wanted a usage fault, came {came}"
+    for usage in USAGES:
+        came = answer(program, ["show", EXAMPLE, *usage])
+        yield f"{usage}", None if came.status == 2 and came.output == b"" else f"wanted a usage fault, came {came}"
 
 
-def cases(program, options):
+def cases(program: pathlib.Path, options: argparse.Namespace) -> Iterator[Case]:
     """Worked examples; the known images; and forged ones, a thousand at most."""
     with tempfile.TemporaryDirectory() as folder:
         yield from worked(program, pathlib.Path(folder))

@@ -14,6 +14,9 @@ words of the image to its own, and its report is a plain tally of what the image
 Images that nothing continues with have their faults.
 """
 
+from __future__ import annotations
+
+import argparse
 import collections
 import concurrent.futures
 import os
@@ -21,13 +24,18 @@ import pathlib
 import random
 import struct
 import tempfile
+from collections.abc import Collection, Iterator, Mapping, Sequence
 
 from support import plain_reader, plain_tally, seeded_schedules, worked_schedules
-from support.program import ROOT, Answer, answer, difference
+from support.program import ROOT, Answer, Case, Word, answer, difference
 
 PROGRAM = "stepped"
 FOLDER = ROOT / "tests" / "cases" / "schedules"
 FULL = "/dev/full"
+# Words of a command line that stops where it is read, and the status.
+USAGES: list[tuple[list[str], int]] = [
+    ([], 2), (["a", "--report", "--image"], 2), (["a", "--stop", "x"], 2), (["--help"], 0),
+]
 
 # A known schedule, and what continues with its images.
 STOPPED = FOLDER / "054.csv"
@@ -46,10 +54,10 @@ step,0,1000
 """
 
 
-def shown_of(case):
+def shown_of(case: pathlib.Path) -> Iterator[tuple[str, list[str], Answer]]:
     """What a known schedule shows: a name, the words of the command line after its path, and what has to come."""
 
-    def kept(kind):
+    def kept(kind: str) -> bytes:
         return case.with_suffix(kind).read_bytes()
 
     status = int(kept(".status"))
@@ -62,16 +70,18 @@ def shown_of(case):
         yield "words", [*stop, "--image"], Answer(kept(".words"))
 
 
-def wrong_known(program, case):
+def wrong_known(program: pathlib.Path, case: pathlib.Path) -> str | None:
     """What is wrong with the answers to a known schedule, or None."""
     wrongs = (difference(wanted, answer(program, [case, *words])) for _, words, wanted in shown_of(case))
     return next(filter(None, wrongs), None)
 
 
-def units_on_their_way(words, references, done):
+def units_on_their_way(
+    words: plain_reader.Words, references: Collection[int], done: seeded_schedules.Done
+) -> collections.Counter[seeded_schedules.Key]:
     """The units of each bucket that are on their way from the single word to the counts, in version 1 alone: from the
     event that disables the word to the next of the same actor."""
-    moving = collections.Counter()
+    moving: collections.Counter[seeded_schedules.Key] = collections.Counter()
     if done.schedule.version == 2:
         return moving
     for single, old in done.disabled.values():
@@ -85,9 +95,9 @@ def units_on_their_way(words, references, done):
     return moving
 
 
-def wrong_units(words, done):
+def wrong_units(words: plain_reader.Words, done: seeded_schedules.Done) -> str | None:
     """What is wrong with the units that the words of a segment have, or None."""
-    seen = collections.Counter()
+    seen: plain_reader.Seen = collections.Counter()
     references, stopped = plain_reader.walk(words, seen)
     histograms, bad = plain_reader.read_records(words, references, seen)
     if stopped or bad:
@@ -105,7 +115,9 @@ def wrong_units(words, done):
     return None
 
 
-def wrong_stop(program, schedule, path, lines, events):
+def wrong_stop(
+    program: pathlib.Path, schedule: seeded_schedules.Schedule, path: pathlib.Path, lines: Sequence[bytes], events: int
+) -> str | None:
     """What is wrong where a schedule stops after so many events, or None."""
     done = seeded_schedules.Done(schedule, lines, events)
     came = answer(program, [path, "--stop", str(events)])
@@ -119,7 +131,7 @@ def wrong_stop(program, schedule, path, lines, events):
     return wrong and f"after {events} events: {wrong}"
 
 
-def wrong_seeded(program, seed, stops, folder):
+def wrong_seeded(program: pathlib.Path, seed: str, stops: int, folder: pathlib.Path) -> str | None:
     """What is wrong with the schedule of a seed, or None. It is stopped at so many events, or at each if they are 0."""
     chance = random.Random(seed)
     path = folder / f"{seed}.csv"
@@ -136,7 +148,13 @@ def wrong_seeded(program, seed, stops, folder):
     return None
 
 
-def wrong_worked(program, number, schedule, known, folder):
+def wrong_worked(
+    program: pathlib.Path,
+    number: int,
+    schedule: seeded_schedules.Schedule,
+    known: Mapping[int, int],
+    folder: pathlib.Path,
+) -> str | None:
     """What is wrong with a worked example, which is stopped at every event, or None."""
     path = folder / f"worked-{number}.csv"
     came = replayed(program, path, schedule.text())
@@ -150,7 +168,7 @@ def wrong_worked(program, number, schedule, known, folder):
     return next(filter(None, (wrong_stop(program, schedule, path, lines, event) for event in events)), None)
 
 
-def first_records(words):
+def first_records(words: plain_reader.Words) -> dict[bytes, int]:
     """The reference of the first record of each name."""
     references, _ = plain_reader.walk(words, collections.Counter())
     named = (
@@ -161,7 +179,7 @@ def first_records(words):
     return dict(named)
 
 
-def told_of(image):
+def told_of(image: bytes) -> tuple[dict[str, plain_tally.Histogram], dict[str, int]]:
     """What an image counts by a plain tally, by names, and by how much each redundant count differs from the units."""
     words = plain_reader.words_of(image, collections.Counter())
     references, _ = plain_reader.walk(words, collections.Counter())
@@ -175,7 +193,7 @@ def told_of(image):
     return tally, differs
 
 
-def report_behind(image):
+def report_behind(image: bytes) -> bytes:
     """The report of an image that GOES_ON has continued."""
     tally, differs = told_of(image)
     tally.setdefault("A", plain_tally.Histogram.of(("linear", 1, 10, 5))).add(3, 4)
@@ -184,7 +202,7 @@ def report_behind(image):
     return plain_tally.report(tally) + "".join(f"!redundant,{name},{units}\n" for name, units in redundant).encode()
 
 
-def wrong_lines(lines, image, last):
+def wrong_lines(lines: bytes, image: bytes, last: bytes) -> str | None:
     """What is wrong with the lines that lead from the words of an image to the last ones, or None."""
     words = list(plain_reader.words_of(image, collections.Counter()))
     answers = []
@@ -204,7 +222,7 @@ def wrong_lines(lines, image, last):
     return None if sorted(answers) == wanted else f"the answers are {answers}, and not {wanted}"
 
 
-def wrong_gone_on(program, events, folder):
+def wrong_gone_on(program: pathlib.Path, events: int, folder: pathlib.Path) -> str | None:
     """What is wrong where the known schedule stops after so many events, and another continues with its image, or
     None."""
     image = folder / f"stopped-{events}.img"
@@ -214,21 +232,22 @@ def wrong_gone_on(program, events, folder):
     lines = replayed(program, path, GOES_ON.format(image=image))
     last = answer(program, [path, "--image"])
     report = difference(Answer(report_behind(stopped)), answer(program, [path, "--report"]))
-    wrong = lines.error or last.error or report or wrong_lines(lines.output, stopped, last.output)
+    error = lines.error or last.error
+    wrong = repr(error) if error else report or wrong_lines(lines.output, stopped, last.output)
     return wrong and f"after {events} events: {wrong}"
 
 
-def wrong_stops(program, pool, folder):
+def wrong_stops(program: pathlib.Path, pool: concurrent.futures.Executor, folder: pathlib.Path) -> str | None:
     last = answer(program, [STOPPED]).output.count(b",step")
     wrongs = pool.map(lambda events: wrong_gone_on(program, events, folder), range(0, last + 1, EVENTS_APART))
     return next(filter(None, wrongs), None)
 
 
-def not_gone_on(program, folder):
+def not_gone_on(program: pathlib.Path, folder: pathlib.Path) -> Iterator[tuple[str, str, Answer]]:
     """Images that nothing continues with: a name, the first record, and what comes."""
     image = folder / "image.img"
 
-    def of(name, data, record, wanted):
+    def of(name: str, data: bytes, record: str, wanted: Answer) -> tuple[str, str, Answer]:
         image.write_bytes(data)
         return name, record.format(image=image), wanted
 
@@ -252,16 +271,16 @@ def not_gone_on(program, folder):
     yield of("a lawful one", stopped, adopt, Answer())
 
 
-def replayed(program, path, text):
+def replayed(program: pathlib.Path, path: pathlib.Path, text: str) -> Answer:
     path.write_text(text)
     return answer(program, [path])
 
 
-def fault(text, status):
+def fault(text: str, status: int) -> Answer:
     return Answer(error=f"stepped: {text}\n".encode(), status=status)
 
 
-def lawful(folder):
+def lawful(folder: pathlib.Path) -> Iterator[tuple[list[Word], str | None, Answer]]:
     """Command lines and devices beside a schedule without a fault: words, the stream that is written, and what
     comes."""
     path = folder / "lawful.csv"
@@ -273,37 +292,41 @@ def lawful(folder):
     yield [path, "--report"], None, Answer(b"!flag,corrupt\n")
     yield [path, "--stop", "0", "--report"], None, Answer()
     yield [folder / "none.csv"], None, fault("Read", 4)
-    for shown in ([], ["--report"], ["--image"]):
+    shows: list[list[Word]] = [[], ["--report"], ["--image"]]
+    for shown in shows:
         yield [path, *shown], FULL, fault("Write", 4)
 
 
-def wrong_lawful(program, words, device, wanted):
+def wrong_lawful(program: pathlib.Path, words: Sequence[Word], device: str | None, wanted: Answer) -> str | None:
     if device is None:
         return difference(wanted, answer(program, words))
     with open(device, "wb") as stream:
         return difference(wanted, answer(program, words, stdout=stream))
 
 
-def wrong_usage(program, words, status):
+def wrong_usage(program: pathlib.Path, words: Sequence[Word], status: int) -> str | None:
     came = answer(program, words)
     told = bool(came.error) if status else bool(came.output)
     return None if came.status == status and told else f"came {came}"
 
 
-def cases(program, options):
+def cases(program: pathlib.Path, options: argparse.Namespace) -> Iterator[Case]:
     for case in sorted(FOLDER.glob("*.csv")):
         yield f"known {case.stem}", wrong_known(program, case)
     with tempfile.TemporaryDirectory() as scratch, concurrent.futures.ThreadPoolExecutor(os.cpu_count()) as pool:
         folder = pathlib.Path(scratch)
         for words, device, wanted in lawful(folder):
             yield f"{' '.join(map(str, words))} to {device}", wrong_lawful(program, words, device, wanted)
-        for words, status in (([], 2), (["a", "--report", "--image"], 2), (["a", "--stop", "x"], 2), (["--help"], 0)):
-            yield f"usage {' '.join(words)}", wrong_usage(program, words, status)
+        for usage, status in USAGES:
+            yield f"usage {' '.join(usage)}", wrong_usage(program, usage, status)
         yield "stops that are gone on from", wrong_stops(program, pool, folder)
         for name, record, wanted in not_gone_on(program, folder):
             yield f"adopt {name}", difference(wanted, replayed(program, folder / "adopt.csv", f"{record}\n"))
         worked = list(worked_schedules.examples())
-        wrongs = pool.map(lambda one: wrong_worked(program, one[0], *one[1][1:], folder), enumerate(worked))
+        wrongs = pool.map(
+            lambda number: wrong_worked(program, number, worked[number][1], worked[number][2], folder),
+            range(len(worked)),
+        )
         yield from zip((name for name, *_ in worked), wrongs)
         seeds = [f"{options.seed}-{number}" for number in range(options.schedules)]
         wrongs = pool.map(lambda seed: wrong_seeded(program, seed, options.stops, folder), seeds)

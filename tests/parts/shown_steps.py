@@ -6,13 +6,17 @@ README.md shows a part of the race for a name as the program draws it. What exch
 known by hand, of one at each place where there can be one.
 """
 
+from __future__ import annotations
+
+import argparse
 import concurrent.futures
 import os
 import pathlib
 import tempfile
+from collections.abc import Iterator, Sequence
 
 from support import plain_steps
-from support.program import ROOT, Answer, answer, difference
+from support.program import ROOT, Answer, Case, answer, difference
 
 PROGRAM = "stepped"
 FOLDER = ROOT / "tests" / "cases" / "schedules"
@@ -62,7 +66,7 @@ LATE = {
 }
 
 
-def wrong_known(program, case):
+def wrong_known(program: pathlib.Path, case: pathlib.Path) -> str | None:
     """What is wrong with the picture of a known schedule, or None."""
     lines, fault = case.with_suffix(".out").read_text(), case.with_suffix(".err").read_bytes()
     status = int(case.with_suffix(".status").read_text())
@@ -70,20 +74,20 @@ def wrong_known(program, case):
     return difference(Answer(picture.encode("latin-1"), fault, status), answer(program, [case, "--show"]))
 
 
-def wrong_stop(program, schedule, lines, events):
+def wrong_stop(program: pathlib.Path, schedule: pathlib.Path, lines: str, events: int) -> str | None:
     """What is wrong with the picture of a schedule that stops after so many events, or None."""
     wanted = Answer(plain_steps.picture(schedule.read_text(), lines, events).encode())
     wrong = difference(wanted, answer(program, [schedule, "--show", "--stop", str(events)]))
     return wrong and f"after {events} events: {wrong}"
 
 
-def wrong_stored(program, pool, schedule):
+def wrong_stored(program: pathlib.Path, pool: concurrent.futures.Executor, schedule: pathlib.Path) -> str | None:
     lines = answer(program, [schedule]).output.decode()
     events = range(lines.count(",step") + 1)
     return next(filter(None, pool.map(lambda event: wrong_stop(program, schedule, lines, event), events)), None)
 
 
-def wrong_words(program, path, text, said):
+def wrong_words(program: pathlib.Path, path: pathlib.Path, text: str, said: Sequence[str]) -> str | None:
     """What is missing in a picture of which words are known, or None."""
     path.write_text(text)
     came = answer(program, [path, "--show"])
@@ -92,7 +96,7 @@ def wrong_words(program, path, text, said):
     return f"{missing} is missing in {came}" if missing else None
 
 
-def wrong_late(program, path, text, said):
+def wrong_late(program: pathlib.Path, path: pathlib.Path, text: str, said: Sequence[str]) -> str | None:
     """What of these rows is missing in a picture, or stands in another order, or None. Every exchange that fails is one
     of them."""
     path.write_text(text)
@@ -103,7 +107,7 @@ def wrong_late(program, path, text, said):
     return None if kept == said and not late else f"{kept} came in place of {said}, with {late}"
 
 
-def wrong_readme(program):
+def wrong_readme(program: pathlib.Path) -> str | None:
     """What of the picture in README.md does not stand in the picture of the race, or None."""
     shown = README.read_text().split("stepped examples/race_for_a_name.csv --show ")[1].split("\n\n")[0]
     rows = answer(program, [RACE, "--show"]).output.decode().expandtabs(8).splitlines()
@@ -115,12 +119,12 @@ def wrong_readme(program):
     return None
 
 
-def wrong_device(program):
+def wrong_device(program: pathlib.Path) -> str | None:
     with open(FULL, "wb") as stream:
         return difference(Answer(error=b"stepped: Write\n", status=4), answer(program, [RACE, "--show"], stdout=stream))
 
 
-def cases(program, options):
+def cases(program: pathlib.Path, options: argparse.Namespace) -> Iterator[Case]:
     with tempfile.TemporaryDirectory() as scratch, concurrent.futures.ThreadPoolExecutor(os.cpu_count()) as pool:
         known = sorted(FOLDER.glob("*.csv"))
         yield from zip(

@@ -1,14 +1,19 @@
 """`show`: known and forged images beside a plain renderer; names, parts of names, widths and signs; many sparse
 values."""
 
+from __future__ import annotations
+
+import argparse
 import pathlib
 import random
 import struct
 import tempfile
+from collections.abc import Iterator, Sequence
+from typing import Any
 
 from parts import known
 from support import command_faults, forge, plain_show
-from support.program import EXAMPLE, Answer, answer, difference
+from support.program import EXAMPLE, Answer, Case, Word, answer, difference
 
 PROGRAM = "persist_report"
 MOST_IMAGES = 1000
@@ -65,7 +70,9 @@ MANY_TEXT = (
     + "  The values that are left out number 3, and have 7 units together.\n"
     "\n"
 ).encode()
-CHOICES = [
+# Words of a command line, and how the plain renderer is asked for the same.
+Choice = tuple[list[str], dict[str, Any]]
+CHOICES: list[Choice] = [
     (["page.load"], {"names": ["page.load"]}),
     (["~s", "page.load", "no.such.name"], {"names": ["page.load", "~s"]}),
     (["no.such.name"], {"names": ["no.such.name"]}),
@@ -83,31 +90,33 @@ USAGES = [
 ]
 
 
-def beside(program, data, words=(), **options):
+def beside(program: pathlib.Path, data: bytes, words: Sequence[Word] = (), **options: Any) -> str | None:
     """Where what is shown of an image is not what the plain renderer says."""
     return difference(Answer(*plain_show.answer(data, **options)), answer(program, ["show", "-", *words], data))
 
 
-def worked(program, folder):
+def worked(program: pathlib.Path, folder: pathlib.Path) -> Iterator[Case]:
     """The example as a file and on standard input; each choice and each way to draw of a script's image."""
     wanted = Answer(EXAMPLE_TEXT)
-    for words in ([EXAMPLE], ["-"], []):
+    inputs: list[list[Word]] = [[EXAMPLE], ["-"], []]
+    for words in inputs:
         data = b"" if words == [EXAMPLE] else EXAMPLE.read_bytes()
         yield f"the example, {words}", difference(wanted, answer(program, ["show", *words], data))
     script, image = folder / "script", folder / "image"
     script.write_bytes(SCRIPT)
     ran = answer(program, ["run", script, image])
     yield "the script", None if ran.status == 0 else f"came {ran}"
-    for words, options in [([], {}), *CHOICES]:
-        yield f"the script, {words}", beside(program, image.read_bytes(), words, **options)
-    for words in USAGES:
-        came = answer(program, ["show", EXAMPLE, *words])
-        yield f"{words}", None if came.status == 2 and came.output == b"" else f"wanted a usage fault, came {came}"
+    everything: Choice = ([], {})
+    for choice, options in [everything, *CHOICES]:
+        yield f"the script, {choice}", beside(program, image.read_bytes(), choice, **options)
+    for usage in USAGES:
+        came = answer(program, ["show", EXAMPLE, *usage])
+        yield f"{usage}", None if came.status == 2 and came.output == b"" else f"wanted a usage fault, came {came}"
     came = answer(program, ["show", "--help"])
     yield "--help", None if came.status == 0 and b"Example:\n  persist_report show" in came.output else f"came {came}"
 
 
-def many_values(program, folder, chance):
+def many_values(program: pathlib.Path, folder: pathlib.Path, chance: random.Random) -> bytes:
     """The bytes of an image with a sparse histogram of up to 60 values, of which many have as many units, and some have
     none."""
     values = chance.sample(range(-99, 100), chance.randint(15, 60))
@@ -123,7 +132,7 @@ def many_values(program, folder, chance):
     return struct.pack(f"<{len(words)}Q", *words)
 
 
-def sparse(program, folder, options):
+def sparse(program: pathlib.Path, folder: pathlib.Path, options: argparse.Namespace) -> Iterator[Case]:
     """The worked example of many values, and others with more and with fewer than have lines; each also with all
     values."""
     script, image = folder / "script", folder / "image"
@@ -133,13 +142,14 @@ def sparse(program, folder, options):
     data = image.read_bytes()
     yield "many values", difference(Answer(MANY_TEXT), answer(program, ["show", image, "--ascii", "--width", "20"]))
     yield "many values, all", beside(program, data, ["--all"], shows_all=True)
+    choices: list[Choice] = [([], {}), (["--all"], {"shows_all": True})]
     for number in range(min(options.images, MOST_SPARSE_IMAGES)):
         data = many_values(program, folder, random.Random(f"{options.seed} sparse {number}"))
-        for words, settings in [([], {}), (["--all"], {"shows_all": True})]:
+        for words, settings in choices:
             yield f"sparse image {number} of seed {options.seed}, {words}", beside(program, data, words, **settings)
 
 
-def cases(program, options):
+def cases(program: pathlib.Path, options: argparse.Namespace) -> Iterator[Case]:
     """Worked examples; the known images; and forged ones, a thousand at most, each drawn in one way or the other."""
     with tempfile.TemporaryDirectory() as folder:
         yield from worked(program, pathlib.Path(folder))

@@ -1,13 +1,20 @@
 """Worked examples of `run`, `merge` and `resume`: scripts, and what is stored in the words of images, and what then has
 to be answered and written."""
 
+from __future__ import annotations
+
+import argparse
 import pathlib
 import struct
 import tempfile
+from collections.abc import Iterator, Mapping, Sequence
 
-from support.program import EXAMPLE, Answer, answer, difference, fault
+from support.program import EXAMPLE, Answer, Case, Word, answer, difference, fault
 
 PROGRAM = "persist_report"
+# Words of an image, by where they stand.
+Stored = Mapping[int, int]
+
 VERSION, FREE, SECOND_COUNT = 1, 7, 37
 COUNTS_REFERENCE, SINGLE, SINGLE_MARK, SUM, SUM_MARK, REDUNDANT = 24, 25, 26, 27, 28, 29
 FIRST_COUNT = 36
@@ -53,7 +60,7 @@ NO_ROOM_FOR_COUNTS = (
 )
 
 
-def with_words(data, stored):
+def with_words(data: bytes, stored: Stored) -> bytes:
     """An image with these words in it."""
     data = bytearray(data)
     for at, word in stored.items():
@@ -61,24 +68,24 @@ def with_words(data, stored):
     return bytes(data)
 
 
-def image(stored):
+def image(stored: Stored) -> bytes:
     """The example's image, the boolean histogram A with the samples 1, 1 and 0 in version 1, with these words in it."""
     return with_words(EXAMPLE.read_bytes(), stored)
 
 
-def blank(version=1):
+def blank(version: int = 1) -> bytes:
     """An image without histograms."""
     words = [0x408305DC, version, 128, 64, 7, 1, 0, 16, 12, 0, 0, 0, 4, 1, 0, 12]
     return struct.pack("<16Q", *words) + bytes(8 * 112)
 
 
-def packed(stored):
+def packed(stored: Stored) -> bytes:
     """An image in which A has no block of counts, with these words in it."""
     none = {COUNTS_REFERENCE: 0, FREE: 32, SINGLE: 0, SUM: 0, REDUNDANT: 0}
     return image({**none, **stored})[: 8 * 32] + bytes(8 * 96)
 
 
-def frozen(bucket, units):
+def frozen(bucket: int, units: int) -> int:
     return TOP + bucket * 2**32 + units
 
 
@@ -92,7 +99,7 @@ REMAINDERS_REPORT = b"A,boolean,0,1,2\nA,boolean,1,2,2\nA,total,4,2\n"
 NO_UNITS = fault("Merge A NoUnits", 3)
 
 # BASE and DEAD, and the image that has to be written, by its bytes or by its report; or the fault.
-MERGES = {
+MERGES: dict[str, tuple[bytes, bytes, Answer | bytes | None, bytes | None]] = {
     "remainders": (image(TAKEN), image({}), REMAINDERS, REMAINDERS_REPORT),
     "remainders, DEAD of version 2": (image(TAKEN), image(IN_VERSION_2), REMAINDERS, REMAINDERS_REPORT),
     "remainders, BASE of version 2": (image({**IN_VERSION_2, **TAKEN}), image({}), REMAINDERS, REMAINDERS_REPORT),
@@ -168,12 +175,12 @@ STOPPED = {VERSION: 2, SINGLE: frozen(1, 2), FIRST_COUNT: 0, SECOND_COUNT: 0, SU
 TAKEN_BACK = packed({VERSION: 2, SUM: 2**31, SUM_MARK: 2**62})
 
 
-def adding(count):
+def adding(count: int) -> bytes:
     return SEGMENT + b"hist,A,boolean\nadd,A,1,%d\n" % count
 
 
 # BASE, the script, and what comes; and the words of the image that are others than those of BASE, if they are known.
-RESUMES = {
+RESUMES: dict[str, tuple[bytes, bytes, Answer, Stored | None]] = {
     "one sample more": (image(IN_VERSION_2), ONE_MORE, Answer(ONE_MORE_REPORT), {FIRST_COUNT: 2, REDUNDANT: 4}),
     "three samples more": (
         image(IN_VERSION_2),
@@ -217,7 +224,7 @@ RESUMES = {
 }
 
 
-def shared_counts():
+def shared_counts() -> bytes:
     """Two histograms that name one block of counts."""
     record = {0: 16, 1: 0xC8799269, 2: 1, 4: 2, 5: 1, 6: 2, 7: 3, 8: 48, 9: TOP, 14: 1}
     records = {start + at: word for start in (16, 32) for at, word in record.items()}
@@ -239,18 +246,18 @@ NOT_ADOPTED = {
 }
 
 
-def wrong_fault(program, words, wanted, out):
+def wrong_fault(program: pathlib.Path, words: Sequence[Word], wanted: Answer, out: pathlib.Path) -> str | None:
     """What is wrong with the fault of a command that has no OUT before it, or None."""
     out.unlink(missing_ok=True)
     return difference(wanted, answer(program, words)) or ("OUT was made" if out.exists() else None)
 
 
-def runs(program, folder):
+def runs(program: pathlib.Path, folder: pathlib.Path) -> Iterator[Case]:
     script, out = folder / "script", folder / "out"
     for name, (text, wanted) in SCRIPTS.items():
         script.write_bytes(text)
         for workers in (1, 2, 16):
-            words = ["run", script, out, "--workers", str(workers)]
+            words: list[Word] = ["run", script, out, "--workers", str(workers)]
             if wanted.status == 0:
                 yield f"run, {name}, {workers} workers", difference(wanted, answer(program, words))
             else:
@@ -263,11 +270,14 @@ def runs(program, folder):
     yield "run, three samples, the image", wrong
 
 
-def wrong_merge(program, folder, wanted, report):
+def wrong_merge(
+    program: pathlib.Path, folder: pathlib.Path, wanted: Answer | bytes | None, report: bytes | None
+) -> str | None:
     """What is wrong with the merge of the images in a folder, or None."""
     out = folder / "out"
-    words = ["merge", folder / "base", folder / "dead", out]
+    words: list[Word] = ["merge", folder / "base", folder / "dead", out]
     if report is None:
+        assert isinstance(wanted, Answer)
         return wrong_fault(program, words, wanted, out)
     wrong = difference(Answer(), answer(program, words)) or difference(Answer(report), answer(program, ["report", out]))
     if wrong is None and wanted is not None and out.read_bytes() != wanted:
@@ -275,7 +285,7 @@ def wrong_merge(program, folder, wanted, report):
     return wrong
 
 
-def merges(program, folder):
+def merges(program: pathlib.Path, folder: pathlib.Path) -> Iterator[Case]:
     for name, (base, dead, wanted, report) in MERGES.items():
         (folder / "base").write_bytes(base)
         (folder / "dead").write_bytes(dead)
@@ -286,9 +296,15 @@ def merges(program, folder):
     yield "merge, too large for the page of BASE", wrong_merge(program, folder, fault("Merge L TooLarge", 3), None)
 
 
-def wrong_resume(program, words, base, wanted, stored):
+def wrong_resume(
+    program: pathlib.Path,
+    words: Sequence[Word],
+    out: pathlib.Path,
+    base: bytes,
+    wanted: Answer,
+    stored: Stored | None,
+) -> str | None:
     """What is wrong with the image that is continued, or None."""
-    out = words[-1]
     if wanted.status:
         return wrong_fault(program, words, wanted, out)
     wrong = difference(wanted, answer(program, words)) or difference(
@@ -299,14 +315,14 @@ def wrong_resume(program, words, base, wanted, stored):
     return wrong
 
 
-def resumes(program, folder):
+def resumes(program: pathlib.Path, folder: pathlib.Path) -> Iterator[Case]:
     paths = [folder / name for name in ("base", "script", "out")]
     for name, (base, script, wanted, stored) in RESUMES.items():
         paths[0].write_bytes(base)
         paths[1].write_bytes(script)
         for workers in ("1", "2", "16"):
             yield f"resume, {name}, {workers} workers", wrong_resume(
-                program, ["resume", "--workers", workers, *paths], base, wanted, stored
+                program, ["resume", "--workers", workers, *paths], paths[-1], base, wanted, stored
             )
     paths[1].write_bytes(ONE_MORE)
     damaged = [("Damaged", shared_counts())]
@@ -323,7 +339,7 @@ def resumes(program, folder):
     yield "resume, no histograms, the image", wrong
 
 
-def cases(program, _options):
+def cases(program: pathlib.Path, _options: argparse.Namespace) -> Iterator[Case]:
     with tempfile.TemporaryDirectory() as scratch:
         folder = pathlib.Path(scratch)
         yield from runs(program, folder)

@@ -8,12 +8,13 @@ from __future__ import annotations
 import bisect
 import collections
 from collections.abc import Mapping
-from typing import Any
+from typing import Any, TypeVar
 
 from support.plain_reader import GREATEST, linear_boundaries
 
 MOST_VALUE = GREATEST - 1
 Spec = tuple[Any, ...]
+One = TypeVar("One", bound="Histogram")
 
 
 def boundaries_of(spec: Spec) -> list[int]:
@@ -38,7 +39,7 @@ class Histogram:
         self.sum = 0
 
     @classmethod
-    def of(cls, spec: Spec) -> Histogram:
+    def of(cls: type[One], spec: Spec) -> One:
         return cls(spec[0], boundaries_of(spec))
 
     def clamped(self, value: int) -> int:

@@ -114,10 +114,9 @@ fn export_command<'a>(alloc: Global) -> Result<Command<'a>, AllocError> {
 fn style_options<'a>(alloc: Global, command: Command<'a>) -> Result<Command<'a>, AllocError> {
     let width = Arg::new(alloc, "width")
         .long("width")
-        .value_name("CELLS")
-        .value_parser(value_parser!(u16).range(20..=200))
-        .default_value("72")
-        .help("Width of the longest bar in columns, 20 to 200; a line is 52 columns wider");
+        .value_name("COLUMNS")
+        .value_parser(value_parser!(u16).range(40..=200))
+        .help("Width of a line, 40 to 200 [default: COLUMNS of the environment, or 80]");
     let ascii = Arg::new(alloc, "ascii")
         .long("ascii")
         .action(ArgAction::SetTrue)
@@ -146,7 +145,7 @@ fn show_command<'a>(alloc: Global) -> Result<Command<'a>, AllocError> {
         .help("Write one self-contained HTML page (not with --width or --ascii)");
     let command = Command::new(alloc, "show")
         .about("Show the histograms of an image: numbers, quantiles and bars")
-        .after_help("Example:\n  persist_report show examples/three_samples.img A --width 40")
+        .after_help("Example:\n  persist_report show examples/three_samples.img A --width 60")
         .arg(image(alloc))?
         .arg(names)?
         .arg(part)?
@@ -306,26 +305,24 @@ fn export_request<'a>(export: &ArgMatches<'a>) -> Option<Request<'a>> {
 fn show_request<'a>(
     alloc: Global,
     show: &ArgMatches<'a>,
-) -> Result<Option<Request<'a>>, AllocError> {
-    let Some(width) = show.get_one::<u16>("width") else {
-        return Ok(None);
-    };
+    columns: u16,
+) -> Result<Request<'a>, AllocError> {
     let names = match show.get_strs("NAME") {
         Some(names) => Vec::from_slice(alloc, names)?,
         None => Vec::new(alloc),
     };
-    Ok(Some(Request::Show {
+    Ok(Request::Show {
         file: show.get_str("FILE"),
         names,
         part: show.get_str("match"),
         style: Style {
-            width,
+            width: show.get_one::<u16>("width").unwrap_or(columns),
             is_ascii: show.get_flag("ascii"),
             shows_all: show.get_flag("all"),
         },
         is_page: show.get_flag("html"),
         explains: show.get_flag("explain"),
-    }))
+    })
 }
 
 fn extract_request<'a>(extract: &ArgMatches<'a>) -> Option<Request<'a>> {
@@ -344,12 +341,13 @@ fn extract_request<'a>(extract: &ArgMatches<'a>) -> Option<Request<'a>> {
 fn request_of<'a>(
     alloc: Global,
     matches: &ArgMatches<'a>,
+    columns: u16,
 ) -> Result<Option<Request<'a>>, AllocError> {
     let Some((word, found)) = matches.subcommand() else {
         return Ok(None);
     };
     if word == "show" {
-        return show_request(alloc, found);
+        return Ok(Some(show_request(alloc, found, columns)?));
     }
     Ok(plain_request(word, found))
 }
@@ -374,13 +372,14 @@ fn plain_request<'a>(word: &str, found: &ArgMatches<'a>) -> Option<Request<'a>> 
 }
 
 impl<'a> Request<'a> {
-    /// The request of a command line, whose first word is the program's name.
+    /// The request of a command line, whose first word is the program's name. A line of a text has so many columns, unless the words
+    /// say how many.
     ///
     /// The error says what is wrong with the words, or has the help or the version that they ask for.
-    pub fn of<S: AsStr>(alloc: Global, words: &'a [S]) -> Result<Request<'a>, Error> {
+    pub fn of<S: AsStr>(alloc: Global, words: &'a [S], columns: u16) -> Result<Request<'a>, Error> {
         let mut command = command(alloc)?;
         let matches = command.try_get_matches_from_mut(words)?;
-        match request_of(alloc, &matches)? {
+        match request_of(alloc, &matches, columns)? {
             Some(request) => Ok(request),
             None => Err(command.error(ErrorKind::MissingSubcommand, "a subcommand is required")?),
         }

@@ -7,7 +7,7 @@ use crate::extracting::extract_file;
 use crate::failure::Failure;
 use crate::files::{merge_files_into, resume_file, run_file, write_file};
 use crate::request::{Request, no_fault, no_prefix, not_text};
-use crate::terminal::is_terminal;
+use crate::terminal::{columns, is_terminal};
 use fault_texts::{AllTexts, fault_text};
 use persist_report_core::CliFault;
 use reading_shows::{Choice, Form, Style};
@@ -39,7 +39,7 @@ pub fn run<
     ensures { IfErr result UsageIsMistake }
 {
     let words = words(rt)?;
-    match Request::of(rt.alloc(), words.as_slice()) {
+    match Request::of(rt.alloc(), words.as_slice(), columns(rt)) {
         Ok(request) => meet(rt, request)?,
         Err(error) if error.use_stderr() => return Err(Failure::from(error)),
         Err(shown) => rt.print(shown).map_err(|_| CliFault::Write)?,

@@ -16,6 +16,7 @@ mod form;
 mod heading;
 mod lines;
 mod most;
+mod naming;
 mod page;
 mod page_rows;
 mod shares;

@@ -97,9 +97,10 @@ Arguments:
 
 Options:
       --match <PART>     Show the histograms whose name contains PART
-      --html             Write one self-contained HTML page (not with --width or --ascii)
+      --html             Write one self-contained HTML page (not with --width, --ascii or --log)
       --width <COLUMNS>  Width of a line, 40 to 200 [default: COLUMNS of the environment, or 80]
       --ascii            Draw bars with # instead of blocks
+      --log              Draw bars in proportion to the logarithms of units
       --all              Show all values of a sparse histogram, not only the 20 with the most units
       --explain          Explain errors: file, line, reason and what to do (on by default in a terminal)
   -h, --help             Print help

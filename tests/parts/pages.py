@@ -21,8 +21,8 @@ NAMES = ["a<b>&'c'", "&amp;", "&#39;&lt", "</h2>", "<script>alert(1)</script>", 
 HISTS = "".join(f"hist,{name},boolean\n" for name in NAMES)
 ADDS = "".join(f"add,{name},{at % 2},{at + 1}\n" for at, name in enumerate(NAMES))
 SCRIPT = f"segment,4096,64,7\n{HISTS}{ADDS}".encode()
-CHOICES = [([], {}), *(choice for choice in shows.CHOICES if "--width" not in choice[0][0] and "--ascii" not in choice[0])]
-USAGES = [["--html", "--width", "40"], ["--html", "--ascii"], ["--ascii", "--html"], ["--html=x"], ["--html", "--match", "a", "A"]]
+CHOICES = [([], {}), *(choice for choice in shows.CHOICES if "--width" not in choice[0][0] and not {"--ascii", "--log"} & set(choice[0]))]
+USAGES = [["--html", "--width", "40"], ["--html", "--ascii"], ["--html", "--log"], ["--ascii", "--html"], ["--html=x"], ["--html", "--match", "a", "A"]]
 
 
 def complaint(data, page, **options):

@@ -82,6 +82,8 @@ CHOICES = [
     (["--width=200", "--ascii"], {"width": 200, "is_ascii": True}),
     (["--ascii", "page.size"], {"names": ["page.size"], "is_ascii": True}),
     (["--all"], {"shows_all": True}),
+    (["--log"], {"is_log": True}),
+    (["--log", "--ascii", "--width", "60"], {"width": 60, "is_ascii": True, "is_log": True}),
 ]
 # A value of COLUMNS or None, further words, and the width that they ask for.
 COLUMNS = [(None, [], 80), ("60", [], 60), ("10", [], 40), ("300", [], 200), ("x", [], 80), ("", [], 80), ("60", ["--width", "50"], 50)]
@@ -164,6 +166,6 @@ def cases(program, options):
     for number in range(min(options.images, MOST_IMAGES)):
         chance = random.Random(f"{options.seed} {number}")
         data = forge.image_of(chance)
-        width, is_ascii = chance.randint(40, 200), chance.random() < 0.5
-        words = ["--width", str(width), *(["--ascii"] if is_ascii else [])]
-        yield f"image {number} of seed {options.seed}", beside(program, data, words, width=width, is_ascii=is_ascii)
+        width, is_ascii, is_log = chance.randint(40, 200), chance.random() < 0.5, chance.random() < 0.5
+        words = ["--width", str(width), *(["--ascii"] if is_ascii else []), *(["--log"] if is_log else [])]
+        yield f"image {number} of seed {options.seed}", beside(program, data, words, width=width, is_ascii=is_ascii, is_log=is_log)

@@ -57,6 +57,14 @@ def bar_of(units: int, most: int, width: int, is_ascii: bool) -> str:
     return ("\u2588" * whole + ("", *"\u258f\u258e\u258d\u258c\u258b\u258a\u2589")[part]).ljust(width)
 
 
+def height_of(units: int, is_log: bool) -> int:
+    """What a bar shows: the units, or their logarithm, by straight lines between the powers of two."""
+    if not is_log or units == 0:
+        return units
+    halvings = units.bit_length() - 1
+    return math.floor(256 * (halvings + fractions.Fraction(units, 2**halvings)))
+
+
 def values_of(kind: str, low: int, high: int) -> str:
     """The values of a bucket, or the one of a sparse histogram."""
     if kind == "sparse":
@@ -98,7 +106,7 @@ def has_line(kind: str, row: Row) -> bool:
 
 
 def rows_text(
-    rows: Collection[Row], left_out: set[int], total: int, kind: str, width: int, is_ascii: bool
+    rows: Collection[Row], left_out: set[int], total: int, kind: str, width: int, is_ascii: bool, is_log: bool
 ) -> Iterator[str]:
     """The heads and a line for each row that has one; the others are gaps, of which a boolean histogram has none."""
     most, up_to, was_empty = max((units for _, _, units in rows), default=0), 0, False
@@ -112,7 +120,7 @@ def rows_text(
         if low in left_out:
             continue
         if has_line(kind, (low, high, units)):
-            line = f"  {values_of(kind, low, high).rjust(wide)} {bar_of(units, most, cells, is_ascii)}"
+            line = f"  {values_of(kind, low, high).rjust(wide)} {bar_of(height_of(units, is_log), height_of(most, is_log), cells, is_ascii)}"
             yield f"{line} {units:>{digits}}{percent(units, total):>8}{percent(up_to, total):>8}"
         elif not was_empty and kind != "boolean":
             yield "  " + "...".rjust(wide)
@@ -124,7 +132,7 @@ def counted(number: int, word: str) -> str:
 
 
 def histogram_text(
-    name: str, histogram: plain_reader.ReadHistogram, width: int, is_ascii: bool, shows_all: bool
+    name: str, histogram: plain_reader.ReadHistogram, width: int, is_ascii: bool, shows_all: bool, is_log: bool
 ) -> Iterator[str]:
     kind = plain_reader.KINDS[histogram["kind"]]
     rows: list[Row] = [(low, high, units) for low, (high, units) in sorted(histogram["buckets"].items())]
@@ -136,7 +144,7 @@ def histogram_text(
         left = sum(max(0, units - histogram["marks"][low]) for low, _, units in rows)
         yield f"  not yet taken by deltas: units {left}, sum {histogram['sum'] - histogram['sum mark']}"
     left_out = left_out_of(rows, kind, shows_all)
-    yield from rows_text(rows, left_out, total, kind, width, is_ascii)
+    yield from rows_text(rows, left_out, total, kind, width, is_ascii, is_log)
     if left_out:
         together = sum(units for low, _, units in rows if low in left_out)
         yield f"  {counted(len(left_out), 'more value')}, with {counted(together, 'unit')} in all (--all shows them)"
@@ -169,13 +177,14 @@ def text_of(
     width: int = WIDTH,
     is_ascii: bool = False,
     shows_all: bool = False,
+    is_log: bool = False,
 ) -> bytes:
     """The whole text; raises the image's fault."""
     by_name, bad_records, stopped, flags = plain_reader.reading_of(data, collections.Counter())
     lines: list[str] = []
     shown = shown_of(by_name, names, part)
     for name in shown:
-        lines += histogram_text(name.decode(), by_name[name], width, is_ascii, shows_all)
+        lines += histogram_text(name.decode(), by_name[name], width, is_ascii, shows_all, is_log)
     if not shown:
         lines.append("No histogram is shown.")
     if flags & 1:

@@ -121,11 +121,15 @@ fn style_options<'a>(alloc: Global, command: Command<'a>) -> Result<Command<'a>,
         .long("ascii")
         .action(ArgAction::SetTrue)
         .help("Draw bars with # instead of blocks");
+    let log = Arg::new(alloc, "log")
+        .long("log")
+        .action(ArgAction::SetTrue)
+        .help("Draw bars in proportion to the logarithms of units");
     let all = Arg::new(alloc, "all")
         .long("all")
         .action(ArgAction::SetTrue)
         .help("Show all values of a sparse histogram, not only the 20 with the most units");
-    command.arg(width)?.arg(ascii)?.arg(all)
+    command.arg(width)?.arg(ascii)?.arg(log)?.arg(all)
 }
 
 fn show_command<'a>(alloc: Global) -> Result<Command<'a>, AllocError> {
@@ -142,7 +146,8 @@ fn show_command<'a>(alloc: Global) -> Result<Command<'a>, AllocError> {
         .action(ArgAction::SetTrue)
         .conflicts_with("width")?
         .conflicts_with("ascii")?
-        .help("Write one self-contained HTML page (not with --width or --ascii)");
+        .conflicts_with("log")?
+        .help("Write one self-contained HTML page (not with --width, --ascii or --log)");
     let command = Command::new(alloc, "show")
         .about("Show the histograms of an image: numbers, quantiles and bars")
         .after_help("Example:\n  persist_report show examples/three_samples.img A --width 60")
@@ -318,6 +323,7 @@ fn show_request<'a>(
         style: Style {
             width: show.get_one::<u16>("width").unwrap_or(columns),
             is_ascii: show.get_flag("ascii"),
+            is_log: show.get_flag("log"),
             shows_all: show.get_flag("all"),
         },
         is_page: show.get_flag("html"),

@@ -5,6 +5,7 @@ pub mod Columns
 pub mod Shares
 pub mod Naming
 pub mod Bars
+pub mod Heights
 pub mod Choice
 pub mod Most
 pub mod Showing

@@ -22,6 +22,7 @@ use Rattle.reading_shows.specs.Naming.{naming_of, is_truth, range_text, has_line
 use Rattle.reading_shows.specs.Columns.{at_right, times}
 use Rattle.reading_shows.specs.Shares.{mean, percent}
 use Rattle.reading_shows.specs.Bars.{bar}
+use Rattle.reading_shows.specs.Heights.{height_of}
 
 -- ---- the head of a histogram
 
@@ -134,7 +135,7 @@ abbrev pub unit_line : Style → LineColumns → Frame → HistRow → List ℕ
 unit_line style columns frame row =
     joined (
     codes "  " ∷ at_right columns.values (range_text frame.naming row) ∷ codes " "
-    ∷ bar style.is_ascii columns.bars row.units frame.most ∷ codes " " ∷ at_right columns.units (decimal row.units)
+    ∷ bar style.is_ascii columns.bars (height_of style.is_log row.units) (height_of style.is_log frame.most) ∷ codes " " ∷ at_right columns.units (decimal row.units)
     ∷ at_right 8 (percent (codes "<0.1%") row.units frame.total)
     ∷ at_right 8 (percent (codes "<0.1%") row.up_to frame.total) ∷ codes "\n" ∷ [])
 

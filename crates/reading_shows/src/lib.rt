@@ -14,6 +14,7 @@ mod ending;
 mod escapes;
 mod form;
 mod heading;
+mod heights;
 mod lines;
 mod most;
 mod naming;

@@ -8,6 +8,7 @@ ghost use Rattle.reading_shows.specs.Showing.{most_of, begins_gap as begins_gap_
 
 use crate::bars::put_bar;
 use crate::columns::{put_at_right, put_bytes};
+use crate::heights::height_of;
 use crate::naming::{Naming, has_line, is_truth, put_range};
 use crate::shares::put_percent;
 use crate::style::{Frame, LineColumns, Style};
@@ -115,7 +116,9 @@ fn put_units(
     text.extend_from_slice(b"  ")?;
     put_values(text, room, columns.values, frame.naming, row)?;
     text.push(b' ')?;
-    put_bar(text, style.is_ascii, columns.bars, row.units, frame.most)?;
+    let height = height_of(style.is_log, row.units);
+    let most = height_of(style.is_log, frame.most);
+    put_bar(text, style.is_ascii, columns.bars, height, most)?;
     text.push(b' ')?;
     let mut units = Buffer::new();
     put_at_right(text, columns.units, units.format(row.units).as_bytes())?;

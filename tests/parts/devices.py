@@ -102,16 +102,17 @@ Arguments:
   [NAME]...  Histograms to show; all if none is given
 
 Options:
-      --match <PART>   Show the histograms whose name contains PART
-      --html           Write one self-contained HTML page (not with --width or --ascii)
-      --width <CELLS>  Width of the longest bar in columns, 20 to 200; a line is 52 columns wider [default: 72]
-      --ascii          Draw bars with # instead of blocks
-      --all            Show all values of a sparse histogram, not only the 20 with the most units
-      --explain        Explain errors: file, line, reason and what to do (on by default in a terminal)
-  -h, --help           Print help
+      --match <PART>     Show the histograms whose name contains PART
+      --html             Write one self-contained HTML page (not with --width, --ascii or --log)
+      --width <COLUMNS>  Width of a line, 40 to 200 [default: COLUMNS of the environment, or 80]
+      --ascii            Draw bars with # instead of blocks
+      --log              Draw bars in proportion to the logarithms of units
+      --all              Show all values of a sparse histogram, not only the 20 with the most units
+      --explain          Explain errors: file, line, reason and what to do (on by default in a terminal)
+  -h, --help             Print help
 
 Example:
-  persist_report show examples/three_samples.img A --width 40
+  persist_report show examples/three_samples.img A --width 60
 """
 RUN_HELP = b"""\
 Run a script: write the image to OUT and its report to standard output

@@ -20,6 +20,8 @@ from support.program import EXAMPLE, Answer, Case, Word, answer, difference
 PROGRAM = "persist_report"
 MOST_IMAGES = 1000
 WIDEST = 1000
+# The heads of the columns of a text; those of a page are no lines of the page.
+HEADS = ["values", "units", "percent", "up", "to"]
 # Names with all signs that HTML gives a meaning, and some that look like parts of a page.
 NAMES = [
     "a<b>&'c'", "&amp;", "&#39;&lt", "</h2>", "<script>alert(1)</script>", "]]>", "<!--", "-->", "%41", "#h0", "\\",
@@ -28,12 +30,14 @@ NAMES = [
 HISTS = "".join(f"hist,{name},boolean\n" for name in NAMES)
 ADDS = "".join(f"add,{name},{at % 2},{at + 1}\n" for at, name in enumerate(NAMES))
 SCRIPT = f"segment,4096,64,7\n{HISTS}{ADDS}".encode()
+# What a page takes no part in: how a text is drawn.
+DRAWN = {"--ascii", "--log"}
 CHOICES: list[shows.Choice] = [
     ([], {}),
-    *(choice for choice in shows.CHOICES if "--width" not in choice[0][0] and "--ascii" not in choice[0]),
+    *(choice for choice in shows.CHOICES if "--width" not in choice[0][0] and not DRAWN & set(choice[0])),
 ]
 USAGES = [
-    ["--html", "--width", "20"], ["--html", "--ascii"], ["--ascii", "--html"], ["--html=x"],
+    ["--html", "--width", "40"], ["--html", "--ascii"], ["--html", "--log"], ["--ascii", "--html"], ["--html=x"],
     ["--html", "--match", "a", "A"],
 ]
 
@@ -45,7 +49,8 @@ def complaint(data: bytes, page: bytes, **options: Any) -> str | None:
     if wrong is not None:
         return wrong
     assert read is not None
-    wanted = page_text.words_of(plain_show.text_of(data, width=0, is_ascii=True, **options).decode().split("\n"))
+    lines = page_text.words_of(plain_show.text_of(data, width=0, is_ascii=True, **options).decode().split("\n"))
+    wanted = [words for words in lines if words != HEADS]
     for number, words in enumerate(wanted):
         came = read.lines[number] if number < len(read.lines) else "no more"
         if came != words:
@@ -68,7 +73,7 @@ def contents_complaint(read: page_text.Page, wanted: Sequence[Sequence[str]]) ->
 
 def widths_complaint(read: page_text.Page, bars: Iterable[tuple[int, int]]) -> str | None:
     """Where a bar is not as long as its units want, in thousandths of the longest one, rounded up."""
-    wanted = [math.ceil(fractions.Fraction(units * WIDEST, most)) for units, most in bars]
+    wanted = [math.ceil(fractions.Fraction(units * WIDEST, most)) if units else 0 for units, most in bars]
     return None if read.widths == wanted else f"wanted bars of {wanted[:9]}, came {read.widths[:9]}"
 
 

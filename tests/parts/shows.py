@@ -9,7 +9,7 @@ import random
 import struct
 import tempfile
 from collections.abc import Iterator, Sequence
-from typing import Any
+from typing import Any, Optional
 
 from parts import known
 from support import command_faults, forge, plain_show
@@ -20,17 +20,29 @@ MOST_IMAGES = 1000
 MOST_SPARSE_IMAGES = 12
 SAMPLE_TAG = 3
 
-# The text of the example, by hand: of the three units two are in the bucket from 1 to below 2.
+# The text of the example, by hand: two of the three units are true. Of the 80 cells of a line 31 are not the bar's.
 EXAMPLE_TEXT = (
     "A\n"
-    "  boolean, units 3, sum 2, mean 0.6\n"
-    "  50%: [1, 2), 90%: [1, 2), 99%: [1, 2)\n"
-    "  not yet taken by deltas: units 3, sum 2\n"
-    "                  [0, 1) " + "\u2588" * 36 + " " * 36 + "          1   33.3%   33.3%\n"
-    "                  [1, 2) " + "\u2588" * 72 + "          2   66.7%  100.0%\n"
-    "                     ...\n"
+    "  boolean, units 3, sum 2, mean 0.666\n"
+    "  values  " + " " * 49 + "units percent   up to\n"
+    "   false " + "\u2588" * 24 + "\u258c" + " " * 24 + "     1   33.3%   33.3%\n"
+    "    true " + "\u2588" * 49 + "     2   66.7%  100.0%\n"
     "\n"
 ).encode()
+# One unit of 100,000, and the others in the last bucket.
+RARE_SCRIPT = b"segment,1024,64,7\nhist,rare,custom,10,1000\nadd,rare,5,1\nadd,rare,5000,99999\n"
+# Its text, by hand.
+RARE_TEXT = b"""\
+rare
+  custom, units 100000, sum 499995005, mean 4999
+  50%: >= 1000, 90%: >= 1000, 99%: >= 1000, 99.9%: >= 1000
+  least: [0, 10), greatest: >= 1000
+   values          units percent   up to
+  [0, 10) #            1   <0.1%   <0.1%
+      ...
+  >= 1000 ######## 99999  >99.9%  100.0%
+
+"""
 # A script of each kind, with gaps between buckets, with and without a sign, and with one that nothing was recorded in.
 SCRIPT = b"""\
 segment,1024,64,7
@@ -38,6 +50,7 @@ hist,page.load,linear,1,100,12
 hist,page.size,custom,10,20,400
 hist,~s,sparse
 hist,none,boolean
+hist,empty,linear,1,100,5
 add,page.load,0,3
 add,page.load,55,160
 add,page.load,99,1
@@ -62,12 +75,11 @@ MANY_PERCENTS = [
 MANY_TEXT = (
     "many\n"
     "  sparse, units 67, sum 825, mean 12.3\n"
-    "  50%: 12, 90%: 21, 99%: 23\n"
-    "  not yet taken by deltas: units 67, sum 825\n"
-    + "".join(
-        f"{value:>24} {'#' * 20}          3    4.5%{percent:>7}%\n" for value, percent in enumerate(MANY_PERCENTS, 3)
-    )
-    + "  The values that are left out number 3, and have 7 units together.\n"
+    "  50%: 12, 90%: 21, 99%: 23, 99.9%: 23\n"
+    "  least: 1, greatest: 23\n"
+    "  values           units percent   up to\n"
+    + "".join(f"  {value:>6} {'#' * 9}     3    4.5%{percent:>7}%\n" for value, percent in enumerate(MANY_PERCENTS, 3))
+    + "  3 more values, with 7 units in all (--all shows them)\n"
     "\n"
 ).encode()
 # Words of a command line, and how the plain renderer is asked for the same.
@@ -80,13 +92,21 @@ CHOICES: list[Choice] = [
     (["--match", "e"], {"part": "e"}),
     (["--match=.s"], {"part": ".s"}),
     (["--match", "no.such.part"], {"part": "no.such.part"}),
-    (["--width", "20"], {"width": 20}),
+    (["--width", "40"], {"width": 40}),
     (["--width=200", "--ascii"], {"width": 200, "is_ascii": True}),
     (["--ascii", "page.size"], {"names": ["page.size"], "is_ascii": True}),
     (["--all"], {"shows_all": True}),
+    (["--log"], {"is_log": True}),
+    (["--log", "--ascii", "--width", "60"], {"width": 60, "is_ascii": True, "is_log": True}),
+]
+# A value of COLUMNS or None, further words, and the width that they ask for.
+Columns = tuple[Optional[str], list[str], int]
+COLUMNS: list[Columns] = [
+    (None, [], 80), ("60", [], 60), ("10", [], 40), ("300", [], 200), ("x", [], 80), ("", [], 80),
+    ("60", ["--width", "50"], 50),
 ]
 USAGES = [
-    ["--width", "19"], ["--width", "201"], ["--width", "x"], ["--match", "a", "A"], ["--all=x"], ["--no-such-option"],
+    ["--width", "39"], ["--width", "201"], ["--width", "x"], ["--match", "a", "A"], ["--all=x"], ["--no-such-option"],
 ]
 
 
@@ -95,14 +115,27 @@ def beside(program: pathlib.Path, data: bytes, words: Sequence[Word] = (), **opt
     return difference(Answer(*plain_show.answer(data, **options)), answer(program, ["show", "-", *words], data))
 
 
+def columns(program: pathlib.Path, data: bytes) -> Iterator[Case]:
+    """The width that `COLUMNS` asks for, from 40 to 200; `--width` comes before it, and what is no number says
+    nothing."""
+    for value, words, width in COLUMNS:
+        came = answer(program, ["show", *words], data, env={} if value is None else {"COLUMNS": value})
+        yield f"COLUMNS={value}, {words}", difference(Answer(plain_show.text_of(data, width=width)), came)
+
+
 def worked(program: pathlib.Path, folder: pathlib.Path) -> Iterator[Case]:
     """The example as a file and on standard input; each choice and each way to draw of a script's image."""
     wanted = Answer(EXAMPLE_TEXT)
+    yield from columns(program, EXAMPLE.read_bytes())
     inputs: list[list[Word]] = [[EXAMPLE], ["-"], []]
     for words in inputs:
         data = b"" if words == [EXAMPLE] else EXAMPLE.read_bytes()
         yield f"the example, {words}", difference(wanted, answer(program, ["show", *words], data))
     script, image = folder / "script", folder / "image"
+    script.write_bytes(RARE_SCRIPT)
+    answer(program, ["run", script, image])
+    came = answer(program, ["show", image, "--ascii", "--width", "40"])
+    yield "one unit of many", difference(Answer(RARE_TEXT), came)
     script.write_bytes(SCRIPT)
     ran = answer(program, ["run", script, image])
     yield "the script", None if ran.status == 0 else f"came {ran}"
@@ -140,7 +173,7 @@ def sparse(program: pathlib.Path, folder: pathlib.Path, options: argparse.Namesp
     ran = answer(program, ["run", script, image])
     yield "many values, run", None if ran.status == 0 else f"came {ran}"
     data = image.read_bytes()
-    yield "many values", difference(Answer(MANY_TEXT), answer(program, ["show", image, "--ascii", "--width", "20"]))
+    yield "many values", difference(Answer(MANY_TEXT), answer(program, ["show", image, "--ascii", "--width", "40"]))
     yield "many values, all", beside(program, data, ["--all"], shows_all=True)
     choices: list[Choice] = [([], {}), (["--all"], {"shows_all": True})]
     for number in range(min(options.images, MOST_SPARSE_IMAGES)):
@@ -160,6 +193,7 @@ def cases(program: pathlib.Path, options: argparse.Namespace) -> Iterator[Case]:
     for number in range(min(options.images, MOST_IMAGES)):
         chance = random.Random(f"{options.seed} {number}")
         data = forge.image_of(chance)
-        width, is_ascii = chance.randint(20, 200), chance.random() < 0.5
-        words = ["--width", str(width), *(["--ascii"] if is_ascii else [])]
-        yield f"image {number} of seed {options.seed}", beside(program, data, words, width=width, is_ascii=is_ascii)
+        width, is_ascii, is_log = chance.randint(40, 200), chance.random() < 0.5, chance.random() < 0.5
+        words = ["--width", str(width), *(["--ascii"] if is_ascii else []), *(["--log"] if is_log else [])]
+        settings = {"width": width, "is_ascii": is_ascii, "is_log": is_log}
+        yield f"image {number} of seed {options.seed}", beside(program, data, words, **settings)

@@ -5,14 +5,15 @@ from __future__ import annotations
 import collections
 import fractions
 import math
-from collections.abc import Collection, Iterable, Iterator
+from collections.abc import Collection, Iterable, Iterator, Sequence
 from typing import Any
 
 from support import plain_reader
 
 # The least value of a bucket, what comes after it, and its units.
 Row = tuple[int, int, int]
-WIDTH = 72
+WIDTH = 80
+LAST = 2147483647
 MOST_VALUES = 20
 
 
@@ -22,83 +23,133 @@ def tenths(value: int) -> str:
 
 
 def percent(part: int, whole: int) -> str:
-    """To the nearest tenth, halves upward."""
-    return tenths(math.floor(fractions.Fraction(part * 1000, whole) + fractions.Fraction(1, 2))) + "%"
+    """To the nearest tenth, halves upward; 0.0% stands for nothing alone, and 100.0% for all."""
+    share = math.floor(fractions.Fraction(part * 1000, whole) + fractions.Fraction(1, 2)) if whole else 0
+    if share == 0 and part > 0:
+        return "<0.1%"
+    if share == 1000 and part < whole:
+        return ">99.9%"
+    return tenths(share) + "%"
 
 
 def mean_of(total: int, units: int) -> str:
-    """Cut to a tenth toward 0."""
+    """Cut toward 0, with three digits that count, and never fewer than the whole part has."""
     if units == 0:
         return "none"
-    return ("-" if total < 0 else "") + tenths(math.floor(fractions.Fraction(abs(total) * 10, units)))
+    if total == 0:
+        return "0"
+    size = fractions.Fraction(abs(total), units)
+    digits = 0
+    while size * 10**digits < 100:
+        digits += 1
+    cut = str(math.floor(size * 10**digits)).rjust(digits + 1, "0")
+    point = len(cut) - digits
+    return ("-" if total < 0 else "") + cut[:point] + ("." + cut[point:] if digits else "")
 
 
 def bar_of(units: int, most: int, width: int, is_ascii: bool) -> str:
     """A bar of exactly so many cells, rounded up to a whole sign or to an eighth of a block."""
+    if units == 0:
+        return " " * width
     if is_ascii:
         return ("#" * math.ceil(fractions.Fraction(units * width, most))).ljust(width)
     whole, part = divmod(math.ceil(fractions.Fraction(units * width * 8, most)), 8)
     return ("\u2588" * whole + ("", *"\u258f\u258e\u258d\u258c\u258b\u258a\u2589")[part]).ljust(width)
 
 
-def values_of(is_sparse: bool, low: int, high: int) -> str:
-    return str(low) if is_sparse else f"[{low}, {high})"
+def height_of(units: int, is_log: bool) -> int:
+    """What a bar shows: the units, or their logarithm, by straight lines between the powers of two."""
+    if not is_log or units == 0:
+        return units
+    halvings = units.bit_length() - 1
+    return math.floor(256 * (halvings + fractions.Fraction(units, 2**halvings)))
 
 
-def quantile_of(rows: Iterable[Row], total: int, hundredths: int, is_sparse: bool) -> str:
-    """The values of the first row up to which there are so many percent of the units."""
+def values_of(kind: str, low: int, high: int) -> str:
+    """The values of a bucket, or the one of a sparse histogram."""
+    if kind == "sparse":
+        return str(low)
+    if kind == "boolean" and low < 2:
+        return ("false", "true")[low]
+    return f">= {low}" if high == LAST else f"[{low}, {high})"
+
+
+def quantile_of(rows: Iterable[Row], total: int, thousandths: int, kind: str) -> str:
+    """The values of the first row up to which there are so many thousandths of the units."""
     up_to = 0
     for low, high, units in rows:
         up_to += units
-        if total > 0 and fractions.Fraction(up_to, total) >= fractions.Fraction(hundredths, 100):
-            return values_of(is_sparse, low, high)
+        if total > 0 and fractions.Fraction(up_to, total) >= fractions.Fraction(thousandths, 1000):
+            return values_of(kind, low, high)
     return "none"
 
 
-def left_out_of(rows: Iterable[Row], is_sparse: bool, shows_all: bool) -> set[int]:
+def ranks_of(rows: Sequence[Row], total: int, kind: str) -> Iterator[str]:
+    """The quantiles, and the first and the last row that have units; a boolean histogram has neither line."""
+    if kind != "boolean":
+        quantiles = [("50%", 500), ("90%", 900), ("99%", 990), ("99.9%", 999)]
+        yield "  " + ", ".join(f"{word}: {quantile_of(rows, total, share, kind)}" for word, share in quantiles)
+        recorded = [values_of(kind, low, high) for low, high, units in rows if units] or ["none"]
+        yield f"  least: {recorded[0]}, greatest: {recorded[-1]}"
+
+
+def left_out_of(rows: Iterable[Row], kind: str, shows_all: bool) -> set[int]:
     """The values of a sparse histogram that have no line: those after the 20 with the most units, the lower first among
     equals."""
-    if shows_all or not is_sparse:
+    if shows_all or kind != "sparse":
         return set()
     return {low for low, _, _ in sorted(rows, key=lambda row: (-row[2], row[0]))[MOST_VALUES:]}
 
 
+def has_line(kind: str, row: Row) -> bool:
+    """Whether a row has a line of its own: if it has units, or is false or true."""
+    return row[2] > 0 or (kind == "boolean" and row[0] < 2)
+
+
 def rows_text(
-    rows: Collection[Row], left_out: set[int], total: int, is_sparse: bool, width: int, is_ascii: bool
+    rows: Collection[Row], left_out: set[int], total: int, kind: str, width: int, is_ascii: bool, is_log: bool
 ) -> Iterator[str]:
+    """The heads and a line for each row that has one; the others are gaps, of which a boolean histogram has none."""
     most, up_to, was_empty = max((units for _, _, units in rows), default=0), 0, False
+    names = [values_of(kind, row[0], row[1]) for row in rows if row[0] not in left_out and has_line(kind, row)]
+    wide, digits = max(map(len, ["values", *names])), max(len("units"), len(str(most)))
+    cells = max(0, width - len(f"  {'':{wide}}  {'':{digits}}  100.0%  100.0%"))
+    if rows:
+        yield f"  {'values'.rjust(wide)} {' ' * cells} {'units'.rjust(digits)} percent   up to"
     for low, high, units in rows:
         up_to += units
         if low in left_out:
             continue
-        if units == 0:
-            if not was_empty:
-                yield "...".rjust(24)
-        else:
-            bar = bar_of(units, most, width, is_ascii)
-            values = values_of(is_sparse, low, high).rjust(24)
-            yield f"{values} {bar}{units:>11}{percent(units, total):>8}{percent(up_to, total):>8}"
+        if has_line(kind, (low, high, units)):
+            bar = bar_of(height_of(units, is_log), height_of(most, is_log), cells, is_ascii)
+            line = f"  {values_of(kind, low, high).rjust(wide)} {bar}"
+            yield f"{line} {units:>{digits}}{percent(units, total):>8}{percent(up_to, total):>8}"
+        elif not was_empty and kind != "boolean":
+            yield "  " + "...".rjust(wide)
         was_empty = units == 0
 
 
+def counted(number: int, word: str) -> str:
+    return f"{number} {word}" if number == 1 else f"{number} {word}s"
+
+
 def histogram_text(
-    name: str, histogram: plain_reader.ReadHistogram, width: int, is_ascii: bool, shows_all: bool
+    name: str, histogram: plain_reader.ReadHistogram, width: int, is_ascii: bool, shows_all: bool, is_log: bool
 ) -> Iterator[str]:
     kind = plain_reader.KINDS[histogram["kind"]]
     rows: list[Row] = [(low, high, units) for low, (high, units) in sorted(histogram["buckets"].items())]
     total = sum(units for _, _, units in rows)
-    is_sparse = kind == "sparse"
-    ends = [f"{share}%: {quantile_of(rows, total, share, is_sparse)}" for share in (50, 90, 99)]
-    left = sum(max(0, units - histogram["marks"][low]) for low, _, units in rows)
     yield name
     yield f"  {kind}, units {total}, sum {histogram['sum']}, mean {mean_of(histogram['sum'], total)}"
-    yield "  " + ", ".join(ends)
-    yield f"  not yet taken by deltas: units {left}, sum {histogram['sum'] - histogram['sum mark']}"
-    left_out = left_out_of(rows, is_sparse, shows_all)
-    yield from rows_text(rows, left_out, total, is_sparse, width, is_ascii)
+    yield from ranks_of(rows, total, kind)
+    if any(histogram["marks"].values()) or histogram["sum mark"]:
+        left = sum(max(0, units - histogram["marks"][low]) for low, _, units in rows)
+        yield f"  not yet taken by deltas: units {left}, sum {histogram['sum'] - histogram['sum mark']}"
+    left_out = left_out_of(rows, kind, shows_all)
+    yield from rows_text(rows, left_out, total, kind, width, is_ascii, is_log)
     if left_out:
         together = sum(units for low, _, units in rows if low in left_out)
-        yield f"  The values that are left out number {len(left_out)}, and have {together} units together."
+        yield f"  {counted(len(left_out), 'more value')}, with {counted(together, 'unit')} in all (--all shows them)"
     yield ""
 
 
@@ -119,8 +170,10 @@ def bars_of(
     for name in shown_of(by_name, names, part):
         buckets = by_name[name]["buckets"]
         rows: list[Row] = [(low, high, units) for low, (high, units) in sorted(buckets.items())]
-        left_out = left_out_of(rows, plain_reader.KINDS[by_name[name]["kind"]] == "sparse", shows_all)
-        yield from ((units, max(row[2] for row in rows)) for low, _, units in rows if units and low not in left_out)
+        kind = plain_reader.KINDS[by_name[name]["kind"]]
+        left_out = left_out_of(rows, kind, shows_all)
+        most = max((units for _, _, units in rows), default=0)
+        yield from ((row[2], most) for row in rows if has_line(kind, row) and row[0] not in left_out)
 
 
 def text_of(
@@ -130,13 +183,14 @@ def text_of(
     width: int = WIDTH,
     is_ascii: bool = False,
     shows_all: bool = False,
+    is_log: bool = False,
 ) -> bytes:
     """The whole text; raises the image's fault."""
     by_name, bad_records, stopped, flags = plain_reader.reading_of(data, collections.Counter())
     lines: list[str] = []
     shown = shown_of(by_name, names, part)
     for name in shown:
-        lines += histogram_text(name.decode(), by_name[name], width, is_ascii, shows_all)
+        lines += histogram_text(name.decode(), by_name[name], width, is_ascii, shows_all, is_log)
     if not shown:
         lines.append("No histogram is shown.")
     if flags & 1:

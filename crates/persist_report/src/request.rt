@@ -116,19 +116,22 @@ fn export_command<'a>(alloc: Global) -> Result<Command<'a>, AllocError> {
 fn style_options<'a>(alloc: Global, command: Command<'a>) -> Result<Command<'a>, AllocError> {
     let width = Arg::new(alloc, "width")
         .long("width")
-        .value_name("CELLS")
-        .value_parser(value_parser!(u16).range(20..=200))
-        .default_value("72")
-        .help("Width of the longest bar in columns, 20 to 200; a line is 52 columns wider");
+        .value_name("COLUMNS")
+        .value_parser(value_parser!(u16).range(40..=200))
+        .help("Width of a line, 40 to 200 [default: COLUMNS of the environment, or 80]");
     let ascii = Arg::new(alloc, "ascii")
         .long("ascii")
         .action(ArgAction::SetTrue)
         .help("Draw bars with # instead of blocks");
+    let log = Arg::new(alloc, "log")
+        .long("log")
+        .action(ArgAction::SetTrue)
+        .help("Draw bars in proportion to the logarithms of units");
     let all = Arg::new(alloc, "all")
         .long("all")
         .action(ArgAction::SetTrue)
         .help("Show all values of a sparse histogram, not only the 20 with the most units");
-    command.arg(width)?.arg(ascii)?.arg(all)
+    command.arg(width)?.arg(ascii)?.arg(log)?.arg(all)
 }
 
 fn show_command<'a>(alloc: Global) -> Result<Command<'a>, AllocError> {
@@ -145,10 +148,11 @@ fn show_command<'a>(alloc: Global) -> Result<Command<'a>, AllocError> {
         .action(ArgAction::SetTrue)
         .conflicts_with("width")?
         .conflicts_with("ascii")?
-        .help("Write one self-contained HTML page (not with --width or --ascii)");
+        .conflicts_with("log")?
+        .help("Write one self-contained HTML page (not with --width, --ascii or --log)");
     let command = Command::new(alloc, "show")
         .about("Show the histograms of an image: numbers, quantiles and bars")
-        .after_help("Example:\n  persist_report show examples/three_samples.img A --width 40")
+        .after_help("Example:\n  persist_report show examples/three_samples.img A --width 60")
         .arg(image(alloc))?
         .arg(names)?
         .arg(part)?
@@ -286,25 +290,27 @@ fn export_task<'a>(export: &ArgMatches<'a>) -> Option<Task<'a>> {
     })
 }
 
-fn show_task<'a>(alloc: Global, show: &ArgMatches<'a>) -> Result<Option<Task<'a>>, AllocError> {
-    let Some(width) = show.get_one::<u16>("width") else {
-        return Ok(None);
-    };
+fn show_task<'a>(
+    alloc: Global,
+    show: &ArgMatches<'a>,
+    columns: u16,
+) -> Result<Task<'a>, AllocError> {
     let names = match show.get_strs("NAME") {
         Some(names) => Vec::from_slice(alloc, names)?,
         None => Vec::new(alloc),
     };
-    Ok(Some(Task::Show {
+    Ok(Task::Show {
         file: show.get_str("FILE"),
         names,
         part: show.get_str("match"),
         style: Style {
-            width,
+            width: show.get_one::<u16>("width").unwrap_or(columns),
             is_ascii: show.get_flag("ascii"),
+            is_log: show.get_flag("log"),
             shows_all: show.get_flag("all"),
         },
         is_page: show.get_flag("html"),
-    }))
+    })
 }
 
 fn extract_task<'a>(extract: &ArgMatches<'a>) -> Option<Task<'a>> {
@@ -320,9 +326,10 @@ fn task_of<'a>(
     alloc: Global,
     name: &str,
     found: &ArgMatches<'a>,
+    columns: u16,
 ) -> Result<Option<Task<'a>>, AllocError> {
     if name == "show" {
-        return show_task(alloc, found);
+        return Ok(Some(show_task(alloc, found, columns)?));
     }
     Ok(plain_task(name, found))
 }
@@ -346,14 +353,15 @@ fn plain_task<'a>(name: &str, found: &ArgMatches<'a>) -> Option<Task<'a>> {
 }
 
 impl<'a> Request<'a> {
-    /// Returns what a command line asks for, whose first word is the program's name.
+    /// Returns what a command line asks for, whose first word is the program's name. A line of a text has so many columns, unless the words
+    /// say how many.
     ///
     /// The error says what is wrong with the words, or has the help or the version that they ask for.
-    pub fn of<S: AsStr>(alloc: Global, words: &'a [S]) -> Result<Request<'a>, Error> {
+    pub fn of<S: AsStr>(alloc: Global, words: &'a [S], columns: u16) -> Result<Request<'a>, Error> {
         let mut command = command(alloc)?;
         let matches = command.try_get_matches_from_mut(words)?;
         if let Some((name, found)) = matches.subcommand()
-            && let Some(task) = task_of(alloc, name, found)?
+            && let Some(task) = task_of(alloc, name, found, columns)?
         {
             let explains = found.get_flag("explain");
             return Ok(Request { task, explains });

@@ -8,7 +8,7 @@ use crate::extracting::extract_file;
 use crate::failure::Failure;
 use crate::files::{merge_files_into, resume_file, run_file, write_file};
 use crate::request::{Request, Task, no_fault, no_prefix, not_text};
-use crate::terminal::is_terminal;
+use crate::terminal::{columns, is_terminal};
 use fault_texts::{AllTexts, fault_text};
 use persist_report_core::CliFault;
 use reading_shows::{Choice, Form, Style};
@@ -40,7 +40,7 @@ pub fn run<
     ensures { IfErr result UsageIsMistake }
 {
     let words = words(rt)?;
-    match Request::of(rt.alloc(), words.as_slice()) {
+    match Request::of(rt.alloc(), words.as_slice(), columns(rt)) {
         Ok(Request { task, explains }) => {
             let explains = explains || is_terminal(rt);
             meet(&Context { rt, explains }, task)?;

@@ -1,6 +1,5 @@
 -- The bar of a bucket, whose length is in proportion to that of the bucket that has the most units.
-use Rattle.std.specs.Prelude.{ℕ, ◌+◌, ◌-◌, ◌*◌, ◌/◌, ◌%◌, if◌then◌else◌, ◌==◌, min, List, [], ◌∷◌, ◌++◌, codes}
-use Rattle.reading_shows.specs.declared.style.Style.{Style}
+use Rattle.std.specs.Prelude.{Bool, ℕ, ◌+◌, ◌-◌, ◌*◌, ◌/◌, ◌%◌, if◌then◌else◌, ◌==◌, min, List, [], ◌∷◌, ◌++◌, codes}
 use Rattle.reading_shows.specs.Columns.{times}
 use Rattle.reading_shows.specs.Shares.{share_of}
 
@@ -26,8 +25,8 @@ block_bar width eighths =
 abbrev pub sign_bar : ℕ → ℕ → List ℕ
 sign_bar width signs = times signs (codes "#") ++ times (width - signs) (codes " ")
 
--- the bar of so many units where the most are these
-abbrev pub bar : Style → ℕ → ℕ → List ℕ
-bar style units most =
-    if style.is_ascii then sign_bar style.width (marks_of units most style.width)
-    else block_bar style.width (marks_of units most (style.width * 8))
+-- the bar of so many units where the most are these, of plain signs or of blocks, in so many cells
+abbrev pub bar : Bool → ℕ → ℕ → ℕ → List ℕ
+bar is_ascii width units most =
+    if is_ascii then sign_bar width (marks_of units most width)
+    else block_bar width (marks_of units most (width * 8))

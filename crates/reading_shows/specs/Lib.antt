@@ -3,7 +3,9 @@ pub use Rattle.image_reader.specs.Readable
 pub use Rattle.bucket_ranges.specs.Reading
 pub mod Columns
 pub mod Shares
+pub mod Naming
 pub mod Bars
+pub mod Heights
 pub mod Choice
 pub mod Most
 pub mod Showing

@@ -1,5 +1,5 @@
 -- The rows of a histogram in a page.
-use Rattle.std.specs.Prelude.{◌==◌, if◌then◌else◌, ℕ, List, [], ◌∷◌, pos, length, get_or, codes}
+use Rattle.std.specs.Prelude.{if◌then◌else◌, ℕ, List, [], ◌∷◌, length, codes}
 use Rattle.std.specs.Fmt.{decimal}
 use Rattle.std.specs.List.{flat_map, range_with_len}
 use Rattle.reading_texts.specs.declared.rows.HistRow.{HistRow}
@@ -7,7 +7,8 @@ use Rattle.reading_texts.specs.Exporting.{joined}
 use Rattle.reading_shows.specs.declared.style.Frame.{Frame}
 use Rattle.reading_shows.specs.Shares.{percent}
 use Rattle.reading_shows.specs.Bars.{marks_of}
-use Rattle.reading_shows.specs.Showing.{range_text, units_at, begins_run}
+use Rattle.reading_shows.specs.Naming.{range_text, has_line}
+use Rattle.reading_shows.specs.Showing.{row_or_none, begins_gap}
 
 -- the bar of so many units where the most are these: a rectangle, in thousandths of the width of the longest one
 abbrev pub drawn_bar : ℕ → ℕ → List ℕ
@@ -16,19 +17,19 @@ drawn_bar units most =
     codes "<svg viewBox=\"0 0 1000 1\" preserveAspectRatio=\"none\" aria-hidden=\"true\"><rect width=\""
     ∷ decimal (marks_of units most 1000) ∷ codes "\" height=\"1\"/></svg>" ∷ [])
 
--- the row of a bucket that has units, or of a value: its values, its bar, its units, their percent, and the percent up to it
+-- the row of a bucket or of a value: its values, its bar, its units, their percent, and the percent up to it
 abbrev pub unit_row : Frame → HistRow → List ℕ
 unit_row frame row =
     joined (
-    codes "<tr><td>" ∷ range_text frame.is_sparse row ∷ codes "</td><td>" ∷ drawn_bar row.units frame.most ∷ codes "</td><td>"
-    ∷ decimal row.units ∷ codes "</td><td>" ∷ percent row.units frame.total ∷ codes "</td><td>" ∷ percent row.up_to frame.total
+    codes "<tr><td>" ∷ range_text frame.naming row ∷ codes "</td><td>" ∷ drawn_bar row.units frame.most ∷ codes "</td><td>"
+    ∷ decimal row.units ∷ codes "</td><td>" ∷ percent (codes "&lt;0.1%") row.units frame.total ∷ codes "</td><td>" ∷ percent (codes "&lt;0.1%") row.up_to frame.total
     ∷ codes "</td></tr>\n" ∷ [])
 
--- row `i`; a run of rows without units has one row together
+-- row `i`; rows without one that stand side by side have the row of a gap together
 abbrev pub row_in_page : Frame → List HistRow → ℕ → List ℕ
 row_in_page frame rows i =
-    if units_at rows i == 0 then (if begins_run rows i then codes "<tr><td>...</td></tr>\n" else [])
-    else unit_row frame (get_or rows i (record { low = pos 0; high = pos 0; units = 0; up_to = 0 }))
+    if has_line frame.naming (row_or_none rows i) then unit_row frame (row_or_none rows i)
+    else (if begins_gap frame.naming rows i then codes "<tr><td>...</td></tr>\n" else [])
 
 -- the rows of a table
 abbrev pub rows_in_page : Frame → List HistRow → List ℕ

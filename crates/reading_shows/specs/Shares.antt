@@ -1,6 +1,9 @@
 -- Shares, percents and means, in whole numbers.
-use Rattle.std.specs.Prelude.{ℕ, ◌+◌, ◌*◌, ◌/◌, ◌%◌, ℤ, if◌then◌else◌, ◌==◌, List, ◌++◌, codes, unsigned_abs, int_lt, pos}
+use Rattle.std.specs.Prelude.{Bool, ◌&&◌, nat_le, nat_lt, ℕ, ◌+◌, ◌-◌, ◌*◌, ◌/◌, ◌%◌, ◌^◌, ℤ, if◌then◌else◌, ◌==◌, List, ◌++◌, length, codes, unsigned_abs, int_lt, pos}
 use Rattle.std.specs.Fmt.{decimal}
+use Rattle.std.specs.List.{find, range_with_len}
+use Rattle.std.specs.Option.{unwrap_or}
+use Rattle.reading_shows.specs.Columns.{times}
 
 -- how many of `shares` equal shares of a whole a part is; what is added before the division says how it is rounded;
 -- 0 of nothing
@@ -11,16 +14,46 @@ share_of part whole shares added = (part * shares + added) / whole
 abbrev pub tenths : ℕ → List ℕ
 tenths n = decimal (n / 10) ++ codes "." ++ decimal (n % 10)
 
--- a part in percent, to the nearest tenth, halves upward
-abbrev pub percent : ℕ → ℕ → List ℕ
-percent part whole = tenths (share_of part whole 1000 (whole / 2)) ++ codes "%"
+-- a part in tenths of a percent, to the nearest, halves upward
+abbrev pub tenths_of_percent : ℕ → ℕ → ℕ
+tenths_of_percent part whole = share_of part whole 1000 (whole / 2)
 
--- the size of a sum over so many units, to the tenth below
+-- a part in percent, to the nearest tenth. A part that is not nothing and rounds to 0 is `tiny`, which is how a text writes
+-- that it is below 0.1%; one that is not all and rounds to 100 is above 99.9%
+abbrev pub percent : List ℕ → ℕ → ℕ → List ℕ
+percent tiny part whole =
+    if nat_lt 0 part && (tenths_of_percent part whole == 0) then tiny
+    else (if nat_lt part whole && (tenths_of_percent part whole == 1000) then codes ">99.9%"
+    else tenths (tenths_of_percent part whole) ++ codes "%")
+
+-- whether a size over so many units has three digits that count, if it has so many digits after its point
+abbrev pub has_three : ℕ → ℕ → ℕ → Bool
+has_three size units digits = nat_le (100 * units) (size * 10 ^ digits)
+
+-- how many digits after its point it has: the fewest with which three digits count
+abbrev pub digits_of_mean : ℕ → ℕ → ℕ
+digits_of_mean size units = unwrap_or (find (has_three size units) (range_with_len 0 23)) 0
+
+-- digits, of which so many stand after the point
+abbrev pub with_point : ℕ → ℕ → List ℕ
+with_point digits n =
+    if digits == 0 then decimal n
+    else decimal (n / 10 ^ digits) ++ codes "." ++ times (digits - length (decimal (n % 10 ^ digits))) (codes "0") ++ decimal (n % 10 ^ digits)
+
+-- the size of a sum over so many units, cut to these digits
 abbrev pub size_of_mean : ℕ → ℕ → List ℕ
-size_of_mean size units = decimal (size / units) ++ codes "." ++ decimal (share_of (size % units) units 10 0)
+size_of_mean size units =
+    if size == 0 then codes "0"
+    else with_point (digits_of_mean size units) (size * 10 ^ digits_of_mean size units / units)
 
--- a sum over so many units, cut to a tenth toward 0; none of no units
+-- the sign of a sum that is below 0
+abbrev pub sign : ℤ → List ℕ
+sign sum = if int_lt sum (pos 0) then codes "-" else codes ""
+
+-- a sum over so many units
+abbrev pub mean_of_some : ℤ → ℕ → List ℕ
+mean_of_some sum units = sign sum ++ size_of_mean (unsigned_abs sum) units
+
+-- a sum over so many units, with three digits that count, and never fewer than its whole part has; none of no units
 abbrev pub mean : ℤ → ℕ → List ℕ
-mean sum units =
-    if units == 0 then codes "none"
-    else ((if int_lt sum (pos 0) then codes "-" else codes "") ++ size_of_mean (unsigned_abs sum) units)
+mean sum units = if units == 0 then codes "none" else mean_of_some sum units

@@ -1,9 +1,9 @@
 -- The text of a reading for people.
-use Rattle.std.specs.Prelude.{◌≡◌, Bool, ◌==◌, ◌||◌, not, nat_le, if◌then◌else◌, ℕ, ◌-◌, ◌*◌, max, ℤ, pos, ◌-ℤ◌, List, [], ◌∷◌, ◌++◌, length, get_or, sum_by, codes, Option, Some, None, IsPermutation, IsSortedByKey}
-use Rattle.std.specs.Ordering.{nat_cmp}
+use Rattle.std.specs.Prelude.{◌≡◌, Bool, ◌==◌, ◌||◌, ◌&&◌, not, nat_le, if◌then◌else◌, ℕ, ◌-◌, ◌*◌, max, ℤ, pos, ◌-ℤ◌, List, [], ◌∷◌, ◌++◌, length, get_or, sum_by, codes, Option, Some, None, IsPermutation, IsSortedByKey}
 use Rattle.std.specs.Cmp.Lexicographic.{slice_cmp}
 use Rattle.std.specs.Fmt.{decimal, signed_decimal}
-use Rattle.std.specs.List.{flat_map, find, filter, fold, range_with_len}
+use Rattle.std.specs.List.{flat_map, find, filter, fold, list_any, range_with_len}
+use Rattle.std.specs.Ordering.{int_eq, nat_cmp}
 use Rattle.segment_image.specs.declared.fault.ImageFault.{ImageFault}
 use Rattle.bucket_ranges.specs.declared.reading.RecordFault.{RecordFault}
 use Rattle.bucket_ranges.specs.Reading.{Histogram, Reading}
@@ -13,41 +13,18 @@ use Rattle.reading_texts.specs.Text.{kind_word, record_fault_word, image_fault_w
 use Rattle.reading_texts.specs.Exporting.{joined, is_sparse}
 use Rattle.reading_shows.specs.declared.style.Style.{Style}
 use Rattle.reading_shows.specs.declared.style.Frame.{Frame}
+use Rattle.reading_shows.specs.declared.style.LineColumns.{LineColumns}
+use Rattle.reading_shows.specs.declared.naming.Naming.{Naming}
 use Rattle.reading_shows.specs.declared.choice.Choice.{Choice}
 use Rattle.reading_shows.specs.Choice.{is_chosen}
 use Rattle.reading_shows.specs.Most.{shown_rows, left_out_rows}
-use Rattle.reading_shows.specs.Columns.{at_right}
+use Rattle.reading_shows.specs.Naming.{naming_of, is_truth, range_text, has_line}
+use Rattle.reading_shows.specs.Columns.{at_right, times}
 use Rattle.reading_shows.specs.Shares.{mean, percent}
 use Rattle.reading_shows.specs.Bars.{bar}
+use Rattle.reading_shows.specs.Heights.{height_of}
 
 -- ---- the head of a histogram
-
--- the values of a row: the one of a sparse histogram, else from the least to below what stands behind the bucket
-abbrev pub range_text : Bool → HistRow → List ℕ
-range_text sparse row =
-    if sparse then signed_decimal row.low
-    else joined (codes "[" ∷ signed_decimal row.low ∷ codes ", " ∷ signed_decimal row.high ∷ codes ")" ∷ [])
-
--- whether the units up to a row are so many percent of all, or more
-abbrev pub reaches : ℕ → ℕ → HistRow → Bool
-reaches total hundredths row = nat_le (hundredths * total) (100 * row.up_to)
-
--- the row that holds a quantile: the first up to which there are so many percent of the units; none of no units
-abbrev pub quantile : ℕ → List HistRow → ℕ → Option HistRow
-quantile total rows hundredths = if total == 0 then None else find (reaches total hundredths) rows
-
--- the values of that row
-abbrev pub range_of_found : Bool → Option HistRow → List ℕ
-range_of_found sparse None = codes "none"
-range_of_found sparse (Some row) = range_text sparse row
-
--- the line of the quantiles
-abbrev pub quantile_line : Bool → ℕ → List HistRow → List ℕ
-quantile_line sparse total rows =
-    joined (
-    codes "  50%: " ∷ range_of_found sparse (quantile total rows 50)
-    ∷ codes ", 90%: " ∷ range_of_found sparse (quantile total rows 90)
-    ∷ codes ", 99%: " ∷ range_of_found sparse (quantile total rows 99) ∷ codes "\n" ∷ [])
 
 -- the line of the kind, the units, the sum and the mean
 abbrev pub number_line : Histogram → List ℕ
@@ -56,9 +33,51 @@ number_line hist =
     codes "  " ∷ kind_word hist.spec ∷ codes ", units " ∷ decimal (units_of hist) ∷ codes ", sum "
     ∷ signed_decimal hist.sum ∷ codes ", mean " ∷ mean hist.sum (units_of hist) ∷ codes "\n" ∷ [])
 
+-- whether the units up to a row are so many thousandths of all, or more
+abbrev pub reaches : ℕ → ℕ → HistRow → Bool
+reaches total thousandths row = nat_le (thousandths * total) (1000 * row.up_to)
+
+-- the row that holds a quantile: the first up to which there are so many thousandths of the units; none of no units
+abbrev pub quantile : ℕ → List HistRow → ℕ → Option HistRow
+quantile total rows thousandths = if total == 0 then None else find (reaches total thousandths) rows
+
+-- whether a row has units
+abbrev pub has_units : HistRow → Bool
+has_units row = not (row.units == 0)
+
+-- the values of a row, or none
+abbrev pub range_of_found : Naming → Option HistRow → List ℕ
+range_of_found naming None = codes "none"
+range_of_found naming (Some row) = range_text naming row
+
+-- the line of the quantiles
+abbrev pub quantile_line : Naming → ℕ → List HistRow → List ℕ
+quantile_line naming total rows =
+    joined (
+    codes "  50%: " ∷ range_of_found naming (quantile total rows 500)
+    ∷ codes ", 90%: " ∷ range_of_found naming (quantile total rows 900)
+    ∷ codes ", 99%: " ∷ range_of_found naming (quantile total rows 990)
+    ∷ codes ", 99.9%: " ∷ range_of_found naming (quantile total rows 999) ∷ codes "\n" ∷ [])
+
+-- the line of the first row that has units, and of the last, up to which there are all
+abbrev pub ends_line : Naming → ℕ → List HistRow → List ℕ
+ends_line naming total rows =
+    joined (
+    codes "  least: " ∷ range_of_found naming (find has_units rows)
+    ∷ codes ", greatest: " ∷ range_of_found naming (quantile total rows 1000) ∷ codes "\n" ∷ [])
+
+-- both lines; a boolean histogram has neither
+abbrev pub rank_lines : Naming → ℕ → List HistRow → List ℕ
+rank_lines naming total rows =
+    if is_truth naming then [] else (quantile_line naming total rows ++ ends_line naming total rows)
+
 -- the units of a histogram that no delta has taken
 abbrev pub left_of : Histogram → ℕ
 left_of hist = sum_by (λ i. (get_or hist.counts i (pos 0, 0)).1 - get_or hist.marks i 0) (range_with_len 0 (length hist.counts))
+
+-- whether a delta has taken something: a mark is not 0
+abbrev pub was_taken : Histogram → Bool
+was_taken hist = list_any (λ mark. not (mark == 0)) hist.marks || not (int_eq hist.sum_mark (pos 0))
 
 -- the line of these units and this sum, which no delta has taken
 abbrev pub left_text : ℕ → ℤ → List ℕ
@@ -69,10 +88,14 @@ left_text units sum =
 abbrev pub left_line : Histogram → List ℕ
 left_line hist = left_text (left_of hist) (hist.sum -ℤ hist.sum_mark)
 
+-- the same line, where a delta has taken something
+abbrev pub taken_line : Histogram → List ℕ
+taken_line hist = if was_taken hist then left_line hist else []
+
 -- the lines of all these numbers
 abbrev pub number_lines : Histogram → List ℕ
 number_lines hist =
-    number_line hist ++ quantile_line (is_sparse hist.spec) (units_of hist) (rows_of hist) ++ left_line hist
+    number_line hist ++ rank_lines (naming_of hist.spec) (units_of hist) (rows_of hist) ++ taken_line hist
 
 -- ---- the lines of its rows
 
@@ -80,44 +103,80 @@ number_lines hist =
 abbrev pub most_of : List HistRow → ℕ
 most_of rows = fold (λ most row. max most row.units) 0 rows
 
--- the units of row `i`
-abbrev pub units_at : List HistRow → ℕ → ℕ
-units_at rows i = (get_or rows i (record { low = pos 0; high = pos 0; units = 0; up_to = 0 })).units
+-- row `i`
+abbrev pub row_or_none : List HistRow → ℕ → HistRow
+row_or_none rows i = get_or rows i (record { low = pos 0; high = pos 0; units = 0; up_to = 0 })
 
--- whether row `i` is the first of its run, where it has no units: it is the first of all, or the one before has some
-abbrev pub begins_run : List HistRow → ℕ → Bool
-begins_run rows i = (i == 0) || not (units_at rows (i - 1) == 0)
+-- whether row `i`, which has no line, begins a gap: it is the first of all, or the one before has units; a boolean histogram
+-- has no gap
+abbrev pub begins_gap : Naming → List HistRow → ℕ → Bool
+begins_gap naming rows i = not (is_truth naming) && ((i == 0) || has_units (row_or_none rows (i - 1)))
 
--- the line of a row that has units: its values, its bar, its units, their percent, and the percent up to it
-abbrev pub unit_line : Style → Frame → HistRow → List ℕ
-unit_line style frame row =
+-- a width at which the values of a row fit too, where it has a line
+abbrev pub widened : Naming → ℕ → HistRow → ℕ
+widened naming width row = if has_line naming row then max width (length (range_text naming row)) else width
+
+-- how wide the columns of a histogram are: values and units as wide as they or their heads need, and the bars fill the line
+abbrev pub columns_of : Style → Frame → List HistRow → LineColumns
+columns_of style frame rows =
+    let values = fold (widened frame.naming) 6 rows in
+    let units = max 5 (length (decimal frame.most)) in
+    record { values = values; bars = style.width - values - units - 20; units = units }
+
+-- the heads of the columns
+abbrev pub head_line : LineColumns → List ℕ
+head_line columns =
     joined (
-    at_right 24 (range_text frame.is_sparse row) ∷ codes " " ∷ bar style row.units frame.most
-    ∷ at_right 11 (decimal row.units) ∷ at_right 8 (percent row.units frame.total)
-    ∷ at_right 8 (percent row.up_to frame.total) ∷ codes "\n" ∷ [])
+    codes "  " ∷ at_right columns.values (codes "values") ∷ codes "  " ∷ times columns.bars (codes " ")
+    ∷ at_right columns.units (codes "units") ∷ codes " percent   up to\n" ∷ [])
 
--- the line of row `i`; a run of rows without units has one line together
-abbrev pub line_at : Style → Frame → List HistRow → ℕ → List ℕ
-line_at style frame rows i =
-    if units_at rows i == 0 then (if begins_run rows i then at_right 24 (codes "...") ++ codes "\n" else [])
-    else unit_line style frame (get_or rows i (record { low = pos 0; high = pos 0; units = 0; up_to = 0 }))
+-- the line of a row: its values, its bar, its units, their percent, and the percent up to it
+abbrev pub unit_line : Style → LineColumns → Frame → HistRow → List ℕ
+unit_line style columns frame row =
+    joined (
+    codes "  " ∷ at_right columns.values (range_text frame.naming row) ∷ codes " "
+    ∷ bar style.is_ascii columns.bars (height_of style.is_log row.units) (height_of style.is_log frame.most) ∷ codes " " ∷ at_right columns.units (decimal row.units)
+    ∷ at_right 8 (percent (codes "<0.1%") row.units frame.total)
+    ∷ at_right 8 (percent (codes "<0.1%") row.up_to frame.total) ∷ codes "\n" ∷ [])
 
--- the lines of rows
+-- the line of a gap
+abbrev pub gap_line : LineColumns → List ℕ
+gap_line columns = joined (codes "  " ∷ at_right columns.values (codes "...") ∷ codes "\n" ∷ [])
+
+-- the line of row `i`; rows without lines that stand side by side have the line of a gap together
+abbrev pub line_at : Style → LineColumns → Frame → List HistRow → ℕ → List ℕ
+line_at style columns frame rows i =
+    if has_line frame.naming (row_or_none rows i) then unit_line style columns frame (row_or_none rows i)
+    else (if begins_gap frame.naming rows i then gap_line columns else [])
+
+-- the lines of rows in these columns
+abbrev pub lines_in : Style → LineColumns → Frame → List HistRow → List ℕ
+lines_in style columns frame rows = head_line columns ++ flat_map (line_at style columns frame rows) (range_with_len 0 (length rows))
+
+-- the lines of rows; where there are none, there are no heads either
 abbrev pub row_lines : Style → Frame → List HistRow → List ℕ
-row_lines style frame rows = flat_map (line_at style frame rows) (range_with_len 0 (length rows))
+row_lines style frame rows = if length rows == 0 then [] else lines_in style (columns_of style frame rows) frame rows
+
+-- what a word for so many has at its end
+abbrev pub plural : ℕ → List ℕ
+plural n = if n == 1 then codes "" else codes "s"
+
+-- the line of these rows and units, which are left out
+abbrev pub left_out_text : ℕ → ℕ → List ℕ
+left_out_text rows units =
+    joined (
+    codes "  " ∷ decimal rows ∷ codes " more value" ∷ plural rows ∷ codes ", with " ∷ decimal units ∷ codes " unit"
+    ∷ plural units ∷ codes " in all (--all shows them)\n" ∷ [])
 
 -- the line of the rows that are left out: how many they are, and their units together
 abbrev pub left_out_line : List HistRow → List ℕ
 left_out_line rows =
-    if length rows == 0 then []
-    else joined (
-    codes "  The values that are left out number " ∷ decimal (length rows) ∷ codes ", and have "
-    ∷ decimal (sum_by (λ row. row.units) rows) ∷ codes " units together.\n" ∷ [])
+    if length rows == 0 then [] else left_out_text (length rows) (sum_by (λ row. row.units) rows)
 
 -- what the lines of a histogram have in common
 abbrev pub frame_of : Histogram → Frame
 frame_of hist = record {
-  is_sparse = is_sparse hist.spec;
+  naming = naming_of hist.spec;
   total = units_of hist;
   most = most_of (rows_of hist);
 }

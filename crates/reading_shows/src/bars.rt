@@ -6,7 +6,6 @@ ghost use Rattle.reading_shows.specs.Bars.{marks_of, block, part_of_cell, block_
 
 use crate::columns::{put_bytes, put_times};
 use crate::shares::share;
-use crate::style::Style;
 use std::alloc::AllocError;
 
 // Full cells, as many as the longest bar of a terminal has.
@@ -58,17 +57,18 @@ fn put_sign_bar(text: &mut Vec<u8>, width: u32, signs: u32) -> Result<(), AllocE
     put_bytes(text, width.saturating_sub(signs) as usize, b' ')
 }
 
-// Puts the bar of so many units where the most are these.
+// Puts the bar of so many units where the most are these, in so many cells.
 pub(crate) fn put_bar(
     text: &mut Vec<u8>,
-    style: Style,
+    is_ascii: bool,
+    width: u16,
     units: u64,
     most: u64,
 ) -> Result<(), AllocError>
-    ensures { OnOk result (text.new.items ≡ text.old.items ++ bar style units most) }
+    ensures { OnOk result (text.new.items ≡ text.old.items ++ bar is_ascii width units most) }
 {
-    let width = u32::from(style.width);
-    if style.is_ascii {
+    let width = u32::from(width);
+    if is_ascii {
         put_sign_bar(text, width, marks(units, most, width))
     } else {
         put_block_bar(text, width, marks(units, most, width * 8))

@@ -1,55 +1,33 @@
 //! What stands above the rows of a histogram: its numbers and its quantiles.
 
-ghost use Rattle.std.specs.Prelude.{◌≡◌, ◌<◌, ◌++◌, ◌-◌, ◌-ℤ◌, get_or, OnOk};
-ghost use Rattle.std.specs.List.{find};
+ghost use Rattle.std.specs.Prelude.{◌≡◌, ◌++◌, ◌-◌, ◌-ℤ◌, ◌==◌, not, get_or, OnOk};
+ghost use Rattle.std.specs.List.{find, list_any};
 ghost use Rattle.image_reader.specs.Views.{histogram_view};
 ghost use Rattle.image_reader.specs.Readable.{IsReadable};
 ghost use Rattle.reading_texts.specs.Rows.{rows_of as rows_of_histogram};
-ghost use Rattle.reading_shows.specs.Columns.{at_right};
-ghost use Rattle.reading_shows.specs.Showing.{range_text, reaches as reaches_of, quantile as quantile_of, range_of_found, quantile_line, number_line, number_lines, left_of, left_text, left_line};
+ghost use Rattle.reading_shows.specs.Showing.{reaches as reaches_of, quantile as quantile_of, has_units as has_units_of, range_of_found, quantile_line, ends_line, rank_lines, number_line, number_lines, left_of, was_taken as was_taken_of, left_text, left_line, taken_line};
 
-use crate::columns::{put_at_right, put_bytes};
+use crate::naming::{Naming, is_truth, naming_of, put_range};
 use crate::shares::put_mean;
 use image_reader::HistReading;
 use itoa::Buffer;
-use reading_texts::{HistRow, is_sparse, kind_word, put_parts, units};
+use reading_texts::{HistRow, kind_word, put_parts, units};
 use std::alloc::AllocError;
 
-// Puts the values of a row at the right end of a column behind a text.
-pub(crate) fn put_range(
-    text: &mut Vec<u8>,
-    width: usize,
-    is_sparse: bool,
-    row: &HistRow,
-) -> Result<(), AllocError>
-    ensures { OnOk result (text.new.items ≡ text.old.items ++ at_right width (range_text is_sparse row.now)) }
-{
-    let mut low = Buffer::new();
-    let low = low.format(row.low).as_bytes();
-    if is_sparse {
-        return put_at_right(text, width, low);
-    }
-    let mut high = Buffer::new();
-    let high = high.format(row.high).as_bytes();
-    let len = low.len() + high.len() + 4;
-    put_bytes(text, width.saturating_sub(len), b' ')?;
-    put_parts(text, &[b"[", low, b", ", high, b")"])
-}
-
-// Whether the units up to a row are so many percent of all, or more.
-fn reaches(total: u64, hundredths: u32, row: &HistRow) -> bool
-    ensures { result ≡ reaches_of total hundredths row.now }
+// Whether the units up to a row are so many thousandths of all, or more.
+fn reaches(total: u64, thousandths: u32, row: &HistRow) -> bool
+    ensures { result ≡ reaches_of total thousandths row.now }
 {
     let up_to = row.up_to;
-    u128::from(hundredths) * u128::from(total) <= 100 * u128::from(up_to)
+    u128::from(thousandths) * u128::from(total) <= 1000 * u128::from(up_to)
 }
 
-// The first row up to which there are so many percent of all units.
-fn first_reaching(total: u64, rows: &[HistRow], hundredths: u32) -> Option<HistRow>
-    ensures { result ≡ find (reaches_of total hundredths) rows.now }
+// The first row up to which there are so many thousandths of all units.
+fn first_reaching(total: u64, rows: &[HistRow], thousandths: u32) -> Option<HistRow>
+    ensures { result ≡ find (reaches_of total thousandths) rows.now }
 {
     for row in rows {
-        if reaches(total, hundredths, row) {
+        if reaches(total, thousandths, row) {
             return Some(*row);
         }
     }
@@ -57,27 +35,40 @@ fn first_reaching(total: u64, rows: &[HistRow], hundredths: u32) -> Option<HistR
 }
 
 // The row that holds a quantile; none of no units.
-fn quantile(total: u64, rows: &[HistRow], hundredths: u32) -> Option<HistRow>
-    ensures { result ≡ quantile_of total rows.now hundredths }
+fn quantile(total: u64, rows: &[HistRow], thousandths: u32) -> Option<HistRow>
+    ensures { result ≡ quantile_of total rows.now thousandths }
 {
     if total == 0 {
         return None;
     }
-    first_reaching(total, rows, hundredths)
+    first_reaching(total, rows, thousandths)
 }
 
-// Puts the values of the row that holds a quantile.
-fn put_quantile(
-    text: &mut Vec<u8>,
-    is_sparse: bool,
-    total: u64,
-    rows: &[HistRow],
-    hundredths: u32,
-) -> Result<(), AllocError>
-    ensures { OnOk result (text.new.items ≡ text.old.items ++ range_of_found is_sparse (quantile_of total rows.now hundredths)) }
+// Whether a row has units.
+fn has_units(row: &HistRow) -> bool
+    ensures { result ≡ has_units_of row.now }
 {
-    match quantile(total, rows, hundredths) {
-        Some(row) => put_range(text, 0, is_sparse, &row),
+    row.units != 0
+}
+
+// The first row that has units.
+fn least(rows: &[HistRow]) -> Option<HistRow>
+    ensures { result ≡ find has_units_of rows.now }
+{
+    for row in rows {
+        if has_units(row) {
+            return Some(*row);
+        }
+    }
+    None
+}
+
+// Puts the values of a row, or none.
+fn put_found(text: &mut Vec<u8>, naming: Naming, found: Option<HistRow>) -> Result<(), AllocError>
+    ensures { OnOk result (text.new.items ≡ text.old.items ++ range_of_found naming found) }
+{
+    match found {
+        Some(row) => put_range(text, naming, &row),
         None => text.extend_from_slice(b"none"),
     }
 }
@@ -85,20 +76,55 @@ fn put_quantile(
 // Puts the line of the quantiles.
 fn put_quantiles(
     text: &mut Vec<u8>,
-    is_sparse: bool,
+    naming: Naming,
     total: u64,
     rows: &[HistRow],
 ) -> Result<(), AllocError>
-    ensures { OnOk result (text.new.items ≡ text.old.items ++ quantile_line is_sparse total rows.now) }
+    ensures { OnOk result (text.new.items ≡ text.old.items ++ quantile_line naming total rows.now) }
 {
     text.extend_from_slice(b"  50%: ")?;
-    put_quantile(text, is_sparse, total, rows, 50)?;
+    put_found(text, naming, quantile(total, rows, 500))?;
     text.extend_from_slice(b", 90%: ")?;
-    put_quantile(text, is_sparse, total, rows, 90)?;
+    put_found(text, naming, quantile(total, rows, 900))?;
     text.extend_from_slice(b", 99%: ")?;
-    put_quantile(text, is_sparse, total, rows, 99)?;
+    put_found(text, naming, quantile(total, rows, 990))?;
+    text.extend_from_slice(b", 99.9%: ")?;
+    put_found(text, naming, quantile(total, rows, 999))?;
     text.extend_from_slice(b"\n")?;
     Ok(())
+}
+
+// Puts the line of the first row that has units, and of the last.
+fn put_ends(
+    text: &mut Vec<u8>,
+    naming: Naming,
+    total: u64,
+    rows: &[HistRow],
+) -> Result<(), AllocError>
+    ensures { OnOk result (text.new.items ≡ text.old.items ++ ends_line naming total rows.now) }
+{
+    text.extend_from_slice(b"  least: ")?;
+    put_found(text, naming, least(rows))?;
+    text.extend_from_slice(b", greatest: ")?;
+    put_found(text, naming, quantile(total, rows, 1000))?;
+    text.extend_from_slice(b"\n")?;
+    Ok(())
+}
+
+// Puts both lines, but of a boolean histogram.
+fn put_ranks(
+    text: &mut Vec<u8>,
+    naming: Naming,
+    total: u64,
+    rows: &[HistRow],
+) -> Result<(), AllocError>
+    ensures { OnOk result (text.new.items ≡ text.old.items ++ rank_lines naming total rows.now) }
+{
+    if is_truth(naming) {
+        return Ok(());
+    }
+    put_quantiles(text, naming, total, rows)?;
+    put_ends(text, naming, total, rows)
 }
 
 // Puts the line of the kind, the units, the sum and the mean.
@@ -173,12 +199,42 @@ fn put_left_text(text: &mut Vec<u8>, units: u64, sum: i128) -> Result<(), AllocE
     )
 }
 
+// Whether a mark is not 0.
+fn has_mark(marks: &[u64]) -> bool
+    ensures { result ≡ list_any (λ mark. not (mark == 0)) marks.now }
+{
+    for mark in marks {
+        if *mark != 0 {
+            return true;
+        }
+    }
+    false
+}
+
+// Whether a delta has taken something of a histogram.
+fn was_taken(hist: &HistReading) -> bool
+    ensures { result ≡ was_taken_of (histogram_view hist.now) }
+{
+    has_mark(hist.marks.as_slice()) || hist.sum_mark != 0
+}
+
 // Puts the line of what no delta has taken.
 fn put_left(text: &mut Vec<u8>, hist: &HistReading) -> Result<(), AllocError>
     requires { IsReadable (histogram_view hist.now) }
     ensures { OnOk result (text.new.items ≡ text.old.items ++ left_line (histogram_view hist.now)) }
 {
     put_left_text(text, left(hist), sum_left(hist.sum, hist.sum_mark))
+}
+
+// Puts the same line, where a delta has taken something.
+fn put_taken(text: &mut Vec<u8>, hist: &HistReading) -> Result<(), AllocError>
+    requires { IsReadable (histogram_view hist.now) }
+    ensures { OnOk result (text.new.items ≡ text.old.items ++ taken_line (histogram_view hist.now)) }
+{
+    if was_taken(hist) {
+        put_left(text, hist)?;
+    }
+    Ok(())
 }
 
 // Puts the lines of all numbers of a histogram, which has these rows.
@@ -192,6 +248,7 @@ pub(crate) fn put_numbers(
     ensures { OnOk result (text.new.items ≡ text.old.items ++ number_lines (histogram_view hist.now)) }
 {
     put_number_line(text, hist)?;
-    put_quantiles(text, is_sparse(&hist.spec), units(hist), rows)?;
-    put_left(text, hist)
+    put_ranks(text, naming_of(&hist.spec), units(hist), rows)?;
+    put_taken(text, hist)?;
+    Ok(())
 }

@@ -1,16 +1,20 @@
 //! The lines of the rows of a histogram.
 
-ghost use Rattle.std.specs.Prelude.{◌≡◌, ◌<◌, ◌^◌, ◌++◌, length, sum_by, OnOk};
-ghost use Rattle.reading_shows.specs.Showing.{most_of, begins_run as begins_run_of, unit_line, line_at, row_lines, left_out_line};
+ghost use Rattle.std.specs.Prelude.{◌≡◌, ◌<◌, ◌^◌, ◌++◌, length, sum_by, IfOk, OnOk};
+ghost use Rattle.std.specs.List.{fold};
+ghost use Rattle.reading_shows.specs.Columns.{at_right};
+ghost use Rattle.reading_shows.specs.Naming.{range_text};
+ghost use Rattle.reading_shows.specs.Showing.{most_of, begins_gap as begins_gap_of, widened, columns_of as columns_of_rows, head_line, unit_line, gap_line, line_at, lines_in, row_lines, plural as plural_of, left_out_text, left_out_line};
 
 use crate::bars::put_bar;
-use crate::columns::put_at_right;
-use crate::heading::put_range;
+use crate::columns::{put_at_right, put_bytes};
+use crate::heights::height_of;
+use crate::naming::{Naming, has_line, is_truth, put_range};
 use crate::shares::put_percent;
-use crate::style::{Frame, Style};
+use crate::style::{Frame, LineColumns, Style};
 use itoa::Buffer;
 use reading_texts::{HistRow, put_parts};
-use std::alloc::AllocError;
+use std::alloc::{AllocError, Global};
 
 // The most units that a row has.
 pub(crate) fn most(rows: &[HistRow]) -> u64
@@ -23,57 +27,160 @@ pub(crate) fn most(rows: &[HistRow]) -> u64
     most
 }
 
-// Whether row `i` is the first of its run, where it has no units.
-pub(crate) fn begins_run(rows: &[HistRow], i: usize) -> bool
+// Whether row `i`, which has no line, begins a gap.
+pub(crate) fn begins_gap(naming: Naming, rows: &[HistRow], i: usize) -> bool
     requires { i < length rows.now }
-    ensures { result ≡ begins_run_of rows.now i }
+    ensures { result ≡ begins_gap_of naming rows.now i }
 {
-    i == 0 || rows[i - 1].units != 0
+    !is_truth(naming) && (i == 0 || rows[i - 1].units != 0)
 }
 
-// Puts the line of a row that has units.
+// How wide the values of rows are that have lines, and their head. They are written to `room`, to see how long they are.
+fn values_width(room: &mut Vec<u8>, naming: Naming, rows: &[HistRow]) -> Result<usize, AllocError>
+    ensures { IfOk result (λ width. width ≡ fold (widened naming) 6 rows.now) }
+{
+    let mut width = 6;
+    for row in rows {
+        if has_line(naming, row) {
+            room.clear();
+            put_range(room, naming, row)?;
+            width = width.max(room.len());
+        }
+    }
+    Ok(width)
+}
+
+// How wide the columns of a histogram are.
+fn columns_of(
+    room: &mut Vec<u8>,
+    style: Style,
+    frame: Frame,
+    rows: &[HistRow],
+) -> Result<LineColumns, AllocError>
+    ensures { IfOk result (λ columns. columns ≡ columns_of_rows style frame rows.now) }
+{
+    let values = values_width(room, frame.naming, rows)?;
+    let mut most = Buffer::new();
+    let units = most.format(frame.most).len().max(5);
+    let width = usize::from(style.width);
+    let bars = width
+        .saturating_sub(values)
+        .saturating_sub(units)
+        .saturating_sub(20);
+    Ok(LineColumns {
+        values,
+        bars: bars as u16,
+        units,
+    })
+}
+
+// Puts the heads of the columns.
+fn put_head_line(text: &mut Vec<u8>, columns: LineColumns) -> Result<(), AllocError>
+    ensures { OnOk result (text.new.items ≡ text.old.items ++ head_line columns) }
+{
+    text.extend_from_slice(b"  ")?;
+    put_at_right(text, columns.values, b"values")?;
+    text.extend_from_slice(b"  ")?;
+    put_bytes(text, usize::from(columns.bars), b' ')?;
+    put_at_right(text, columns.units, b"units")?;
+    text.extend_from_slice(b" percent   up to\n")?;
+    Ok(())
+}
+
+// Puts the values of a row at the right end of a column. They are written to `room` first, to see how long they are.
+fn put_values(
+    text: &mut Vec<u8>,
+    room: &mut Vec<u8>,
+    width: usize,
+    naming: Naming,
+    row: &HistRow,
+) -> Result<(), AllocError>
+    ensures { OnOk result (text.new.items ≡ text.old.items ++ at_right width (range_text naming row.now)) }
+{
+    room.clear();
+    put_range(room, naming, row)?;
+    put_at_right(text, width, room.as_slice())
+}
+
+// Puts the line of a row.
 fn put_units(
     text: &mut Vec<u8>,
+    room: &mut Vec<u8>,
     style: Style,
+    columns: LineColumns,
     frame: Frame,
     row: &HistRow,
 ) -> Result<(), AllocError>
-    ensures { OnOk result (text.new.items ≡ text.old.items ++ unit_line style frame row.now) }
+    ensures { OnOk result (text.new.items ≡ text.old.items ++ unit_line style columns frame row.now) }
 {
-    put_range(text, 24, frame.is_sparse, row)?;
+    text.extend_from_slice(b"  ")?;
+    put_values(text, room, columns.values, frame.naming, row)?;
     text.push(b' ')?;
-    put_bar(text, style, row.units, frame.most)?;
+    let height = height_of(style.is_log, row.units);
+    let most = height_of(style.is_log, frame.most);
+    put_bar(text, style.is_ascii, columns.bars, height, most)?;
+    text.push(b' ')?;
     let mut units = Buffer::new();
-    put_at_right(text, 11, units.format(row.units).as_bytes())?;
-    put_percent(text, 8, row.units, frame.total)?;
-    put_percent(text, 8, row.up_to, frame.total)?;
+    put_at_right(text, columns.units, units.format(row.units).as_bytes())?;
+    put_percent(text, b"<0.1%", 8, row.units, frame.total)?;
+    put_percent(text, b"<0.1%", 8, row.up_to, frame.total)?;
     text.push(b'\n')?;
     Ok(())
 }
 
-// Puts the line of row `i`; only the first row of a run without units has one.
+// Puts the line of a gap.
+fn put_gap(text: &mut Vec<u8>, columns: LineColumns) -> Result<(), AllocError>
+    ensures { OnOk result (text.new.items ≡ text.old.items ++ gap_line columns) }
+{
+    text.extend_from_slice(b"  ")?;
+    put_at_right(text, columns.values, b"...")?;
+    text.push(b'\n')?;
+    Ok(())
+}
+
+// Puts the line of row `i`; of those without lines only the first of a gap has one.
 fn put_row(
     text: &mut Vec<u8>,
+    room: &mut Vec<u8>,
     style: Style,
+    columns: LineColumns,
     frame: Frame,
     rows: &[HistRow],
     i: usize,
 ) -> Result<(), AllocError>
     requires { i < length rows.now }
-    ensures { OnOk result (text.new.items ≡ text.old.items ++ line_at style frame rows.now i) }
+    ensures { OnOk result (text.new.items ≡ text.old.items ++ line_at style columns frame rows.now i) }
 {
-    if rows[i].units != 0 {
-        return put_units(text, style, frame, &rows[i]);
+    if has_line(frame.naming, &rows[i]) {
+        return put_units(text, room, style, columns, frame, &rows[i]);
     }
-    if begins_run(rows, i) {
-        put_at_right(text, 24, b"...")?;
-        text.push(b'\n')?;
+    if begins_gap(frame.naming, rows, i) {
+        put_gap(text, columns)?;
+    }
+    Ok(())
+}
+
+// Puts the lines of rows in these columns.
+fn put_lines(
+    text: &mut Vec<u8>,
+    room: &mut Vec<u8>,
+    style: Style,
+    columns: LineColumns,
+    frame: Frame,
+    rows: &[HistRow],
+) -> Result<(), AllocError>
+    ensures { OnOk result (text.new.items ≡ text.old.items ++ lines_in style columns frame rows.now) }
+{
+    put_head_line(text, columns)?;
+    for i in 0..rows.len() {
+        put_row(text, room, style, columns, frame, rows, i)?;
     }
     Ok(())
 }
 
 // Puts the lines of rows.
 pub(crate) fn put_rows(
+    alloc: Global,
     text: &mut Vec<u8>,
     style: Style,
     frame: Frame,
@@ -81,10 +188,12 @@ pub(crate) fn put_rows(
 ) -> Result<(), AllocError>
     ensures { OnOk result (text.new.items ≡ text.old.items ++ row_lines style frame rows.now) }
 {
-    for i in 0..rows.len() {
-        put_row(text, style, frame, rows, i)?;
+    if rows.is_empty() {
+        return Ok(());
     }
-    Ok(())
+    let mut room = Vec::new(alloc);
+    let columns = columns_of(&mut room, style, frame, rows)?;
+    put_lines(text, &mut room, style, columns, frame, rows)
 }
 
 // The units of rows together.
@@ -95,6 +204,35 @@ fn units_together(rows: &[HistRow]) -> u64
     rows.iter().map(|row| row.units).sum()
 }
 
+// What a word for so many has at its end.
+fn plural(n: u64) -> &'static [u8]
+    ensures { result.now ≡ plural_of n }
+{
+    if n == 1 { b"" } else { b"s" }
+}
+
+// Puts the line of these rows and units, which are left out.
+fn put_left_out_text(text: &mut Vec<u8>, rows: u64, units: u64) -> Result<(), AllocError>
+    ensures { OnOk result (text.new.items ≡ text.old.items ++ left_out_text rows units) }
+{
+    let mut row_digits = Buffer::new();
+    let mut unit_digits = Buffer::new();
+    put_parts(
+        text,
+        &[
+            b"  ",
+            row_digits.format(rows).as_bytes(),
+            b" more value",
+            plural(rows),
+            b", with ",
+            unit_digits.format(units).as_bytes(),
+            b" unit",
+            plural(units),
+            b" in all (--all shows them)\n",
+        ],
+    )
+}
+
 // Puts the line of the rows that are left out.
 pub(crate) fn put_left_out(text: &mut Vec<u8>, rows: &[HistRow]) -> Result<(), AllocError>
     requires { sum_by (λ row. row.units) rows.now < 2 ^ 64 }
@@ -103,16 +241,5 @@ pub(crate) fn put_left_out(text: &mut Vec<u8>, rows: &[HistRow]) -> Result<(), A
     if rows.is_empty() {
         return Ok(());
     }
-    let mut count = Buffer::new();
-    let mut units = Buffer::new();
-    put_parts(
-        text,
-        &[
-            b"  The values that are left out number ",
-            count.format(rows.len()).as_bytes(),
-            b", and have ",
-            units.format(units_together(rows)).as_bytes(),
-            b" units together.\n",
-        ],
-    )
+    put_left_out_text(text, rows.len() as u64, units_together(rows))
 }

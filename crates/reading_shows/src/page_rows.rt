@@ -4,8 +4,8 @@ ghost use Rattle.std.specs.Prelude.{◌≡◌, ◌<◌, ◌++◌, length, OnOk};
 ghost use Rattle.reading_shows.specs.PageRows.{drawn_bar, unit_row, row_in_page, rows_in_page};
 
 use crate::bars::marks;
-use crate::heading::put_range;
-use crate::lines::begins_run;
+use crate::lines::begins_gap;
+use crate::naming::{has_line, put_range};
 use crate::shares::put_percent;
 use crate::style::Frame;
 use itoa::Buffer;
@@ -27,12 +27,12 @@ fn put_drawn_bar(text: &mut Vec<u8>, units: u64, most: u64) -> Result<(), AllocE
     )
 }
 
-// Puts the row of a bucket that has units, or of a value.
+// Puts the row of a bucket or of a value.
 fn put_units(text: &mut Vec<u8>, frame: Frame, row: &HistRow) -> Result<(), AllocError>
     ensures { OnOk result (text.new.items ≡ text.old.items ++ unit_row frame row.now) }
 {
     text.extend_from_slice(b"<tr><td>")?;
-    put_range(text, 0, frame.is_sparse, row)?;
+    put_range(text, frame.naming, row)?;
     text.extend_from_slice(b"</td><td>")?;
     put_drawn_bar(text, row.units, frame.most)?;
     let mut units = Buffer::new();
@@ -44,22 +44,22 @@ fn put_units(text: &mut Vec<u8>, frame: Frame, row: &HistRow) -> Result<(), Allo
             b"</td><td>",
         ],
     )?;
-    put_percent(text, 0, row.units, frame.total)?;
+    put_percent(text, b"&lt;0.1%", 0, row.units, frame.total)?;
     text.extend_from_slice(b"</td><td>")?;
-    put_percent(text, 0, row.up_to, frame.total)?;
+    put_percent(text, b"&lt;0.1%", 0, row.up_to, frame.total)?;
     text.extend_from_slice(b"</td></tr>\n")?;
     Ok(())
 }
 
-// Puts row `i`; only the first row of a run without units is there.
+// Puts row `i`; of those without one only the first of a gap is there.
 fn put_row(text: &mut Vec<u8>, frame: Frame, rows: &[HistRow], i: usize) -> Result<(), AllocError>
     requires { i < length rows.now }
     ensures { OnOk result (text.new.items ≡ text.old.items ++ row_in_page frame rows.now i) }
 {
-    if rows[i].units != 0 {
+    if has_line(frame.naming, &rows[i]) {
         return put_units(text, frame, &rows[i]);
     }
-    if begins_run(rows, i) {
+    if begins_gap(frame.naming, rows, i) {
         text.extend_from_slice(b"<tr><td>...</td></tr>\n")?;
     }
     Ok(())

@@ -1,10 +1,10 @@
 //! Shares, percents and means, in whole numbers.
 
-ghost use Rattle.std.specs.Prelude.{◌≡◌, ◌<◌, ◌+◌, ◌*◌, ◌++◌, IfSome, OnOk};
+ghost use Rattle.std.specs.Prelude.{◌≡◌, ◌<◌, ◌+◌, ◌*◌, ◌^◌, ◌++◌, codes, IfSome, OnOk};
 ghost use Rattle.reading_shows.specs.Columns.{at_right};
-ghost use Rattle.reading_shows.specs.Shares.{share_of, size_of_mean, mean, percent};
+ghost use Rattle.reading_shows.specs.Shares.{share_of, tenths as tenths_of, digits_of_mean, with_point, size_of_mean, sign, mean_of_some, mean, percent};
 
-use crate::columns::put_bytes;
+use crate::columns::{put_at_right, put_bytes};
 use itoa::Buffer;
 use reading_texts::put_parts;
 use std::alloc::AllocError;
@@ -29,16 +29,10 @@ pub(crate) fn share(part: u64, whole: u64, shares: u32, added: u64) -> u128
     }
 }
 
-// Puts a part in percent, to the nearest tenth, at the right end of a column behind a text.
-pub(crate) fn put_percent(
-    text: &mut Vec<u8>,
-    width: usize,
-    part: u64,
-    whole: u64,
-) -> Result<(), AllocError>
-    ensures { OnOk result (text.new.items ≡ text.old.items ++ at_right width (percent part whole)) }
+// Puts so many tenths of a percent at the right end of a column behind a text.
+fn put_tenths(text: &mut Vec<u8>, width: usize, tenths: u128) -> Result<(), AllocError>
+    ensures { OnOk result (text.new.items ≡ text.old.items ++ at_right width (tenths_of tenths ++ codes "%")) }
 {
-    let tenths = share(part, whole, 1000, whole / 2);
     let mut before = Buffer::new();
     let mut behind = Buffer::new();
     let before = before.format(tenths / 10).as_bytes();
@@ -48,27 +42,117 @@ pub(crate) fn put_percent(
     put_parts(text, &[before, b".", behind, b"%"])
 }
 
-// Puts the size of a sum over so many units, to the tenth below.
+// Puts a part in percent, to the nearest tenth, at the right end of a column behind a text. `tiny` is how the text writes that a
+// part is below 0.1%.
+pub(crate) fn put_percent(
+    text: &mut Vec<u8>,
+    tiny: &[u8],
+    width: usize,
+    part: u64,
+    whole: u64,
+) -> Result<(), AllocError>
+    ensures { OnOk result (text.new.items ≡ text.old.items ++ at_right width (percent tiny.now part whole)) }
+{
+    let tenths = share(part, whole, 1000, whole / 2);
+    if part > 0 && tenths == 0 {
+        put_at_right(text, width, tiny)
+    } else if part < whole && tenths == 1000 {
+        put_at_right(text, width, b">99.9%")
+    } else {
+        put_tenths(text, width, tenths)
+    }
+}
+
+// A size with a point before so many of its last digits: so many digits, ten to the power of their number, and the size times that.
+#[derive(Clone, Copy, Debug, PartialEq, Eq)]
+struct Scaled {
+    digits: usize,
+    power: u128,
+    size: u128,
+}
+
+// A size with as many digits after its point as a mean over so many units has.
+fn scale(size: u64, units: u64) -> Scaled
+    requires { 0 < size }
+    ensures digits { result.digits ≡ digits_of_mean size units }
+    ensures power { result.power ≡ 10 ^ result.digits }
+    ensures size { result.size ≡ size * 10 ^ result.digits }
+{
+    let wanted = 100 * u128::from(units);
+    let mut power = 1;
+    let mut scaled = u128::from(size);
+    for digits in 0..23 {
+        if wanted <= scaled {
+            return Scaled {
+                digits,
+                power,
+                size: scaled,
+            };
+        }
+        power *= 10;
+        scaled *= 10;
+    }
+    Scaled {
+        digits: 0,
+        power: 1,
+        size: u128::from(size),
+    }
+}
+
+// Puts digits, of which so many stand after the point; `power` is ten to the power of that number.
+fn put_with_point(text: &mut Vec<u8>, digits: usize, power: u128, n: u128) -> Result<(), AllocError>
+    requires { power ≡ 10 ^ digits }
+    ensures { OnOk result (text.new.items ≡ text.old.items ++ with_point digits n) }
+{
+    let mut before = Buffer::new();
+    if digits == 0 {
+        return text.extend_from_slice(before.format(n).as_bytes());
+    }
+    let mut behind = Buffer::new();
+    let behind = behind.format(n % power).as_bytes();
+    put_parts(text, &[before.format(n / power).as_bytes(), b"."])?;
+    put_bytes(text, digits.saturating_sub(behind.len()), b'0')?;
+    text.extend_from_slice(behind)
+}
+
+// Puts the size of a sum over so many units, with three digits that count.
 fn put_size_of_mean(text: &mut Vec<u8>, size: u64, units: u64) -> Result<(), AllocError>
     requires { 0 < units }
     ensures { OnOk result (text.new.items ≡ text.old.items ++ size_of_mean size units) }
 {
-    let mut before = Buffer::new();
-    let mut behind = Buffer::new();
-    let before = before.format(size / units).as_bytes();
-    let behind = behind.format(share(size % units, units, 10, 0)).as_bytes();
-    put_parts(text, &[before, b".", behind])
+    if size == 0 {
+        return text.extend_from_slice(b"0");
+    }
+    let mean = scale(size, units);
+    put_with_point(text, mean.digits, mean.power, mean.size / u128::from(units))
 }
 
-// Puts a sum over so many units, cut to a tenth toward 0; none of no units.
+// Puts the sign of a sum that is below 0.
+fn put_sign(text: &mut Vec<u8>, sum: i64) -> Result<(), AllocError>
+    ensures { OnOk result (text.new.items ≡ text.old.items ++ sign sum) }
+{
+    if sum < 0 {
+        text.push(b'-')?;
+    }
+    Ok(())
+}
+
+// Puts a sum over so many units.
+fn put_mean_of_some(text: &mut Vec<u8>, sum: i64, units: u64) -> Result<(), AllocError>
+    requires { 0 < units }
+    ensures { OnOk result (text.new.items ≡ text.old.items ++ mean_of_some sum units) }
+{
+    put_sign(text, sum)?;
+    put_size_of_mean(text, sum.unsigned_abs(), units)?;
+    Ok(())
+}
+
+// Puts a sum over so many units; none of no units.
 pub(crate) fn put_mean(text: &mut Vec<u8>, sum: i64, units: u64) -> Result<(), AllocError>
     ensures { OnOk result (text.new.items ≡ text.old.items ++ mean sum units) }
 {
     if units == 0 {
         return text.extend_from_slice(b"none");
     }
-    if sum < 0 {
-        text.push(b'-')?;
-    }
-    put_size_of_mean(text, sum.unsigned_abs(), units)
+    put_mean_of_some(text, sum, units)
 }

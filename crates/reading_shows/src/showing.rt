@@ -32,7 +32,13 @@ fn put_histogram(
     text.extend_from_slice(b"\n")?;
     put_numbers(text, hist, rows)?;
     let picked = pick(alloc, shows_all_of(style.shows_all, hist), rows)?;
-    put_rows(text, style, frame_of(hist, rows), picked.shown.as_slice())?;
+    put_rows(
+        alloc,
+        text,
+        style,
+        frame_of(hist, rows),
+        picked.shown.as_slice(),
+    )?;
     put_left_out(text, picked.left_out.as_slice())?;
     text.extend_from_slice(b"\n")?;
     Ok(())

@@ -7,16 +7,19 @@ ghost use Rattle.reading_texts.specs.Rows.{rows_of as rows_of_histogram};
 ghost use Rattle.reading_shows.specs.Showing.{frame_of as frame_of_histogram, shows_all_of as shows_all_of_histogram};
 
 use crate::lines::most;
+use crate::naming::{Naming, naming_of};
 use image_reader::HistReading;
 use reading_texts::{HistRow, is_sparse, units};
 
 /// How a histogram is drawn.
 #[derive(Clone, Copy, Debug, PartialEq, Eq)]
 pub struct Style {
-    /// The cells of the bar of the bucket that has the most units.
+    /// The cells of a line, where its values and numbers leave room for a bar.
     pub width: u16,
     /// Whether bars are made of `#`, and not of blocks in eighths of a cell.
     pub is_ascii: bool,
+    /// Whether bars are in proportion to the logarithms of units, and not to the units.
+    pub is_log: bool,
     /// Whether a line may stand for each value of a sparse histogram, and not only for the 20 with the most units.
     pub shows_all: bool,
 }
@@ -24,12 +27,23 @@ pub struct Style {
 // What the rows of a histogram have in common.
 #[derive(Clone, Copy, Debug, PartialEq, Eq)]
 pub(crate) struct Frame {
-    // Whether a row is one value, and no range.
-    pub(crate) is_sparse: bool,
+    // How the values of a row are written.
+    pub(crate) naming: Naming,
     // The units of all rows.
     pub(crate) total: u64,
     // Those of the row that has the most.
     pub(crate) most: u64,
+}
+
+// How wide the columns of a histogram are.
+#[derive(Clone, Copy, Debug, PartialEq, Eq)]
+pub(crate) struct LineColumns {
+    // The column of the values.
+    pub(crate) values: usize,
+    // The longest bar.
+    pub(crate) bars: u16,
+    // The column of the units.
+    pub(crate) units: usize,
 }
 
 // What the rows of a histogram have in common, which are these.
@@ -39,7 +53,7 @@ pub(crate) fn frame_of(hist: &HistReading, rows: &[HistRow]) -> Frame
     ensures { result ≡ frame_of_histogram (histogram_view hist.now) }
 {
     Frame {
-        is_sparse: is_sparse(&hist.spec),
+        naming: naming_of(&hist.spec),
         total: units(hist),
         most: most(rows),
     }

@@ -4,4 +4,4 @@ use Rattle.reading_shows.specs.Showing.{reaches}
 use Rattle.reading_shows.proofs.heading.first_reaching.Given as goal
 
 abbrev pub invariant-loop-row : goal.invariant-loop-row
-invariant-loop-row l = find (reaches l.total l.hundredths) (take l.row-index l.rows) ≡ None
+invariant-loop-row l = find (reaches l.total l.thousandths) (take l.row-index l.rows) ≡ None

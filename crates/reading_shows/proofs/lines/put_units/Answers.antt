@@ -1,11 +1,12 @@
-use Rattle.std.proofs.Common.{[], ◌∷◌}
+use Rattle.std.proofs.Common.{[], ◌∷◌, ◌++◌}
 use Rattle.std.specs.Prelude.{codes}
 use Rattle.std.specs.Fmt.{decimal}
 use Rattle.reading_texts.proofs.Adding.{joined-more}
 use Rattle.reading_shows.specs.Bars.{bar}
 use Rattle.reading_shows.specs.Columns.{at_right}
+use Rattle.reading_shows.specs.Heights.{height_of}
+use Rattle.reading_shows.specs.Naming.{range_text}
 use Rattle.reading_shows.specs.Shares.{percent}
-use Rattle.reading_shows.specs.Showing.{range_text}
 use Rattle.reading_shows.proofs.Cells.{joined-begun}
 use Rattle.reading_shows.proofs.lines.put_units.Goals as goal
 
@@ -14,16 +15,20 @@ returns c =
     let first = c.args.text.now.items in
     let row = c.args.row.now in
     let frame = c.args.frame in
-    let range = at_right 24 (range_text frame.is_sparse row) in
-    let drawn = bar c.args.style row.units frame.most in
-    let units = at_right 11 (decimal row.units) in
-    let share = at_right 8 (percent row.units frame.total) in
-    let up_to = at_right 8 (percent row.up_to frame.total) in
+    let columns = c.args.columns in
+    let values = at_right columns.values (range_text frame.naming row) in
+    let drawn = bar c.args.style.is_ascii columns.bars (height_of c.args.style.is_log row.units) (height_of c.args.style.is_log frame.most) in
+    let high = rw (c.height_of-height.ensures, c.height_of-most.ensures) at c.in_ok-put_bar.ensures in
+    let units = at_right columns.units (decimal row.units) in
+    let share = at_right 8 (percent (codes "<0.1%") row.units frame.total) in
+    let up_to = at_right 8 (percent (codes "<0.1%") row.up_to frame.total) in
     let counted = rw (c.as_bytes.ensures.value, c.format.ensures.text) at c.in_ok-put_at_right.ensures in
-    let a = joined-begun first range c.in_ok-put_range.ensures in
-    let b = joined-more first (range ∷ []) (codes " ") a c.in_ok-push.ensures.items in
-    let d = joined-more first (range ∷ codes " " ∷ []) drawn b c.in_ok-put_bar.ensures in
-    let e = joined-more first (range ∷ codes " " ∷ drawn ∷ []) units d counted in
-    let f = joined-more first (range ∷ codes " " ∷ drawn ∷ units ∷ []) share e c.in_ok-put_percent.ensures in
-    let g = joined-more first (range ∷ codes " " ∷ drawn ∷ units ∷ share ∷ []) up_to f c.in_ok-put_percent-2.ensures in
-    joined-more first (range ∷ codes " " ∷ drawn ∷ units ∷ share ∷ up_to ∷ []) (codes "\n") g c.in_ok-push-2.ensures.items
+    let begun = codes "  " ∷ values ∷ [] in
+    let barred = begun ++ codes " " ∷ drawn ∷ [] in
+    let numbered = barred ++ codes " " ∷ units ∷ [] in
+    let a = joined-more first (codes "  " ∷ []) values (joined-begun first (codes "  ") c.in_ok-extend_from_slice.ensures.items) c.in_ok-put_values.ensures in
+    let b = joined-more first (begun ++ codes " " ∷ []) drawn (joined-more first begun (codes " ") a c.in_ok-push.ensures.items) high in
+    let d = joined-more first (barred ++ codes " " ∷ []) units (joined-more first barred (codes " ") b c.in_ok-push-2.ensures.items) counted in
+    let e = joined-more first numbered share d c.in_ok-put_percent.ensures in
+    let f = joined-more first (numbered ++ share ∷ []) up_to e c.in_ok-put_percent-2.ensures in
+    joined-more first (numbered ++ share ∷ up_to ∷ []) (codes "\n") f c.in_ok-push-3.ensures.items

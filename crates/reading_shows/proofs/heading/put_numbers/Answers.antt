@@ -1,0 +1,19 @@
+use Rattle.std.proofs.Common.{◌≡◌, ◌∙◌, ◌++◌, ap}
+use Rattle.image_reader.specs.Views.{histogram_view}
+use Rattle.reading_texts.proofs.Adding.{written-both}
+use Rattle.reading_texts.specs.Rows.{rows_of, units_of}
+use Rattle.reading_shows.specs.Naming.{naming_of}
+use Rattle.reading_shows.specs.Showing.{number_line, rank_lines, taken_line}
+use Rattle.reading_shows.proofs.heading.put_numbers.Goals as goal
+
+pub returns : goal.returns
+returns c =
+    let first = c.args.text.now.items in
+    let hist = histogram_view c.args.hist.now in
+    let ranks = rank_lines (naming_of hist.spec) (units_of hist) (rows_of hist) in
+    let same : rank_lines c.naming_of.result c.units.result c.args.rows.now ≡ ranks =
+    ap (λ naming. rank_lines naming c.units.result c.args.rows.now) c.naming_of.ensures
+    ∙ (ap (λ units. rank_lines (naming_of hist.spec) units c.args.rows.now) c.units.ensures
+    ∙ ap (rank_lines (naming_of hist.spec) (units_of hist)) c.requires.rows) in
+    let numbered = written-both first (number_line hist) ranks c.in_ok-put_number_line.ensures (c.in_ok-put_ranks.ensures ∙ ap (λ s. c.put_number_line.new.text.items ++ s) same) in
+    written-both first (number_line hist ++ ranks) (taken_line hist) numbered c.in_ok-put_taken.ensures

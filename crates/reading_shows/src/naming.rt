@@ -1,0 +1,88 @@
+//! How the values of a row are written.
+
+ghost use Rattle.std.specs.Prelude.{◌≡◌, ◌++◌, OnOk};
+ghost use Rattle.reading_shows.specs.Naming.{naming_of as naming_of_spec, is_truth as is_truth_of, bucket_text, truth_text, range_text, has_line as has_line_of};
+
+use bucket_ranges::Spec;
+use bucket_ranges::limits::LAST_BOUNDARY;
+use itoa::Buffer;
+use reading_texts::{HistRow, put_parts};
+use std::alloc::AllocError;
+
+// How the values of a row are written.
+#[derive(Clone, Copy, Debug, PartialEq, Eq)]
+pub(crate) enum Naming {
+    // As the one value of a sparse histogram.
+    Value,
+    // As false or true.
+    Truth,
+    // As a range.
+    Range,
+}
+
+// How the rows of a histogram are named.
+pub(crate) fn naming_of(spec: &Spec) -> Naming
+    ensures { result ≡ naming_of_spec spec.now }
+{
+    match spec {
+        Spec::Boolean => Naming::Truth,
+        Spec::Sparse => Naming::Value,
+        Spec::Linear { .. } | Spec::Custom(_) => Naming::Range,
+    }
+}
+
+// Whether rows are named false and true.
+pub(crate) fn is_truth(naming: Naming) -> bool
+    ensures { result ≡ is_truth_of naming }
+{
+    matches!(naming, Naming::Truth)
+}
+
+// Whether a row has a line of its own.
+pub(crate) fn has_line(naming: Naming, row: &HistRow) -> bool
+    ensures { result ≡ has_line_of naming row.now }
+{
+    row.units != 0 || (is_truth(naming) && row.low < 2)
+}
+
+// Puts the values of a bucket.
+fn put_bucket(text: &mut Vec<u8>, row: &HistRow) -> Result<(), AllocError>
+    ensures { OnOk result (text.new.items ≡ text.old.items ++ bucket_text row.now) }
+{
+    let mut low = Buffer::new();
+    let low = low.format(row.low).as_bytes();
+    if row.high == i64::from(LAST_BOUNDARY) {
+        return put_parts(text, &[b">= ", low]);
+    }
+    let mut high = Buffer::new();
+    put_parts(
+        text,
+        &[b"[", low, b", ", high.format(row.high).as_bytes(), b")"],
+    )
+}
+
+// Puts the values of a bucket of a boolean histogram.
+fn put_truth(text: &mut Vec<u8>, row: &HistRow) -> Result<(), AllocError>
+    ensures { OnOk result (text.new.items ≡ text.old.items ++ truth_text row.now) }
+{
+    match row.low {
+        0 => text.extend_from_slice(b"false")?,
+        1 => text.extend_from_slice(b"true")?,
+        _ => put_bucket(text, row)?,
+    }
+    Ok(())
+}
+
+// Puts the values of a row.
+pub(crate) fn put_range(text: &mut Vec<u8>, naming: Naming, row: &HistRow) -> Result<(), AllocError>
+    ensures { OnOk result (text.new.items ≡ text.old.items ++ range_text naming row.now) }
+{
+    match naming {
+        Naming::Value => {
+            let mut low = Buffer::new();
+            text.extend_from_slice(low.format(row.low).as_bytes())
+        }
+        Naming::Truth => put_truth(text, row),
+        Naming::Range => put_bucket(text, row),
+    }
+}

@@ -5,6 +5,7 @@
 #include "files.h"
 
 #include <dirent.h>
+#include <sched.h>
 #include <stdarg.h>
 #include <sys/mman.h>
 
@@ -583,7 +584,14 @@ static void refused_memory(void) {
     for (start = 0; start < STARTS; start += 1) HOLDS(refuse_each_allocation((enum start)start) >= 4);
 }
 
-/* Kills at any moment of the making of a large segment; more often where a busy machine ends it before the kills come. */
+/* Waits for a file, but not for ever; whether it is there. */
+static bool comes(const char *path) {
+    long i;
+    for (i = 0; i < 2000000 && access(path, F_OK) != 0; i += 1) sched_yield();
+    return access(path, F_OK) == 0;
+}
+
+/* Kills a process that makes a large segment, at any moment once its file is there; more often where the making ends before the kills come. */
 static void kills_amid_making(void) {
     const struct povundiri_shape large = {1048576, 65536, 7, 8, 2};
     int i, killed = 0;
@@ -591,16 +599,18 @@ static void kills_amid_making(void) {
         struct povundiri_file file = {0};
         struct povundiri_handle segment = {0};
         struct povundiri_opened opened;
-        const struct timespec wait = {0, 400000 * (long)(i % 60)};
+        const struct timespec wait = {0, 2000 * (long)(i % 60) * (i % 60)};
+        bool began;
         pid_t child;
         unlink(path_of("making"));
         child = fork();
         if (child == 0) {
             _exit(povundiri_open(path_of("making"), large, POVUNDIRI_ADOPT_OR_FAIL, NULL, &file, &segment, &opened) != 0);
         }
+        began = comes(path_of("making"));
         nanosleep(&wait, NULL);
         kill(child, SIGKILL);
-        killed += end_of(child) == 1000 + SIGKILL;
+        killed += end_of(child) == 1000 + SIGKILL && began;
         DONE(povundiri_open(path_of("making"), large, POVUNDIRI_ADOPT_OR_FAIL, NULL, &file, &segment, &opened));
         DONE(povundiri_drop(&segment));
         povundiri_file_close(&file);

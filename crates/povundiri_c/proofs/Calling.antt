@@ -1,5 +1,7 @@
 -- What a call makes of what a handle holds.
-use Rattle.std.proofs.Common.{◌≡◌, ℕ, ap, sym, subst, refl, Option, Some, None, Result, Ok, Err, MatchOption, option_map}
+use Rattle.std.proofs.Common.{◌≡◌, ℕ, ap, sym, subst, refl, Option, Some, None, Result, Ok, Err, MatchOption, option_map, MutBor, List, ℤ, w64, FitsSigned, to_z, of_z}
+use Rattle.std.proofs.lemmas.Int.{to_z-of_z}
+use Rattle.std.specs.Fn.{FnOnceReturnsAtMut, Once}
 use Rattle.std.proofs.lemmas.Result.{MatchResult-at_err, MatchResult-at_ok}
 use Rattle.live_segment.specs.declared.recorder.Hist.{Hist}
 use Rattle.owned_recorder.specs.declared.owned.OwnedRecorder.{OwnedRecorder}
@@ -9,9 +11,9 @@ use Rattle.povundiri_c.specs.declared.status.Refused.{Refused}
 use Rattle.povundiri_c.specs.declared.joinable_recorder.JoinableRecorder.{JoinableRecorder}
 use Rattle.povundiri_c.specs.declared.owned_segment.OwnedSegment.{OwnedSegment}
 use Rattle.povundiri_c.specs.declared.owned_segment.Request.{Request}
-use Rattle.povundiri_c.specs.Calls.{ByRecorder}
+use Rattle.povundiri_c.specs.Calls.{ByHandle, ByRecorder, OnRecorder, SizesOfRecorder}
 use Rattle.povundiri_c.specs.Joins.{BySegment, Serves, ServesPassed, recorder_in}
-use Rattle.povundiri_c.specs.Recorders.{AtPlaceInRoom, Finds, refused_with}
+use Rattle.povundiri_c.specs.Recorders.{AtPlace, AtPlaceInRoom, Batches, Finds, refused_with}
 
 -- the contents are a recorder
 pub by_recorder : {A : Type 0} (other : A) (Calls : OwnedRecorder → A → OwnedRecorder → Type 0) (it : Contents) (joinable after : JoinableRecorder) (answer : A)
@@ -19,6 +21,41 @@ pub by_recorder : {A : Type 0} (other : A) (Calls : OwnedRecorder → A → Owne
     → ByRecorder other Calls it answer (contents.Recorder after)
 by_recorder other Calls it joinable after answer is kept calls =
     subst (λ (one : Contents). ByRecorder other Calls one answer (contents.Recorder after)) (sym is) (after, refl, kept, calls)
+
+-- the same of what C has of the recorder
+pub on_recorder : {A : Type 0} (other : A) (Calls : JoinableRecorder → A → JoinableRecorder → Type 0) (it : Contents) (joinable after : JoinableRecorder) (answer : A)
+    → it ≡ contents.Recorder joinable → Calls joinable answer after → OnRecorder other Calls it answer (contents.Recorder after)
+on_recorder other Calls it joinable after answer is calls =
+    subst (λ (one : Contents). OnRecorder other Calls one answer (contents.Recorder after)) (sym is) (after, refl, calls)
+
+-- a closure's call of what C has of the recorder is one of the recorder, which keeps its mailbox
+pub of_recorder : {A F : Type 0} (empty other : A) (g : Once F (MutBor JoinableRecorder × Unit {0}) (A × (MutBor JoinableRecorder × Unit {0}))) (f : F) (Calls : OwnedRecorder → A → OwnedRecorder → Type 0)
+    → ((shown left : MutBor JoinableRecorder) (answer : A) → g.post f (shown, tt) (answer, (left, tt)) → (left.now.mailbox ≡ shown.now.mailbox) × Calls shown.now.owned answer left.now.owned)
+    → (old new : Option Contents) (answer : A) → ByHandle empty (OnRecorder other (FnOnceReturnsAtMut g f)) old answer new → ByHandle empty (ByRecorder other Calls) old answer new
+of_recorder empty other g f Calls each None new answer is = is
+of_recorder empty other g f Calls each (Some (contents.Recorder joinable)) new answer (after, same, (mine, is, does)) =
+    let made = subst (λ (one : JoinableRecorder). (one.mailbox ≡ joinable.mailbox) × Calls joinable.owned answer one.owned) does.leaves
+    (subst (λ (one : JoinableRecorder). (does.left.now.mailbox ≡ one.mailbox) × Calls one.owned answer does.left.now.owned) does.shows (each does.shown does.left answer does.met)) in
+    (after, same, (mine, is, made.0, made.1))
+of_recorder empty other g f Calls each (Some (contents.Segment owned)) new answer is = is
+of_recorder empty other g f Calls each (Some contents.Nothing) new answer is = is
+
+-- the same, where a status has a length beside it
+pub of_sized : {A F : Type 0} (empty other : Refused) (g : Once F (MutBor JoinableRecorder × Unit {0}) (Result A Refused × (MutBor JoinableRecorder × Unit {0}))) (f : F) (Calls : OwnedRecorder → Result A Refused → OwnedRecorder → Type 0)
+    → empty ≡ refused_with 3 → other ≡ refused_with 5
+    → ((shown left : MutBor JoinableRecorder) (answer : Result A Refused) → g.post f (shown, tt) (answer, (left, tt)) → (left.now.mailbox ≡ shown.now.mailbox) × Calls shown.now.owned answer left.now.owned)
+    → (old new : Option Contents) (answer : Result A Refused) → ByHandle (Err empty) (OnRecorder (Err other) (FnOnceReturnsAtMut g f)) old answer new → SizesOfRecorder Calls old answer new
+of_sized empty other g f Calls none segment each old new answer is =
+    subst (λ (one : Refused). ByHandle (Err one) (ByRecorder (Err (refused_with 5)) Calls) old answer new) none
+    (subst (λ (one : Refused). ByHandle (Err empty) (ByRecorder (Err one) Calls) old answer new) segment
+    (of_recorder (Err empty) (Err other) g f Calls each old new answer is))
+
+-- a batch of the same items, with the sum as a closure passes it on
+pub of_same_batch : (items items' : List (ℤ × ℕ)) (sum : ℤ) → FitsSigned w64 sum → items ≡ items' → (place : ℕ) (old : OwnedRecorder) (answer : Result (Unit {0}) Refused) (new : OwnedRecorder)
+    → AtPlace (Err (refused_with 8)) (Batches items (to_z w64 (of_z w64 sum))) place old answer new → AtPlace (Err (refused_with 8)) (Batches items' sum) place old answer new
+of_same_batch items items' sum fits same place old answer new counts =
+    subst (λ (one : List (ℤ × ℕ)). AtPlace (Err (refused_with 8)) (Batches one sum) place old answer new) same
+    (subst (λ (one : ℤ). AtPlace (Err (refused_with 8)) (Batches items one) place old answer new) (to_z-of_z w64 sum fits) counts)
 
 -- the contents are a segment
 pub by_segment : {A : Type 0} (other : A) (Calls : OwnedSegment → A → OwnedSegment → Type 0) (it : Contents) (owned after : OwnedSegment) (answer : A)

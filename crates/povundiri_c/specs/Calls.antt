@@ -41,6 +41,12 @@ abbrev pub ByHandle : {A : Type 0} → A → (Contents → A → Contents → Ty
 ByHandle empty Calls None answer new = (answer ≡ empty) × (new ≡ None)
 ByHandle empty Calls (Some held) answer new = (after : Contents) × (new ≡ Some after) × Calls held answer after
 
+-- What is no recorder returns that, and is unchanged; else the call is of what C has of the recorder.
+abbrev pub OnRecorder : {A : Type 0} → A → (JoinableRecorder → A → JoinableRecorder → Type 0) → Contents → A → Contents → Type 0
+OnRecorder other Calls (contents.Recorder joinable) answer new = (after : JoinableRecorder) × (new ≡ contents.Recorder after) × Calls joinable answer after
+OnRecorder other Calls (contents.Segment owned) answer new = (answer ≡ other) × (new ≡ contents.Segment owned)
+OnRecorder other Calls contents.Nothing answer new = (answer ≡ other) × (new ≡ contents.Nothing)
+
 -- What is no recorder returns that, and is unchanged; else the call is of the recorder, which keeps its mailbox.
 abbrev pub ByRecorder : {A : Type 0} → A → (OwnedRecorder → A → OwnedRecorder → Type 0) → Contents → A → Contents → Type 0
 ByRecorder other Calls (contents.Recorder joinable) answer new =

@@ -1,16 +1,17 @@
 //! What a handle holds.
 
 ghost use Rattle.std.specs.Prelude.{◌≡◌, Err, None, MatchResult, option_map};
-ghost use Rattle.povundiri_c.specs.Calls.{ByRecorder, outstanding_in, units_of};
+ghost use Rattle.std.specs.Fn.{FnOnceReturnsAtMut};
+ghost use Rattle.povundiri_c.specs.Calls.{ByRecorder, OnRecorder, outstanding_in, units_of};
 ghost use Rattle.povundiri_c.specs.Joins.{BySegment, GivesRecorder, ServesContents, recorder_in};
-ghost use Rattle.povundiri_c.specs.Recorders.{Adds, AtPlace, AtPlaceInRoom, Batches, FindsHist, Limits, Marks, refused_with, TakesDelta, TakesNext, TakesSnapshot, WalksAll};
+ghost use Rattle.povundiri_c.specs.Recorders.{Adds, AtPlace};
 ghost use Rattle.povundiri_c.specs.Segments.{AnswersClose};
 
 use crate::joinable_recorder::JoinableRecorder;
 use crate::owned_segment::{OwnedSegment, Request};
-use crate::status::{DONE, IN_USE, OTHER_KIND, Refused, SHORT};
+use crate::status::{IN_USE, OTHER_KIND, Refused, SHORT};
 use core::mem::replace_with;
-use live_segment::{Delta, Image, Snapshot, Spec};
+use live_segment::Image;
 
 /// A segment, or a recorder; or nothing, while a call takes it out.
 #[derive(Drop)]
@@ -62,6 +63,23 @@ impl Contents {
         match self {
             Contents::Recorder(joinable) => (Contents::Nothing, Some(joinable)),
             other => (other, None),
+        }
+    }
+
+    /// Calls the recorder that it is. What is none returns `other`, and is unchanged.
+    pub(crate) fn call_recorder<B, F: FnOnce(&mut JoinableRecorder) -> B>(
+        &mut self,
+        other: B,
+        call: F,
+    ) -> B
+    where
+        B: Drop,
+        requires { F.IsAlwaysCallable call }
+        ensures { OnRecorder other (FnOnceReturnsAtMut F.FnOnce call) self.old result self.new }
+    {
+        match self {
+            Contents::Recorder(joinable) => call(joinable),
+            _ => other,
         }
     }
 
@@ -122,95 +140,12 @@ impl Contents {
         }
     }
 
-    pub(crate) fn hist(&mut self, name: &[u8], spec: &Spec) -> Result<usize, u32>
-        ensures { ByRecorder (Err 5) (FindsHist name.now spec.now) self.old result self.new }
-    {
-        match self {
-            Contents::Recorder(joinable) => joinable.hist(name, spec),
-            _ => Err(OTHER_KIND),
-        }
-    }
-
     pub(crate) fn add(&mut self, place: usize, value: i32, count: u32) -> u32
         ensures { ByRecorder 5 (AtPlace 8 (Adds value count) place) self.old result self.new }
     {
         match self {
             Contents::Recorder(joinable) => joinable.add(place, value, count),
             _ => OTHER_KIND,
-        }
-    }
-
-    pub(crate) fn batch(
-        &mut self,
-        place: usize,
-        items: &[(i32, u32)],
-        sum: i64,
-    ) -> Result<(), Refused>
-        ensures { ByRecorder (Err (refused_with 5)) (AtPlace (Err (refused_with 8)) (Batches items.now sum) place) self.old result self.new }
-    {
-        match self {
-            Contents::Recorder(joinable) => joinable.batch(place, items, sum),
-            _ => Err(Refused::of(OTHER_KIND)),
-        }
-    }
-
-    pub(crate) fn delta(&mut self, place: usize, room: usize) -> Result<Delta, Refused>
-        ensures { ByRecorder (Err (refused_with 5)) (AtPlaceInRoom place room TakesDelta) self.old result self.new }
-    {
-        match self {
-            Contents::Recorder(joinable) => joinable.delta(place, room),
-            _ => Err(Refused::of(OTHER_KIND)),
-        }
-    }
-
-    pub(crate) fn snapshot(&mut self, place: usize, room: usize) -> Result<Snapshot, Refused>
-        ensures { ByRecorder (Err (refused_with 5)) (AtPlaceInRoom place room TakesSnapshot) self.old result self.new }
-    {
-        match self {
-            Contents::Recorder(joinable) => joinable.snapshot(place, room),
-            _ => Err(Refused::of(OTHER_KIND)),
-        }
-    }
-
-    pub(crate) fn set_corrupt(&mut self) -> u32
-        ensures { ByRecorder 5 Marks self.old result self.new }
-    {
-        match self {
-            Contents::Recorder(joinable) => {
-                joinable.owned.set_corrupt();
-                DONE
-            }
-            _ => OTHER_KIND,
-        }
-    }
-
-    pub(crate) fn limit_indexes(&mut self, entries: usize) -> u32
-        ensures { ByRecorder 5 Limits self.old result self.new }
-    {
-        match self {
-            Contents::Recorder(joinable) => {
-                joinable.owned.limit_indexes(entries);
-                DONE
-            }
-            _ => OTHER_KIND,
-        }
-    }
-
-    pub(crate) fn records(&mut self) -> Result<Vec<u64>, u32>
-        ensures { ByRecorder (Err 5) WalksAll self.old result self.new }
-    {
-        match self {
-            Contents::Recorder(joinable) => joinable.records(),
-            _ => Err(OTHER_KIND),
-        }
-    }
-
-    pub(crate) fn next_shared(&mut self, cursor: usize) -> Result<u64, u32>
-        ensures { ByRecorder (Err 5) (TakesNext cursor) self.old result self.new }
-    {
-        match self {
-            Contents::Recorder(joinable) => joinable.next_shared(cursor),
-            _ => Err(OTHER_KIND),
         }
     }
 }

@@ -2,11 +2,12 @@
 
 ghost use Rattle.std.specs.Prelude.{◌≡◌, false, true, Err, Some, None, IfErr, MatchResult, option_map};
 ghost use Rattle.std.specs.Fn.{FnOnceReturnsAtMut};
-ghost use Rattle.povundiri_c.specs.Calls.{ByHandle};
+ghost use Rattle.povundiri_c.specs.Calls.{ByHandle, OnRecorder};
 ghost use Rattle.povundiri_c.specs.Joins.{AnswersPassed};
 ghost use Rattle.povundiri_c.specs.OpaqueBoxes.{is_some};
 
 use crate::contents::Contents;
+use crate::joinable_recorder::JoinableRecorder;
 use crate::opaque_box::OpaqueBox;
 use crate::owned_segment::Request;
 use crate::status::{EMPTY, NOT_EMPTY};
@@ -86,5 +87,24 @@ impl Handle {
             return empty;
         }
         call(self.boxed.get_mut())
+    }
+
+    /// Calls the recorder that it holds, which stays where it is. A handle that holds nothing returns `empty`, and one that holds a segment
+    /// `other`: it is unchanged.
+    pub(crate) fn call_recorder<B, F: FnOnce(&mut JoinableRecorder) -> B>(
+        &mut self,
+        empty: B,
+        other: B,
+        call: F,
+    ) -> B
+    where
+        B: Drop,
+        requires { F.IsAlwaysCallable call }
+        ensures { ByHandle empty (OnRecorder other (FnOnceReturnsAtMut F.FnOnce call)) self.old.boxed.held result self.new.boxed.held }
+    {
+        if !self.full {
+            return empty;
+        }
+        self.boxed.get_mut().call_recorder(other, call)
     }
 }

@@ -4,7 +4,7 @@ ghost use Rattle.std.specs.Arc.{arc_value};
 ghost use Rattle.std.specs.Prelude.{◌≡◌, Err, IfOk};
 ghost use Rattle.live_segment.specs.RecorderState.{Knows};
 ghost use Rattle.povundiri_c.specs.Mailbox.{BelongsTo, cursors_of};
-ghost use Rattle.povundiri_c.specs.Recorders.{Adds, AtPlace, AtPlaceInRoom, Batches, Finds, FindsHist, refused_with, TakesDelta, TakesNext, TakesSnapshot, WalksAll};
+ghost use Rattle.povundiri_c.specs.Recorders.{Adds, AtPlace, AtPlaceInRoom, Batches, Finds, FindsHist, Limits, Marks, refused_with, TakesDelta, TakesNext, TakesSnapshot, WalksAll};
 
 use crate::mailbox::Mailbox;
 use crate::status::{DONE, LIST_ENDS, NO_CURSOR, Refused, SHORT, UNKNOWN, of_refusal};
@@ -112,6 +112,24 @@ impl JoinableRecorder {
             Ok(snapshot) => Ok(snapshot),
             Err(why) => Err(Refused::of(of_refusal(why))),
         }
+    }
+
+    /// Marks the segment as corrupt.
+    pub(crate) fn set_corrupt(&mut self) -> u32
+        ensures kept { self.new.mailbox ≡ self.old.mailbox }
+        ensures answer { Marks self.old.owned result self.new.owned }
+    {
+        self.owned.set_corrupt();
+        DONE
+    }
+
+    /// Sets how many entries each of its indexes may have.
+    pub(crate) fn limit_indexes(&mut self, entries: usize) -> u32
+        ensures kept { self.new.mailbox ≡ self.old.mailbox }
+        ensures answer { Limits self.old.owned result self.new.owned }
+    {
+        self.owned.limit_indexes(entries);
+        DONE
     }
 
     /// The references of all records of the list.

@@ -2,9 +2,10 @@
 
 ghost use Rattle.std.specs.Prelude.{◌≡◌, ◌≤◌, length};
 ghost use Rattle.povundiri_c.specs.Asking.{AnswersDeltaCall, AnswersNextCall, AnswersRecordsCall, AnswersSnapshotCall, AreGiven};
+ghost use Rattle.povundiri_c.specs.Recorders.{AtPlaceInRoom, TakesDelta, TakesSnapshot};
 
 use crate::handle::Handle;
-use crate::status::{DONE, EMPTY, Refused, SHORT};
+use crate::status::{DONE, EMPTY, OTHER_KIND, Refused, SHORT};
 use crate::types::{Count, Totals};
 
 // Writes counts to the front of an array that has room for them.
@@ -36,7 +37,14 @@ pub extern "C" fn povundiri_proved_delta(
     ensures { AnswersDeltaCall hist recorder.old.boxed.held result totals.old totals.new counts.old counts.new recorder.new.boxed.held }
 {
     let room = counts.len();
-    match recorder.call(Err(Refused::of(EMPTY)), |held| held.delta(hist, room)) {
+    match recorder.call_recorder(
+        Err(Refused::of(EMPTY)),
+        Err(Refused::of(OTHER_KIND)),
+        |joinable|
+            ensures kept { joinable.new.mailbox ≡ joinable.old.mailbox }
+            ensures answer { AtPlaceInRoom hist room TakesDelta joinable.old.owned result joinable.new.owned }
+        { joinable.delta(hist, room) },
+    ) {
         Ok(delta) => {
             write_counts(&delta.counts, counts);
             *totals = Totals {
@@ -65,7 +73,14 @@ pub extern "C" fn povundiri_proved_snapshot(
     ensures { AnswersSnapshotCall hist recorder.old.boxed.held result totals.old totals.new counts.old counts.new recorder.new.boxed.held }
 {
     let room = counts.len();
-    match recorder.call(Err(Refused::of(EMPTY)), |held| held.snapshot(hist, room)) {
+    match recorder.call_recorder(
+        Err(Refused::of(EMPTY)),
+        Err(Refused::of(OTHER_KIND)),
+        |joinable|
+            ensures kept { joinable.new.mailbox ≡ joinable.old.mailbox }
+            ensures answer { AtPlaceInRoom hist room TakesSnapshot joinable.old.owned result joinable.new.owned }
+        { joinable.snapshot(hist, room) },
+    ) {
         Ok(snapshot) => {
             write_counts(&snapshot.counts, counts);
             *totals = Totals {
@@ -95,7 +110,11 @@ pub extern "C" fn povundiri_proved_records(
 ) -> u32
     ensures { AnswersRecordsCall recorder.old.boxed.held result needed.old needed.new records.old records.new recorder.new.boxed.held }
 {
-    let found = match recorder.call(Err(EMPTY), |held| held.records()) {
+    let found = match recorder.call_recorder(
+        Err(EMPTY),
+        Err(OTHER_KIND),
+        |joinable| joinable.records(),
+    ) {
         Ok(found) => found,
         Err(status) => return status,
     };
@@ -118,7 +137,11 @@ pub extern "C" fn povundiri_proved_next_shared(
 ) -> u32
     ensures { AnswersNextCall cursor recorder.old.boxed.held result «record».old «record».new recorder.new.boxed.held }
 {
-    match recorder.call(Err(EMPTY), |held| held.next_shared(cursor)) {
+    match recorder.call_recorder(
+        Err(EMPTY),
+        Err(OTHER_KIND),
+        |joinable| joinable.next_shared(cursor),
+    ) {
         Ok(next) => {
             *record = next;
             DONE

@@ -1,12 +1,12 @@
 //! What a recorder counts.
 
-ghost use Rattle.std.specs.Prelude.{◌≡◌, ◌⊎◌, Some, None, IfOk, MatchResult, map};
+ghost use Rattle.std.specs.Prelude.{◌≡◌, ◌⊎◌, Err, Some, None, IfOk, MatchResult, map};
 ghost use Rattle.povundiri_c.specs.Asking.{AnswersBatchCall, AnswersHistCall, pair_of, spec_asked};
 ghost use Rattle.povundiri_c.specs.Calls.{OfRecorder};
-ghost use Rattle.povundiri_c.specs.Recorders.{Adds, AtPlace, Limits, Marks};
+ghost use Rattle.povundiri_c.specs.Recorders.{Adds, AtPlace, Batches, Limits, Marks, refused_with};
 
 use crate::handle::Handle;
-use crate::status::{BAD_KIND, DONE, EMPTY, NO_MEMORY, Refused};
+use crate::status::{BAD_KIND, DONE, EMPTY, NO_MEMORY, OTHER_KIND, Refused};
 use crate::types::{HistSpec, Item};
 use live_segment::{CustomValues, Spec};
 use std::alloc::{AllocError, Global};
@@ -65,7 +65,11 @@ pub extern "C" fn povundiri_proved_hist(
         Ok(spec) => spec,
         Err(status) => return status,
     };
-    match recorder.call(Err(EMPTY), |held| held.hist(name, &spec)) {
+    match recorder.call_recorder(
+        Err(EMPTY),
+        Err(OTHER_KIND),
+        |joinable| joinable.hist(name, &spec),
+    ) {
         Ok(place) => {
             *hist = place;
             DONE
@@ -109,9 +113,13 @@ pub extern "C" fn povundiri_proved_batch(
     let Ok(pairs) = pairs_of(alloc, items) else {
         return NO_MEMORY;
     };
-    match recorder.call(
+    match recorder.call_recorder(
         Err(Refused::of(EMPTY)),
-        |held| held.batch(hist, &pairs, sum),
+        Err(Refused::of(OTHER_KIND)),
+        |joinable|
+            ensures kept { joinable.new.mailbox ≡ joinable.old.mailbox }
+            ensures answer { AtPlace (Err (refused_with 8)) (Batches pairs.items sum) hist joinable.old.owned result joinable.new.owned }
+        { joinable.batch(hist, &pairs, sum) },
     ) {
         Ok(()) => {
             *added = items.len();
@@ -130,7 +138,7 @@ pub extern "C" fn povundiri_proved_batch(
 pub extern "C" fn povundiri_proved_set_corrupt(recorder: &mut Handle) -> u32
     ensures { OfRecorder Marks recorder.old.boxed.held result recorder.new.boxed.held }
 {
-    recorder.call(EMPTY, |held| held.set_corrupt())
+    recorder.call_recorder(EMPTY, OTHER_KIND, |joinable| joinable.set_corrupt())
 }
 
 /// Sets how many entries each of a recorder's three indexes may have, as the library's `limit_indexes` does: 0. 3 where
@@ -139,5 +147,9 @@ pub extern "C" fn povundiri_proved_set_corrupt(recorder: &mut Handle) -> u32
 pub extern "C" fn povundiri_proved_limit_indexes(recorder: &mut Handle, entries: usize) -> u32
     ensures { OfRecorder Limits recorder.old.boxed.held result recorder.new.boxed.held }
 {
-    recorder.call(EMPTY, |held| held.limit_indexes(entries))
+    recorder.call_recorder(
+        EMPTY,
+        OTHER_KIND,
+        |joinable| joinable.limit_indexes(entries),
+    )
 }

@@ -15,7 +15,7 @@ use Rattle.live_segment.specs.List.SharedCursors.{AnswersNext, gift}
 use Rattle.live_segment.specs.List.Values.{AreMostKeys}
 use Rattle.live_segment.specs.declared.recorder.Hist.{Hist}
 use Rattle.live_segment.specs.Answers.{AnswersAdd, AnswersBatch, AnswersDelta, AnswersFirst, AnswersFront, AnswersHist, AnswersList, AnswersRecords, AnswersSnapshot, ClaimsAdd, ClaimsBatch, ClaimsHist, ShowsEnough, ShowsFewKeys, ShowsUnits, TakesEnough, TakesFewKeys}
-use Rattle.live_segment.specs.RecorderState.{IsNamed, IsSameRecorder, KnowsOn, Means, view_of_state}
+use Rattle.live_segment.specs.RecorderState.{HasLimit, IsNamed, IsSameRecorder, KnowsOn, Means, view_of_state}
 use Rattle.owned_recorder.specs.declared.owned.OwnedRecorder.{OwnedRecorder}
 use Rattle.povundiri_c.specs.declared.status.Refused.{Refused}
 use Rattle.povundiri_c.specs.Status.{status_of_refusal}
@@ -140,9 +140,10 @@ FindsHist name spec old place new =
 abbrev pub Marks : OwnedRecorder → ℕ → OwnedRecorder → Type 0
 Marks old status new = (status ≡ 0) × IsSameOwned old new × (view_of_state new.state ≡ spoiled (view_of_state old.state))
 
--- how many entries its indexes may have is set, and all else is unchanged
-abbrev pub Limits : OwnedRecorder → ℕ → OwnedRecorder → Type 0
-Limits old status new = (status ≡ 0) × IsSameOwned old new × (view_of_state new.state ≡ view_of_state old.state)
+-- its indexes may have so many entries then, and all else is unchanged
+abbrev pub Limits : ℕ → OwnedRecorder → ℕ → OwnedRecorder → Type 0
+Limits entries old status new =
+    (status ≡ 0) × IsSameOwned old new × (view_of_state new.state ≡ view_of_state old.state) × HasLimit entries new.state
 
 -- the references of all records of the list
 abbrev pub WalksAll : OwnedRecorder → Result (Vec ℕ Global) ℕ → OwnedRecorder → Type 0

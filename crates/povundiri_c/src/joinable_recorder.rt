@@ -126,7 +126,7 @@ impl JoinableRecorder {
     /// Sets how many entries each of its indexes may have.
     pub(crate) fn limit_indexes(&mut self, entries: usize) -> u32
         ensures kept { self.new.mailbox ≡ self.old.mailbox }
-        ensures answer { Limits self.old.owned result self.new.owned }
+        ensures answer { Limits entries self.old.owned result self.new.owned }
     {
         self.owned.limit_indexes(entries);
         DONE

@@ -145,7 +145,7 @@ pub extern "C" fn povundiri_proved_set_corrupt(recorder: &mut Handle) -> u32
 /// the handle holds nothing, 5 where it holds no recorder; then it holds the same.
 #[unsafe(no_mangle)]
 pub extern "C" fn povundiri_proved_limit_indexes(recorder: &mut Handle, entries: usize) -> u32
-    ensures { OfRecorder Limits recorder.old.boxed.held result recorder.new.boxed.held }
+    ensures { OfRecorder (Limits entries) recorder.old.boxed.held result recorder.new.boxed.held }
 {
     recorder.call_recorder(
         EMPTY,
